@@ -1,0 +1,9 @@
+pub mod Runs
+pub mod Telling
+pub mod Lines
+pub mod Rows
+pub mod Serves
+pub mod JournalTexts
+pub mod Journals
+pub mod Entries
+pub mod ReadBack

@@ -1,0 +1,224 @@
+-- Answering frames, one after the other.
+use Rattle.std.proofs.Common.{◌≡◌, ℕ, ◌⊎◌, inl, inr, Bool, true, false, cond, List, [], ◌∷◌, ◌++◌, length, take, refl, sym, ap, ◌∙◌, subst, Option, Some, None, append_assoc, ltb, leb, codes, IfSome, Result, Err, IsErrOf}
+use Rattle.std.proofs.lemmas.List.{append-nil}
+use Rattle.std.specs.Io.KnownBytes.{Appends}
+use Rattle.std.proofs.KnownBytes.{Appends-nil, Appends-trans, Consumes-nil}
+use Rattle.fpl_message.specs.Filings.{FilingText}
+use Rattle.flow_intake.specs.Frames.{frames}
+use Rattle.flow_intake.specs.Reader.{Ahead, Agrees, Came, CameTooMuch}
+use Rattle.flow_intake.specs.NextFrame.{second, filing_of, GaveFirst, GaveNone, Starves}
+use Rattle.flow_intake.specs.Cutting.{CutFront, Overrun}
+use Rattle.flow_intake.specs.Writes.{AppendsFront}
+use Rattle.flow_intake.proofs.Cuttings.{Cutting-start, Cutting-one, Cutting-end, CutFront-came, CutFront-one, CutEnded-read, Overrun-came}
+use Rattle.flow_intake.proofs.Written.{AppendsFront-both, AppendsFront-more}
+use Rattle.flow_core.specs.State.{State}
+use Rattle.flow_core.specs.Steps.{step}
+use Rattle.flow_core.specs.Output.{answer_text}
+use Rattle.flow_core.specs.Served.{served, said, output, after, as_input}
+use Rattle.flow_core.specs.Serving.{AnswersFrame, AnswersPart, Serving, Stopped, Starved}
+
+module _ (s : State) (frame : List ℕ) where
+  -- a frame that is too long
+  pub served-long : None ≡ filing_of frame → served s frame ≡ s
+  unfolding served
+  served-long h = by (leb (length frame) 2000) h
+    where
+      by : (b : Bool) → None ≡ (cond b (Some (second frame)) None) → cond b (cond (ltb (length s.journal) s.setup.max_entries) (step s (as_input frame)) s) s ≡ s
+      by true h = absurd (cc)
+      by false h = refl
+
+  pub said-long : None ≡ filing_of frame → said s frame ≡ codes "- NO 90 TooLong\n"
+  unfolding said
+  said-long h = by (leb (length frame) 2000) h
+    where
+      by : (b : Bool) → None ≡ (cond b (Some (second frame)) None) → cond b (cond (ltb (length s.journal) s.setup.max_entries) (answer_text (step s (as_input frame)) (length s.journal)) (codes "- NO 91 JournalFull\n")) (codes "- NO 90 TooLong\n") ≡ codes "- NO 90 TooLong\n"
+      by true h = absurd (cc)
+      by false h = refl
+
+  -- a frame that is a filing
+  pub served-whole : (text : FilingText) → Some text ≡ filing_of frame → ltb (length s.journal) s.setup.max_entries ≡ true → served s frame ≡ step s (record { feeder = 0; text = text })
+  unfolding served
+  served-whole text h r = by (leb (length frame) 2000) h
+    where
+      by : (b : Bool) → Some text ≡ (cond b (Some (second frame)) None) → cond b (cond (ltb (length s.journal) s.setup.max_entries) (step s (as_input frame)) s) s ≡ step s (record { feeder = 0; text = text })
+      by true e = let same : second frame ≡ text = cc in rw r (ap (λ (t : FilingText). step s (record { feeder = 0; text = t })) same)
+      by false e = absurd (cc)
+
+  pub said-whole : (text : FilingText) → Some text ≡ filing_of frame → ltb (length s.journal) s.setup.max_entries ≡ true → said s frame ≡ answer_text (step s (record { feeder = 0; text = text })) (length s.journal)
+  unfolding said
+  said-whole text h r = by (leb (length frame) 2000) h
+    where
+      by : (b : Bool) → Some text ≡ (cond b (Some (second frame)) None) → cond b (cond (ltb (length s.journal) s.setup.max_entries) (answer_text (step s (as_input frame)) (length s.journal)) (codes "- NO 91 JournalFull\n")) (codes "- NO 90 TooLong\n") ≡ answer_text (step s (record { feeder = 0; text = text })) (length s.journal)
+      by true e = let same : second frame ≡ text = cc in rw r (ap (λ (t : FilingText). answer_text (step s (record { feeder = 0; text = t })) (length s.journal)) same)
+      by false e = absurd (cc)
+
+  -- a filing at a full journal
+  pub served-full : (text : FilingText) → Some text ≡ filing_of frame → ltb (length s.journal) s.setup.max_entries ≡ false → served s frame ≡ s
+  unfolding served
+  served-full text h r = by (leb (length frame) 2000)
+    where
+      by : (b : Bool) → cond b (cond (ltb (length s.journal) s.setup.max_entries) (step s (as_input frame)) s) s ≡ s
+      by true = rw r refl
+      by false = refl
+
+  pub said-full : (text : FilingText) → Some text ≡ filing_of frame → ltb (length s.journal) s.setup.max_entries ≡ false → said s frame ≡ codes "- NO 91 JournalFull\n"
+  unfolding said
+  said-full text h r = by (leb (length frame) 2000) h
+    where
+      by : (b : Bool) → Some text ≡ (cond b (Some (second frame)) None) → cond b (cond (ltb (length s.journal) s.setup.max_entries) (answer_text (step s (as_input frame)) (length s.journal)) (codes "- NO 91 JournalFull\n")) (codes "- NO 90 TooLong\n") ≡ codes "- NO 91 JournalFull\n"
+      by true e = rw r refl
+      by false e = absurd (cc)
+
+-- ---- lists of frames
+
+output-append : (s : State) (fs gs : List (List ℕ)) → output s (fs ++ gs) ≡ output s fs ++ output (after s fs) gs
+unfolding output after
+output-append s [] gs = refl
+output-append s (f ∷ fs) gs = ap (λ (bs : List ℕ). said s f ++ bs) (output-append (served s f) fs gs) ∙ sym (append_assoc (said s f) (output (served s f) fs) (output (after (served s f) fs) gs))
+
+after-append : (s : State) (fs gs : List (List ℕ)) → after s (fs ++ gs) ≡ after (after s fs) gs
+unfolding after
+after-append s [] gs = refl
+after-append s (f ∷ fs) gs = after-append (served s f) fs gs
+
+output-one : (s : State) (f : List ℕ) → output s (f ∷ []) ≡ said s f
+unfolding output
+output-one s f = append-nil (said s f)
+
+output-cons : (s : State) (f : List ℕ) (fs : List (List ℕ)) → output s (f ∷ fs) ≡ said s f ++ output (served s f) fs
+unfolding output
+output-cons s f fs = refl
+
+after-one : (s : State) (f : List ℕ) → after s (f ∷ []) ≡ served s f
+unfolding after
+after-one s f = refl
+
+after-nil : (s : State) → after s [] ≡ s
+unfolding after
+after-nil s = refl
+
+output-nil : (s : State) → output s [] ≡ []
+unfolding output
+output-nil s = refl
+
+take-front : (fs gs : List (List ℕ)) → take (length fs) (fs ++ gs) ≡ fs
+take-front [] gs = refl
+take-front (f ∷ fs) gs = ap (λ (hs : List (List ℕ)). f ∷ hs) (take-front fs gs)
+
+AppendsFront-whole : (old new : Option (List ℕ)) (bytes more all : List ℕ) → Appends old new bytes → bytes ++ more ≡ all → AppendsFront old new all
+AppendsFront-whole None new bytes more all a e = tt
+AppendsFront-whole (Some o) None bytes more all a e = absurd a
+AppendsFront-whole (Some o) (Some n) bytes more all a e = (bytes, more, sym e, a)
+
+-- ---- in the middle
+
+-- nothing was read yet
+pub Serving-start : (s : State) (begun : Option (List ℕ)) (ahead : Ahead) (input : Option (List ℕ)) → ahead ≡ record { unread = []; taken = 0; ended = false } → Serving s s begun begun ahead input input
+Serving-start s begun ahead input e =
+    record {
+      done = [];
+      cutting = Cutting-start ahead input e;
+      state = sym (after-nil s);
+      appended = subst (λ (bs : List ℕ). Appends begun begun bs) (sym (output-nil s)) (Appends-nil begun);
+    }
+
+module _ (first now : State) (begun written : Option (List ℕ)) (old : Ahead) (input mid : Option (List ℕ)) (s : Serving first now begun written old input mid) where
+  -- where reading stopped, the frames that were served are the first of what was read
+  pub Stopped-none : (rest : Option (List ℕ)) → old.ended ≡ false → Came mid rest → Stopped first now begun written input rest
+  Stopped-none rest going m =
+      let cut = CutFront-came s.done old input mid s.cutting rest going m in
+      record {
+        read = cut.read;
+        consumed = cut.consumed;
+        count = length s.done;
+        state = s.state ∙ ap (after first) (sym (ap (take (length s.done)) cut.whole ∙ take-front s.done cut.others));
+        front = AppendsFront-whole begun written (output first s.done) (output (after first s.done) cut.others) (output first (frames cut.read)) s.appended (sym (ap (output first) cut.whole ∙ output-append first s.done cut.others));
+      }
+
+  -- where the reader failed, they are those that had ended
+  pub Starved-read : (rest : Option (List ℕ)) → old.ended ≡ false → Starves old mid rest → Starved first now begun written input rest
+  Starved-read rest going m =
+      let cut = CutEnded-read s.done old input mid s.cutting rest going m in
+      record {
+        read = cut.read;
+        consumed = cut.consumed;
+        state = s.state ∙ ap (after first) (sym cut.whole);
+        whole = subst (λ (fs : List (List ℕ)). Appends begun written (output first fs)) (sym cut.whole) s.appended;
+      }
+
+  pub Overrun-read : (rest : Option (List ℕ)) → CameTooMuch old mid rest → Overrun input rest
+  Overrun-read rest m = Overrun-came s.done old input mid s.cutting rest m
+
+  -- at the end all frames were served
+  pub Served-output : (new : Ahead) (rest : Option (List ℕ)) → GaveNone old new mid rest → Agrees new rest → IfSome input (λ bytes. Appends begun written (output first (frames bytes)))
+  Served-output new rest f agrees = Cutting-end s.done old input mid s.cutting new rest (λ fs. Appends begun written (output first fs)) f agrees s.appended
+
+  pub Served-state : (new : Ahead) (rest : Option (List ℕ)) → GaveNone old new mid rest → Agrees new rest → IfSome input (λ bytes. now ≡ after first (frames bytes))
+  Served-state new rest f agrees = Cutting-end s.done old input mid s.cutting new rest (λ fs. now ≡ after first fs) f agrees s.state
+
+  -- a frame came
+  module _ (new : Ahead) (rest : Option (List ℕ)) (filing : Option FilingText) (f : GaveFirst filing old new mid rest) where
+    -- and was answered
+    pub Serving-one : (next : State) (then : Option (List ℕ)) → AnswersFrame filing now next written then → Serving first next begun then new input rest
+    Serving-one next then a =
+        let did = a f.whole.frame f.filed in
+        let said-is : output first (s.done ++ f.whole.frame ∷ []) ≡ output first s.done ++ said now f.whole.frame =
+        output-append first s.done (f.whole.frame ∷ []) ∙ ap (λ (t : State). output first s.done ++ output t (f.whole.frame ∷ [])) (sym s.state) ∙ ap (λ (bs : List ℕ). output first s.done ++ bs) (output-one now f.whole.frame) in
+        record {
+          done = s.done ++ f.whole.frame ∷ [];
+          cutting = Cutting-one s.done old input mid s.cutting new rest filing f;
+          state = did.0 ∙ ap (λ (t : State). served t f.whole.frame) s.state ∙ sym (after-append first s.done (f.whole.frame ∷ []) ∙ after-one (after first s.done) f.whole.frame);
+          appended = subst (λ (bs : List ℕ). Appends begun then bs) (sym said-is) (Appends-trans begun written then (output first s.done) (said now f.whole.frame) s.appended did.1);
+        }
+
+    part-state : (read : List ℕ) (others : List (List ℕ)) → frames read ≡ (s.done ++ f.whole.frame ∷ []) ++ others → (next : State) → ((next ≡ now) ⊎ (next ≡ served now f.whole.frame)) → (count : ℕ) × (next ≡ after first (take count (frames read)))
+    part-state read others whole next (inl e) =
+        (length s.done, e ∙ s.state ∙ ap (after first) (sym (ap (take (length s.done)) (whole ∙ append_assoc s.done (f.whole.frame ∷ []) others) ∙ take-front s.done (f.whole.frame ∷ others))))
+    part-state read others whole next (inr e) = (
+      length (s.done ++ f.whole.frame ∷ []),
+      e ∙ ap (λ (t : State). served t f.whole.frame) s.state ∙ sym (after-append first s.done (f.whole.frame ∷ []) ∙ after-one (after first s.done) f.whole.frame)
+          ∙ ap (after first) (sym (ap (take (length (s.done ++ f.whole.frame ∷ []))) whole ∙ take-front (s.done ++ f.whole.frame ∷ []) others)),
+    )
+
+    -- or answering it failed
+    pub Stopped-part : (next : State) (then : Option (List ℕ)) → AnswersPart filing now next written then → Stopped first next begun then input rest
+    Stopped-part next then a =
+        let did = a f.whole.frame f.filed in
+        let cut : CutFront (s.done ++ f.whole.frame ∷ []) input rest = CutFront-one s.done old input mid s.cutting new rest filing f in
+        let behind : List ℕ = output (served now f.whole.frame) cut.others in
+        let said-is : output first s.done ++ (said now f.whole.frame ++ behind) ≡ output first (frames cut.read) =
+        ap (λ (bs : List ℕ). output first s.done ++ bs) (sym (output-cons now f.whole.frame cut.others)) ∙ ap (λ (t : State). output first s.done ++ output t (f.whole.frame ∷ cut.others)) s.state
+        ∙ sym (ap (output first) (cut.whole ∙ append_assoc s.done (f.whole.frame ∷ []) cut.others) ∙ output-append first s.done (f.whole.frame ∷ cut.others)) in
+        let part = part-state cut.read cut.others cut.whole next did.0 in
+        record {
+          read = cut.read;
+          consumed = cut.consumed;
+          count = part.0;
+          state = part.1;
+          front = AppendsFront-both begun written then (output first s.done) (said now f.whole.frame ++ behind) (output first (frames cut.read)) s.appended
+              (AppendsFront-more written then (said now f.whole.frame) behind (said now f.whole.frame ++ behind) did.1 refl) said-is;
+        }
+
+-- memory for serving was refused: nothing was read
+pub Stopped-start : (s : State) (begun input : Option (List ℕ)) → Stopped s s begun begun input input
+Stopped-start s begun input =
+    record {
+      read = [];
+      consumed = Consumes-nil input;
+      count = 0;
+      state = sym (after-nil s);
+      front = AppendsFront-whole begun begun [] (output s (frames [])) (output s (frames [])) (Appends-nil begun) refl;
+    }
+
+AppendsFront-none : (old : Option (List ℕ)) (bytes : List ℕ) → AppendsFront old old bytes
+AppendsFront-none old bytes = AppendsFront-whole old old [] bytes bytes (Appends-nil old) refl
+
+-- a frame that was answered, wholly or in part
+pub long-front : (s : State) (frame : List ℕ) (before now : Option (List ℕ)) → None ≡ filing_of frame → AppendsFront before now (codes "- NO 90 TooLong\n") → ((s ≡ s) ⊎ (s ≡ served s frame)) × AppendsFront before now (said s frame)
+long-front s frame before now k w = (inl refl, rw (said-long s frame k) w)
+
+pub none-front : (s next : State) (frame : List ℕ) (before : Option (List ℕ)) → next ≡ s → ((next ≡ s) ⊎ (next ≡ served s frame)) × AppendsFront before before (said s frame)
+none-front s next frame before e = (inl e, AppendsFront-none before (said s frame))
+
+pub err_is : {T E : Type 0} {x y : E} → x ≡ y → IsErrOf {T = T} (Err x) y
+err_is {T} {E} {x} {y} e = let again : E → Result T E = λ z. Err z in ap again e

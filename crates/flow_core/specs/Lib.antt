@@ -1,0 +1,10 @@
+pub mod State
+pub mod Steps
+pub mod History
+pub mod CoreView
+pub mod Changes
+pub mod Output
+pub mod Served
+pub mod Serving
+pub mod Journal
+pub mod JournalReading

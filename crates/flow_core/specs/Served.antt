@@ -1,0 +1,30 @@
+-- What a desk that is served an input has answered, and its state then.
+use Rattle.std.specs.Prelude.{ℕ, List, [], ◌∷◌, ◌++◌, length, nat_le, nat_lt, if◌then◌else◌, codes}
+use Rattle.flow_intake.specs.NextFrame.{second}
+use Rattle.flow_core.specs.State.{State, Input}
+use Rattle.flow_core.specs.Steps.{step}
+use Rattle.flow_core.specs.Output.{answer_text}
+
+-- a frame as the filing of feeder 0
+abbrev pub as_input : List ℕ → Input
+as_input frame = record { feeder = 0; text = second frame }
+
+-- the state after a frame: a frame that is too long gets no entry, nor does one at a full journal
+unfoldable pub served : State → List ℕ → State
+served s frame = if nat_le (length frame) 2000 then (if nat_lt (length s.journal) s.setup.max_entries then step s (as_input frame) else s) else s
+
+-- and what is written for it
+unfoldable pub said : State → List ℕ → List ℕ
+said s frame =
+    if nat_le (length frame) 2000
+    then (if nat_lt (length s.journal) s.setup.max_entries then answer_text (step s (as_input frame)) (length s.journal) else codes "- NO 91 JournalFull\n")
+    else codes "- NO 90 TooLong\n"
+
+-- what is written for some frames, and the state after them
+unfoldable pub output : State → List (List ℕ) → List ℕ
+output s [] = []
+output s (f ∷ fs) = said s f ++ output (served s f) fs
+
+unfoldable pub after : State → List (List ℕ) → State
+after s [] = s
+after s (f ∷ fs) = after (served s f) fs

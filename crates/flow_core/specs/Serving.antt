@@ -1,0 +1,45 @@
+-- How far serving has come, and how it can stop.
+use Rattle.std.specs.Prelude.{◌≡◌, ◌⊎◌, ℕ, List, take, Option}
+use Rattle.std.specs.Io.KnownBytes.{Appends, Consumes}
+use Rattle.fpl_message.specs.Filings.{FilingText}
+use Rattle.flow_intake.specs.Frames.{frames, ended_frames}
+use Rattle.flow_intake.specs.Reader.{Ahead}
+use Rattle.flow_intake.specs.NextFrame.{filing_of}
+use Rattle.flow_intake.specs.Cutting.{Cutting}
+use Rattle.flow_intake.specs.Writes.{AppendsFront}
+use Rattle.flow_core.specs.State.{State}
+use Rattle.flow_core.specs.Served.{served, said, output, after}
+
+-- serving stopped: bytes were read from the input, the state is that after some first frames of them, and a front of their output was written
+pub record Stopped (first now : State) (begun written : Option (List ℕ)) (input rest : Option (List ℕ)) : Type 0 where
+  pub read : List ℕ
+  pub consumed : Consumes input rest read
+  pub count : ℕ
+  pub state : now ≡ after first (take count (frames read))
+  pub front : AppendsFront begun written (output first (frames read))
+
+-- it stopped since the reader failed: just the frames that had ended in the bytes read were served, and answered
+pub record Starved (first now : State) (begun written : Option (List ℕ)) (input rest : Option (List ℕ)) : Type 0 where
+  pub read : List ℕ
+  pub consumed : Consumes input rest read
+  pub state : now ≡ after first (ended_frames read)
+  pub whole : Appends begun written (output first (ended_frames read))
+
+-- ---- one frame
+
+-- whatever frame this is the filing of, it was served, and what is said of it was appended
+abbrev pub AnswersFrame : Option FilingText → State → State → Option (List ℕ) → Option (List ℕ) → Type 0
+AnswersFrame filing old new before now = (frame : List ℕ) → filing ≡ filing_of frame → (new ≡ served old frame) × Appends before now (said old frame)
+
+-- it was served or not, and a front of what is said of it was appended
+abbrev pub AnswersPart : Option FilingText → State → State → Option (List ℕ) → Option (List ℕ) → Type 0
+AnswersPart filing old new before now = (frame : List ℕ) → filing ≡ filing_of frame → ((new ≡ old) ⊎ (new ≡ served old frame)) × AppendsFront before now (said old frame)
+
+-- ---- in the middle of serving
+
+-- the frames that were served were cut from the front of the input, and what was said of them was written
+pub record Serving (first now : State) (begun written : Option (List ℕ)) (ahead : Ahead) (input rest : Option (List ℕ)) : Type 0 where
+  pub done : List (List ℕ)
+  pub cutting : Cutting done ahead input rest
+  pub state : now ≡ after first done
+  pub appended : Appends begun written (output first done)

@@ -1,0 +1,186 @@
+//! Answer lines and slot notices as text.
+ghost use Rattle.std.specs.Prelude.{◌≡◌, ◌≤◌, ◌+◌, ◌++◌, ◌-◌, ◌^◌, min, OnOk, OnErr, length, decimal, ℕ, ◌/◌, ◌%◌};
+ghost use Rattle.std.specs.List.{flat_map};
+ghost use Rattle.std.specs.Io.KnownBytes.{Appends};
+ghost use Rattle.flow_intake.specs.Writes.{AppendsFront};
+ghost use Rattle.arrayvec.specs.ArrayVec.{array_vec_len};
+ghost use Rattle.flow_core.specs.Output.{kind_text, window_text, plan_text, refusal_text, verdict_text, answer_line, flight_text, told_text, notice_line};
+
+use crate::line::{Line, put, put_number};
+use crate::receipt::{Kind, Receipt, Verdict};
+use arrayvec::ArrayVec;
+use flow_intake::{Counted, WriteFault, write_bytes};
+use flow_regulations::{Notice, Said, Told, Window};
+use fpl_message::Refusal;
+use std::io::Write;
+
+fn kind_name(kind: Kind) -> &'static [u8]
+    ensures name { result.now ≡ kind_text kind }
+    ensures short { length result.now ≤ 4 }
+{
+    match kind {
+        Kind::Fpl => b"FPL",
+        Kind::Dla => b"DLA",
+        Kind::Chg => b"CHG",
+        Kind::Cnl => b"CNL",
+        Kind::Open => b"OPEN",
+        Kind::Shut => b"SHUT",
+        Kind::Time => b"TIME",
+    }
+}
+
+fn window_name(window: Window) -> &'static [u8]
+    ensures name { result.now ≡ window_text window }
+    ensures short { length result.now ≤ 8 }
+{
+    match window {
+        Window::None => b"None",
+        Window::Early => b"Early",
+        Window::InWindow => b"InWindow",
+        Window::Late => b"Late",
+    }
+}
+
+/// Appends the plan that was accepted, where it is one.
+fn put_plan(line: &mut Line, plan: u32)
+    requires { array_vec_len line.old + 21 ≤ 192 }
+    ensures items { line.new.items ≡ line.old.items ++ plan_text plan }
+    ensures len { array_vec_len line.new ≤ array_vec_len line.old + 21 }
+{
+    if plan > 0 {
+        put(line, b" ");
+        put_number(line, u64::from(plan));
+    }
+}
+
+/// Appends why a filing was refused.
+fn put_refusal(line: &mut Line, refusal: Refusal)
+    requires { array_vec_len line.old + 70 ≤ 192 }
+    ensures items { line.new.items ≡ line.old.items ++ refusal_text refusal }
+    ensures len { array_vec_len line.new ≤ array_vec_len line.old + 70 }
+{
+    put(line, b" NO ");
+    put_number(line, u64::from(refusal.number()));
+    put(line, b" ");
+    put(line, refusal.name());
+    if let Some(detail) = refusal.detail() {
+        put(line, b" ");
+        put_number(line, detail as u64);
+    }
+}
+
+/// Appends how a filing went.
+fn put_verdict(line: &mut Line, verdict: Verdict)
+    requires { array_vec_len line.old + 70 ≤ 192 }
+    ensures items { line.new.items ≡ line.old.items ++ verdict_text verdict }
+    ensures len { array_vec_len line.new ≤ array_vec_len line.old + 70 }
+{
+    match verdict {
+        Verdict::Accepted { kind, plan } => {
+            put(line, b" OK ");
+            put(line, kind_name(kind));
+            put_plan(line, plan);
+        }
+        Verdict::Departed { plan, window } => {
+            put(line, b" OK DEP ");
+            put_number(line, u64::from(plan));
+            put(line, b" ");
+            put(line, window_name(window));
+        }
+        Verdict::Refused(refusal) => put_refusal(line, refusal),
+    }
+}
+
+/// The answer line of a receipt.
+fn line_of(receipt: &Receipt) -> Line
+    ensures { result.items ≡ answer_line receipt.now }
+{
+    let mut line = ArrayVec::new();
+    put_number(&mut line, u64::from(receipt.number));
+    put_verdict(&mut line, receipt.verdict);
+    put(&mut line, b"\n");
+    line
+}
+
+/// Appends of which flight a notice speaks.
+fn put_flight(line: &mut Line, notice: &Notice)
+    requires { array_vec_len line.old + 70 ≤ 192 }
+    ensures items { line.new.items ≡ line.old.items ++ flight_text notice.now }
+    ensures len { array_vec_len line.new ≤ array_vec_len line.old + 70 }
+{
+    put(line, b" -ARCID ");
+    put(line, notice.ident.as_bytes());
+    put(line, b" -ADEP ");
+    put(line, notice.dep.as_bytes());
+    put(line, b" -ADES ");
+    put(line, notice.dest.as_bytes());
+    put(line, b" -EOBD ");
+    put(line, notice.off_block.yymmdd().as_bytes());
+    put(line, b" -EOBT ");
+    put(line, notice.off_block.hhmm().as_bytes());
+}
+
+/// Appends a calculated take-off time and the regulation that causes it.
+fn put_told(line: &mut Line, told: &Told)
+    requires { array_vec_len line.old + 30 ≤ 192 }
+    ensures items { line.new.items ≡ line.old.items ++ told_text told.now }
+    ensures len { array_vec_len line.new ≤ array_vec_len line.old + 30 }
+{
+    put(line, told.ctot.hhmm().as_bytes());
+    put(line, b" -REGUL ");
+    put(line, told.regulation.as_bytes());
+}
+
+/// The line of a notice.
+fn notice_line_of(notice: &Notice) -> Line
+    ensures { result.items ≡ notice_line notice.now }
+{
+    let mut line = ArrayVec::new();
+    match &notice.says {
+        Said::Sam(told) => {
+            put(&mut line, b"-TITLE SAM");
+            put_flight(&mut line, notice);
+            put(&mut line, b" -CTOT ");
+            put_told(&mut line, told);
+        }
+        Said::Srm(told) => {
+            put(&mut line, b"-TITLE SRM");
+            put_flight(&mut line, notice);
+            put(&mut line, b" -NEWCTOT ");
+            put_told(&mut line, told);
+        }
+        Said::Slc => {
+            put(&mut line, b"-TITLE SLC");
+            put_flight(&mut line, notice);
+        }
+    }
+    put(&mut line, b"\n");
+    line
+}
+
+/// Writes the answer line of a receipt, and the lines of its notices. After an `Err` a front of that was written.
+pub(crate) fn write_lines<W: Write>(
+    writer: &mut Counted<W>,
+    receipt: &Receipt,
+    notices: &[Notice],
+) -> Result<(), WriteFault>
+    ensures ok { OnOk result (Appends (W.contents writer.old.device) (W.contents writer.new.device) (answer_line receipt.now ++ flat_map notice_line notices.now)) }
+    ensures err { OnErr result (AppendsFront (W.contents writer.old.device) (W.contents writer.new.device) (answer_line receipt.now ++ flat_map notice_line notices.now)) }
+    ensures calm { OnOk result (writer.new.failures ≡ writer.old.failures) }
+    ensures failed { OnErr result (writer.new.failures ≡ min (writer.old.failures + 1) (2 ^ 64 - 1)) }
+{
+    write_bytes(writer, line_of(receipt).as_slice())?;
+    write_notices(writer, notices)
+}
+
+fn write_notices<W: Write>(writer: &mut Counted<W>, notices: &[Notice]) -> Result<(), WriteFault>
+    ensures ok { OnOk result (Appends (W.contents writer.old.device) (W.contents writer.new.device) (flat_map notice_line notices.now)) }
+    ensures err { OnErr result (AppendsFront (W.contents writer.old.device) (W.contents writer.new.device) (flat_map notice_line notices.now)) }
+    ensures calm { OnOk result (writer.new.failures ≡ writer.old.failures) }
+    ensures failed { OnErr result (writer.new.failures ≡ min (writer.old.failures + 1) (2 ^ 64 - 1)) }
+{
+    for notice in notices {
+        write_bytes(writer, notice_line_of(notice).as_slice())?;
+    }
+    Ok(())
+}

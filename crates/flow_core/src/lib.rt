@@ -1,0 +1,24 @@
+//! A desk on one thread: a journal of filings, and what follows from it.
+#![tactic(auto)]
+
+mod answer;
+mod answering;
+mod desk;
+mod journal;
+mod journal_reading;
+#[cfg(test)]
+mod journal_tests;
+mod line;
+mod receipt;
+mod row;
+mod serving;
+#[cfg(test)]
+mod tests;
+
+pub use desk::{Core, StepFault};
+pub use flow_intake::{Counted, Frame, Intake, IntakeFault, MAX_INPUT, WriteFault};
+pub use flow_regulations::{Notice, Said, Told, Window};
+pub use journal_reading::{JournalFault, read_journal};
+pub use receipt::{Entry, Kind, Receipt, Verdict};
+pub use row::Row;
+pub use serving::{ServeFault, serve};

@@ -1,0 +1,31 @@
+//! What a reader of the desk sees of a plan.
+ghost use Rattle.std.specs.Prelude.{◌≡◌};
+ghost use Rattle.flow_core.specs.State.{row_of};
+
+use flow_plans::{Plan, PlanState};
+use flow_regulations::Told;
+use fpl_text::Minute;
+use std::alloc::Allocator;
+
+/// A plan's state, its off-block moment, and what it was last told.
+#[derive(Debug, Drop, PartialEq, Eq)]
+pub struct Row {
+    pub state: PlanState,
+    pub off_block: Minute,
+    pub told: Option<Told>,
+}
+
+/// The row of a plan that was last told this.
+pub(crate) fn row_of<A: Allocator + Copy>(plan: &Plan<A>, told: &Option<Told>) -> Row
+    ensures { result ≡ row_of plan.now told.now }
+{
+    let told = match told {
+        Some(told) => Some(told.copied()),
+        None => None,
+    };
+    Row {
+        state: plan.state(),
+        off_block: plan.off_block(),
+        told,
+    }
+}

@@ -1,0 +1,11 @@
+pub mod Cuttings
+pub mod Texts
+pub mod Sources
+pub mod NextFrames
+pub mod Results
+pub mod Firsts
+pub mod FrameLists
+pub mod Takes
+pub mod Runs
+pub mod Ranges
+pub mod Written

@@ -1,0 +1,60 @@
+-- Bytes that were written in several calls.
+use Rattle.std.proofs.Common.{◌≡◌, ℕ, ◌+◌, ◌<◌, List, [], ◌∷◌, ◌++◌, length, refl, sym, ap, ◌∙◌, arith, take, drop, Option, Some, None, append_assoc, zero, suc, get_or, Result, Ok, Err, OnErr}
+use Rattle.std.specs.List.{flat_map}
+use Rattle.std.proofs.Math.Seq.{take-add}
+use Rattle.std.proofs.lemmas.List.{take-append-drop}
+use Rattle.std.specs.Io.KnownBytes.{Keeps, Appends}
+use Rattle.flow_intake.specs.Writes.{AppendsFront}
+
+pub Appends-none : (old : Option (List ℕ)) → Appends old old []
+Appends-none None = tt
+Appends-none (Some xs) = sym (append-nil' xs)
+  where
+    append-nil' : (xs : List ℕ) → xs ++ [] ≡ xs
+    append-nil' [] = refl
+    append-nil' (x ∷ xs) = ap (λ (ys : List ℕ). x ∷ ys) (append-nil' xs)
+
+pub Appends-both : (old mid new : Option (List ℕ)) (xs ys zs : List ℕ) → Appends old mid xs → Appends mid new ys → xs ++ ys ≡ zs → Appends old new zs
+Appends-both None mid new xs ys zs a b e = tt
+Appends-both (Some o) None new xs ys zs a b e = absurd a
+Appends-both (Some o) (Some m) None xs ys zs a b e = absurd b
+Appends-both (Some o) (Some m) (Some n) xs ys zs a b e = b ∙ ap (λ (q : List ℕ). q ++ ys) a ∙ append_assoc o xs ys ∙ ap (λ (q : List ℕ). o ++ q) e
+
+-- one more call wrote the next bytes
+pub Appends-more : (old mid new : Option (List ℕ)) (bytes : List ℕ) (i n : ℕ) → Appends old mid (take i bytes) → Appends mid new (take n (drop i bytes)) → Appends old new (take (i + n) bytes)
+Appends-more old mid new bytes i n a b = Appends-both old mid new (take i bytes) (take n (drop i bytes)) (take (i + n) bytes) a b (sym (take-add i n bytes))
+
+pub AppendsFront-both : (old mid new : Option (List ℕ)) (xs ys zs : List ℕ) → Appends old mid xs → AppendsFront mid new ys → xs ++ ys ≡ zs → AppendsFront old new zs
+AppendsFront-both None mid new xs ys zs a b e = tt
+AppendsFront-both (Some o) None new xs ys zs a b e = absurd a
+AppendsFront-both (Some o) (Some m) None xs ys zs a b e = absurd b
+AppendsFront-both (Some o) (Some m) (Some n) xs ys zs a b e =
+    (xs ++ b.0, b.1, sym e ∙ ap (λ (q : List ℕ). xs ++ q) b.2 ∙ sym (append_assoc xs b.0 b.1), b.3 ∙ ap (λ (q : List ℕ). q ++ b.0) a ∙ append_assoc o xs b.0)
+
+-- what was written until a call failed
+pub AppendsFront-stop : (old mid new : Option (List ℕ)) (bytes : List ℕ) (i : ℕ) → Appends old mid (take i bytes) → Keeps mid new → AppendsFront old new bytes
+AppendsFront-stop None mid new bytes i a k = tt
+AppendsFront-stop (Some o) None new bytes i a k = absurd a
+AppendsFront-stop (Some o) (Some m) None bytes i a k = absurd k
+AppendsFront-stop (Some o) (Some m) (Some n) bytes i a k = (take i bytes, drop i bytes, sym (take-append-drop i bytes), k ∙ a)
+
+-- a front of some bytes is a front of more
+pub AppendsFront-more : (old new : Option (List ℕ)) (bytes more all : List ℕ) → AppendsFront old new bytes → bytes ++ more ≡ all → AppendsFront old new all
+AppendsFront-more None new bytes more all a e = tt
+AppendsFront-more (Some o) None bytes more all a e = absurd a
+AppendsFront-more (Some o) (Some n) bytes more all a e = (a.0, a.1 ++ more, sym e ∙ ap (λ (q : List ℕ). q ++ more) a.2 ∙ append_assoc a.0 a.1 more, a.3)
+
+pub on_err : {T E : Type 0} {P : Type 0} (r : Result T E) → P → OnErr r P
+on_err (Ok x) p = tt
+on_err (Err e) p = p
+
+pub flat_map-at : {X : Type 0} (f : X → List ℕ) (xs : List X) (i : ℕ) (d : X) → i < length xs → flat_map f (take i xs) ++ (f (get_or xs i d) ++ flat_map f (drop (suc i) xs)) ≡ flat_map f xs
+flat_map-at f [] i d h = absurd (omega arith)
+flat_map-at f (y ∷ ys) zero d h = refl
+flat_map-at f (y ∷ ys) (suc i) d h =
+    let h' : i < length ys = omega arith in
+    append_assoc (f y) (flat_map f (take i ys)) (f (get_or ys i d) ++ flat_map f (drop (suc i) ys)) ∙ ap (λ (q : List ℕ). f y ++ q) (flat_map-at f ys i d h')
+
+pub OnErr-map : {T E : Type 0} {P Q : Type 0} (r : Result T E) → (P → Q) → OnErr r P → OnErr r Q
+OnErr-map (Ok x) f p = p
+OnErr-map (Err e) f p = f p

@@ -1,0 +1,7 @@
+pub mod Frames
+pub mod Reader
+pub mod Until
+pub mod NextFrame
+pub mod Source
+pub mod Cutting
+pub mod Writes

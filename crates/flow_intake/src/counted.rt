@@ -1,0 +1,125 @@
+//! A reader or a writer with the count of its calls that failed.
+ghost use Rattle.std.specs.Prelude.{◌≡◌, ◌+◌, ◌-◌, ◌^◌, ◌<◌, min, length, MatchResult, OnOk, OnErr, OnSome, IfOk, IfSome, IfNone, take, ◌≤◌, if◌then◌else◌};
+ghost use Rattle.std.specs.Io.{ReadsAtMost, WritesAtMost};
+ghost use Rattle.std.specs.Io.KnownBytes.{ReadConsumes, WriteAppends, Keeps, Appends};
+ghost use Rattle.flow_intake.specs.Writes.{AppendsFront};
+
+use std::io;
+use std::io::{Read, Write};
+
+/// A device, and how many of its calls failed or, writing, took no byte.
+#[derive(Drop)]
+pub struct Counted<D> {
+    device: D,
+    failures: u64,
+}
+
+impl<D> Counted<D> {
+    /// A device of which no call was counted yet.
+    pub fn new(device: D) -> Self
+        ensures device { result.device ≡ device }
+        ensures failures { result.failures ≡ 0 }
+    {
+        Counted {
+            device,
+            failures: 0,
+        }
+    }
+
+    /// How many calls failed or, writing, took no byte. The count stays at its greatest number, 2^64 - 1.
+    pub fn failures(&self) -> u64
+        ensures { result ≡ self.now.failures }
+    {
+        self.failures
+    }
+
+    /// Counts a call that failed.
+    fn count(&mut self, failed: bool)
+        ensures failures { self.new.failures ≡ (if failed then min (self.old.failures + 1) (2 ^ 64 - 1) else self.old.failures) }
+        ensures device { self.new.device ≡ self.old.device }
+    {
+        if failed {
+            let Counted { failures, .. } = self;
+            *failures = failures.saturating_add(1);
+        }
+    }
+}
+
+impl<R: Read> Read for Counted<R> {
+    ghost remaining = { λ c. R.remaining c.device };
+
+    fn read(&mut self, buf: &mut [u8]) -> io::Result<usize>
+        ensures bound { ReadsAtMost result buf.new }
+        ensures bytes { ReadConsumes (R.remaining self.old.device) (R.remaining self.new.device) result buf.new }
+        ensures counts { MatchResult result (λ _. self.new.failures ≡ self.old.failures) (λ _. self.new.failures ≡ min (self.old.failures + 1) (2 ^ 64 - 1)) }
+    {
+        let read = self.device.read(buf);
+        self.count(read.is_err());
+        read
+    }
+}
+
+impl<W: Write> Write for Counted<W> {
+    ghost contents = { λ c. W.contents c.device };
+
+    fn write(&mut self, buf: &[u8]) -> io::Result<usize>
+        ensures bound { WritesAtMost result buf.now }
+        ensures bytes { WriteAppends (W.contents self.old.device) (W.contents self.new.device) result buf.now }
+        ensures calm { IfOk result (λ n. 0 < n → self.new.failures ≡ self.old.failures) }
+        ensures counts { MatchResult result (λ n. n ≡ 0 → 0 < length buf.now → self.new.failures ≡ min (self.old.failures + 1) (2 ^ 64 - 1)) (λ _. self.new.failures ≡ min (self.old.failures + 1) (2 ^ 64 - 1)) }
+    {
+        let written = self.device.write(buf);
+        let failed = match &written {
+            Ok(n) => *n == 0 && !buf.is_empty(),
+            Err(_) => true,
+        };
+        self.count(failed);
+        written
+    }
+
+    fn flush(&mut self) -> io::Result<()>
+        ensures bytes { Keeps (W.contents self.old.device) (W.contents self.new.device) }
+        ensures counts { MatchResult result (λ _. self.new.failures ≡ self.old.failures) (λ _. self.new.failures ≡ min (self.old.failures + 1) (2 ^ 64 - 1)) }
+    {
+        let flushed = self.device.flush();
+        self.count(flushed.is_err());
+        flushed
+    }
+}
+
+/// The writer failed, or took no byte.
+#[derive(Clone, Copy, Debug, PartialEq, Eq)]
+pub struct WriteFault;
+
+/// Writes some of the bytes, at least one.
+fn write_some<W: Write>(writer: &mut Counted<W>, bytes: &[u8]) -> Option<usize>
+    requires { 0 < length bytes.now }
+    ensures some { IfSome result (λ n. (0 < n) × (n ≤ length bytes.now)) }
+    ensures written { IfSome result (λ n. Appends (W.contents writer.old.device) (W.contents writer.new.device) (take n bytes.now)) }
+    ensures calm { OnSome result (writer.new.failures ≡ writer.old.failures) }
+    ensures none { IfNone result (Keeps (W.contents writer.old.device) (W.contents writer.new.device)) }
+    ensures failed { IfNone result (writer.new.failures ≡ min (writer.old.failures + 1) (2 ^ 64 - 1)) }
+{
+    match writer.write(bytes) {
+        Ok(n) if n > 0 => Some(n),
+        Ok(_) => None,
+        Err(_) => None,
+    }
+}
+
+/// Writes all the bytes. After an `Err` a front of them was written.
+pub fn write_bytes<W: Write>(writer: &mut Counted<W>, bytes: &[u8]) -> Result<(), WriteFault>
+    ensures ok { OnOk result (Appends (W.contents writer.old.device) (W.contents writer.new.device) bytes.now) }
+    ensures calm { OnOk result (writer.new.failures ≡ writer.old.failures) }
+    ensures err { OnErr result (AppendsFront (W.contents writer.old.device) (W.contents writer.new.device) bytes.now) }
+    ensures failed { OnErr result (writer.new.failures ≡ min (writer.old.failures + 1) (2 ^ 64 - 1)) }
+{
+    let mut written = 0;
+    'turns: while written < bytes.len() {
+        let Some(n) = write_some(writer, &bytes[written..]) else {
+            return Err(WriteFault);
+        };
+        written += n;
+    }
+    Ok(())
+}

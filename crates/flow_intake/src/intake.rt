@@ -1,0 +1,190 @@
+//! The frames of an input.
+ghost use Rattle.std.specs.Prelude.{◌≡◌, ◌≢◌, ◌≤◌, ◌<◌, ◌+◌, ◌^◌, [], Some, false, min, length, IfErr, IfOk, IfNone, IfSome, IsOkAnd, OnErr, OnOk, OnSome, IsErrOf, Err, IsTrue, IsNone, ◌-◌};
+ghost use Rattle.flow_intake.specs.Frames.{kept_of};
+ghost use Rattle.flow_intake.specs.NextFrame.{Gives, IsFiled, Starves, filing_in};
+ghost use Rattle.flow_intake.specs.Source.{CutsFirst, KeepsTotal};
+ghost use Rattle.flow_intake.specs.Reader.{Agrees, Came, CameTooMuch, Finished, Unfinished};
+
+use crate::counted::Counted;
+use crate::kept::Kept;
+use crate::pieces::{Pieces, Until, take_if, take_until};
+use fpl_message::{Filing, FilingFault};
+use std::alloc::{AllocError, Allocator, Global};
+use std::io::Read;
+use std::marker::Model;
+
+/// Why no frame came.
+#[derive(Clone, Copy, Debug, PartialEq, Eq)]
+pub enum IntakeFault {
+    /// The reader failed. An interrupted call is a failure, too.
+    Read,
+    /// The input has more than 4,000,000,000 bytes.
+    TooMuch,
+    OutOfMemory,
+}
+
+/// A frame of the input: a filing, or one that is too long.
+#[derive(Drop)]
+pub enum Frame<A: Allocator + Copy = Global> {
+    Whole(Filing<A>),
+    /// It has more than 2,000 bytes.
+    TooLong,
+}
+
+/// Takes the rest of a frame that begins with this byte.
+fn finish<R: Read, A: Allocator>(
+    reader: &mut Counted<R>,
+    pieces: &mut Pieces<A>,
+    first: u8,
+    kept: &mut Kept<A>,
+) -> Result<(), IntakeFault>
+    requires { Agrees pieces.old (R.remaining reader.old.device) }
+    ensures took { OnOk result (Finished first pieces.old pieces.new (R.remaining reader.old.device) (R.remaining reader.new.device) kept.old kept.new) }
+    ensures agrees { OnOk result (Agrees pieces.new (R.remaining reader.new.device)) }
+    ensures nearer { OnOk result (pieces.old.taken ≤ pieces.new.taken) }
+    ensures within { OnOk result (pieces.new.taken ≤ 4000000000) }
+    ensures err { OnErr result (Came (R.remaining reader.old.device) (R.remaining reader.new.device)) }
+    ensures read { IsErrOf result IntakeFault.Read → Unfinished first pieces.old (R.remaining reader.old.device) (R.remaining reader.new.device) }
+    ensures much { IsErrOf result IntakeFault.TooMuch → CameTooMuch pieces.old (R.remaining reader.old.device) (R.remaining reader.new.device) }
+    ensures memory { result ≢ Err IntakeFault.OutOfMemory }
+    ensures calm { OnOk result (reader.new.failures ≡ reader.old.failures) }
+    ensures failed { IsErrOf result IntakeFault.Read → reader.new.failures ≡ min (reader.old.failures + 1) (2 ^ 64 - 1) }
+{
+    if first == b'(' {
+        take_until(reader, pieces, Until::Bracket, kept)?;
+        take_if(pieces, b')', kept);
+        return Ok(());
+    }
+    take_until(reader, pieces, Until::OrderEnd, kept)
+}
+
+/// A frame of what was kept.
+fn frame_of<A: Allocator + Copy>(alloc: A, kept: &Kept<A>) -> Result<Frame<A>, IntakeFault>
+    ensures ok { IfOk result (λ frame. IsFiled kept.now (filing_in frame)) }
+    ensures err { IfErr result (λ e. e ≡ IntakeFault.OutOfMemory) }
+{
+    let Some(bytes) = kept.bytes() else {
+        return Ok(Frame::TooLong);
+    };
+    match Filing::new(alloc, bytes) {
+        Ok(filing) => Ok(Frame::Whole(filing)),
+        Err(FilingFault::OutOfMemory) => Err(IntakeFault::OutOfMemory),
+        Err(FilingFault::TooLong) => unreachable!(),
+    }
+}
+
+/// The next frame of the input. Bytes stay in `pieces` from one call to the next; `kept` is room for the bytes of a frame.
+pub fn next_frame<R: Read, A: Allocator + Copy>(
+    alloc: A,
+    reader: &mut Counted<R>,
+    pieces: &mut Pieces<A>,
+    kept: &mut Kept<A>,
+) -> Result<Option<Frame<A>>, IntakeFault>
+    requires { Agrees pieces.old (R.remaining reader.old.device) }
+    ensures gives { IfOk result (λ frame. Gives frame pieces.old pieces.new (R.remaining reader.old.device) (R.remaining reader.new.device)) }
+    ensures ended { IsTrue pieces.old.ended → IfOk result (λ frame. IsNone frame) }
+    ensures still { IsTrue pieces.old.ended → (pieces.new ≡ pieces.old) × (reader.new ≡ reader.old) }
+    ensures agrees { OnOk result (Agrees pieces.new (R.remaining reader.new.device)) }
+    ensures nearer { IfOk result (λ frame. OnSome frame (pieces.old.taken < pieces.new.taken)) }
+    ensures within { IfOk result (λ frame. OnSome frame (pieces.new.taken ≤ 4000000000)) }
+
+    // What the bytes that came show, and when each fault comes.
+    ensures err { OnErr result (Came (R.remaining reader.old.device) (R.remaining reader.new.device)) }
+    ensures going { OnErr result (pieces.old.ended ≡ false) }
+    ensures read { IsErrOf result IntakeFault.Read → Starves pieces.old (R.remaining reader.old.device) (R.remaining reader.new.device) }
+    ensures much { IsErrOf result IntakeFault.TooMuch → CameTooMuch pieces.old (R.remaining reader.old.device) (R.remaining reader.new.device) }
+    ensures calm { OnOk result (reader.new.failures ≡ reader.old.failures) }
+    ensures failed { IsErrOf result IntakeFault.Read → reader.new.failures ≡ min (reader.old.failures + 1) (2 ^ 64 - 1) }
+{
+    if pieces.has_ended() {
+        return Ok(None);
+    }
+    take_until(reader, pieces, Until::Text, kept)?;
+    let Some(first) = pieces.front() else {
+        return Ok(None);
+    };
+    kept.start(first);
+    pieces.skip(1);
+    finish(reader, pieces, first, kept)?;
+    Ok(Some(frame_of(alloc, kept)?))
+}
+
+/// The frames of an input, one after the other.
+#[derive(Drop)]
+pub struct Intake<R: Read, A: Allocator + Copy = Global> {
+    alloc: A,
+    reader: Counted<R>,
+    pieces: Pieces<A>,
+    kept: Kept<A>,
+    failed: bool,
+}
+
+impl<R: Read, A: Allocator + Copy> Model for Intake<R, A> {
+    ghost use Rattle.std.specs.Prelude.{◌≡◌, false};
+    ghost use Rattle.std.specs.Io.KnownBytes.{prepend_known};
+    ghost use Rattle.flow_intake.specs.Reader.{Agrees};
+    ghost use Rattle.flow_intake.specs.Source.{Source};
+
+    ghost Value = { Source };
+
+    ghost view = { λ a. record { left = prepend_known a.pieces.unread (R.remaining a.reader.device); taken = a.pieces.taken; failures = a.reader.failures; ended = a.pieces.ended; failed = a.failed } };
+
+    ghost invariant = { λ a. a.failed ≡ false → Agrees a.pieces (R.remaining a.reader.device) };
+}
+
+impl<R: Read, A: Allocator + Copy> Intake<R, A> {
+    /// The frames of what this reader gives. Takes the memory for a piece of the input and for the longest frame.
+    pub fn new(alloc: A, reader: Counted<R>) -> Result<Self, AllocError>
+    where
+        R: Drop,
+        ensures { IfOk result (λ intake. intake ≡ record { left = R.remaining reader.device; taken = 0; failures = reader.failures; ended = false; failed = false }) }
+    {
+        let pieces = Pieces::new(alloc)?;
+        let kept = Kept::new(alloc)?;
+        Ok(Intake {
+            alloc,
+            reader,
+            pieces,
+            kept,
+            failed: false,
+        })
+    }
+
+    /// How many calls of the reader failed.
+    pub fn failures(&self) -> u64
+        ensures { result ≡ self.now.failures }
+    {
+        self.reader.failures()
+    }
+
+    /// The next frame, and none at the end of the input, however often it is asked for. After a fault each further call
+    /// answers `Read` and reads nothing.
+    pub fn next(&mut self) -> Result<Option<Frame<A>>, IntakeFault>
+        ensures cuts { IfOk result (λ frame. CutsFirst frame self.old.left self.new.left) }
+        ensures taken { OnOk result (KeepsTotal self.old self.new) }
+        ensures none { IfOk result (λ frame. IfNone frame (IsTrue self.new.ended)) }
+        ensures ended { IsTrue self.old.ended → self.old.failed ≡ false → IsOkAnd result (λ frame. IsNone frame) × (self.new ≡ self.old) }
+
+        // A fault is the last: from then on the answer is `Read`.
+        ensures ok { OnOk result (self.new.failed ≡ false) }
+        ensures err { OnErr result (IsTrue self.new.failed) }
+        ensures failed { IsTrue self.old.failed → IsErrOf result IntakeFault.Read × (self.new ≡ self.old) }
+
+        // When the first fault comes.
+        ensures read { self.old.failed ≡ false → IsErrOf result IntakeFault.Read → self.new.failures ≡ min (self.old.failures + 1) (2 ^ 64 - 1) }
+        ensures much { IsErrOf result IntakeFault.TooMuch → IfSome self.old.left (λ bytes. 4000000000 < self.old.taken + length bytes) }
+        ensures calm { OnOk result (self.new.failures ≡ self.old.failures) }
+    {
+        if self.failed {
+            return Err(IntakeFault::Read);
+        }
+        let result = next_frame(
+            self.alloc,
+            &mut self.reader,
+            &mut self.pieces,
+            &mut self.kept,
+        );
+        self.failed = result.is_err();
+        result
+    }
+}

@@ -1,0 +1,15 @@
+//! Devices whose failures are counted, and the frames of an input.
+#![tactic(auto)]
+
+mod counted;
+mod intake;
+mod kept;
+pub mod laws;
+mod pieces;
+#[cfg(test)]
+mod tests;
+
+pub use counted::{Counted, WriteFault, write_bytes};
+pub use intake::{Frame, Intake, IntakeFault, next_frame};
+pub use kept::Kept;
+pub use pieces::{MAX_INPUT, Pieces};

@@ -1,0 +1,234 @@
+//! An input in pieces, from any reader, however it cuts the bytes.
+ghost use Rattle.std.specs.Prelude.{◌≡◌, ◌≢◌, ◌≤◌, ◌<◌, ◌+◌, ◌-◌, ◌^◌, [], false, min, length, drop, slice_get, IfOk, OnOk, OnErr, IsErrOf, Err, IsTrue};
+ghost use Rattle.std.specs.List.{position};
+ghost use Rattle.std.specs.Io.KnownBytes.{Consumes};
+ghost use Rattle.flow_intake.specs.Reader.{Agrees, BeginsWithStop, Came, CameTooMuch, Filled, TakesIf, Took, TookRun};
+ghost use Rattle.flow_intake.specs.Until.{stops_at};
+
+use crate::counted::Counted;
+use crate::intake::IntakeFault;
+use crate::kept::Kept;
+use std::alloc::{AllocError, Allocator, Global};
+use std::io::Read;
+use std::marker::Model;
+
+/// The bytes of an input at most.
+pub const MAX_INPUT: u64 = 4_000_000_000;
+
+/// How many bytes are asked for at once.
+const PIECE: usize = 65_536;
+
+/// Where a run of bytes stops.
+#[derive(Clone, Copy)]
+pub(crate) enum Until {
+    Text,
+    Bracket,
+    OrderEnd,
+}
+
+impl Until {
+    /// Whether the run stops before this byte.
+    fn stops_at(self, byte: u8) -> bool
+        ensures { result ≡ stops_at self byte }
+    {
+        match self {
+            Until::Text => !(byte == b' ' || byte == b'\r' || byte == b'\n'),
+            Until::Bracket => byte == b'(' || byte == b')',
+            Until::OrderEnd => byte == b'\n' || byte == b'(',
+        }
+    }
+}
+
+/// Where the first byte stands that stops the run.
+fn stop_in(bytes: &[u8], until: Until) -> Option<usize>
+    ensures { result ≡ position (stops_at until) bytes.now }
+{
+    bytes.iter().position(|byte| until.stops_at(*byte))
+}
+
+/// The piece of the input that was read last, and how much of it was taken.
+#[derive(Drop)]
+pub struct Pieces<A: Allocator = Global> {
+    piece: Vec<u8, A>,
+    at: usize,
+    end: usize,
+    total: u64,
+    ended: bool,
+}
+
+impl<A: Allocator> Model for Pieces<A> {
+    ghost use Rattle.std.specs.Prelude.{◌≡◌, ◌≤◌, ◌-◌, ◌+◌, length, slice_range};
+    ghost use Rattle.flow_intake.specs.Reader.{Ahead};
+
+    ghost Value = { Ahead };
+
+    ghost view = { λ p. record { unread = slice_range p.piece.items p.at p.end; taken = p.total - (p.end - p.at); ended = p.ended } };
+
+    ghost invariant = { λ p. (p.at ≤ p.end) × (p.end ≤ length p.piece.items) × (length p.piece.items ≡ 65536) × (p.end - p.at ≤ p.total) × (p.total ≤ 4000000000) };
+}
+
+impl<A: Allocator> Pieces<A> {
+    /// Takes the memory for a piece.
+    pub fn new(alloc: A) -> Result<Self, AllocError>
+        ensures { IfOk result (λ p. p ≡ record { unread = []; taken = 0; ended = false }) }
+    {
+        let mut piece = Vec::with_capacity(alloc, PIECE)?;
+        piece.resize(PIECE, 0)?;
+        Ok(Pieces {
+            piece,
+            at: 0,
+            end: 0,
+            total: 0,
+            ended: false,
+        })
+    }
+
+    /// The bytes that were read and not yet taken.
+    fn unread(&self) -> &[u8]
+        ensures { result.now ≡ self.now.unread }
+    {
+        &self.piece[self.at..self.end]
+    }
+
+    /// The next byte, if one was read.
+    pub(crate) fn front(&self) -> Option<u8>
+        ensures { result ≡ slice_get self.now.unread 0 }
+    {
+        self.unread().first().copied()
+    }
+
+    /// Whether the reader has no more.
+    pub(crate) fn has_ended(&self) -> bool
+        ensures { result ≡ self.now.ended }
+    {
+        self.ended
+    }
+
+    /// Takes so many of the unread bytes.
+    pub(crate) fn skip(&mut self, count: usize)
+        requires { count ≤ length self.old.unread }
+        ensures unread { self.new.unread ≡ drop count self.old.unread }
+        ensures taken { self.new.taken ≡ self.old.taken + count }
+        ensures ended { self.new.ended ≡ self.old.ended }
+        ensures within { self.new.taken ≤ 4000000000 }
+    {
+        self.at += count;
+    }
+
+    /// Reads the next piece, where all bytes were taken.
+    fn fill<R: Read>(&mut self, reader: &mut Counted<R>) -> Result<(), IntakeFault>
+        requires empty { self.old.unread ≡ [] }
+        requires going { self.old.ended ≡ false }
+        ensures came { OnOk result (Consumes (R.remaining reader.old.device) (R.remaining reader.new.device) self.new.unread) }
+        ensures end { OnOk result (self.new.unread ≡ [] → IsTrue self.new.ended) }
+        ensures agrees { OnOk result (Agrees self.new (R.remaining reader.new.device)) }
+        ensures taken { self.new.taken ≡ self.old.taken }
+        ensures read { IsErrOf result IntakeFault.Read → (self.new ≡ self.old) × (Consumes (R.remaining reader.old.device) (R.remaining reader.new.device) []) }
+        ensures much { IsErrOf result IntakeFault.TooMuch → CameTooMuch self.old (R.remaining reader.old.device) (R.remaining reader.new.device) }
+        ensures memory { result ≢ Err IntakeFault.OutOfMemory }
+        ensures calm { OnOk result (reader.new.failures ≡ reader.old.failures) }
+        ensures failed { IsErrOf result IntakeFault.Read → reader.new.failures ≡ min (reader.old.failures + 1) (2 ^ 64 - 1) }
+    {
+        match reader.read(self.piece.as_mut_slice()) {
+            Err(_) => Err(IntakeFault::Read),
+            Ok(0) => {
+                self.ended = true;
+                Ok(())
+            }
+            Ok(n) => {
+                if n as u64 > MAX_INPUT - self.total {
+                    return Err(IntakeFault::TooMuch);
+                }
+                self.total += n as u64;
+                self.at = 0;
+                self.end = n;
+                Ok(())
+            }
+        }
+    }
+}
+
+/// Reads a piece, where all bytes were taken and the reader has more.
+fn make_ready<R: Read, A: Allocator>(
+    reader: &mut Counted<R>,
+    pieces: &mut Pieces<A>,
+) -> Result<(), IntakeFault>
+    requires { Agrees pieces.old (R.remaining reader.old.device) }
+    ensures filled { OnOk result (Filled pieces.old pieces.new (R.remaining reader.old.device) (R.remaining reader.new.device)) }
+    ensures end { OnOk result (pieces.new.unread ≡ [] → IsTrue pieces.new.ended) }
+    ensures agrees { OnOk result (Agrees pieces.new (R.remaining reader.new.device)) }
+    ensures taken { pieces.new.taken ≡ pieces.old.taken }
+    ensures read { IsErrOf result IntakeFault.Read → (pieces.old.unread ≡ []) × (pieces.new ≡ pieces.old) × (Consumes (R.remaining reader.old.device) (R.remaining reader.new.device) []) }
+    ensures much { IsErrOf result IntakeFault.TooMuch → CameTooMuch pieces.old (R.remaining reader.old.device) (R.remaining reader.new.device) }
+    ensures memory { result ≢ Err IntakeFault.OutOfMemory }
+    ensures calm { OnOk result (reader.new.failures ≡ reader.old.failures) }
+    ensures failed { IsErrOf result IntakeFault.Read → reader.new.failures ≡ min (reader.old.failures + 1) (2 ^ 64 - 1) }
+{
+    if !pieces.unread().is_empty() {
+        return Ok(());
+    }
+    if pieces.has_ended() {
+        return Ok(());
+    }
+    pieces.fill(reader)
+}
+
+/// Takes the unread bytes up to where they stop, and keeps them.
+fn take_run<A: Allocator>(pieces: &mut Pieces<A>, until: Until, kept: &mut Kept<A>)
+    ensures took { TookRun (stops_at until) pieces.old pieces.new kept.old kept.new }
+    ensures stop { BeginsWithStop (stops_at until) pieces.new.unread }
+    ensures ended { pieces.new.ended ≡ pieces.old.ended }
+    ensures within { pieces.new.taken ≤ 4000000000 }
+{
+    let unread = pieces.unread();
+    let count = stop_in(unread, until).unwrap_or(unread.len());
+    kept.extend(&unread[..count]);
+    pieces.skip(count);
+}
+
+/// Takes the bytes up to where they stop, and keeps them.
+pub(crate) fn take_until<R: Read, A: Allocator>(
+    reader: &mut Counted<R>,
+    pieces: &mut Pieces<A>,
+    until: Until,
+    kept: &mut Kept<A>,
+) -> Result<(), IntakeFault>
+    requires { Agrees pieces.old (R.remaining reader.old.device) }
+    ensures took { OnOk result (Took (stops_at until) pieces.old pieces.new (R.remaining reader.old.device) (R.remaining reader.new.device) kept.old kept.new) }
+    ensures stop { OnOk result (BeginsWithStop (stops_at until) pieces.new.unread) }
+    ensures end { OnOk result (pieces.new.unread ≡ [] → IsTrue pieces.new.ended) }
+    ensures agrees { OnOk result (Agrees pieces.new (R.remaining reader.new.device)) }
+    ensures within { OnOk result (pieces.new.taken ≤ 4000000000) }
+    ensures read { IsErrOf result IntakeFault.Read → (pieces.new.unread ≡ []) × (Took (stops_at until) pieces.old pieces.new (R.remaining reader.old.device) (R.remaining reader.new.device) kept.old kept.new) }
+    ensures much { IsErrOf result IntakeFault.TooMuch → CameTooMuch pieces.old (R.remaining reader.old.device) (R.remaining reader.new.device) }
+    ensures memory { result ≢ Err IntakeFault.OutOfMemory }
+    ensures calm { OnOk result (reader.new.failures ≡ reader.old.failures) }
+    ensures failed { IsErrOf result IntakeFault.Read → reader.new.failures ≡ min (reader.old.failures + 1) (2 ^ 64 - 1) }
+{
+    'pieces: loop {
+        make_ready(reader, pieces)?;
+        take_run(pieces, until, kept);
+        if !pieces.unread().is_empty() {
+            return Ok(());
+        }
+        if pieces.has_ended() {
+            return Ok(());
+        }
+    }
+}
+
+/// Takes the next byte, where it is unread and this one.
+pub(crate) fn take_if<A: Allocator>(pieces: &mut Pieces<A>, byte: u8, kept: &mut Kept<A>)
+    ensures took { TakesIf byte pieces.old pieces.new kept.old kept.new }
+    ensures ended { pieces.new.ended ≡ pieces.old.ended }
+    ensures within { pieces.old.taken ≤ 4000000000 → pieces.new.taken ≤ 4000000000 }
+{
+    let Some(next) = pieces.front() else {
+        return;
+    };
+    if next != byte {
+        return;
+    }
+    kept.extend(&[next]);
+    pieces.skip(1);
+}

@@ -1,0 +1,148 @@
+//! Readers that cut the input anywhere, and readers that fail.
+use crate::{Counted, Frame, Intake, IntakeFault};
+use std::alloc::Global;
+use std::io;
+use std::io::{ErrorKind, Read, Write};
+use std::process::Abort;
+use std::test::Fail;
+
+/// A reader that gives a few bytes at a time, and fails after some calls.
+#[derive(Drop)]
+struct Cutter<'a> {
+    rest: &'a [u8],
+    most: usize,
+    calls: usize,
+}
+
+impl Read for Cutter<'_> {
+    fn read(&mut self, buf: &mut [u8]) -> io::Result<usize> {
+        if self.calls == 0 {
+            return Err(io::Error::from(ErrorKind::Interrupted));
+        }
+        self.calls -= 1;
+        let n = self.most.min(buf.len()).min(self.rest.len());
+        let (now, later) = self.rest.split_at(n);
+        buf[..n].copy_from_slice(now);
+        self.rest = later;
+        Ok(n)
+    }
+}
+
+/// Takes all frames of an input, and says how many of them are these, one after the other.
+fn count_frames(
+    rt: &impl Abort,
+    alloc: Global,
+    reader: Cutter,
+    frames: &[&[u8]],
+) -> Result<usize, Fail> {
+    let mut intake = Intake::new(alloc, Counted::new(reader))?;
+    for (count, frame) in frames.iter().enumerate() {
+        match intake.next() {
+            Ok(Some(Frame::Whole(filing))) => assert_eq!(rt; filing.text(), *frame),
+            Ok(Some(Frame::TooLong)) => assert!(rt; frame.is_empty()),
+            Ok(None) => return Err(Fail::from("no more frames")),
+            Err(fault) => {
+                assert_eq!(rt; fault, IntakeFault::Read);
+                assert_eq!(rt; intake.failures(), 1);
+                assert_eq!(rt; intake.next().err(), Some(IntakeFault::Read));
+                assert_eq!(rt; intake.failures(), 1);
+                return Ok(count);
+            }
+        }
+    }
+    assert!(rt; matches!(intake.next(), Ok(None)));
+    assert!(rt; matches!(intake.next(), Ok(None)));
+    Ok(frames.len())
+}
+
+const INPUT: &[u8] = b" \r\n)((FPL(A) B\r\n\nTIME 2409010500\r\n (C";
+
+const FRAMES: [&[u8]; 7] = [
+    b")",
+    b"(",
+    b"(FPL",
+    b"(A)",
+    b"B\r",
+    b"TIME 2409010500\r",
+    b"(C",
+];
+
+#[test]
+fn pieces_have_no_effect(rt: HostRuntime) -> Result<(), Fail> {
+    for most in [1, 2, 7, 100] {
+        let reader = Cutter {
+            rest: INPUT,
+            most,
+            calls: 1000,
+        };
+        assert_eq!(rt;
+            count_frames(&rt, rt.alloc(), reader, &FRAMES)?,
+            7,
+            "by {most}"
+        );
+    }
+    Ok(())
+}
+
+#[test]
+fn reads_fail_in_turn(rt: HostRuntime) -> Result<(), Fail> {
+    let mut most = 0;
+    for calls in 0..INPUT.len() {
+        let reader = Cutter {
+            rest: INPUT,
+            most: 1,
+            calls,
+        };
+        let count = count_frames(&rt, rt.alloc(), reader, &FRAMES)?;
+        assert!(rt; most <= count, "after {calls}");
+        most = count;
+    }
+    // The last frame has not ended before the end of the input is read.
+    assert_eq!(rt; most, 6);
+    Ok(())
+}
+
+#[test]
+fn long_frames_end_where_they_end(rt: HostRuntime) -> Result<(), Fail> {
+    let mut frame = Vec::new(rt.alloc());
+    frame.resize(2_000, b'A')?;
+    let mut input = frame.clone()?;
+    input.extend_from_slice(b"\n(C)")?;
+    let whole = Cutter {
+        rest: &input,
+        most: 700,
+        calls: 1000,
+    };
+    assert_eq!(rt; count_frames(&rt, rt.alloc(), whole, &[&frame, b"(C)"])?, 2);
+    input.insert(0, b'B')?;
+    let long = Cutter {
+        rest: &input,
+        most: 700,
+        calls: 1000,
+    };
+    assert_eq!(rt; count_frames(&rt, rt.alloc(), long, &[b"", b"(C)"])?, 2);
+    Ok(())
+}
+
+/// A writer that takes everything, and counts how often it was flushed.
+#[derive(Drop)]
+struct Flushed(u8);
+
+impl Write for Flushed {
+    fn write(&mut self, buf: &[u8]) -> io::Result<usize> {
+        Ok(buf.len())
+    }
+
+    fn flush(&mut self) -> io::Result<()> {
+        self.0 = self.0.saturating_add(1);
+        Ok(())
+    }
+}
+
+#[test]
+fn flush_reaches_the_device(rt: HostRuntime) -> Result<(), Fail> {
+    let mut device = Flushed(0);
+    Counted::new(&mut device).flush()?;
+    assert_eq!(rt; device.0, 1);
+    Ok(())
+}

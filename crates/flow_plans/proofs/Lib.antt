@@ -1,0 +1,6 @@
+pub mod Matches
+pub mod Backs
+pub mod ChainLemmas
+pub mod Walks
+pub mod Keepings
+pub mod Distincts

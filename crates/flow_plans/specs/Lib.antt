@@ -1,0 +1,11 @@
+pub mod Settings
+pub mod Plans
+pub mod Times
+pub mod Matching
+pub mod Searching
+pub mod Chains
+pub mod Changes
+pub mod Entries
+pub mod Stores
+pub mod Undoing
+pub mod Distinct

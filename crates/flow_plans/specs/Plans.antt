@@ -1,0 +1,86 @@
+-- Flight plans as the desk holds them.
+use Rattle.std.specs.Prelude.{ℕ, ◌-◌, Bool, true, false, ◌&&◌, ◌==◌, if◌then◌else◌, List, slice_get, slice_set, Option, Some, None}
+use Rattle.std.specs.Option.{option_map_or}
+use Rattle.std.specs.Str.{bytes_eq}
+use Rattle.fpl_text.specs.declared.craft.FlightRules.{FlightRules}
+use Rattle.fpl_text.specs.declared.craft.FlightRules.TheVariants as rules
+use Rattle.flow_plans.specs.declared.plan.Key.{Key}
+use Rattle.flow_plans.specs.declared.plan.PlanState.{PlanState}
+use Rattle.flow_plans.specs.declared.plan.PlanState.TheVariants as state
+
+-- the squeezed texts that a plan holds, of the fields of these numbers
+pub record Texts : Type 0 where
+  pub field8 : List ℕ
+  pub field9 : List ℕ
+  pub field10 : List ℕ
+  pub field15 : List ℕ
+  pub field18 : List ℕ
+
+pub record Plan : Type 0 where
+  pub key : Key
+  pub state : PlanState
+  -- minutes from 1970-01-01 00:00 UTC
+  pub off_block : ℕ
+  -- the total elapsed time, in minutes
+  pub elapsed : ℕ
+  pub alternates : List (List ℕ)
+  pub rules : FlightRules
+  -- whether field 18 exempts the flight from slots
+  pub exempt : Bool
+  pub texts : Texts
+
+-- a plan that was filed and not cancelled
+abbrev pub is_held : PlanState → Bool
+is_held state.Filed = true
+is_held state.Departed = true
+is_held state.Cancelled = false
+
+abbrev pub is_filed : PlanState → Bool
+is_filed state.Filed = true
+is_filed state.Departed = false
+is_filed state.Cancelled = false
+
+abbrev pub is_departed : PlanState → Bool
+is_departed state.Filed = false
+is_departed state.Departed = true
+is_departed state.Cancelled = false
+
+-- flown by visual flight rules throughout
+abbrev pub is_visual : FlightRules → Bool
+is_visual rules.Instrument = false
+is_visual rules.Visual = true
+is_visual rules.InstrumentFirst = false
+is_visual rules.VisualFirst = false
+
+unfoldable pub same_key : Key → Key → Bool
+same_key k l = bytes_eq k.ident l.ident && bytes_eq k.dep l.dep && bytes_eq k.dest l.dest && (k.day == l.day)
+
+abbrev pub is_held_as : Key → Plan → Bool
+is_held_as key plan = is_held plan.state && same_key plan.key key
+
+-- the text that a plan holds of the field of this number
+unfoldable pub text_of : ℕ → Texts → Option (List ℕ)
+text_of field texts =
+    if field == 8 then Some texts.field8
+    else (if field == 9 then Some texts.field9
+    else (if field == 10 then Some texts.field10
+    else (if field == 15 then Some texts.field15
+    else (if field == 18 then Some texts.field18 else None))))
+
+-- the plan of this number, where plan n is the n-th
+abbrev pub plan_at : List Plan → ℕ → Option Plan
+plan_at plans number = slice_get plans (number - 1)
+
+-- the plans with another in the place of that number
+abbrev pub with_plan : List Plan → ℕ → Plan → List Plan
+with_plan plans number plan = slice_set plans (number - 1) plan
+
+-- the plans with that one changed
+unfoldable pub changed_at : (Plan → Plan) → ℕ → List Plan → List Plan
+changed_at change number plans = option_map_or (λ plan. with_plan plans number (change plan)) (plan_at plans number) plans
+
+abbrev pub with_state : PlanState → Plan → Plan
+with_state s plan = record plan { state = s }
+
+abbrev pub with_off_block : ℕ → Plan → Plan
+with_off_block moment plan = record plan { off_block = moment }

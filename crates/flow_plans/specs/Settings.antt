@@ -1,0 +1,20 @@
+-- When a desk starts, and its limits.
+use Rattle.std.specs.Prelude.{ℕ, ◌≤◌, ◌<◌}
+
+pub record Settings : Type 0 where
+  -- the desk's time at the start, in minutes from 1970-01-01 00:00 UTC
+  pub start : ℕ
+  -- from off-block to take-off, in minutes, at every aerodrome
+  pub taxi : ℕ
+  -- how many flight plans are accepted in all, cancelled ones counted
+  pub max_plans : ℕ
+  -- how many entries the journal holds
+  pub max_entries : ℕ
+
+-- a moment of the years 2000 to 2098
+abbrev pub IsDeskTime : ℕ → Type 0
+IsDeskTime minute = (15_778_080 ≤ minute) × (minute < 67_848_480)
+
+abbrev pub IsWithinLimits : Settings → Type 0
+IsWithinLimits s =
+    IsDeskTime s.start × (s.taxi ≤ 120) × (1 ≤ s.max_plans) × (s.max_plans ≤ 20_000) × (1 ≤ s.max_entries) × (s.max_entries ≤ 1_000_000)

@@ -1,0 +1,121 @@
+//! Finding plans by identification, departure and destination, without a walk over all plans.
+ghost use Rattle.std.specs.Prelude.{◌≡◌, ◌<◌, IfSome, OnOk, length};
+ghost use Rattle.flow_plans.specs.Chains.{flight_of_key, flight_of_parts, newest, AreLinked, IsNamed, StaysNamed};
+
+use crate::plan::Key;
+use fpl_message::Parts;
+use fpl_text::Text;
+use indexmap::IndexMap;
+use std::alloc::{AllocError, Allocator, Global};
+use std::hash::{BuildHasherDefault, FoldHasher};
+use std::marker::Model;
+
+/// What plans of all days of a flight have in common.
+#[derive(Debug, Drop, PartialEq, Eq, Hash)]
+pub(crate) struct FlightName {
+    ident: Text<7>,
+    dep: Text<4>,
+    dest: Text<4>,
+}
+
+impl FlightName {
+    pub(crate) fn of_key(key: &Key) -> FlightName
+        ensures { result ≡ flight_of_key key.now }
+    {
+        FlightName {
+            ident: key.ident.copied(),
+            dep: key.dep.copied(),
+            dest: key.dest.copied(),
+        }
+    }
+
+    pub(crate) fn of_parts(parts: &Parts) -> FlightName
+        ensures { result ≡ flight_of_parts parts.now }
+    {
+        FlightName {
+            ident: parts.ident.copied(),
+            dep: parts.dep.copied(),
+            dest: parts.dest.copied(),
+        }
+    }
+}
+
+/// A plan that was filed or amended under a flight name, by its place in the list, and the node before it.
+#[derive(Clone, Copy)]
+pub(crate) struct Node {
+    pub(crate) place: usize,
+    pub(crate) previous: Option<usize>,
+}
+
+/// From a flight name to the newest node of its chain. Nothing is ever taken out: a node counts only where its plan has the
+/// name now.
+#[derive(Drop)]
+pub(crate) struct Chains<A: Allocator + Copy = Global> {
+    heads: IndexMap<FlightName, usize, BuildHasherDefault<FoldHasher>, A>,
+    nodes: Vec<Node, A>,
+}
+
+impl<A: Allocator + Copy> Model for Chains<A> {
+    ghost use Rattle.flow_plans.specs.Chains.{Chained, AreLinked, AreHeads};
+
+    ghost Value = { Chained };
+
+    ghost view = { λ c. record { heads = c.heads.entries; nodes = c.nodes.items } };
+
+    ghost invariant = { λ c. AreLinked c.nodes.items × AreHeads c.heads.entries c.nodes.items };
+}
+
+impl<A: Allocator + Copy> Chains<A> {
+    /// No chains.
+    pub(crate) fn new(alloc: A) -> Self {
+        Chains {
+            heads: IndexMap::new(alloc),
+            nodes: Vec::new(alloc),
+        }
+    }
+
+    /// The newest node of a chain.
+    pub(crate) fn newest(&self, name: &FlightName) -> Option<usize>
+        ensures value { result ≡ newest self.now.heads name.now }
+        ensures within { IfSome result (λ at. at < length self.now.nodes) }
+    {
+        self.heads.get(name).copied()
+    }
+
+    /// The nodes.
+    pub(crate) fn nodes(&self) -> &[Node]
+        ensures value { result.now ≡ self.now.nodes }
+        ensures linked { AreLinked result.now }
+    {
+        &self.nodes
+    }
+
+    /// Names a place in the chain of a new key, unless that of the old one serves. After an `Err` all chains are as they were.
+    pub(crate) fn rename(&mut self, old: &Key, new: &Key, place: usize) -> Result<(), AllocError>
+        requires { IsNamed self.old (flight_of_key old.now) place }
+        ensures kept { StaysNamed self.old self.new }
+        ensures named { OnOk result (IsNamed self.new (flight_of_key new.now) place) }
+    {
+        let name = FlightName::of_key(new);
+        if name == FlightName::of_key(old) {
+            return Ok(());
+        }
+        self.push(name, place)
+    }
+
+    /// Names a place in the chain of a flight. After an `Err` all chains are as they were.
+    pub(crate) fn push(&mut self, name: FlightName, place: usize) -> Result<(), AllocError>
+        ensures kept { StaysNamed self.old self.new }
+        ensures named { OnOk result (IsNamed self.new name place) }
+    {
+        self.nodes.reserve(1)?;
+        let at = self.nodes.as_slice().len();
+        match self.heads.insert(name, at) {
+            Ok(previous) => {
+                self.nodes.push_reserved(Node { place, previous });
+                Ok(())
+            }
+            Err(_) => Err(AllocError),
+        }
+    }
+}

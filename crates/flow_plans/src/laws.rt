@@ -1,0 +1,84 @@
+//! Laws over the definitions that the contracts cite: two held plans never have the same key, and a number always names the
+//! plan that it was given to. The plans are those before a message and after it.
+
+ghost use Rattle.std.specs.Prelude.{◌≡◌, ◌<◌, ◌+◌, ◌↔◌, ℕ, true, List, [], length, Ok, Some};
+ghost use Rattle.fpl_message.specs.declared.short_message.Dla.{Dla};
+ghost use Rattle.fpl_message.specs.declared.short_message.Cnl.{Cnl};
+ghost use Rattle.fpl_message.specs.declared.short_message.Dep.{Dep};
+ghost use Rattle.fpl_message.specs.Messages.{Fpl, Chg};
+ghost use Rattle.flow_plans.specs.declared.plan.Key.{Key};
+ghost use Rattle.flow_plans.specs.Plans.{Plan, is_held, same_key, plan_at};
+ghost use Rattle.flow_plans.specs.Changes.{Changed, plan_of, moment_of, filed, delayed, cancelled, departed, amended};
+ghost use Rattle.flow_plans.specs.Distinct.{AreDistinct, KeepKeys, KeepFlights};
+
+/// Keys that the desk takes for the same are equal.
+pub fn same_keys_are_equal()
+    ensures { (k l : Key) → (same_key k l ≡ true) ↔ (k ≡ l) }
+{}
+
+/// Held plans of different numbers have different keys.
+pub fn held_keys_differ()
+    ensures { (plans : List Plan) → AreDistinct plans → (m n : ℕ) (p q : Plan) → 0 < m → 0 < n
+        → plan_at plans m ≡ Some p → plan_at plans n ≡ Some q → is_held p.state ≡ true → is_held q.state ≡ true
+        → (m ≡ n → ⊥) → p.key ≡ q.key → ⊥ }
+{}
+
+/// A desk starts without plans.
+pub fn no_plans_are_distinct()
+    ensures { AreDistinct [] }
+{}
+
+/// A filed plan has a key that no held plan has, and the next number.
+pub fn filed_plans_stay_distinct()
+    ensures distinct { (max now : ℕ) (plans later : List Plan) (m : Fpl) → filed max now plans m ≡ Ok later
+        → AreDistinct plans → AreDistinct later }
+    ensures keys { (max now : ℕ) (plans later : List Plan) (m : Fpl) → filed max now plans m ≡ Ok later
+        → KeepKeys plans later }
+    ensures count { (max now : ℕ) (plans later : List Plan) (m : Fpl) → filed max now plans m ≡ Ok later
+        → length later ≡ length plans + 1 }
+    ensures number { (max now : ℕ) (plans later : List Plan) (m : Fpl) → filed max now plans m ≡ Ok later
+        → plan_at later (length plans + 1) ≡ Some (plan_of (moment_of now m) m) }
+{}
+
+/// A delay keeps all keys and numbers.
+pub fn delayed_plans_stay_distinct()
+    ensures distinct { (now : ℕ) (plans : List Plan) (m : Dla) (later : Changed) → delayed now plans m ≡ Ok later
+        → AreDistinct plans → AreDistinct later.plans }
+    ensures keys { (now : ℕ) (plans : List Plan) (m : Dla) (later : Changed) → delayed now plans m ≡ Ok later
+        → KeepKeys plans later.plans }
+    ensures count { (now : ℕ) (plans : List Plan) (m : Dla) (later : Changed) → delayed now plans m ≡ Ok later
+        → length later.plans ≡ length plans }
+{}
+
+/// A cancelled plan keeps its number and its key, which it does not hold any more.
+pub fn cancelled_plans_stay_distinct()
+    ensures distinct { (plans : List Plan) (m : Cnl) (later : Changed) → cancelled plans m ≡ Ok later
+        → AreDistinct plans → AreDistinct later.plans }
+    ensures keys { (plans : List Plan) (m : Cnl) (later : Changed) → cancelled plans m ≡ Ok later
+        → KeepKeys plans later.plans }
+    ensures count { (plans : List Plan) (m : Cnl) (later : Changed) → cancelled plans m ≡ Ok later
+        → length later.plans ≡ length plans }
+{}
+
+/// A departed plan holds its key as before: only a filed one departs.
+pub fn departed_plans_stay_distinct()
+    ensures distinct { (plans : List Plan) (m : Dep) (later : Changed) → departed plans m ≡ Ok later
+        → AreDistinct plans → AreDistinct later.plans }
+    ensures keys { (plans : List Plan) (m : Dep) (later : Changed) → departed plans m ≡ Ok later
+        → KeepKeys plans later.plans }
+    ensures count { (plans : List Plan) (m : Dep) (later : Changed) → departed plans m ≡ Ok later
+        → length later.plans ≡ length plans }
+{}
+
+/// An amended destination makes a key that no other held plan has; the rest of the key stays, and so do all numbers.
+pub fn amended_plans_stay_distinct()
+    ensures distinct { (now : ℕ) (plans : List Plan) (m : Chg) (later : Changed) → amended now plans m ≡ Ok later
+        → AreDistinct plans → AreDistinct later.plans }
+    ensures keys { (now : ℕ) (plans : List Plan) (m : Chg) (later : Changed) → amended now plans m ≡ Ok later
+        → KeepFlights plans later.plans }
+    ensures count { (now : ℕ) (plans : List Plan) (m : Chg) (later : Changed) → amended now plans m ≡ Ok later
+        → length later.plans ≡ length plans }
+    ensures others { (now : ℕ) (plans : List Plan) (m : Chg) (later : Changed) → amended now plans m ≡ Ok later
+        → (number : ℕ) → 0 < number → (number ≡ later.number → ⊥)
+        → plan_at later.plans number ≡ plan_at plans number }
+{}

@@ -1,0 +1,21 @@
+//! Flight plans by number: filing them, and what later messages change.
+#![tactic(auto)]
+
+mod amending;
+mod chains;
+mod fault;
+pub mod laws;
+mod matching;
+mod plan;
+mod setup;
+mod store;
+#[cfg(test)]
+mod tests;
+mod texts;
+mod undo;
+
+pub use fault::PlanFault;
+pub use fpl_message::Parts;
+pub use plan::{Key, Plan, PlanState};
+pub use setup::{MAX_ENTRIES, MAX_PLANS, MAX_TAXI, Setup, is_desk_time};
+pub use store::PlanStore;

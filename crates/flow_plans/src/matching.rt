@@ -1,0 +1,198 @@
+//! Finding the plan that a message is about.
+ghost use Rattle.std.specs.Prelude.{◌≡◌, ◌≤◌, ◌<◌, ℕ, true, false, not, ◌&&◌, ◌==◌, Some, slice_get, length, IfOk, IfSome};
+ghost use Rattle.std.specs.List.{list_any};
+ghost use Rattle.flow_plans.specs.Plans.{plan_at, is_held_as};
+ghost use Rattle.flow_plans.specs.Matching.{is_candidate, is_gone, matching};
+ghost use Rattle.flow_plans.specs.Searching.{with_candidate, with_gone, with_one_more, passes_at, IsSound, IsCounted, IsFreeAt, IsHeldBeside};
+ghost use Rattle.flow_plans.specs.Chains.{IsReached, AreLinked, AreNamed};
+ghost use Rattle.flow_plans.specs.Changes.{Answers, others};
+
+use crate::chains::{Chains, FlightName, Node};
+use crate::fault::PlanFault;
+use crate::plan::{Key, Plan, PlanState};
+use fpl_message::Parts;
+use std::alloc::Allocator;
+
+/// What a search has found so far, by place from 0.
+#[derive(Clone, Copy)]
+pub(crate) enum Found {
+    Nothing,
+    /// A plan that agrees, but has departed.
+    Gone,
+    One(usize),
+    Several,
+}
+
+impl Found {
+    fn with_candidate(self, place: usize) -> Found
+        ensures { result ≡ with_candidate place self }
+    {
+        match self {
+            Found::Nothing | Found::Gone => Found::One(place),
+            Found::One(other) => { if other == place { self } else { Found::Several } }
+            Found::Several => self,
+        }
+    }
+
+    fn with_gone(self) -> Found
+        ensures { result ≡ with_gone self }
+    {
+        match self {
+            Found::Nothing => Found::Gone,
+            _ => self,
+        }
+    }
+
+    /// With the plan at a place.
+    fn with<A: Allocator + Copy>(self, place: usize, plan: &Plan<A>, parts: &Parts) -> Found
+        ensures { result ≡ with_one_more (is_candidate parts.now plan.now) (is_gone parts.now plan.now) place self }
+    {
+        if plan.is_candidate(parts) {
+            return self.with_candidate(place);
+        }
+        if plan.is_gone(parts) {
+            return self.with_gone();
+        }
+        self
+    }
+}
+
+/// With the plan at a place, where there is one.
+fn with_place<A: Allocator + Copy>(
+    found: Found,
+    plans: &[Plan<A>],
+    place: usize,
+    parts: &Parts,
+) -> Found
+    ensures { result ≡ with_one_more (passes_at (is_candidate parts.now) plans.now place) (passes_at (is_gone parts.now) plans.now place) place found }
+{
+    match plans.get(place) {
+        Some(plan) => found.with(place, plan, parts),
+        None => found,
+    }
+}
+
+/// The node at a place.
+fn node_at(nodes: &[Node], at: usize) -> Node
+    requires { at < length nodes.now }
+    ensures { slice_get nodes.now at ≡ Some result }
+{
+    nodes[at]
+}
+
+/// What the plans of a chain give.
+fn found_in<A: Allocator + Copy>(
+    plans: &[Plan<A>],
+    nodes: &[Node],
+    newest: Option<usize>,
+    parts: &Parts,
+) -> Found
+    requires linked { AreLinked nodes.now }
+    requires within { IfSome newest (λ at. at < length nodes.now) }
+    ensures sound { IsSound (is_candidate parts.now) (is_gone parts.now) plans.now result }
+    ensures all { (place : ℕ) → IsReached nodes.now newest place → IsCounted (is_candidate parts.now) (is_gone parts.now) plans.now result place }
+{
+    let mut found = Found::Nothing;
+    let mut next = newest;
+    while let Some(at) = next {
+        let node = node_at(nodes, at);
+        found = with_place(found, plans, node.place, parts);
+        next = node.previous;
+    }
+    found
+}
+
+/// The number of the plan that a message with these parts is about.
+pub(crate) fn matching<A: Allocator + Copy>(
+    plans: &[Plan<A>],
+    chains: &Chains<A>,
+    parts: &Parts,
+) -> Result<u32, PlanFault>
+    requires few { length plans.now ≤ 20_000 }
+    requires named { AreNamed chains.now plans.now }
+    ensures answer { Answers result (matching plans.now parts.now) }
+    ensures within { IfOk result (λ n. (0 < n) × (n ≤ length plans.now)) }
+    ensures filed { IfOk result (λ n. IfSome (plan_at plans.now n) (λ p. p.state ≡ PlanState.Filed)) }
+{
+    let newest = chains.newest(&FlightName::of_parts(parts));
+    match found_in(plans, chains.nodes(), newest, parts) {
+        Found::Nothing => Err(PlanFault::NoPlan),
+        Found::Gone => Err(PlanFault::AlreadyDeparted),
+        Found::One(place) => Ok(place as u32 + 1),
+        Found::Several => Err(PlanFault::Ambiguous),
+    }
+}
+
+/// Whether the plan at a place is held with this key.
+fn is_held_at<A: Allocator + Copy>(plans: &[Plan<A>], place: usize, key: &Key) -> bool
+    ensures { result ≡ passes_at (is_held_as key.now) plans.now place }
+{
+    match plans.get(place) {
+        Some(plan) => plan.is_held_as(key),
+        None => false,
+    }
+}
+
+/// The same, but for one place that does not count.
+fn is_held_beside<A: Allocator + Copy>(
+    plans: &[Plan<A>],
+    place: usize,
+    key: &Key,
+    but: usize,
+) -> bool
+    ensures { result ≡ (not (place == but) && passes_at (is_held_as key.now) plans.now place) }
+{
+    place != but && is_held_at(plans, place, key)
+}
+
+/// Whether a plan of a chain, but the one at a place, is held with this key.
+fn is_held_in<A: Allocator + Copy>(
+    plans: &[Plan<A>],
+    nodes: &[Node],
+    newest: Option<usize>,
+    key: &Key,
+    but: usize,
+) -> bool
+    requires linked { AreLinked nodes.now }
+    requires within { IfSome newest (λ at. at < length nodes.now) }
+    ensures found { result ≡ true → IsHeldBeside key.now plans.now but }
+    ensures none { result ≡ false → (place : ℕ) → IsReached nodes.now newest place → IsFreeAt key.now plans.now but place }
+{
+    let mut next = newest;
+    while let Some(at) = next {
+        let node = node_at(nodes, at);
+        if is_held_beside(plans, node.place, key, but) {
+            return true;
+        }
+        next = node.previous;
+    }
+    false
+}
+
+/// Whether a held plan has this key.
+pub(crate) fn holds_key<A: Allocator + Copy>(
+    plans: &[Plan<A>],
+    chains: &Chains<A>,
+    key: &Key,
+) -> bool
+    requires { AreNamed chains.now plans.now }
+    ensures { result ≡ list_any (is_held_as key.now) plans.now }
+{
+    let newest = chains.newest(&FlightName::of_key(key));
+    is_held_in(plans, chains.nodes(), newest, key, plans.len())
+}
+
+/// Whether a plan but that one is held with this key.
+pub(crate) fn others_hold_key<A: Allocator + Copy>(
+    plans: &[Plan<A>],
+    chains: &Chains<A>,
+    number: u32,
+    key: &Key,
+) -> bool
+    requires number { (0 < number) × (number ≤ length plans.now) }
+    requires named { AreNamed chains.now plans.now }
+    ensures { result ≡ list_any (is_held_as key.now) (others number plans.now) }
+{
+    let newest = chains.newest(&FlightName::of_key(key));
+    is_held_in(plans, chains.nodes(), newest, key, (number - 1) as usize)
+}

@@ -1,0 +1,428 @@
+//! One flight plan.
+ghost use Rattle.std.specs.Prelude.{◌≡◌, ◌≤◌, ◌<◌, IfOk, IfSome, None, option_copied};
+ghost use Rattle.fpl_text.specs.Words.{words_of};
+ghost use Rattle.fpl_items.specs.Items.{items_of, estimate_for, elapsed_to, day_of_items};
+ghost use Rattle.flow_plans.specs.Entries.{take_off, elapsed_at, entry_at, subject};
+ghost use Rattle.flow_plans.specs.Plans.{is_held, is_visual, same_key, is_held_as, text_of, with_state, with_off_block};
+ghost use Rattle.flow_plans.specs.Matching.{agrees, is_candidate, is_gone};
+ghost use Rattle.flow_plans.specs.Changes.{plan_of, key_of, changes_key, key_after, amended_plan};
+ghost use Rattle.std.specs.Option.{option_map_or};
+
+use crate::amending::{alternates_after, elapsed_after, exempt_after, rules_after};
+use crate::texts::Texts;
+use fpl_items::{ItemWords, Items, Other18};
+use fpl_message::{Chg, Fpl, Parts, Spot};
+use fpl_text::{Alternates, Day, FlightRules, Minute, Text, read_elapsed};
+use std::alloc::{AllocError, Allocator, Global};
+use std::marker::Model;
+
+/// Where a plan stands.
+#[derive(Clone, Copy, Debug, PartialEq, Eq)]
+pub enum PlanState {
+    Filed,
+    Departed,
+    Cancelled,
+}
+
+/// What names a plan: two held plans never have the same key.
+#[derive(Debug, Drop, PartialEq, Eq, Hash)]
+pub struct Key {
+    /// The identification, without the transponder code.
+    pub ident: Text<7>,
+    pub dep: Text<4>,
+    pub dest: Text<4>,
+    /// The day of the off-block moment as first filed.
+    pub day: Day,
+}
+
+impl Key {
+    /// Whether this is the same key.
+    #[tactic(auto, unfolding(crate::specs::Plans::same_key))]
+    pub(crate) fn is(&self, key: &Key) -> bool
+        ensures { result ≡ same_key self.now key.now }
+    {
+        self.day == key.day
+            && self.ident.as_bytes() == key.ident.as_bytes()
+            && self.dep.as_bytes() == key.dep.as_bytes()
+            && self.dest.as_bytes() == key.dest.as_bytes()
+    }
+
+    /// Whether it agrees with the parts of a message: in the day too where they name one.
+    #[tactic(auto, unfolding(crate::specs::Matching::agrees))]
+    pub(crate) fn agrees(&self, parts: &Parts) -> bool
+        ensures { result ≡ agrees parts.now self.now }
+    {
+        if let Some(day) = parts.day {
+            if self.day != day {
+                return false;
+            }
+        }
+        self.ident.as_bytes() == parts.ident.as_bytes()
+            && self.dep.as_bytes() == parts.dep.as_bytes()
+            && self.dest.as_bytes() == parts.dest.as_bytes()
+    }
+
+    /// Whether a message would make another flight of the plan: it amends the departure to another place, or field 18 to a
+    /// DOF item of another day.
+    #[tactic(auto, unfolding(crate::specs::Changes::changes_key))]
+    pub(crate) fn is_changed_by<A: Allocator + Copy>(&self, message: &Chg<A>) -> bool
+        ensures { result ≡ changes_key message.now self.now }
+    {
+        if let Some(departure) = message.departure() {
+            if departure.place.as_bytes() != self.dep.as_bytes() {
+                return true;
+            }
+        }
+        match day_of(message.other()) {
+            Some(day) => day != self.day,
+            None => false,
+        }
+    }
+
+    /// The key after a message, which may amend the destination.
+    #[tactic(auto, unfolding(crate::specs::Changes::key_after))]
+    pub(crate) fn amended<A: Allocator + Copy>(&self, message: &Chg<A>) -> Key
+        ensures { result ≡ key_after self.now message.now }
+    {
+        let dest = match message.destination() {
+            Some(destination) => destination.place.copied(),
+            None => self.dest.copied(),
+        };
+        Key {
+            ident: self.ident.copied(),
+            dep: self.dep.copied(),
+            dest,
+            day: self.day,
+        }
+    }
+}
+
+/// The day of a DOF item in an amended field 18.
+fn day_of<A: Allocator + Copy>(amended: Option<&Other18<A>>) -> Option<Day>
+    ensures { result ≡ option_map_or day_of_items (option_copied amended.entry) None }
+{
+    match amended {
+        Some(other) => other.day(),
+        None => None,
+    }
+}
+
+/// A flight plan as the desk holds it.
+#[derive(Drop)]
+pub struct Plan<A: Allocator + Copy = Global> {
+    key: Key,
+    state: PlanState,
+    off_block: Minute,
+    elapsed: u32,
+    alternates: Alternates,
+    rules: FlightRules,
+    exempt: bool,
+    texts: Texts<A>,
+}
+
+impl<A: Allocator + Copy> Model for Plan<A> {
+    ghost use Rattle.std.specs.Prelude.{◌<◌};
+    ghost use Rattle.flow_plans.specs.Plans.{Plan as Held};
+
+    ghost Value = { Held };
+
+    ghost view = { λ p. record {
+      key = p.key;
+      state = p.state;
+      off_block = p.off_block;
+      elapsed = p.elapsed;
+      alternates = p.alternates;
+      rules = p.rules;
+      exempt = p.exempt;
+      texts = p.texts;
+    } };
+
+    ghost invariant = { λ p. p.off_block < 67_855_680 };
+}
+
+impl<A: Allocator + Copy> Plan<A> {
+    /// The plan that a flight plan message files, with this off-block moment.
+    #[tactic(auto, unfolding(crate::specs::Changes::plan_of))]
+    pub(crate) fn new(alloc: A, message: &Fpl<A>, off_block: Minute) -> Result<Self, AllocError>
+        requires { off_block < 67_855_680 }
+        ensures { IfOk result (λ p. p ≡ plan_of off_block message.now) }
+    {
+        let texts = Texts::new(
+            alloc,
+            message.field(2),
+            message.field(3),
+            message.field(4),
+            message.field(6),
+            message.field(8),
+        )?;
+        Ok(Plan {
+            key: key_of(message, off_block),
+            state: PlanState::Filed,
+            off_block,
+            elapsed: message.elapsed(),
+            alternates: message.destination().alternates.copied(),
+            rules: message.rules().rules,
+            exempt: message.other().exempt(),
+            texts,
+        })
+    }
+
+    /// The plan with the amendments of a message made, with that key and that off-block moment.
+    #[tactic(auto, unfolding(crate::specs::Changes::amended_plan))]
+    pub(crate) fn amended(
+        &self,
+        alloc: A,
+        message: &Chg<A>,
+        key: Key,
+        off_block: Minute,
+    ) -> Result<Self, AllocError>
+        requires key { key ≡ key_after self.now.key message.now }
+        requires off_block { off_block < 67_855_680 }
+        ensures { IfOk result (λ p. p ≡ amended_plan off_block message.now self.now) }
+    {
+        let texts = self.texts.amended(alloc, message)?;
+        Ok(Plan {
+            key,
+            state: self.state,
+            off_block,
+            elapsed: elapsed_after(self.elapsed, message.destination()),
+            alternates: alternates_after(&self.alternates, message.destination()),
+            rules: rules_after(self.rules, message.rules()),
+            exempt: exempt_after(self.exempt, message.other()),
+            texts,
+        })
+    }
+
+    /// Whether this is a held plan with that key.
+    pub(crate) fn is_held_as(&self, key: &Key) -> bool
+        ensures { result ≡ is_held_as key.now self.now }
+    {
+        self.is_held() && self.key.is(key)
+    }
+
+    /// Whether the plan was filed and not cancelled.
+    pub fn is_held(&self) -> bool
+        ensures { result ≡ is_held self.now.state }
+    {
+        match self.state {
+            PlanState::Filed | PlanState::Departed => true,
+            PlanState::Cancelled => false,
+        }
+    }
+
+    /// Where the plan stands.
+    pub fn state(&self) -> PlanState
+        ensures { result ≡ self.now.state }
+    {
+        self.state
+    }
+
+    /// What names the plan.
+    pub fn key(&self) -> &Key
+        ensures { result.now ≡ self.now.key }
+    {
+        &self.key
+    }
+
+    /// Whether the plan is filed and agrees with the parts of a message.
+    pub(crate) fn is_candidate(&self, parts: &Parts) -> bool
+        ensures { result ≡ is_candidate parts.now self.now }
+    {
+        match self.state {
+            PlanState::Filed => self.key.agrees(parts),
+            PlanState::Departed | PlanState::Cancelled => false,
+        }
+    }
+
+    /// Whether the plan has departed and agrees with the parts of a message.
+    pub(crate) fn is_gone(&self, parts: &Parts) -> bool
+        ensures { result ≡ is_gone parts.now self.now }
+    {
+        match self.state {
+            PlanState::Departed => self.key.agrees(parts),
+            PlanState::Filed | PlanState::Cancelled => false,
+        }
+    }
+
+    /// Gives the plan another state.
+    pub(crate) fn set_state(&mut self, state: PlanState)
+        ensures { self.new ≡ with_state state self.old }
+    {
+        self.state = state;
+    }
+
+    /// Gives the plan another off-block moment.
+    pub(crate) fn set_off_block(&mut self, moment: Minute)
+        requires { moment < 67_855_680 }
+        ensures { self.new ≡ with_off_block moment self.old }
+    {
+        self.off_block = moment;
+    }
+
+    /// The off-block moment, which lies before 2099-01-06.
+    pub fn off_block(&self) -> Minute
+        ensures value { result ≡ self.now.off_block }
+        ensures bound { result < 67_855_680 }
+    {
+        self.off_block
+    }
+
+    /// The squeezed text that the plan holds of field 8, 9, 10, 15 or 18. None for a field of another number.
+    #[tactic(auto, unfolding(crate::specs::Plans::text_of))]
+    pub fn text(&self, field: u8) -> Option<&[u8]>
+        ensures { option_copied result ≡ text_of field self.now.texts }
+    {
+        match field {
+            8 => Some(self.texts.field8()),
+            9 => Some(self.texts.field9()),
+            10 => Some(self.texts.field10()),
+            15 => Some(self.texts.field15()),
+            18 => Some(self.texts.field18()),
+            _ => None,
+        }
+    }
+
+    /// The alternate aerodromes, at most two.
+    pub fn alternates(&self) -> &Alternates
+        ensures { result.now ≡ self.now.alternates }
+    {
+        &self.alternates
+    }
+
+    /// The minutes from take-off to a place of the way, by the first estimate for it in the EET items of field 18.
+    pub fn elapsed(&self, place: &[u8]) -> Option<u32>
+        ensures value { result ≡ elapsed_at place.now self.now }
+        ensures bound { IfSome result (λ minutes. minutes < 6000) }
+    {
+        elapsed_to(self.texts.field18(), place)
+    }
+
+    /// The moment of take-off, at most 120 minutes after the off-block moment.
+    #[tactic(auto, unfolding(fpl_text::specs::Moments::moment_within))]
+    pub(crate) fn take_off(&self, taxi: u32) -> Minute
+        requires { taxi ≤ 120 }
+        ensures { result ≡ take_off taxi self.now }
+    {
+        self.off_block.plus(taxi).unwrap()
+    }
+
+    /// The moment of entry at a place.
+    #[tactic(auto, unfolding(crate::specs::Entries::entry_at))]
+    pub(crate) fn entry_at(&self, taxi: u32, spot: &Spot) -> Option<Minute>
+        requires { taxi ≤ 120 }
+        ensures { result ≡ entry_at taxi spot.now self.now }
+    {
+        let take_off = self.take_off(taxi);
+        match spot {
+            Spot::Dep(place) => {
+                if self.key.dep.as_bytes() == place.as_bytes() {
+                    Some(take_off)
+                } else {
+                    None
+                }
+            }
+            Spot::Arr(place) => {
+                if self.key.dest.as_bytes() == place.as_bytes() {
+                    take_off.plus(self.elapsed)
+                } else {
+                    None
+                }
+            }
+            Spot::Via(place) => {
+                let minutes = self.elapsed(place.as_bytes())?;
+                take_off.plus(minutes)
+            }
+        }
+    }
+
+    /// The entry at the place of a regulation that applies to the flight.
+    #[tactic(auto, unfolding(crate::specs::Entries::subject))]
+    pub(crate) fn subject(
+        &self,
+        taxi: u32,
+        spot: &Spot,
+        start: Minute,
+        end: Minute,
+    ) -> Option<Minute>
+        requires { taxi ≤ 120 }
+        ensures { result ≡ subject taxi spot.now start end self.now }
+    {
+        if self.exempt || self.state != PlanState::Filed {
+            return None;
+        }
+        if self.rules == FlightRules::Visual {
+            return None;
+        }
+        if self.key.dep.as_bytes() == b"AFIL".as_slice() {
+            return None;
+        }
+        let moment = self.entry_at(taxi, spot)?;
+        if start <= moment && moment < end {
+            Some(moment)
+        } else {
+            None
+        }
+    }
+
+    /// The total elapsed time, in minutes.
+    pub fn elapsed_time(&self) -> u32
+        ensures { result ≡ self.now.elapsed }
+    {
+        self.elapsed
+    }
+
+    /// The flight rules.
+    pub fn rules(&self) -> FlightRules
+        ensures { result ≡ self.now.rules }
+    {
+        self.rules
+    }
+
+    /// Whether field 18 exempts the flight from slots.
+    pub fn exempt(&self) -> bool
+        ensures { result ≡ self.now.exempt }
+    {
+        self.exempt
+    }
+}
+
+/// The elapsed time, in minutes, of the first of these estimates that is for a place.
+fn estimate_for(words: ItemWords<'_>, place: &[u8]) -> Option<u32>
+    ensures value { result ≡ estimate_for place.now words.entry }
+    ensures bound { IfSome result (λ minutes. minutes < 6000) }
+{
+    for word in words {
+        let (before, time) = word.split_at(word.len().saturating_sub(4));
+        if before == place {
+            return read_elapsed(time);
+        }
+    }
+    None
+}
+
+/// The elapsed time, in minutes, of the first estimate for a place in a field 18.
+fn elapsed_to(field: &[u8], place: &[u8]) -> Option<u32>
+    ensures value { result ≡ elapsed_to place.now (items_of (words_of field.now)) }
+    ensures bound { IfSome result (λ minutes. minutes < 6000) }
+{
+    for item in Items::new(field) {
+        if item.name() == b"EET".as_slice() {
+            if let Some(minutes) = estimate_for(item.words(), place) {
+                return Some(minutes);
+            }
+        }
+    }
+    None
+}
+
+/// The key of the plan that a flight plan message files.
+pub(crate) fn key_of<A: Allocator + Copy>(message: &Fpl<A>, off_block: Minute) -> Key
+    ensures { result ≡ key_of off_block message.now }
+{
+    Key {
+        ident: message.ident().name.copied(),
+        dep: message.departure().place.copied(),
+        dest: message.destination().place.copied(),
+        day: off_block.day(),
+    }
+}

@@ -1,0 +1,106 @@
+//! When a desk starts, and its limits.
+ghost use Rattle.std.specs.Prelude.{◌≡◌, ◌≤◌, ◌<◌, ◌↔◌, IsSome, IfSome, IsTrue};
+ghost use Rattle.flow_plans.specs.Settings.{IsWithinLimits, IsDeskTime};
+
+use fpl_text::Minute;
+use std::marker::Model;
+
+/// The taxi time at most, in minutes.
+pub const MAX_TAXI: u32 = 120;
+/// The flight plans that a desk accepts at most, cancelled ones counted.
+pub const MAX_PLANS: u32 = 20_000;
+/// The entries of a journal at most.
+pub const MAX_ENTRIES: u32 = 1_000_000;
+/// 2000-01-01 00:00 UTC.
+const FIRST_MINUTE: u32 = 15_778_080;
+/// 2099-01-01 00:00 UTC.
+const END_MINUTE: u32 = 67_848_480;
+
+/// When a desk starts, the taxi time of every aerodrome, and how much the desk takes in.
+#[derive(Clone, Copy, Debug, PartialEq, Eq)]
+pub struct Setup {
+    start: Minute,
+    taxi: u32,
+    max_plans: u32,
+    max_entries: u32,
+}
+
+impl Model for Setup {
+    ghost use Rattle.flow_plans.specs.Settings.{Settings, IsWithinLimits};
+
+    ghost Value = { Settings };
+
+    ghost view = { λ s. record { start = s.start; taxi = s.taxi; max_plans = s.max_plans; max_entries = s.max_entries } };
+
+    ghost invariant = { λ s. IsWithinLimits (record { start = s.start; taxi = s.taxi; max_plans = s.max_plans; max_entries = s.max_entries }) };
+
+    ghost inverse = { λ s. record { start = s.start; taxi = s.taxi; max_plans = s.max_plans; max_entries = s.max_entries } };
+}
+
+impl Setup {
+    /// The setup of a desk that begins at `now`, a moment of the years 2000 to 2098.
+    ///
+    /// None where a limit is passed: a taxi time of 0 to 120 minutes, 1 to 20,000 flight plans, 1 to 1,000,000 entries.
+    pub fn new(now: Minute, taxi: u32, max_plans: u32, max_entries: u32) -> Option<Setup>
+        ensures limits { IsSome result ↔ IsWithinLimits (record { start = now; taxi = taxi; max_plans = max_plans; max_entries = max_entries }) }
+        ensures value { IfSome result (λ s. s ≡ record { start = now; taxi = taxi; max_plans = max_plans; max_entries = max_entries }) }
+    {
+        if !is_desk_time(now) || taxi > MAX_TAXI {
+            return None;
+        }
+        if max_plans < 1 || max_plans > MAX_PLANS {
+            return None;
+        }
+        if max_entries < 1 || max_entries > MAX_ENTRIES {
+            return None;
+        }
+        Some(Setup {
+            start: now,
+            taxi,
+            max_plans,
+            max_entries,
+        })
+    }
+
+    /// The desk's time at the start.
+    pub fn start(&self) -> Minute
+        ensures value { result ≡ self.now.start }
+        ensures years { IsDeskTime result }
+    {
+        self.start
+    }
+
+    /// The minutes from off-block to take-off.
+    pub fn taxi(&self) -> u32
+        ensures value { result ≡ self.now.taxi }
+        ensures bound { result ≤ 120 }
+    {
+        self.taxi
+    }
+
+    /// How many flight plans are accepted in all.
+    pub fn max_plans(&self) -> u32
+        ensures value { result ≡ self.now.max_plans }
+        ensures some { 1 ≤ result }
+        ensures bound { result ≤ 20_000 }
+    {
+        self.max_plans
+    }
+
+    /// How many entries the journal holds.
+    pub fn max_entries(&self) -> u32
+        ensures value { result ≡ self.now.max_entries }
+        ensures some { 1 ≤ result }
+        ensures bound { result ≤ 1_000_000 }
+    {
+        self.max_entries
+    }
+}
+
+/// Whether a moment lies in the years that a desk runs in, 2000 to 2098.
+pub fn is_desk_time(moment: Minute) -> bool
+    ensures { IsTrue result ↔ IsDeskTime moment }
+{
+    let minutes = moment.minutes();
+    FIRST_MINUTE <= minutes && minutes < END_MINUTE
+}

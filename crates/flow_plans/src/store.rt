@@ -1,0 +1,535 @@
+//! The plans by number.
+ghost use Rattle.std.specs.Prelude.{◌≡◌, ◌≤◌, ◌<◌, ◌+◌, ◌-◌, ◌*◌, ◌++◌, ◌∷◌, [], Ok, Err, Some, None, IfOk, IfErr, IfNone, OnOk, OnErr, IfSome, IsSome, IsTrue, ◌↔◌, MatchOption, length, slice_get, option_copied};
+ghost use Rattle.std.specs.List.{list_any};
+ghost use Rattle.flow_plans.specs.Settings.{IsDeskTime};
+ghost use Rattle.flow_plans.specs.Entries.{take_off, entry_at, subject};
+ghost use Rattle.flow_plans.specs.Undoing.{undone, IsOf};
+ghost use Rattle.flow_plans.specs.Chains.{flight_of_key, IsNamed, AreNamed, StaysNamed};
+ghost use Rattle.flow_plans.specs.Plans.{is_held_as, plan_at, with_plan, changed_at, with_state, with_off_block};
+ghost use Rattle.flow_plans.specs.Matching.{matching};
+ghost use Rattle.flow_plans.specs.Times.{first_from, delayed_to};
+ghost use Rattle.flow_plans.specs.Changes.{plan_of, moment_of, filed, cancelled, departed, delayed, amended, IsRefusal, IsJustRefusal, Answers};
+
+use crate::amending::amended;
+use crate::chains::{Chains, FlightName};
+use crate::fault::PlanFault;
+use crate::matching::{holds_key, matching};
+use crate::plan::{Plan, PlanState, key_of};
+use crate::setup::Setup;
+use crate::undo::LastChange;
+use fpl_message::{Chg, Cnl, Dep, Dla, Fpl, Parts, Spot};
+use fpl_text::{Day, Minute, TimeOfDay};
+use std::alloc::{AllocError, Allocator, Global};
+use std::marker::Model;
+use std::mem;
+
+/// Flight plans by number, from 1. Contracts see how many are accepted, the taxi time, the plans, and those before the last
+/// accepted change.
+#[derive(Drop)]
+pub struct PlanStore<A: Allocator + Copy = Global> {
+    alloc: A,
+    max_plans: u32,
+    taxi: u32,
+    plans: Vec<Plan<A>, A>,
+    chains: Chains<A>,
+    last: LastChange<A>,
+}
+
+impl<A: Allocator + Copy> Model for PlanStore<A> {
+    ghost use Rattle.std.specs.Prelude.{◌≤◌, length};
+    ghost use Rattle.flow_plans.specs.Stores.{Store};
+    ghost use Rattle.flow_plans.specs.Undoing.{undone, IsKept};
+
+    ghost Value = { Store };
+
+    ghost view = { λ s. record {
+      max_plans = s.max_plans;
+      taxi = s.taxi;
+      plans = s.plans.items;
+      before = undone s.plans.items s.last;
+    } };
+
+    ghost invariant = { λ s. IsKept s.max_plans s.taxi s.plans.items s.chains s.last };
+}
+
+impl<A: Allocator + Copy> PlanStore<A> {
+    /// A store with no plans.
+    pub fn new(alloc: A, setup: &Setup) -> Self
+        ensures limit { result.max_plans ≡ setup.now.max_plans }
+        ensures taxi { result.taxi ≡ setup.now.taxi }
+        ensures plans { result.plans ≡ [] }
+        ensures before { result.before ≡ None }
+    {
+        PlanStore {
+            alloc,
+            max_plans: setup.max_plans(),
+            taxi: setup.taxi(),
+            plans: Vec::new(alloc),
+            chains: Chains::new(alloc),
+            last: LastChange::Nothing,
+        }
+    }
+
+    /// How many plans were accepted, cancelled ones counted.
+    pub fn count(&self) -> u32
+        ensures count { result ≡ length self.now.plans }
+        ensures limit { result ≤ self.now.max_plans }
+        ensures bound { result ≤ 20_000 }
+    {
+        self.plans.len() as u32
+    }
+
+    /// The plan of this number.
+    pub fn plan(&self, number: u32) -> Option<&Plan<A>>
+        requires { 0 < number }
+        ensures { option_copied result ≡ slice_get self.now.plans (number - 1) }
+    {
+        self.plans.get((number - 1) as usize)
+    }
+
+    /// Takes in a flight plan, and answers its number, the next one. After an `Err` the store is as it was.
+    ///
+    /// With a DOF item its off-block moment is that day's, without one the first at its time that is not before the
+    /// desk's time. It must not be before the desk's time (Past) nor more than 120 hours after it (TooEarly), no held
+    /// plan may have the same key (AlreadyHeld), and there must be room (PlansFull).
+    pub fn file(&mut self, message: &Fpl<A>, now: Minute) -> Result<u32, PlanFault>
+        requires { IsDeskTime now }
+        ensures ok { IfOk result (λ n. (filed self.old.max_plans now self.old.plans message.now ≡ Ok self.new.plans) × (n ≡ length self.new.plans)) }
+        ensures next { IfOk result (λ n. n ≡ length self.old.plans + 1) }
+        ensures refused { IfErr result (λ e. IsRefusal e (filed self.old.max_plans now self.old.plans message.now)) }
+        ensures before { OnOk result (self.new.before ≡ Some self.old.plans) }
+        ensures err { OnErr result (self.new.plans ≡ self.old.plans) }
+        ensures kept { OnErr result (self.new.before ≡ self.old.before) }
+        ensures limit { self.new.max_plans ≡ self.old.max_plans }
+        ensures taxi { self.new.taxi ≡ self.old.taxi }
+    {
+        let off_block = match why_refused(&self.plans, &self.chains, self.max_plans, message, now) {
+            Ok(off_block) => off_block,
+            Err(fault) => return Err(fault),
+        };
+        let Ok(plan) = Plan::new(self.alloc, message, off_block) else {
+            return Err(PlanFault::OutOfMemory);
+        };
+        let Ok(()) = append(&mut self.plans, &mut self.chains, plan) else {
+            return Err(PlanFault::OutOfMemory);
+        };
+        self.last = LastChange::Filed;
+        Ok(self.plans.len() as u32)
+    }
+
+    /// The number of the plan that a message with these parts is about.
+    ///
+    /// It is the one filed plan with that identification, departure and destination, and with that day where the message
+    /// names one. Several such plans are Ambiguous. Where there is none, it is AlreadyDeparted if a departed plan agrees,
+    /// else NoPlan.
+    pub fn find(&self, parts: &Parts) -> Result<u32, PlanFault>
+        ensures value { Answers result (matching self.now.plans parts.now) }
+        ensures within { IfOk result (λ n. (0 < n) × (n ≤ length self.now.plans)) }
+    {
+        matching(&self.plans, &self.chains, parts)
+    }
+
+    /// Cancels the plan that a message is about, which frees its key, and answers its number. It takes no memory. After an
+    /// `Err` the store is as it was.
+    #[tactic(auto, unfolding(crate::specs::Changes::cancelled))]
+    pub fn cancel(&mut self, message: &Cnl) -> Result<u32, PlanFault>
+        ensures ok { IfOk result (λ n. cancelled self.old.plans message.now ≡ Ok (record { plans = self.new.plans; number = n })) }
+        ensures within { IfOk result (λ n. (0 < n) × (n ≤ length self.new.plans)) }
+        ensures refused { IfErr result (λ e. IsJustRefusal e (cancelled self.old.plans message.now)) }
+        ensures before { OnOk result (self.new.before ≡ Some self.old.plans) }
+        ensures err { OnErr result (self.new ≡ self.old) }
+        ensures count { length self.new.plans ≡ length self.old.plans }
+        ensures limit { self.new.max_plans ≡ self.old.max_plans }
+        ensures taxi { self.new.taxi ≡ self.old.taxi }
+    {
+        let number = end_plan(
+            &mut self.plans,
+            &self.chains,
+            &message.parts,
+            PlanState::Cancelled,
+        )?;
+        self.last = LastChange::Ended { number };
+        Ok(number)
+    }
+
+    /// Notes the departure of the plan that a message is about, and answers its number. It takes no memory. After an `Err`
+    /// the store is as it was.
+    #[tactic(auto, unfolding(crate::specs::Changes::departed))]
+    pub fn depart(&mut self, message: &Dep) -> Result<u32, PlanFault>
+        ensures ok { IfOk result (λ n. departed self.old.plans message.now ≡ Ok (record { plans = self.new.plans; number = n })) }
+        ensures within { IfOk result (λ n. (0 < n) × (n ≤ length self.new.plans)) }
+        ensures refused { IfErr result (λ e. IsJustRefusal e (departed self.old.plans message.now)) }
+        ensures before { OnOk result (self.new.before ≡ Some self.old.plans) }
+        ensures err { OnErr result (self.new ≡ self.old) }
+        ensures count { length self.new.plans ≡ length self.old.plans }
+        ensures limit { self.new.max_plans ≡ self.old.max_plans }
+        ensures taxi { self.new.taxi ≡ self.old.taxi }
+    {
+        let number = end_plan(
+            &mut self.plans,
+            &self.chains,
+            &message.parts,
+            PlanState::Departed,
+        )?;
+        self.last = LastChange::Ended { number };
+        Ok(number)
+    }
+
+    /// Delays the plan that a message is about to the first moment at its time of day after the off-block moment held, and
+    /// answers its number. It takes no memory. After an `Err` the store is as it was.
+    ///
+    /// The same time of day is NotLater, more than 720 minutes DelayTooLong, a moment before the desk's time Past, and one
+    /// more than 120 hours after it TooEarly, the first of these that applies.
+    pub fn delay(&mut self, message: &Dla, now: Minute) -> Result<u32, PlanFault>
+        requires { IsDeskTime now }
+        ensures ok { IfOk result (λ n. delayed now self.old.plans message.now ≡ Ok (record { plans = self.new.plans; number = n })) }
+        ensures within { IfOk result (λ n. (0 < n) × (n ≤ length self.new.plans)) }
+        ensures refused { IfErr result (λ e. IsJustRefusal e (delayed now self.old.plans message.now)) }
+        ensures before { OnOk result (self.new.before ≡ Some self.old.plans) }
+        ensures err { OnErr result (self.new ≡ self.old) }
+        ensures count { length self.new.plans ≡ length self.old.plans }
+        ensures limit { self.new.max_plans ≡ self.old.max_plans }
+        ensures taxi { self.new.taxi ≡ self.old.taxi }
+    {
+        let (number, off_block) = delay_plan(&mut self.plans, &self.chains, message, now)?;
+        self.last = LastChange::Delayed { number, off_block };
+        Ok(number)
+    }
+
+    /// Amends the plan that a message is about, and answers its number: each amended field replaces the one held, all of them
+    /// or none. After an `Err` the store is as it was.
+    ///
+    /// An amended field 16 without a time keeps the elapsed time and the alternates. An amended field 13 moves the off-block
+    /// moment as a delay does. One that names another departure, and a DOF item of another day in an amended field 18, are
+    /// KeyChange, before any fault of the delay; last, another held plan with the new key is AlreadyHeld.
+    pub fn amend(&mut self, message: &Chg<A>, now: Minute) -> Result<u32, PlanFault>
+        requires { IsDeskTime now }
+        ensures ok { IfOk result (λ n. amended now self.old.plans message.now ≡ Ok (record { plans = self.new.plans; number = n })) }
+        ensures within { IfOk result (λ n. (0 < n) × (n ≤ length self.new.plans)) }
+        ensures refused { IfErr result (λ e. IsRefusal e (amended now self.old.plans message.now)) }
+        ensures before { OnOk result (self.new.before ≡ Some self.old.plans) }
+        ensures err { OnErr result (self.new ≡ self.old) }
+        ensures count { length self.new.plans ≡ length self.old.plans }
+        ensures limit { self.new.max_plans ≡ self.old.max_plans }
+        ensures taxi { self.new.taxi ≡ self.old.taxi }
+    {
+        let (number, plan) = amend_plan(
+            self.alloc,
+            &mut self.plans,
+            &mut self.chains,
+            message,
+            now,
+        )?;
+        self.last = LastChange::Amended { number, plan };
+        Ok(number)
+    }
+
+    /// Whether the last change can be taken back: from an accepted change until the next one or until it is taken back.
+    pub fn can_take_back(&self) -> bool
+        ensures { IsTrue result ↔ IsSome self.now.before }
+    {
+        match self.last {
+            LastChange::Nothing => false,
+            _ => true,
+        }
+    }
+
+    /// Takes the last change back: the plans are as they were before it. It takes no memory.
+    pub fn take_back(&mut self)
+        requires { IsSome self.old.before }
+        ensures plans { self.old.before ≡ Some self.new.plans }
+        ensures before { self.new.before ≡ None }
+        ensures limit { self.new.max_plans ≡ self.old.max_plans }
+        ensures taxi { self.new.taxi ≡ self.old.taxi }
+    {
+        let last = mem::replace(&mut self.last, LastChange::Nothing);
+        undo(&mut self.plans, last);
+    }
+
+    /// The moment of take-off of the plan of this number: its off-block moment and the taxi time.
+    pub fn take_off(&self, number: u32) -> Minute
+        requires some { 0 < number }
+        requires within { number ≤ length self.now.plans }
+        ensures { IfSome (plan_at self.now.plans number) (λ plan. result ≡ take_off self.now.taxi plan) }
+    {
+        self.plans[(number - 1) as usize].take_off(self.taxi)
+    }
+
+    /// The moment at which the plan of this number enters a place: its take-off at the departure, and later by the elapsed
+    /// times of fields 16 and 18 at the destination and on the way. None where the flight does not come there.
+    pub fn entry(&self, number: u32, spot: &Spot) -> Option<Minute>
+        requires some { 0 < number }
+        requires within { number ≤ length self.now.plans }
+        ensures { IfSome (plan_at self.now.plans number) (λ plan. result ≡ entry_at self.now.taxi spot.now plan) }
+    {
+        self.plans[(number - 1) as usize].entry_at(self.taxi, spot)
+    }
+
+    /// The entry of the plan of this number, where a regulation of that place applies to it: one from `start` to before
+    /// `end`, of a filed plan that is not flown by visual rules throughout, does not depart in the air (AFIL) and is not
+    /// exempt.
+    pub fn subject(&self, number: u32, spot: &Spot, start: Minute, end: Minute) -> Option<Minute>
+        requires some { 0 < number }
+        requires within { number ≤ length self.now.plans }
+        ensures { IfSome (plan_at self.now.plans number) (λ plan. result ≡ subject self.now.taxi spot.now start end plan) }
+    {
+        self.plans[(number - 1) as usize].subject(self.taxi, spot, start, end)
+    }
+}
+
+/// Appends a plan, and names it in the chains.
+fn append<A: Allocator + Copy>(
+    plans: &mut Vec<Plan<A>, A>,
+    chains: &mut Chains<A>,
+    plan: Plan<A>,
+) -> Result<(), AllocError>
+    requires { AreNamed chains.old plans.old.items }
+    ensures ok { OnOk result (plans.new.items ≡ plans.old.items ++ plan ∷ []) }
+    ensures err { OnErr result (plans.new.items ≡ plans.old.items) }
+    ensures named { AreNamed chains.new plans.new.items }
+    ensures kept { StaysNamed chains.old chains.new }
+{
+    plans.reserve(1)?;
+    let name = FlightName::of_key(plan.key());
+    chains.push(name, plans.as_slice().len())?;
+    plans.push_reserved(plan);
+    Ok(())
+}
+
+/// Amends the plan that a message is about, and answers its number and what it was.
+#[tactic(auto, unfolding(crate::specs::Changes::amended))]
+fn amend_plan<A: Allocator + Copy>(
+    alloc: A,
+    plans: &mut Vec<Plan<A>, A>,
+    chains: &mut Chains<A>,
+    message: &Chg<A>,
+    now: Minute,
+) -> Result<(u32, Plan<A>), PlanFault>
+    requires now { IsDeskTime now }
+    requires few { length plans.old.items ≤ 20_000 }
+    requires named { AreNamed chains.old plans.old.items }
+    ensures ok { IfOk result (λ r. amended now plans.old.items message.now ≡ Ok (record { plans = plans.new.items; number = r.0 })) }
+    ensures within { IfOk result (λ r. (0 < r.0) × (r.0 ≤ length plans.new.items)) }
+    ensures back { IfOk result (λ r. with_plan plans.new.items r.0 r.1 ≡ plans.old.items) }
+    ensures refused { IfErr result (λ e. IsRefusal e (amended now plans.old.items message.now)) }
+    ensures count { length plans.new.items ≡ length plans.old.items }
+    ensures err { OnErr result (plans.new.items ≡ plans.old.items) }
+    ensures named { AreNamed chains.new plans.new.items }
+    ensures kept { StaysNamed chains.old chains.new }
+    ensures before { IfOk result (λ r. IsNamed chains.new (flight_of_key r.1.key) (r.0 - 1)) }
+{
+    let (number, plan) = amended(alloc, plans, chains, message, now)?;
+    let place = (number - 1) as usize;
+    let Ok(()) = rename(plans, chains, place, &plan) else {
+        return Err(PlanFault::OutOfMemory);
+    };
+    let held = replace_plan(plans, number, plan);
+    Ok((number, held))
+}
+
+/// Names the plan that is to stand at a place in the chains.
+fn rename<A: Allocator + Copy>(
+    plans: &[Plan<A>],
+    chains: &mut Chains<A>,
+    place: usize,
+    plan: &Plan<A>,
+) -> Result<(), AllocError>
+    requires place { place < length plans.now }
+    requires named { AreNamed chains.old plans.now }
+    ensures kept { StaysNamed chains.old chains.new }
+    ensures named { OnOk result (IsNamed chains.new (flight_of_key plan.now.key) place) }
+{
+    let held = &plans[place];
+    chains.rename(held.key(), plan.key(), place)
+}
+
+/// Puts a plan in the place of that number, and answers the one that stood there.
+fn replace_plan<A: Allocator + Copy>(
+    plans: &mut Vec<Plan<A>, A>,
+    number: u32,
+    plan: Plan<A>,
+) -> Plan<A>
+    requires { (0 < number) × (number ≤ length plans.old.items) }
+    ensures changed { plans.new.items ≡ with_plan plans.old.items number plan }
+    ensures back { with_plan plans.new.items number result ≡ plans.old.items }
+    ensures count { length plans.new.items ≡ length plans.old.items }
+{
+    let held = &mut plans[(number - 1) as usize];
+    mem::replace(held, plan)
+}
+
+/// Undoes the last change of these plans.
+#[tactic(auto, unfolding(crate::specs::Plans::changed_at))]
+fn undo<A: Allocator + Copy>(plans: &mut Vec<Plan<A>, A>, last: LastChange<A>)
+    requires change { IsSome (undone plans.old.items last) }
+    requires number { IsOf last plans.old.items }
+    ensures undone { undone plans.old.items last ≡ Some plans.new.items }
+    ensures count { length plans.new.items ≤ length plans.old.items }
+{
+    match last {
+        LastChange::Nothing => {}
+        LastChange::Filed => {
+            plans.pop();
+        }
+        LastChange::Delayed { number, off_block } => {
+            let plan = &mut plans[(number - 1) as usize];
+            plan.set_off_block(off_block);
+        }
+        LastChange::Ended { number } => {
+            let plan = &mut plans[(number - 1) as usize];
+            plan.set_state(PlanState::Filed);
+        }
+        LastChange::Amended { number, plan } => plans[(number - 1) as usize] = plan,
+    }
+}
+
+/// Gives the filed plan that a message is about another state.
+#[tactic(auto, unfolding(crate::specs::Plans::changed_at))]
+fn end_plan<A: Allocator + Copy>(
+    plans: &mut Vec<Plan<A>, A>,
+    chains: &Chains<A>,
+    parts: &Parts,
+    state: PlanState,
+) -> Result<u32, PlanFault>
+    requires few { length plans.old.items ≤ 20_000 }
+    requires named { AreNamed chains.now plans.old.items }
+    ensures found { Answers result (matching plans.old.items parts.now) }
+    ensures changed { IfOk result (λ n. plans.new.items ≡ changed_at (with_state state) n plans.old.items) }
+    ensures within { IfOk result (λ n. (0 < n) × (n ≤ length plans.new.items)) }
+    ensures back { IfOk result (λ n. changed_at (with_state PlanState.Filed) n plans.new.items ≡ plans.old.items) }
+    ensures count { length plans.new.items ≡ length plans.old.items }
+    ensures err { OnErr result (plans.new.items ≡ plans.old.items) }
+{
+    let number = matching(plans, chains, parts)?;
+    let plan = &mut plans[(number - 1) as usize];
+    plan.set_state(state);
+    Ok(number)
+}
+
+/// Gives the plan that a delay is about its new off-block moment, and answers its number and the moment that it had.
+#[tactic(auto, unfolding(crate::specs::Changes::delayed, crate::specs::Plans::changed_at))]
+fn delay_plan<A: Allocator + Copy>(
+    plans: &mut Vec<Plan<A>, A>,
+    chains: &Chains<A>,
+    message: &Dla,
+    now: Minute,
+) -> Result<(u32, Minute), PlanFault>
+    requires now { IsDeskTime now }
+    requires few { length plans.old.items ≤ 20_000 }
+    requires named { AreNamed chains.now plans.old.items }
+    ensures ok { IfOk result (λ r. delayed now plans.old.items message.now ≡ Ok (record { plans = plans.new.items; number = r.0 })) }
+    ensures within { IfOk result (λ r. (0 < r.0) × (r.0 ≤ length plans.new.items) × (r.1 < 67_855_680)) }
+    ensures back { IfOk result (λ r. changed_at (with_off_block r.1) r.0 plans.new.items ≡ plans.old.items) }
+    ensures refused { IfErr result (λ e. IsJustRefusal e (delayed now plans.old.items message.now)) }
+    ensures count { length plans.new.items ≡ length plans.old.items }
+    ensures err { OnErr result (plans.new.items ≡ plans.old.items) }
+{
+    let number = matching(plans, chains, &message.parts)?;
+    let plan = &mut plans[(number - 1) as usize];
+    let held = plan.off_block();
+    let moment = delayed_to(now, held, message.time)?;
+    plan.set_off_block(moment);
+    Ok((number, held))
+}
+
+/// The off-block moment after a delay to a time of day.
+#[tactic(auto, unfolding(crate::specs::Times::delayed_to))]
+pub(crate) fn delayed_to(now: Minute, held: Minute, time: TimeOfDay) -> Result<Minute, PlanFault>
+    requires now { IsDeskTime now }
+    requires held { held < 67_855_680 }
+    ensures answer { Answers result (delayed_to now held time) }
+    ensures bound { IfOk result (λ moment. moment < 67_855_680) }
+{
+    if held.time_of_day() == time {
+        return Err(PlanFault::NotLater);
+    }
+    let moment = first_from(minute_of(held.minutes() + 1), time);
+    if moment.minutes() > held.minutes() + 720 {
+        return Err(PlanFault::DelayTooLong);
+    }
+    if moment < now {
+        return Err(PlanFault::Past);
+    }
+    if moment.minutes() > now.minutes() + 7200 {
+        return Err(PlanFault::TooEarly);
+    }
+    Ok(moment)
+}
+
+/// The first moment at a time of day that is not before another.
+#[tactic(auto, unfolding(crate::specs::Times::first_from))]
+fn first_from(moment: Minute, time: TimeOfDay) -> Minute
+    requires { moment < 67_855_681 }
+    ensures { result ≡ first_from moment time }
+{
+    let minutes = moment.minutes();
+    let today = 1440 * (minutes / 1440) + u32::from(time.minutes());
+    if today < minutes {
+        minute_of(today + 1440)
+    } else {
+        minute_of(today)
+    }
+}
+
+/// The moment of these minutes.
+#[tactic(auto, unfolding(fpl_text::specs::Moments::moment_within))]
+fn minute_of(minutes: u32) -> Minute
+    requires { minutes ≤ 100_000_000 }
+    ensures { result ≡ minutes }
+{
+    Minute::new(minutes).unwrap()
+}
+
+/// The moment at a time of a day. None where it lies too far ahead for any desk.
+#[tactic(auto, unfolding(fpl_text::specs::Moments::moment_within))]
+fn moment_on(day: Day, time: TimeOfDay) -> Option<Minute>
+    ensures { MatchOption result (100_000_000 < 1440 * day + time) (λ moment. moment ≡ 1440 * day + time) }
+{
+    Minute::new(1440 * day.number() + u32::from(time.minutes()))
+}
+
+/// The off-block moment that a flight plan asks for. None where it lies too far ahead for any desk.
+fn moment_of<A: Allocator + Copy>(message: &Fpl<A>, now: Minute) -> Option<Minute>
+    requires { IsDeskTime now }
+    ensures { MatchOption result (100_000_000 < moment_of now message.now) (λ moment. moment ≡ moment_of now message.now) }
+{
+    let time = message.departure().time;
+    match message.other().day() {
+        Some(day) => moment_on(day, time),
+        None => Some(first_from(now, time)),
+    }
+}
+
+/// The off-block moment of the plan that a message files, or why it is refused.
+#[tactic(auto, unfolding(crate::specs::Changes::filed, crate::specs::Changes::plan_of))]
+fn why_refused<A: Allocator + Copy>(
+    plans: &[Plan<A>],
+    chains: &Chains<A>,
+    max_plans: u32,
+    message: &Fpl<A>,
+    now: Minute,
+) -> Result<Minute, PlanFault>
+    requires now { IsDeskTime now }
+    requires named { AreNamed chains.now plans.now }
+    ensures ok { IfOk result (λ moment. filed max_plans now plans.now message.now ≡ Ok (plans.now ++ plan_of moment message.now ∷ [])) }
+    ensures room { OnOk result (length plans.now < max_plans) }
+    ensures bound { IfOk result (λ moment. moment < 67_855_680) }
+    ensures refused { IfErr result (λ e. IsRefusal e (filed max_plans now plans.now message.now)) }
+{
+    let Some(off_block) = moment_of(message, now) else {
+        return Err(PlanFault::TooEarly);
+    };
+    if off_block < now {
+        return Err(PlanFault::Past);
+    }
+    if off_block.minutes() > now.minutes() + 7200 {
+        return Err(PlanFault::TooEarly);
+    }
+    if holds_key(plans, chains, &key_of(message, off_block)) {
+        return Err(PlanFault::AlreadyHeld);
+    }
+    if plans.len() >= max_plans as usize {
+        return Err(PlanFault::PlansFull);
+    }
+    Ok(off_block)
+}

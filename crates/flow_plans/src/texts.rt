@@ -1,0 +1,124 @@
+//! The field texts that a plan holds.
+ghost use Rattle.std.specs.Prelude.{◌≡◌, ◌≤◌, ◌+◌, ◌++◌, length, IfOk};
+ghost use Rattle.flow_plans.specs.Changes.{texts_after};
+
+use crate::amending::text_after;
+use fpl_message::Chg;
+use std::alloc::{AllocError, Allocator, Global};
+use std::marker::Model;
+
+/// The squeezed texts of fields 8, 9, 10, 15 and 18, one after the other in one piece of memory.
+#[derive(Drop)]
+pub(crate) struct Texts<A: Allocator + Copy = Global> {
+    bytes: Vec<u8, A>,
+    end8: usize,
+    end9: usize,
+    end10: usize,
+    end15: usize,
+}
+
+impl<A: Allocator + Copy> Model for Texts<A> {
+    ghost use Rattle.std.specs.Prelude.{◌≤◌, length, slice_range, drop};
+    ghost use Rattle.flow_plans.specs.Plans.{Texts as Held};
+
+    ghost Value = { Held };
+
+    ghost view = { λ t. record {
+      field8 = slice_range t.bytes.items 0 t.end8;
+      field9 = slice_range t.bytes.items t.end8 t.end9;
+      field10 = slice_range t.bytes.items t.end9 t.end10;
+      field15 = slice_range t.bytes.items t.end10 t.end15;
+      field18 = slice_range t.bytes.items t.end15 (length t.bytes.items);
+    } };
+
+    ghost invariant = { λ t. (t.end8 ≤ t.end9) × (t.end9 ≤ t.end10) × (t.end10 ≤ t.end15) × (t.end15 ≤ length t.bytes.items) };
+}
+
+/// Appends a text, and answers where it ends.
+fn push_text<A: Allocator>(bytes: &mut Vec<u8, A>, text: &[u8]) -> Result<usize, AllocError>
+    ensures items { IfOk result (λ end. bytes.new.items ≡ bytes.old.items ++ text.now) }
+    ensures end { IfOk result (λ end. end ≡ length (bytes.old.items ++ text.now)) }
+{
+    bytes.extend_from_slice(text)?;
+    Ok(bytes.len())
+}
+
+impl<A: Allocator + Copy> Texts<A> {
+    /// A copy of these texts.
+    pub(crate) fn new(
+        alloc: A,
+        field8: &[u8],
+        field9: &[u8],
+        field10: &[u8],
+        field15: &[u8],
+        field18: &[u8],
+    ) -> Result<Self, AllocError>
+        ensures { IfOk result (λ t. t ≡ record { field8 = field8.now; field9 = field9.now; field10 = field10.now; field15 = field15.now; field18 = field18.now }) }
+    {
+        let small = field8
+            .len()
+            .saturating_add(field9.len())
+            .saturating_add(field10.len());
+        let all = small
+            .saturating_add(field15.len())
+            .saturating_add(field18.len());
+        let mut bytes = Vec::with_capacity(alloc, all)?;
+        let end8 = push_text(&mut bytes, field8)?;
+        let end9 = push_text(&mut bytes, field9)?;
+        let end10 = push_text(&mut bytes, field10)?;
+        let end15 = push_text(&mut bytes, field15)?;
+        let _end = push_text(&mut bytes, field18)?;
+        Ok(Texts {
+            bytes,
+            end8,
+            end9,
+            end10,
+            end15,
+        })
+    }
+
+    /// A copy, with each text that a message amends in place of the one held.
+    #[tactic(auto, unfolding(crate::specs::Changes::texts_after))]
+    pub(crate) fn amended(&self, alloc: A, message: &Chg<A>) -> Result<Self, AllocError>
+        ensures { IfOk result (λ t. t ≡ texts_after self.now message.now) }
+    {
+        Texts::new(
+            alloc,
+            text_after(self.field8(), message.field8()),
+            text_after(self.field9(), message.field9()),
+            text_after(self.field10(), message.field10()),
+            text_after(self.field15(), message.field15()),
+            text_after(self.field18(), message.field18()),
+        )
+    }
+
+    pub(crate) fn field8(&self) -> &[u8]
+        ensures { result.now ≡ self.now.field8 }
+    {
+        &self.bytes[..self.end8]
+    }
+
+    pub(crate) fn field9(&self) -> &[u8]
+        ensures { result.now ≡ self.now.field9 }
+    {
+        &self.bytes[self.end8..self.end9]
+    }
+
+    pub(crate) fn field10(&self) -> &[u8]
+        ensures { result.now ≡ self.now.field10 }
+    {
+        &self.bytes[self.end9..self.end10]
+    }
+
+    pub(crate) fn field15(&self) -> &[u8]
+        ensures { result.now ≡ self.now.field15 }
+    {
+        &self.bytes[self.end10..self.end15]
+    }
+
+    pub(crate) fn field18(&self) -> &[u8]
+        ensures { result.now ≡ self.now.field18 }
+    {
+        &self.bytes[self.end15..]
+    }
+}

@@ -1,0 +1,61 @@
+-- What a walk over the regulations gives for the advice of a plan.
+use Rattle.std.proofs.Common.{◌≡◌, ℕ, ◌+◌, ◌-◌, ◌<◌, ◌≤◌, List, [], ◌∷◌, length, Option, None, Some, IfSome, refl, sym, ap, zero, suc, ◌∙◌, arith, map, drop}
+use Rattle.std.proofs.lemmas.List.{drop_all}
+use Rattle.std.specs.List.{slice_get}
+use Rattle.std.specs.Option.{option_map}
+use Rattle.flow_plans.specs.Plans.{Plan, plan_at}
+use Rattle.flow_plans.specs.Entries.{take_off}
+use Rattle.flow_regulations.specs.declared.advice.Delay.{Delay}
+use Rattle.flow_regulations.specs.declared.notice.Told.{Told}
+use Rattle.flow_regulations.specs.Listing.{Listed, regulation_of}
+use Rattle.flow_regulations.specs.Advice.{worse, worst, advice}
+use Rattle.flow_regulations.proofs.Delays.{worse-none}
+
+-- the walk has found the worst of the first regulations
+abbrev pub IsWorstSoFar : ℕ → ℕ → Option Plan → List Listed → List Listed → Option Delay → Type 0
+IsWorstSoFar taxi n o rest all w =
+    IfSome o (λ p. worse w (worst taxi n p (map regulation_of rest)) ≡ worst taxi n p (map regulation_of all))
+
+-- no delay lies beyond the limit
+abbrev pub IsDelayWithin : ℕ → ℕ → Option Plan → Option Delay → Type 0
+IsDelayWithin taxi limit o w = IfSome o (λ p. IfSome w (λ d. take_off taxi p + d.minutes ≤ limit))
+
+worst-at_end : (taxi n i : ℕ) (p : Plan) (all : List Listed) (w : Option Delay) → length all ≤ i
+    → worse w (worst taxi n p (map regulation_of (drop i all))) ≡ worst taxi n p (map regulation_of all)
+    → w ≡ worst taxi n p (map regulation_of all)
+worst-at_end taxi n i p all w past is =
+    sym (worse-none w) ∙ ap (λ (rest : List Listed). worse w (worst taxi n p (map regulation_of rest))) (sym (drop_all i all past)) ∙ is
+
+pub advice-none : (taxi n i : ℕ) (o : Option Plan) (all : List Listed) (w : Option Delay) (told : Option Told) → length all ≤ i
+    → IsWorstSoFar taxi n o (drop i all) all w → w ≡ None → told ≡ None → IfSome o (λ p. told ≡ advice taxi n p (map regulation_of all))
+unfolding advice
+advice-none taxi n i None all w told past is none e = tt
+advice-none taxi n i (Some p) all w told past is none e =
+    e ∙ ap (option_map (λ d. record { ctot = take_off taxi p + d.minutes; regulation = d.regulation })) (sym none ∙ worst-at_end taxi n i p all w past is)
+
+pub advice-some : (taxi n i ctot off : ℕ) (o : Option Plan) (all : List Listed) (w : Option Delay) (d : Delay) → length all ≤ i
+    → IsWorstSoFar taxi n o (drop i all) all w → w ≡ Some d → IfSome o (λ p. off ≡ take_off taxi p) → ctot ≡ off + d.minutes
+    → IfSome o (λ p. Some (record { ctot = ctot; regulation = d.regulation }) ≡ advice taxi n p (map regulation_of all))
+unfolding advice
+advice-some taxi n i ctot off None all w d past is some leaves e = tt
+advice-some taxi n i ctot off (Some p) all w d past is some leaves e =
+    let at : ctot ≡ take_off taxi p + d.minutes = e ∙ ap (λ (m : ℕ). m + d.minutes) leaves in
+    ap (λ (m : ℕ). Some (record { ctot = m; regulation = d.regulation })) at
+    ∙ ap (option_map (λ d. record { ctot = take_off taxi p + d.minutes; regulation = d.regulation })) (sym some ∙ worst-at_end taxi n i p all w past is)
+
+-- each number of a plan has one
+pub plan_at-there : (ps : List Plan) (n : ℕ) → 0 < n → n ≤ length ps → (p : Plan) × (plan_at ps n ≡ Some p)
+plan_at-there ps n some within = at ps (n - 1) (omega arith)
+  where
+    at : (qs : List Plan) (i : ℕ) → i < length qs → (p : Plan) × (slice_get qs i ≡ Some p)
+    at [] i h = absurd (omega arith)
+    at (q ∷ qs) zero h = (q, refl)
+    at (q ∷ qs) (suc i) h = at qs i (omega arith)
+
+pub ctot-fits : (taxi n limit off : ℕ) (ps : List Plan) (w : Option Delay) (d : Delay) → 0 < n → n ≤ length ps
+    → IsDelayWithin taxi limit (plan_at ps n) w → w ≡ Some d → IfSome (plan_at ps n) (λ p. off ≡ take_off taxi p) → off + d.minutes ≤ limit
+ctot-fits taxi n limit off ps w d some within bound is leaves =
+    let there = plan_at-there ps n some within in
+    let h = rw (there.1, is) at bound in
+    let k = rw there.1 at leaves in
+    omega (arith, h, k)

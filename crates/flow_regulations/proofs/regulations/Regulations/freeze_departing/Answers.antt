@@ -1,0 +1,34 @@
+use Rattle.std.proofs.Common.{◌≡◌, List, length, sym, refl, ap, subst, ◌∙◌, arith}
+use Rattle.flow_regulations.specs.Listing.{Listed, Walked, IsFixedWaiting, AreFrozen, HaveCapacity, pairs_in}
+use Rattle.flow_regulations.proofs.Alls.{capacity-fixed, all-frozen, others-fixed}
+use Rattle.flow_regulations.proofs.Walks.{written-back}
+use Rattle.flow_regulations.proofs.regulations.Regulations.freeze_departing.Goals as goal
+
+pub invariant_of-self : goal.invariant_of-self
+invariant_of-self g c =
+    let s = c.self.inside in
+    let ns : List Listed = c.fix_waiting_in.new.regulations in
+    let len : s.regulations.len ≡ length ns = omega (arith, c.fix_waiting_in.auto.regulations, c.deref_mut.ensures.len) in
+    let H : List Listed → Type 0 = HaveCapacity s.max_plans in
+    let W : List Listed → Type 0 = λ os. Walked (IsFixedWaiting c.args.number) (length ns) os ns in
+    (c.self.invariant.0, c.self.invariant.1, subst H (sym (written-back s.regulations.len ns _ len)) (capacity-fixed c.args.number s.max_plans (length ns) s.regulations.items ns refl (subst W c.deref_mut.ensures.value c.fix_waiting_in.ensures) c.self.invariant.2))
+
+pub returns-clause-frozen : goal.returns-clause-frozen
+returns-clause-frozen g c = λ taxi before listed.
+    (let s = c.self.inside in
+    let ns : List Listed = c.fix_waiting_in.new.regulations in
+    let len : s.regulations.len ≡ length ns = omega (arith, c.fix_waiting_in.auto.regulations, c.deref_mut.ensures.len) in
+    let max = c.args.self.now.max_plans in
+    let R : List Listed → Type 0 = λ ns. AreFrozen taxi max c.args.number before c.args.self.now.lists ns in
+    let W : List Listed → Type 0 = λ os. Walked (IsFixedWaiting c.args.number) (length ns) os ns in
+    subst R (sym (written-back s.regulations.len ns _ len))
+    (all-frozen c.args.number taxi max (length ns) before c.args.self.now.lists ns c.requires refl (subst W (c.deref_mut.ensures.value ∙ ap (λ v. v.lists) c.self.view_is) c.fix_waiting_in.ensures) listed))
+
+pub returns-clause-others : goal.returns-clause-others
+returns-clause-others g c = λ f ne.
+    (let s = c.self.inside in
+    let ns : List Listed = c.fix_waiting_in.new.regulations in
+    let len : s.regulations.len ≡ length ns = omega (arith, c.fix_waiting_in.auto.regulations, c.deref_mut.ensures.len) in
+    let W : List Listed → Type 0 = λ os. Walked (IsFixedWaiting c.args.number) (length ns) os ns in
+    ap (pairs_in f) (written-back s.regulations.len ns _ len)
+    ∙ others-fixed c.args.number (length ns) f c.args.self.now.lists ns ne refl (subst W (c.deref_mut.ensures.value ∙ ap (λ v. v.lists) c.self.view_is) c.fix_waiting_in.ensures))

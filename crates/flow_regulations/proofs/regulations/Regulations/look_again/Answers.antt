@@ -1,0 +1,35 @@
+use Rattle.std.proofs.Common.{◌≡◌, List, length, sym, refl, ap, subst, ◌∙◌, arith}
+use Rattle.flow_regulations.specs.Listing.{Listed, Walked, IsLookedAgain, AreRenewed, HaveCapacity, pairs_in}
+use Rattle.flow_regulations.proofs.Alls.{capacity-looked, all-looked, others-looked}
+use Rattle.flow_regulations.proofs.Walks.{written-back}
+use Rattle.flow_regulations.proofs.regulations.Regulations.look_again.Goals as goal
+
+pub invariant_of-self : goal.invariant_of-self
+invariant_of-self g c =
+    let s = c.self.inside in
+    let ns : List Listed = c.look_again_in.new.regulations in
+    let len : s.regulations.len ≡ length ns = omega (arith, c.look_again_in.auto.regulations, c.deref_mut.ensures.len) in
+    let H : List Listed → Type 0 = HaveCapacity s.max_plans in
+    let W : List Listed → Type 0 = λ os. Walked (IsLookedAgain c.args.number c.args.plans.now.taxi c.args.now c.args.plans.now.plans) (length ns) os ns in
+    (c.self.invariant.0, c.self.invariant.1, subst H (sym (written-back s.regulations.len ns _ len)) (capacity-looked c.args.number c.args.plans.now.taxi c.args.now s.max_plans (length ns) c.args.plans.now.plans s.regulations.items ns refl (subst W c.deref_mut.ensures.value c.look_again_in.ensures) c.self.invariant.2))
+
+pub returns-clause-renewed : goal.returns-clause-renewed
+returns-clause-renewed g c = λ before listed settled_but same.
+    (let s = c.self.inside in
+    let ns : List Listed = c.look_again_in.new.regulations in
+    let len : s.regulations.len ≡ length ns = omega (arith, c.look_again_in.auto.regulations, c.deref_mut.ensures.len) in
+    let max = c.args.self.now.max_plans in
+    let taxi = c.args.plans.now.taxi in
+    let R : List Listed → Type 0 = λ ns. AreRenewed taxi max c.args.now c.args.plans.now.plans c.args.self.now.lists ns in
+    let W : List Listed → Type 0 = λ os. Walked (IsLookedAgain c.args.number taxi c.args.now c.args.plans.now.plans) (length ns) os ns in
+    subst R (sym (written-back s.regulations.len ns _ len))
+    (all-looked c.args.number taxi c.args.now max (length ns) c.args.plans.now.plans before c.args.self.now.lists ns refl (subst W (c.deref_mut.ensures.value ∙ ap (λ v. v.lists) c.self.view_is) c.look_again_in.ensures) listed settled_but same))
+
+pub returns-clause-others : goal.returns-clause-others
+returns-clause-others g c = λ f ne.
+    (let s = c.self.inside in
+    let ns : List Listed = c.look_again_in.new.regulations in
+    let len : s.regulations.len ≡ length ns = omega (arith, c.look_again_in.auto.regulations, c.deref_mut.ensures.len) in
+    let W : List Listed → Type 0 = λ os. Walked (IsLookedAgain c.args.number c.args.plans.now.taxi c.args.now c.args.plans.now.plans) (length ns) os ns in
+    ap (pairs_in f) (written-back s.regulations.len ns _ len)
+    ∙ others-looked c.args.number c.args.plans.now.taxi c.args.now (length ns) f c.args.plans.now.plans c.args.self.now.lists ns ne refl (subst W (c.deref_mut.ensures.value ∙ ap (λ v. v.lists) c.self.view_is) c.look_again_in.ensures))

@@ -1,0 +1,6 @@
+pub mod Regulations
+pub mod Settling
+pub mod Listing
+pub mod Advice
+pub mod Notices
+pub mod Quiet

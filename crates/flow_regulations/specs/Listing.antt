@@ -1,0 +1,188 @@
+-- Open regulations with their slot lists, and what those keep of the plans.
+use Rattle.std.specs.Prelude.{◌⊎◌, ◌≡◌, ℕ, zero, suc, ◌<◌, Bool, true, false, if◌then◌else◌, List, [], ◌∷◌, ◌++◌, map, filter, not, Option, Some, None}
+use Rattle.std.specs.List.{AllByRecursion}
+use Rattle.std.specs.Option.{option_map_or, is_some}
+use Rattle.std.specs.Str.{bytes_eq}
+use Rattle.fpl_message.specs.declared.order.Spot.{Spot}
+use Rattle.flow_plans.specs.Plans.{Plan, plan_at}
+use Rattle.flow_slots.specs.Period.{Period, IsRegular}
+use Rattle.flow_slots.specs.Assignment.{Placed}
+use Rattle.flow_slots.specs.Lineup.{Lineup, IsLineup, held_slot, fixed_slot, with_waiting, without_flight}
+use Rattle.flow_slots.specs.ChangeList.{fixed_there}
+use Rattle.flow_regulations.specs.Regulations.{Regulation, subject_to, waiting_from, lineup_of}
+use Rattle.flow_regulations.specs.Settling.{is_due, keeps, stays, settled, frozen_at_departure, pairs_of}
+
+-- an open regulation with its slot list
+pub record Listed : Type 0 where
+  pub id : List ℕ
+  pub spot : Spot
+  pub lineup : Lineup
+
+abbrev pub regulation_of : Listed → Regulation
+regulation_of l = record { id = l.id; spot = l.spot; period = l.lineup.period; fixed = l.lineup.fixed }
+
+-- the open regulations in order of opening, and the greatest flight number
+pub record Listing : Type 0 where
+  pub max_plans : ℕ
+  pub lists : List Listed
+
+-- each slot list is that of its regulation and these plans
+abbrev pub IsListedIn : ℕ → ℕ → List Plan → Listed → Type 0
+IsListedIn taxi max plans l = l.lineup ≡ lineup_of taxi max plans (regulation_of l)
+
+abbrev pub IsListed : ℕ → ℕ → List Plan → List Listed → Type 0
+IsListed taxi max plans lists = AllByRecursion (IsListedIn taxi max plans) lists
+
+abbrev pub is_due_flight : ℕ → List Plan → ℕ → Bool
+is_due_flight now plans flight = option_map_or (is_due now) (plan_at plans flight) false
+
+-- the fixed flights may all keep their slots, and no waiting flight is due
+pub record IsSettledIn (taxi now : ℕ) (plans : List Plan) (l : Listed) : Type 0 where
+  pub fixed : AllByRecursion (λ a. (0 < a.flight) × (stays taxi now plans (regulation_of l) a ≡ true)) l.lineup.fixed
+  pub waiting : AllByRecursion (λ w. is_due_flight now plans w.flight ≡ false) l.lineup.waiting
+
+abbrev pub IsSettled : ℕ → ℕ → List Plan → List Listed → Type 0
+IsSettled taxi now plans lists = AllByRecursion (IsSettledIn taxi now plans) lists
+
+-- the same of all flights but one
+pub record IsSettledBut (number taxi now : ℕ) (plans : List Plan) (l : Listed) : Type 0 where
+  pub fixed : AllByRecursion (λ a. (0 < a.flight) × ((a.flight ≡ number → ⊥) → stays taxi now plans (regulation_of l) a ≡ true)) l.lineup.fixed
+  pub waiting : AllByRecursion (λ w. (w.flight ≡ number → ⊥) → is_due_flight now plans w.flight ≡ false) l.lineup.waiting
+
+abbrev pub AreSettledBut : ℕ → ℕ → ℕ → List Plan → List Listed → Type 0
+AreSettledBut number taxi now plans lists = AllByRecursion (IsSettledBut number taxi now plans) lists
+
+-- an open regulation with another slot list
+abbrev pub with_lineup : Lineup → Listed → Listed
+with_lineup lineup l = record { id = l.id; spot = l.spot; lineup = lineup }
+
+-- the slot list of a settled regulation, which was this one before
+pub record IsRenewed (taxi max now : ℕ) (plans : List Plan) (l : Listed) (lineup : Lineup) : Type 0 where
+  pub regulation : regulation_of (with_lineup lineup l) ≡ settled taxi now plans (regulation_of l)
+  pub listed : IsListedIn taxi max plans (with_lineup lineup l)
+  pub settled_in : IsSettledIn taxi now plans (with_lineup lineup l)
+
+-- the plans of all numbers but one are those before: a message changed that plan, or added it as the last
+abbrev pub AreSameBut : ℕ → List Plan → List Plan → Type 0
+AreSameBut number before plans = (flight : ℕ) → 0 < flight → (flight ≡ number → ⊥) → plan_at plans flight ≡ plan_at before flight
+
+-- whether a fixed flight keeps its slot
+abbrev pub keeps_slot : ℕ → ℕ → Regulation → ℕ → Plan → Lineup → Bool
+keeps_slot taxi now r flight p l = option_map_or (λ slot. keeps taxi now r slot p) (fixed_slot l flight) false
+
+-- a flight waits from its entry on, and is fixed there if it is due
+abbrev pub placed : Option ℕ → Bool → ℕ → Lineup → Lineup
+placed None due flight l = l
+placed (Some entry) due flight l =
+    let waits = with_waiting (record { entry = entry; flight = flight }) l in
+    if due then fixed_there (held_slot waits flight) flight waits else waits
+
+-- a slot list after one of its flights was looked at again
+abbrev pub looked_again : ℕ → ℕ → Regulation → ℕ → Plan → Lineup → Lineup
+looked_again taxi now r flight p l =
+    if keeps_slot taxi now r flight p l then l
+    else placed (subject_to taxi r p) (is_due now p) flight (without_flight flight l)
+
+-- the first ones were replaced in turn, each by one that is related to it, and the others are as they were
+abbrev pub Walked : {X : Type 0} → (X → X → Type 0) → ℕ → List X → List X → Type 0
+Walked R zero xs ys = ys ≡ xs
+Walked R (suc i) [] [] = Unit {0}
+Walked R (suc i) [] (y ∷ ys) = ⊥
+Walked R (suc i) (x ∷ xs) [] = ⊥
+Walked R (suc i) (x ∷ xs) (y ∷ ys) = R x y × Walked R i xs ys
+
+-- what a message about one flight does to each open regulation
+pub record IsLookedAgain (number taxi now : ℕ) (plans : List Plan) (l m : Listed) : Type 0 where
+  pub same : m ≡ with_lineup m.lineup l
+  pub capacity : m.lineup.capacity ≡ l.lineup.capacity
+  pub others : (f : ℕ) → (f ≡ number → ⊥) → pairs_of f m.lineup.fixed ≡ pairs_of f l.lineup.fixed
+  pub renewed : (max : ℕ) (before : List Plan) → IsListedIn taxi max before l → IsSettledBut number taxi now before l → AreSameBut number before plans → IsRenewed taxi max now plans l m.lineup
+
+-- all regulations are settled by these plans
+pub record AreRenewed (taxi max now : ℕ) (plans : List Plan) (lists new : List Listed) : Type 0 where
+  pub regulations : map regulation_of new ≡ map (settled taxi now plans) (map regulation_of lists)
+  pub listed : IsListed taxi max plans new
+  pub settled_in : IsSettled taxi now plans new
+
+abbrev pub HaveCapacity : ℕ → List Listed → Type 0
+HaveCapacity max lists = AllByRecursion (λ l. l.lineup.capacity ≡ max) lists
+
+-- a slot list in which a flight is fixed where it waits, if it waits
+abbrev pub fixed_waiting : ℕ → Lineup → Lineup
+fixed_waiting flight l = if is_some (fixed_slot l flight) then l else fixed_there (held_slot l flight) flight l
+
+-- the slot list of a regulation in which a departing flight was frozen
+pub record IsFrozen (taxi max flight : ℕ) (before : List Plan) (l : Listed) (lineup : Lineup) : Type 0 where
+  pub regulation : regulation_of (with_lineup lineup l) ≡ frozen_at_departure taxi max before flight (regulation_of l)
+  pub listed : IsListedIn taxi max before (with_lineup lineup l)
+  pub settled_but : (now : ℕ) → IsSettledIn taxi now before l → IsSettledBut flight taxi now before (with_lineup lineup l)
+
+-- what fixing a flight where it waits does to an open regulation
+pub record IsFixedWaiting (flight : ℕ) (l m : Listed) : Type 0 where
+  pub same : m ≡ with_lineup (fixed_waiting flight l.lineup) l
+  pub capacity : m.lineup.capacity ≡ l.lineup.capacity
+  pub lined : IsLineup l.lineup
+  pub regular : IsRegular l.lineup.period
+
+-- all regulations froze the slot of a departing flight
+pub record AreFrozen (taxi max flight : ℕ) (before : List Plan) (lists new : List Listed) : Type 0 where
+  pub regulations : map regulation_of new ≡ map (frozen_at_departure taxi max before flight) (map regulation_of lists)
+  pub listed : IsListed taxi max before new
+  pub settled_but : (now : ℕ) → IsSettled taxi now before lists → AreSettledBut flight taxi now before new
+
+-- all fixed flights may keep their slots at this time
+abbrev pub AllStay : ℕ → ℕ → List Plan → Listed → Type 0
+AllStay taxi now plans l = AllByRecursion (λ a. (0 < a.flight) × (stays taxi now plans (regulation_of l) a ≡ true)) l.lineup.fixed
+
+-- on the way to the settled regulation: of the flights below `number`, those that are due are fixed
+pub record IsAdvanced (number taxi max now : ℕ) (plans : List Plan) (l m : Listed) : Type 0 where
+  pub regulation : settled taxi now plans (regulation_of m) ≡ settled taxi now plans (regulation_of l)
+  pub listed : IsListedIn taxi max plans m
+  pub stay : AllStay taxi now plans m
+  pub waiting : AllByRecursion (λ w. w.flight < number → is_due_flight now plans w.flight ≡ false) m.lineup.waiting
+
+pub record IsAdvancing (number taxi now : ℕ) (plans : List Plan) (l m : Listed) : Type 0 where
+  pub capacity : m.lineup.capacity ≡ l.lineup.capacity
+  pub undue : (f : ℕ) → is_due_flight now plans f ≡ false → pairs_of f m.lineup.fixed ≡ pairs_of f l.lineup.fixed
+  pub kept_on : (f : ℕ) → is_some (fixed_slot l.lineup f) ≡ true → pairs_of f m.lineup.fixed ≡ pairs_of f l.lineup.fixed
+  pub advanced : (max : ℕ) → IsListedIn taxi max plans l → AllStay taxi now plans l → IsAdvanced number taxi max now plans l m
+
+-- a regulation as it is opened, without flights
+abbrev pub with_no_flights : List ℕ → Spot → Period → ℕ → Listed
+with_no_flights id spot period max = record { id = id; spot = spot; lineup = record { period = period; capacity = max; waiting = []; fixed = [] } }
+
+-- a flight waits from its entry on, if it has one
+abbrev pub let_in : Option ℕ → ℕ → Lineup → Lineup
+let_in None flight l = l
+let_in (Some entry) flight l = with_waiting (record { entry = entry; flight = flight }) l
+
+-- it with the flights of these plans waiting
+abbrev pub opened : ℕ → List Plan → Listed → Listed
+opened taxi plans l =
+    with_lineup (record { period = l.lineup.period; capacity = l.lineup.capacity; waiting = waiting_from 1 taxi (regulation_of l) [] plans; fixed = [] }) l
+
+-- one more regulation, the last, which is settled from no fixed flights
+abbrev pub IsOpened : ℕ → ℕ → ℕ → List Plan → Regulation → List Listed → List Listed → Type 0
+IsOpened taxi max now plans r lists new =
+    (l : Listed) × (new ≡ lists ++ l ∷ []) × (regulation_of l ≡ settled taxi now plans r) × IsListedIn taxi max plans l × IsSettledIn taxi now plans l
+
+-- the regulation of this name, and the others
+abbrev pub is_named : List ℕ → Listed → Bool
+is_named id l = bytes_eq l.id id
+
+abbrev pub without_named : List ℕ → List Listed → List Listed
+without_named id lists = filter (λ l. not (is_named id l)) lists
+
+-- the slot list of the first regulation of this name
+abbrev pub lineup_named : List ℕ → List Listed → Option Lineup
+lineup_named id [] = None
+lineup_named id (l ∷ ls) = if is_named id l then Some l.lineup else lineup_named id ls
+
+-- the pairs of a flight, regulation by regulation
+abbrev pub pairs_in : ℕ → List Listed → List (List Placed)
+pairs_in flight lists = map (λ l. pairs_of flight l.lineup.fixed) lists
+
+-- the pair is one of these
+abbrev pub HasPair : Placed → List Placed → Type 0
+HasPair a [] = ⊥
+HasPair a (x ∷ xs) = (x ≡ a) ⊎ HasPair a xs

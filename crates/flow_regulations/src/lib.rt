@@ -1,0 +1,18 @@
+//! Regulations with their slot lists, and what plans are told of their slots.
+#![tactic(auto)]
+
+mod advice;
+pub mod laws;
+mod notice;
+mod regulation;
+mod regulations;
+#[cfg(test)]
+mod regulations_tests;
+mod telling;
+#[cfg(test)]
+mod telling_tests;
+mod window;
+
+pub use notice::{Notice, Said, Told, Window};
+pub use regulations::Regulations;
+pub use window::window_of;

@@ -1,0 +1,51 @@
+//! Slot notices.
+ghost use Rattle.std.specs.Prelude.{◌≡◌};
+
+use fpl_text::{Minute, Text};
+
+/// A calculated take-off time (CTOT), and the name of the regulation that causes it.
+#[derive(Debug, Drop, PartialEq, Eq)]
+pub struct Told {
+    pub ctot: Minute,
+    pub regulation: Text<8>,
+}
+
+impl Told {
+    /// A copy, which takes no memory.
+    pub fn copied(&self) -> Told
+        ensures { result ≡ self.now }
+    {
+        Told {
+            ctot: self.ctot,
+            regulation: self.regulation.copied(),
+        }
+    }
+}
+
+/// What is said to a plan: a slot (SAM), another slot (SRM), or none any more (SLC).
+#[derive(Debug, Drop, PartialEq, Eq)]
+pub enum Said {
+    Sam(Told),
+    Srm(Told),
+    Slc,
+}
+
+/// A slot notice to a plan, as the plan stood then.
+#[derive(Debug, Drop, PartialEq, Eq)]
+pub struct Notice {
+    pub ident: Text<7>,
+    pub dep: Text<4>,
+    pub dest: Text<4>,
+    pub off_block: Minute,
+    pub says: Said,
+}
+
+/// How a departure lies to the calculated take-off time: from 5 minutes before it to 10 minutes after it is within
+/// the window (ATFCM Users Manual, slot tolerance). None where the plan has been told no such time.
+#[derive(Clone, Copy, Debug, PartialEq, Eq)]
+pub enum Window {
+    None,
+    Early,
+    InWindow,
+    Late,
+}

@@ -1,0 +1,226 @@
+//! An open regulation.
+ghost use Rattle.std.specs.Prelude.{◌≡◌, ◌<◌, ◌≤◌, ℕ, List, None, Some, IfSome, IfOk, OnOk, length};
+ghost use Rattle.flow_plans.specs.Plans.{Plan as Held, plan_at, is_departed, is_filed};
+ghost use Rattle.flow_slots.specs.Lineup.{held_slot, fixed_slot, without_flight, IsLineup};
+ghost use Rattle.flow_slots.specs.Period.{IsWithin, IsRegular};
+ghost use Rattle.flow_regulations.specs.Regulations.{subject_to};
+ghost use Rattle.flow_regulations.specs.Settling.{is_due, pairs_of};
+ghost use Rattle.flow_regulations.specs.Listing.{regulation_of, with_lineup, keeps_slot, placed, with_no_flights, let_in, is_named, fixed_waiting, IsListedIn, IsSettledBut, AreSameBut, IsRenewed};
+
+use flow_plans::{Plan, PlanState, PlanStore};
+use flow_slots::{Shape, SlotList};
+use fpl_message::Spot;
+use fpl_text::{Minute, Text};
+use std::alloc::{AllocError, Allocator, Global};
+use std::marker::Model;
+
+/// An open regulation with its slot list.
+#[derive(Drop)]
+pub(crate) struct Regulation<A: Allocator + Copy = Global> {
+    pub(crate) id: Text<8>,
+    pub(crate) spot: Spot,
+    pub(crate) list: SlotList<A>,
+}
+
+impl<A: Allocator + Copy> Model for Regulation<A> {
+    ghost use Rattle.std.specs.Prelude.{◌≤◌};
+    ghost use Rattle.flow_slots.specs.Period.{IsRegular};
+    ghost use Rattle.flow_regulations.specs.Listing.{Listed};
+
+    ghost Value = { Listed };
+
+    ghost view = { λ r. record { id = r.id; spot = r.spot; lineup = r.list.lineup } };
+
+    ghost invariant = { λ r. IsRegular r.list.lineup.period × (r.list.lineup.capacity ≤ 20_000) };
+}
+
+impl<A: Allocator + Copy> Regulation<A> {
+    /// A regulation without flights. Refused where memory is.
+    pub(crate) fn new(
+        alloc: A,
+        id: Text<8>,
+        spot: Spot,
+        shape: Shape,
+        max_plans: u32,
+    ) -> Result<Self, AllocError>
+        requires some { 0 < max_plans }
+        requires most { max_plans ≤ 20_000 }
+        ensures empty { IfOk result (λ r. r ≡ with_no_flights id spot shape max_plans) }
+        ensures regular { OnOk result (IsRegular shape) }
+    {
+        let _slots = shape.slots_before_end();
+        let list = SlotList::new(alloc, shape, max_plans)?;
+        Ok(Regulation { id, spot, list })
+    }
+
+    /// Whether it has this name.
+    pub(crate) fn is_named(&self, id: &Text<8>) -> bool
+        ensures { result ≡ is_named id.now self.now }
+    {
+        self.id.as_bytes() == id.as_bytes()
+    }
+
+    /// Its slot list.
+    pub(crate) fn list(&self) -> &SlotList<A>
+        ensures { result.now.lineup ≡ self.now.lineup }
+    {
+        &self.list
+    }
+
+    /// Lets the flight of the last of the plans so far wait, where the regulation applies to it.
+    pub(crate) fn let_in(&mut self, plans: &PlanStore<A>, number: u32)
+        requires some { 0 < number }
+        requires within { number ≤ length plans.now.plans }
+        requires room { number ≤ self.old.lineup.capacity }
+        requires absent { held_slot self.old.lineup number ≡ None }
+        ensures { (p : Held) → plan_at plans.now.plans number ≡ Some p
+            → self.new ≡ with_lineup (let_in (subject_to plans.now.taxi (regulation_of self.old) p) number self.old.lineup) self.old }
+    {
+        if let Some(entry) = self.subject(plans, number) {
+            self.list.insert(number, entry);
+        }
+    }
+
+    /// The entry of the plan of this number, where the regulation applies to it.
+    fn subject(&self, plans: &PlanStore<A>, number: u32) -> Option<Minute>
+        requires some { 0 < number }
+        requires within { number ≤ length plans.now.plans }
+        ensures { (p : Held) → plan_at plans.now.plans number ≡ Some p → result ≡ subject_to plans.now.taxi (regulation_of self.now) p }
+    {
+        let entry = plans.subject(
+            number,
+            &self.spot,
+            Minute::from_minutes(0),
+            Minute::from_minutes(100_000_000),
+        )?;
+        if self.list.shape().contains(entry) {
+            Some(entry)
+        } else {
+            None
+        }
+    }
+
+    /// The slot that a flight keeps, None where it keeps none.
+    fn fixed_slot(&self, number: u32) -> Option<u32>
+        ensures slot { result ≡ fixed_slot self.now.lineup number }
+        ensures within { IfSome result (λ k. k ≤ 30_000) }
+    {
+        if self.list.is_fixed(number) {
+            self.list.slot_of(number)
+        } else {
+            None
+        }
+    }
+
+    /// Whether a fixed flight keeps its slot: it has departed, or it is subject and due and its slot is not before its
+    /// entry.
+    fn keeps(&self, plans: &PlanStore<A>, number: u32, now: Minute) -> bool
+        requires some { 0 < number }
+        requires within { number ≤ length plans.now.plans }
+        ensures { (p : Held) → plan_at plans.now.plans number ≡ Some p
+            → result ≡ keeps_slot plans.now.taxi now (regulation_of self.now) number p self.now.lineup }
+    {
+        let Some(slot) = self.fixed_slot(number) else {
+            return false;
+        };
+        if has_departed(plans, number) {
+            return true;
+        }
+        let Some(entry) = self.subject(plans, number) else {
+            return false;
+        };
+        is_due(plans, number, now) && entry <= self.list.shape().slot_time(slot)
+    }
+
+    /// Takes a flight out, where it is held.
+    fn take_out(&mut self, number: u32)
+        ensures { self.new ≡ with_lineup (without_flight number self.old.lineup) self.old }
+    {
+        if self.list.slot_of(number).is_some() {
+            self.list.remove(number);
+        }
+    }
+
+    /// Lets a flight wait from its entry on, and fixes it where it waits if it is due.
+    pub(crate) fn place(&mut self, number: u32, entry: Minute, due: bool)
+        requires absent { held_slot self.old.lineup number ≡ None }
+        requires first { 0 < number }
+        requires last { number ≤ self.old.lineup.capacity }
+        requires entry { IsWithin self.old.lineup.period entry }
+        ensures { self.new ≡ with_lineup (placed (Some entry) due number self.old.lineup) self.old }
+    {
+        self.list.insert(number, entry);
+        if due {
+            self.list.fix(number);
+        }
+    }
+
+    /// Fixes a flight where it waits, if it waits.
+    pub(crate) fn fix_waiting(&mut self, number: u32)
+        ensures fixed { self.new ≡ with_lineup (fixed_waiting number self.old.lineup) self.old }
+        ensures capacity { self.new.lineup.capacity ≡ self.old.lineup.capacity }
+        ensures lined { IsLineup self.old.lineup }
+        ensures regular { IsRegular self.old.lineup.period }
+    {
+        let _no_flight_twice = self.list.cells();
+        if self.list.is_fixed(number) {
+            return;
+        }
+        if self.list.slot_of(number).is_some() {
+            self.list.fix(number);
+        }
+    }
+
+    /// Settles the regulation after a message about one flight, which touches that flight alone.
+    pub(crate) fn look_again(&mut self, plans: &PlanStore<A>, number: u32, now: Minute)
+        requires some { 0 < number }
+        requires within { number ≤ length plans.now.plans }
+        requires room { number ≤ self.old.lineup.capacity }
+        ensures same { self.new ≡ with_lineup self.new.lineup self.old }
+        ensures capacity { self.new.lineup.capacity ≡ self.old.lineup.capacity }
+        ensures others { (f : ℕ) → (f ≡ number → ⊥) → pairs_of f self.new.lineup.fixed ≡ pairs_of f self.old.lineup.fixed }
+        ensures renewed { (max : ℕ) (before : List Held)
+            → IsListedIn plans.now.taxi max before self.old
+            → IsSettledBut number plans.now.taxi now before self.old
+            → AreSameBut number before plans.now.plans
+            → IsRenewed plans.now.taxi max now plans.now.plans self.old self.new.lineup }
+    {
+        let _no_flight_twice = self.list.cells();
+        if self.keeps(plans, number, now) {
+            return;
+        }
+        self.take_out(number);
+        if let Some(entry) = self.subject(plans, number) {
+            self.place(number, entry, is_due(plans, number, now));
+        }
+    }
+}
+
+/// Whether the flight of this number is due: filed, and at most two hours before its off-block moment.
+pub(crate) fn is_due<A: Allocator + Copy>(plans: &PlanStore<A>, number: u32, now: Minute) -> bool
+    requires { 0 < number }
+    ensures { (p : Held) → plan_at plans.now.plans number ≡ Some p → result ≡ is_due now p }
+{
+    match plans.plan(number) {
+        Some(plan) => is_filed(plan) && plan.off_block().minutes() <= now.minutes() + 120,
+        None => false,
+    }
+}
+
+/// Whether the flight of this number has departed.
+fn has_departed<A: Allocator + Copy>(plans: &PlanStore<A>, number: u32) -> bool
+    requires { 0 < number }
+    ensures { (p : Held) → plan_at plans.now.plans number ≡ Some p → result ≡ is_departed p.state }
+{
+    match plans.plan(number) {
+        Some(plan) => matches!(plan.state(), PlanState::Departed),
+        None => false,
+    }
+}
+
+/// Whether a plan is filed, and neither departed nor cancelled.
+fn is_filed<A: Allocator + Copy>(plan: &Plan<A>) -> bool
+    ensures { result ≡ is_filed plan.now.state }
+{
+    matches!(plan.state(), PlanState::Filed)
+}

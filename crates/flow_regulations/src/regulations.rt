@@ -1,0 +1,284 @@
+//! The open regulations.
+ghost use Rattle.std.specs.Prelude.{◌≡◌, ◌<◌, ◌≤◌, ◌+◌, ◌++◌, ℕ, List, [], false, None, Some, IfSome, MatchOption, OnOk, OnErr, length, map, vec_capacity};
+ghost use Rattle.std.specs.List.{All, AllByRecursion, list_any};
+ghost use Rattle.std.specs.List.Sorted.{IsNonDecreasing};
+ghost use Rattle.flow_plans.specs.Plans.{Plan, plan_at};
+ghost use Rattle.flow_regulations.specs.Advice.{advice};
+ghost use Rattle.flow_regulations.specs.Listing.{Walked, IsLookedAgain, IsListed, AreSettledBut, AreSameBut, AreRenewed, IsFixedWaiting, AreFrozen, IsSettled, IsAdvancing, IsOpened, opened, is_named, without_named, lineup_named, pairs_in, is_due_flight, regulation_of};
+ghost use Rattle.flow_regulations.specs.Notices.{notices_from, told_from};
+ghost use Rattle.flow_regulations.specs.Quiet.{AreQuietBut, AllQuiet};
+
+use crate::advice::advice_of;
+use crate::notice::{Notice, Told};
+use crate::regulation::{Regulation, is_due};
+use crate::telling::tell;
+use flow_plans::PlanStore;
+use flow_slots::{Shape, SlotList};
+use fpl_message::Spot;
+use fpl_text::{Minute, Text};
+use std::alloc::{AllocError, Allocator, Global};
+use std::marker::Model;
+
+/// The open regulations in order of opening, each with its slot list (ATFCM Users Manual, slot allocation).
+#[derive(Drop)]
+pub struct Regulations<A: Allocator + Copy = Global> {
+    max_plans: u32,
+    regulations: Vec<Regulation<A>, A>,
+}
+
+impl<A: Allocator + Copy> Model for Regulations<A> {
+    ghost use Rattle.std.specs.Prelude.{◌<◌, ◌≤◌};
+    ghost use Rattle.flow_regulations.specs.Listing.{Listing, HaveCapacity};
+
+    ghost Value = { Listing };
+
+    ghost view = { λ r. record { max_plans = r.max_plans; lists = r.regulations.items } };
+
+    ghost invariant = { λ r. (0 < r.max_plans) × (r.max_plans ≤ 20_000) × HaveCapacity r.max_plans r.regulations.items };
+}
+
+impl<A: Allocator + Copy> Regulations<A> {
+    /// No regulations, for flights numbered from 1 to `max_plans`, which is 1 to 20,000.
+    pub fn new(alloc: A, max_plans: u32) -> Self
+        requires some { 0 < max_plans }
+        requires most { max_plans ≤ 20_000 }
+        ensures limit { result.max_plans ≡ max_plans }
+        ensures lists { result.lists ≡ [] }
+    {
+        Regulations {
+            max_plans,
+            regulations: Vec::new(alloc),
+        }
+    }
+
+    /// How many regulations are open.
+    pub fn count(&self) -> usize
+        ensures { result ≡ length self.now.lists }
+    {
+        self.regulations.len()
+    }
+
+    /// Opens one more regulation, the last in order: the flights that it applies to wait in it, and those that are due are
+    /// fixed. Refused where memory is; then nothing has changed.
+    pub fn open(
+        &mut self,
+        alloc: A,
+        id: Text<8>,
+        spot: Spot,
+        shape: Shape,
+        plans: &PlanStore<A>,
+        now: Minute,
+    ) -> Result<(), AllocError>
+        requires { length plans.now.plans ≤ self.old.max_plans }
+        ensures limit { self.new.max_plans ≡ self.old.max_plans }
+        ensures opened { OnOk result (IsOpened plans.now.taxi self.old.max_plans now plans.now.plans (record { id = id; spot = spot; period = shape; fixed = [] }) self.old.lists self.new.lists) }
+        ensures err { OnErr result (self.new.lists ≡ self.old.lists) }
+    {
+        let mut regulation = Regulation::new(alloc, id, spot, shape, self.max_plans)?;
+        self.regulations.reserve(1)?;
+        let_all_in(&mut regulation, plans);
+        settle(&mut regulation, plans, now);
+        self.regulations.push_reserved(regulation);
+        Ok(())
+    }
+
+    /// Whether a regulation of this name is open.
+    pub fn is_open(&self, id: &Text<8>) -> bool
+        ensures { result ≡ list_any (is_named id.now) self.now.lists }
+    {
+        any_named(&self.regulations, id)
+    }
+
+    /// The slot list of the open regulation of this name.
+    pub fn slots(&self, id: &Text<8>) -> Option<&SlotList<A>>
+        ensures { MatchOption result (lineup_named id.now self.now.lists ≡ None) (λ list. lineup_named id.now self.now.lists ≡ Some list.now.lineup) }
+    {
+        list_named(&self.regulations, id)
+    }
+
+    /// Closes the regulation of this name, with its slot list. The others stay as they are.
+    pub fn shut(&mut self, id: &Text<8>)
+        ensures limit { self.new.max_plans ≡ self.old.max_plans }
+        ensures lists { self.new.lists ≡ without_named id.now self.old.lists }
+    {
+        close_named(&mut self.regulations, id);
+    }
+
+    /// Settles the regulations after a message about the plan of this number, which changed it or added it as the last.
+    /// Where the flight keeps no slot any more, or waits with another entry, it is taken out and let in afresh, and it is
+    /// fixed where it is due. In each slot list it is the one flight that is touched.
+    pub fn look_again(&mut self, plans: &PlanStore<A>, number: u32, now: Minute)
+        requires some { 0 < number }
+        requires within { number ≤ length plans.now.plans }
+        requires room { number ≤ self.old.max_plans }
+        ensures limit { self.new.max_plans ≡ self.old.max_plans }
+        ensures others { (f : ℕ) → (f ≡ number → ⊥) → pairs_in f self.new.lists ≡ pairs_in f self.old.lists }
+        ensures renewed { (before : List Plan)
+            → IsListed plans.now.taxi self.old.max_plans before self.old.lists
+            → AreSettledBut number plans.now.taxi now before self.old.lists
+            → AreSameBut number before plans.now.plans
+            → AreRenewed plans.now.taxi self.old.max_plans now plans.now.plans self.old.lists self.new.lists }
+    {
+        look_again_in(&mut self.regulations, plans, number, now);
+    }
+
+    /// Settles the regulations when the desk's time has advanced: the flights that are due now are fixed where they wait,
+    /// and no other flight is touched.
+    pub fn advance(&mut self, plans: &PlanStore<A>, now: Minute)
+        ensures limit { self.new.max_plans ≡ self.old.max_plans }
+        ensures others { (f : ℕ) → is_due_flight now plans.now.plans f ≡ false → pairs_in f self.new.lists ≡ pairs_in f self.old.lists }
+        ensures renewed { (earlier : ℕ) → earlier ≤ now
+            → IsListed plans.now.taxi self.old.max_plans plans.now.plans self.old.lists
+            → IsSettled plans.now.taxi earlier plans.now.plans self.old.lists
+            → AreRenewed plans.now.taxi self.old.max_plans now plans.now.plans self.old.lists self.new.lists }
+    {
+        advance_in(&mut self.regulations, plans, now);
+    }
+
+    /// Freezes the slots that a departing flight holds, frozen before or not: it is fixed where it waits, and nobody
+    /// moves. The plans are those before the departure.
+    pub fn freeze_departing(&mut self, number: u32)
+        requires { 0 < number }
+        ensures limit { self.new.max_plans ≡ self.old.max_plans }
+        ensures others { (f : ℕ) → (f ≡ number → ⊥) → pairs_in f self.new.lists ≡ pairs_in f self.old.lists }
+        ensures frozen { (taxi : ℕ) (before : List Plan)
+            → IsListed taxi self.old.max_plans before self.old.lists
+            → AreFrozen taxi self.old.max_plans number before self.old.lists self.new.lists }
+    {
+        fix_waiting_in(&mut self.regulations, number);
+    }
+
+    /// What the flight of the plan of this number is to be told: its take-off delayed by the most penalising of the
+    /// regulations where it keeps a slot, of equal ones by the one opened first, and the name of that one (ATFCM Users
+    /// Manual, slot allocation). None where it keeps no slot.
+    pub fn advice(&self, plans: &PlanStore<A>, number: u32) -> Option<Told>
+        requires some { 0 < number }
+        requires within { number ≤ length plans.now.plans }
+        ensures { IfSome (plan_at plans.now.plans number)
+            (λ p. result ≡ advice plans.now.taxi number p (map regulation_of self.now.lists)) }
+    {
+        advice_of(&self.regulations, plans, number)
+    }
+
+    /// Compares the advice of these plans with what each was last told, by plan number, and appends a notice where the
+    /// take-off time is another: a slot allocation message (SAM), its revision (SRM) or its cancellation (SLC). From then
+    /// on the plan is told the advice.
+    ///
+    /// The numbers of the plans rise, and hold each plan whose advice may be another than it was told; the caller keeps
+    /// room for as many notices. Then no plan is left to which anything is to be said.
+    pub fn tell(
+        &self,
+        plans: &PlanStore<A>,
+        changed: &[u32],
+        told: &mut Vec<Option<Told>, A>,
+        notices: &mut Vec<Notice, A>,
+    )
+        requires each { length told.old.items ≡ length plans.now.plans }
+        requires rising { IsNonDecreasing changed.now }
+        requires numbers { All (λ n. (0 < n) × (n ≤ length plans.now.plans)) changed.now }
+        requires room { length notices.old.items + length changed.now ≤ vec_capacity notices.old }
+        requires quiet { AreQuietBut changed.now plans.now.taxi (map regulation_of self.now.lists) plans.now.plans told.old.items }
+        ensures told { told.new.items
+            ≡ told_from 1 plans.now.taxi (map regulation_of self.now.lists) plans.now.plans told.old.items }
+        ensures notices { notices.new.items
+            ≡ notices.old.items ++ notices_from 1 plans.now.taxi (map regulation_of self.now.lists) plans.now.plans told.old.items }
+        ensures quiet { AllQuiet plans.now.taxi (map regulation_of self.now.lists) plans.now.plans told.new.items }
+        ensures each { length told.new.items ≡ length plans.now.plans }
+        ensures few { length notices.new.items ≤ length notices.old.items + length changed.now }
+        ensures capacity { vec_capacity notices.new ≡ vec_capacity notices.old }
+    {
+        tell(&self.regulations, plans, changed, told, notices);
+    }
+}
+
+/// Each regulation looks again at one flight.
+fn look_again_in<A: Allocator + Copy>(
+    regulations: &mut [Regulation<A>],
+    plans: &PlanStore<A>,
+    number: u32,
+    now: Minute,
+)
+    requires some { 0 < number }
+    requires within { number ≤ length plans.now.plans }
+    requires room { AllByRecursion (λ l. number ≤ l.lineup.capacity) regulations.old }
+    ensures { Walked (IsLookedAgain number plans.now.taxi now plans.now.plans) (length regulations.new) regulations.old regulations.new }
+{
+    for regulation in regulations.iter_mut() {
+        regulation.look_again(plans, number, now);
+    }
+}
+
+/// Each regulation fixes one flight where it waits.
+fn fix_waiting_in<A: Allocator + Copy>(regulations: &mut [Regulation<A>], number: u32)
+    ensures { Walked (IsFixedWaiting number) (length regulations.new) regulations.old regulations.new }
+{
+    for regulation in regulations.iter_mut() {
+        regulation.fix_waiting(number);
+    }
+}
+
+/// Each regulation fixes the flights that are due, where they wait.
+fn advance_in<A: Allocator + Copy>(
+    regulations: &mut [Regulation<A>],
+    plans: &PlanStore<A>,
+    now: Minute,
+)
+    ensures { Walked (IsAdvancing (length plans.now.plans + 1) plans.now.taxi now plans.now.plans) (length regulations.new) regulations.old regulations.new }
+{
+    for index in 0..plans.count() {
+        if is_due(plans, index + 1, now) {
+            fix_waiting_in(regulations, index + 1);
+        }
+    }
+}
+
+/// Lets the flights that a new regulation applies to wait in it.
+fn let_all_in<A: Allocator + Copy>(regulation: &mut Regulation<A>, plans: &PlanStore<A>)
+    requires room { length plans.now.plans ≤ regulation.old.lineup.capacity }
+    requires empty { regulation.old ≡ opened plans.now.taxi [] regulation.old }
+    ensures { regulation.new ≡ opened plans.now.taxi plans.now.plans regulation.old }
+{
+    for index in 0..plans.count() {
+        regulation.let_in(plans, index + 1);
+    }
+}
+
+/// Fixes the flights that are due, where they wait.
+fn settle<A: Allocator + Copy>(regulation: &mut Regulation<A>, plans: &PlanStore<A>, now: Minute)
+    ensures { IsAdvancing (length plans.now.plans + 1) plans.now.taxi now plans.now.plans regulation.old regulation.new }
+{
+    for index in 0..plans.count() {
+        if is_due(plans, index + 1, now) {
+            regulation.fix_waiting(index + 1);
+        }
+    }
+}
+
+/// Whether one of the regulations has this name.
+fn any_named<A: Allocator + Copy>(regulations: &[Regulation<A>], id: &Text<8>) -> bool
+    ensures { result ≡ list_any (is_named id.now) regulations.now }
+{
+    regulations.iter().any(|regulation| regulation.is_named(id))
+}
+
+/// The slot list of the first regulation of this name.
+fn list_named<'a, A: Allocator + Copy>(
+    regulations: &'a [Regulation<A>],
+    id: &Text<8>,
+) -> Option<&'a SlotList<A>>
+    ensures { MatchOption result (lineup_named id.now regulations.now ≡ None) (λ list. lineup_named id.now regulations.now ≡ Some list.now.lineup) }
+{
+    for regulation in regulations {
+        if regulation.is_named(id) {
+            return Some(regulation.list());
+        }
+    }
+    None
+}
+
+/// Closes the regulations of this name.
+fn close_named<A: Allocator + Copy>(regulations: &mut Vec<Regulation<A>, A>, id: &Text<8>)
+    ensures { regulations.new.items ≡ without_named id.now regulations.old.items }
+{
+    regulations.retain(|regulation| !regulation.is_named(id));
+}

@@ -1,0 +1,110 @@
+//! A worked example of 2024-09-01: arrivals regulated from 10:00 to 12:00, twenty an hour, with one flight that enters at
+//! 10:04 and leaves its stand at 08:00.
+
+use crate::notice::{Notice, Said, Told};
+use crate::regulations::Regulations;
+use crate::telling_tests::{at, one_plan, told};
+use flow_plans::{PlanStore, Setup};
+use flow_slots::Shape;
+use fpl_message::Spot;
+use fpl_text::Text;
+use linked_list_allocator::LocalHeap;
+use std::alloc::AllocError;
+use std::process::Abort;
+use std::test::Fail;
+
+/// Tells the one plan what is to be told.
+fn tell_one(
+    rt: &impl Abort,
+    regulations: &Regulations,
+    plans: &PlanStore,
+    told: &mut Vec<Option<Told>>,
+    notices: &mut Vec<Notice>,
+) -> Result<(), AllocError> {
+    assert!(rt; plans.count() == 1);
+    assert!(rt; told.len() == 1);
+    notices.reserve(1)?;
+    regulations.tell(plans, &[1], told, notices);
+    Ok(())
+}
+
+#[test]
+fn a_due_flight_is_told_its_slot_at_the_opening(rt: HostRuntime) -> Result<(), Fail> {
+    let plans = one_plan(&rt, rt.alloc())?;
+    assert!(rt; plans.count() == 1);
+    let id: Text<8> = Text::new(b"RMZ01");
+    let arrivals = Spot::Arr(Text::new(b"EDDF"));
+    let shape = Shape::new(at(10, 0), at(12, 0), 20, &[]).expect(&rt, "a shape");
+    let mut regulations = Regulations::new(rt.alloc(), 100);
+    regulations.open(rt.alloc(), id.copied(), arrivals, shape, &plans, at(6, 0))?;
+    assert_eq!(rt; regulations.count(), 1);
+    assert!(rt; regulations.is_open(&id));
+    assert!(rt;
+        regulations
+            .slots(&id)
+            .expect(&rt, "a slot list")
+            .is_fixed(1)
+    );
+    assert_eq!(rt;
+        regulations.advice(&plans, 1),
+        Some(told(at(8, 12), b"RMZ01"))
+    );
+
+    let mut last = Vec::new(rt.alloc());
+    last.push(None)?;
+    let mut notices = Vec::new(rt.alloc());
+    tell_one(&rt, &regulations, &plans, &mut last, &mut notices)?;
+    regulations.shut(&id);
+    assert_eq!(rt; regulations.count(), 0);
+    tell_one(&rt, &regulations, &plans, &mut last, &mut notices)?;
+    assert_eq!(rt; notices.len(), 2);
+    assert_eq!(rt; notices[0].says, Said::Sam(told(at(8, 12), b"RMZ01")));
+    assert_eq!(rt; notices[1].says, Said::Slc);
+    Ok(())
+}
+
+#[test]
+fn a_flight_is_frozen_once_it_is_due(rt: HostRuntime) -> Result<(), Fail> {
+    let plans = one_plan(&rt, rt.alloc())?;
+    assert!(rt; plans.count() == 1);
+    let id: Text<8> = Text::new(b"RMZ01");
+    let arrivals = Spot::Arr(Text::new(b"EDDF"));
+    let shape = Shape::new(at(10, 0), at(12, 0), 20, &[]).expect(&rt, "a shape");
+    let mut regulations = Regulations::new(rt.alloc(), 100);
+    regulations.open(rt.alloc(), id.copied(), arrivals, shape, &plans, at(5, 0))?;
+    regulations.look_again(&plans, 1, at(5, 59));
+    assert_eq!(rt; regulations.advice(&plans, 1), None);
+    regulations.advance(&plans, at(6, 0));
+    assert_eq!(rt;
+        regulations.advice(&plans, 1),
+        Some(told(at(8, 12), b"RMZ01"))
+    );
+    Ok(())
+}
+
+/// Whether a regulation is opened over a heap. Where it is refused for want of memory, none is open.
+fn is_opened(rt: &impl Abort, heap: &LocalHeap) -> bool {
+    let setup = Setup::new(at(5, 0), 10, 10, 1000).expect(rt, "a setup");
+    let plans = PlanStore::new(heap, &setup);
+    assert!(rt; plans.count() == 0);
+    let id: Text<8> = Text::new(b"RMZ01");
+    let departures = Spot::Dep(Text::new(b"LIML"));
+    let shape = Shape::new(at(10, 0), at(12, 0), 20, &[]).expect(rt, "a shape");
+    let mut regulations = Regulations::new(heap, 10);
+    let opening = regulations.open(heap, id.copied(), departures, shape, &plans, at(5, 0));
+    assert_eq!(rt; regulations.is_open(&id), opening.is_ok());
+    opening.is_ok()
+}
+
+#[test]
+fn each_growth_is_refused(rt: HostRuntime) -> Result<(), AllocError> {
+    let mut opens = false;
+    for size in 1..200usize {
+        let heap = LocalHeap::new(rt.alloc(), size * 32)?;
+        let done = is_opened(&rt, &heap);
+        assert!(&rt; done || !opens, "at {size}");
+        opens = done;
+    }
+    assert!(&rt; opens);
+    Ok(())
+}

@@ -1,0 +1,128 @@
+//! Telling plans their slots.
+ghost use Rattle.std.specs.Prelude.{◌≡◌, ℕ, ◌+◌, ◌++◌, ◌<◌, ◌≤◌, length, map, vec_capacity, slice_index, IfSome};
+ghost use Rattle.std.specs.List.{All};
+ghost use Rattle.std.specs.List.Sorted.{IsNonDecreasing};
+ghost use Rattle.flow_plans.specs.Plans.{plan_at};
+ghost use Rattle.flow_regulations.specs.Advice.{advice};
+ghost use Rattle.flow_regulations.specs.Listing.{regulation_of};
+ghost use Rattle.flow_regulations.specs.Notices.{says, notice_of, notices_to, told_to_plan, notices_from, told_from};
+ghost use Rattle.flow_regulations.specs.Quiet.{AreQuietBut, AllQuiet};
+
+use crate::advice::advice_of;
+use crate::notice::{Notice, Said, Told};
+use crate::regulation::Regulation;
+use flow_plans::{Plan, PlanState, PlanStore};
+use std::alloc::Allocator;
+
+/// What is said to a plan that was last told this and now has this advice: SAM where it was told nothing, SRM where the
+/// take-off time is another, SLC where there is none any more.
+pub(crate) fn says(told: &Option<Told>, advice: &Option<Told>) -> Option<Said>
+    ensures { result ≡ says told.now advice.now }
+{
+    match (told, advice) {
+        (None, None) => None,
+        (None, Some(new)) => Some(Said::Sam(new.copied())),
+        (Some(_), None) => Some(Said::Slc),
+        (Some(old), Some(new)) => {
+            if old.ctot == new.ctot {
+                None
+            } else {
+                Some(Said::Srm(new.copied()))
+            }
+        }
+    }
+}
+
+/// A notice to a plan.
+fn notice_to<A: Allocator + Copy>(plan: &Plan<A>, says: Said) -> Notice
+    ensures { result ≡ record { ident = plan.now.key.ident; dep = plan.now.key.dep; dest = plan.now.key.dest; off_block = plan.now.off_block; says = says } }
+{
+    let key = plan.key();
+    Notice {
+        ident: key.ident.copied(),
+        dep: key.dep.copied(),
+        dest: key.dest.copied(),
+        off_block: plan.off_block(),
+        says,
+    }
+}
+
+/// Tells a plan its advice, with a notice where that says another take-off time than the plan was last told. A departed
+/// plan is told nothing more.
+fn tell_plan<A: Allocator + Copy>(
+    plan: &Plan<A>,
+    advice: Option<Told>,
+    told: &mut Option<Told>,
+    notices: &mut Vec<Notice, A>,
+)
+    requires { length notices.old.items < vec_capacity notices.old }
+    ensures told { told.new ≡ told_to_plan plan.now told.old advice }
+    ensures notices { notices.new.items ≡ notices.old.items ++ notices_to plan.now told.old advice }
+    ensures few { length notices.new.items ≤ length notices.old.items + 1 }
+    ensures capacity { vec_capacity notices.new ≡ vec_capacity notices.old }
+{
+    if plan.state() == PlanState::Departed {
+        return;
+    }
+    if let Some(said) = says(told, &advice) {
+        notices.push_reserved(notice_to(plan, said));
+        *told = advice;
+    }
+}
+
+/// Tells the plan of this number its advice.
+fn tell_number<A: Allocator + Copy>(
+    regulations: &[Regulation<A>],
+    plans: &PlanStore<A>,
+    number: u32,
+    told: &mut Option<Told>,
+    notices: &mut Vec<Notice, A>,
+)
+    requires some { 0 < number }
+    requires within { number ≤ length plans.now.plans }
+    requires room { length notices.old.items < vec_capacity notices.old }
+    ensures told { IfSome (plan_at plans.now.plans number) (λ p. told.new
+        ≡ told_to_plan p told.old (advice plans.now.taxi number p (map regulation_of regulations.now))) }
+    ensures notices { IfSome (plan_at plans.now.plans number) (λ p. notices.new.items
+        ≡ notices.old.items ++ notices_to p told.old (advice plans.now.taxi number p (map regulation_of regulations.now))) }
+    ensures few { length notices.new.items ≤ length notices.old.items + 1 }
+    ensures capacity { vec_capacity notices.new ≡ vec_capacity notices.old }
+{
+    if let Some(plan) = plans.plan(number) {
+        let advice = advice_of(regulations, plans, number);
+        tell_plan(plan, advice, told, notices);
+    }
+}
+
+/// Compares the advice of these plans with what each was last told, by plan number, and appends a notice where the
+/// take-off time is another: a slot allocation message (SAM), its revision (SRM) or its cancellation (SLC). From then
+/// on the plan is told the advice.
+///
+/// The numbers of the plans rise, and hold each plan whose advice may be another than it was told; the caller keeps room
+/// for as many notices. Then no plan is left to which anything is to be said.
+pub(crate) fn tell<A: Allocator + Copy>(
+    regulations: &[Regulation<A>],
+    plans: &PlanStore<A>,
+    changed: &[u32],
+    told: &mut Vec<Option<Told>, A>,
+    notices: &mut Vec<Notice, A>,
+)
+    requires each { length told.old.items ≡ length plans.now.plans }
+    requires rising { IsNonDecreasing changed.now }
+    requires numbers { All (λ n. (0 < n) × (n ≤ length plans.now.plans)) changed.now }
+    requires room { length notices.old.items + length changed.now ≤ vec_capacity notices.old }
+    requires quiet { AreQuietBut changed.now plans.now.taxi (map regulation_of regulations.now) plans.now.plans told.old.items }
+    ensures told { told.new.items
+        ≡ told_from 1 plans.now.taxi (map regulation_of regulations.now) plans.now.plans told.old.items }
+    ensures notices { notices.new.items
+        ≡ notices.old.items ++ notices_from 1 plans.now.taxi (map regulation_of regulations.now) plans.now.plans told.old.items }
+    ensures quiet { AllQuiet plans.now.taxi (map regulation_of regulations.now) plans.now.plans told.new.items }
+    ensures each { length told.new.items ≡ length plans.now.plans }
+    ensures few { length notices.new.items ≤ length notices.old.items + length changed.now }
+    ensures capacity { vec_capacity notices.new ≡ vec_capacity notices.old }
+{
+    for number in changed {
+        let place = (*number - 1) as usize;
+        tell_number(regulations, plans, *number, &mut told[place], notices);
+    }
+}

@@ -1,0 +1,31 @@
+//! How departures lie to the times that were told.
+ghost use Rattle.std.specs.Prelude.{◌≡◌, option_copied};
+ghost use Rattle.flow_regulations.specs.Notices.{window_of};
+
+use crate::notice::{Told, Window};
+use fpl_text::TimeOfDay;
+
+/// How a departure at this time of day lies to the calculated take-off time that the plan was last told (ATFCM Users
+/// Manual, slot tolerance: from 5 minutes before it to 10 minutes after it). Times of day alone are compared, by their
+/// difference of -720 to 719 minutes.
+#[tactic(auto, unfolding(crate::specs::Notices::window_of))]
+pub fn window_of(told: Option<&Told>, time: TimeOfDay) -> Window
+    ensures { result ≡ window_of (option_copied told.entry) time }
+{
+    let Some(told) = told else {
+        return Window::None;
+    };
+    let ctot = told.ctot.time_of_day().minutes();
+    let later = (time.minutes() + 1440 - ctot) % 1440;
+    if later < 720 {
+        if later > 10 {
+            Window::Late
+        } else {
+            Window::InWindow
+        }
+    } else if later < 1435 {
+        Window::Early
+    } else {
+        Window::InWindow
+    }
+}

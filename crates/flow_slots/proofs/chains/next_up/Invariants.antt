@@ -1,0 +1,11 @@
+use Rattle.std.proofs.Common.{◌≡◌, ℕ, ◌+◌, ◌<◌, drop}
+use Rattle.flow_slots.specs.Period.{first_slot}
+use Rattle.flow_slots.specs.Row.{cell_at, IsFixedCell}
+use Rattle.flow_slots.specs.Walk.{next_up}
+use Rattle.flow_slots.proofs.chains.next_up.Given as goal
+
+abbrev pub invariant-loop-next : goal.invariant-loop-next
+invariant-loop-next g l = record {
+  between : (j : ℕ) → l.hole < j → j < l.next → IsFixedCell (cell_at l.cells.row j);
+  same : next_up (λ e. first_slot l.shape e) l.hole (drop (l.hole + 1) l.cells.row) ≡ next_up (λ e. first_slot l.shape e) l.hole (drop l.next l.cells.row);
+}

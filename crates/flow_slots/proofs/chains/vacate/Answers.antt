@@ -1,0 +1,27 @@
+use Rattle.std.proofs.Common.{sym, ap, ◌∙◌, arith}
+use Rattle.flow_slots.specs.Period.{first_slot}
+use Rattle.flow_slots.proofs.MovingUp.{Closing-move, close-stays, Closing-end}
+use Rattle.flow_slots.proofs.Tied.{IsTied-known, IsTied-other}
+use Rattle.flow_slots.proofs.chains.vacate.Goals as goal
+
+pub bounds-places-flight : goal.bounds-places-flight
+bounds-places-flight g c =
+    omega (arith, IsTied-known c.args.places.now c.args.cells.row c.args.k c.args.flight c.requires.tied c.requires.stands)
+
+pub bounds-places-held : goal.bounds-places-held
+bounds-places-held g c =
+    let m = c.in-Some.ensures.found in
+    IsTied-other c.loop-next.places c.loop-next.row.row c.loop-next.hole c.in-Some.next c.in-Some.held c.loop-next.invariant.tied m.after m.stands
+
+pub loop-next-preserved : goal.loop-next-preserved
+loop-next-preserved g c =
+    rw c.write.ensures (Closing-move _ _ _ _ _ _ _ _ c.loop-next.hole c.in-Some.next c.in-Some.held c.loop-next.invariant c.in-Some.ensures.found)
+
+pub returns-clause-row : goal.returns-clause-row
+returns-clause-row g c =
+    let stays = close-stays (λ e. first_slot c.args.shape.now e) c.loop-next.hole c.loop-next.row.row (omega arith) c.in_default.ensures.none in
+    ap (λ v. v.row) c.write-2.ensures ∙ (sym stays ∙ c.loop-next.invariant.target)
+
+pub returns-clause-writes : goal.returns-clause-writes
+returns-clause-writes g c =
+    rw c.write-2.ensures (Closing-end _ _ _ _ _ c.loop-next.row.row c.loop-next.row.writes _ c.loop-next.hole c.loop-next.invariant)

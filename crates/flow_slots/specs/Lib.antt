@@ -1,0 +1,11 @@
+pub mod Assignment
+pub mod CellRow
+pub mod Delay
+pub mod FirstServed
+pub mod ChangeList
+pub mod Changed
+pub mod Lineup
+pub mod Order
+pub mod Period
+pub mod Row
+pub mod Walk

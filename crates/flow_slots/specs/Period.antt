@@ -1,0 +1,78 @@
+-- The slots of a regulation: a list made from its period and its hourly rates (ATFCM Users Manual, slot
+-- allocation: the slot allocation list), sub-period after sub-period. Moments are in minutes from
+-- 1970-01-01 00:00 UTC.
+use Rattle.std.specs.Prelude.{◌≡◌, ℕ, ◌+◌, ◌-◌, ◌*◌, ◌/◌, ◌<◌, ◌≤◌, nat_lt, if◌then◌else◌, List, [], ◌∷◌, length, slice_index_or}
+use Rattle.fpl_text.specs.declared.part.Part.{Part}
+
+-- a regulation's period, from `start` to before `end`: it begins with so many slots an hour, and each
+-- of the parts begins a further sub-period with a rate of its own
+pub record Period : Type 0 where
+  pub start : ℕ
+  pub end : ℕ
+  pub rate : ℕ
+  pub parts : List Part
+
+-- each sub-period begins before the next one, the last one before the end; at most 240 slots an hour,
+-- and at least 1 in the last sub-period, whose slots run on after the end
+abbrev pub AreSubperiods : ℕ → ℕ → ℕ → List Part → Type 0
+AreSubperiods end start rate [] = (start < end) × (rate ≤ 240) × (0 < rate)
+AreSubperiods end start rate (p ∷ ps) = (start < p.from) × (rate ≤ 240) × AreSubperiods end p.from p.rate ps
+
+-- the first minute of 2000, and the first one after 2098
+abbrev pub year_2000 : ℕ
+year_2000 = 15778080
+
+abbrev pub after_2098 : ℕ
+after_2098 = 67848480
+
+-- the years 2000 to 2098, 1 to 1440 minutes, 1 to 8 sub-periods
+pub record IsRegular (p : Period) : Type 0 where
+  pub not_before : year_2000 ≤ p.start
+  pub before : p.end < after_2098
+  pub at_most_a_day : p.end - p.start ≤ 1440
+  pub few : length p.parts ≤ 7
+  pub subperiods : AreSubperiods p.end p.start p.rate p.parts
+
+-- a moment in the period
+abbrev pub IsWithin : Period → ℕ → Type 0
+IsWithin p moment = (p.start ≤ moment) × (moment < p.end)
+
+-- how many slots lie in so many minutes: `minutes * rate / 60`, rounded up
+abbrev pub slots_in : ℕ → ℕ → ℕ
+slots_in rate minutes = (minutes * rate + 59) / 60
+
+-- slot `k` where a sub-period with this rate begins at `start` and the others follow: the slots of a
+-- sub-period lie `60 * k / rate` minutes after its beginning, rounded down, and before its end
+abbrev pub time_from : ℕ → ℕ → List Part → ℕ → ℕ
+time_from start rate [] k = start + 60 * k / rate
+time_from start rate (p ∷ ps) k =
+    let n = slots_in rate (p.from - start) in
+    if nat_lt k n then start + 60 * k / rate else time_from p.from p.rate ps (k - n)
+
+-- the number of the first slot not before a moment, where a sub-period begins at `start`
+abbrev pub first_from : ℕ → ℕ → List Part → ℕ → ℕ
+first_from start rate [] moment = slots_in rate (moment - start)
+first_from start rate (p ∷ ps) moment =
+    if nat_lt moment p.from then slots_in rate (moment - start)
+    else slots_in rate (p.from - start) + first_from p.from p.rate ps moment
+
+-- slot `k` is at this minute; the list runs on after the end at the last rate
+abbrev pub slot_time : Period → ℕ → ℕ
+slot_time p k = time_from p.start p.rate p.parts k
+
+-- the number of the first slot not before a moment
+abbrev pub first_slot : Period → ℕ → ℕ
+first_slot p moment = first_from p.start p.rate p.parts moment
+
+-- how many slots lie before the end
+abbrev pub slots_before_end : Period → ℕ
+slots_before_end p = first_slot p p.end
+
+-- `k` is the first slot not before `moment`
+abbrev pub IsFirstSlot : Period → ℕ → ℕ → Type 0
+IsFirstSlot p moment k = (moment ≤ slot_time p k) × ((j : ℕ) → j < k → slot_time p j < moment)
+
+-- the first slots of a period by minutes from its start
+pub record AreFirstSlots (p : Period) (slots : List ℕ) : Type 0 where
+  pub minutes : length slots ≡ p.end - p.start
+  pub each : (m : ℕ) → m < p.end - p.start → slice_index_or slots m 0 ≡ first_slot p (p.start + m)

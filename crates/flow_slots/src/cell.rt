@@ -1,0 +1,26 @@
+ghost use Rattle.std.specs.Prelude.{◌≡◌};
+ghost use Rattle.flow_slots.specs.Order.{stands_before};
+
+/// A flight that waits for a slot, with its entry in minutes from 1970-01-01 00:00 UTC.
+#[derive(Clone, Copy, Debug, PartialEq, Eq)]
+pub struct Planned {
+    pub entry: u32,
+    pub flight: u32,
+}
+
+impl Planned {
+    /// Whether this flight stands before the other: by entry, ties by the lower flight number.
+    pub fn stands_before(self, other: Planned) -> bool
+        ensures { result ≡ stands_before self other }
+    {
+        self.entry < other.entry || (self.entry == other.entry && self.flight < other.flight)
+    }
+}
+
+/// What stands in a slot: nothing, a flight that waits in the order, or a flight that keeps its slot.
+#[derive(Clone, Copy, Debug, PartialEq, Eq)]
+pub enum Cell {
+    Empty,
+    Waiting(Planned),
+    Fixed(u32),
+}

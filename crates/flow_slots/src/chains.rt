@@ -1,0 +1,126 @@
+ghost use Rattle.std.specs.Prelude.{◌≡◌, ℕ, ◌+◌, ◌<◌, ◌≤◌, ◌++◌, true, length, take, drop, IfSome, IfNone, None, Some};
+ghost use Rattle.flow_slots.specs.Changed.{gained};
+ghost use Rattle.flow_slots.specs.Period.{first_slot};
+ghost use Rattle.flow_slots.specs.Row.{flight_at, place_at, IsTied, EntriesWithin, MovesUp};
+ghost use Rattle.flow_slots.specs.Walk.{displace, has_empty, next_up, close, Follows, AllFollow, ComesIn};
+
+use crate::cell::{Cell, Planned};
+use crate::cells::Cells;
+use crate::first_slots::FirstSlots;
+use std::alloc::Allocator;
+
+/// The first slot from `from` on that is empty or held by a flight that waits and doesn't stand
+/// before `flight`.
+pub(crate) fn first_later<A: Allocator + Copy>(cells: &Cells<A>, from: u32, flight: Planned) -> u32
+    requires order { AllFollow cells.now.row }
+    requires room { has_empty (drop from cells.now.row) ≡ true }
+    ensures { ComesIn cells.now.row from flight result }
+{
+    for k in from..cells.len() {
+        match cells.cell(k) {
+            Cell::Empty => return k,
+            Cell::Fixed(_) => {}
+            Cell::Waiting(held) => {
+                if !held.stands_before(flight) {
+                    return k;
+                }
+            }
+        }
+    }
+    unreachable!()
+}
+
+/// Takes `flight` in at slot `from`, where no waiting flight up to the next empty slot stands before
+/// it: each flight takes the slot of the next one that waits, the last one the empty slot.
+pub(crate) fn displace<A: Allocator + Copy>(
+    cells: Cells<A>,
+    places: &mut [Option<u32>],
+    from: u32,
+    flight: Planned,
+) -> Cells<A>
+    requires tied { IsTied places.old cells.row }
+    requires some { 0 < flight.flight }
+    requires number { flight.flight < length places.old }
+    requires absent { place_at places.old flight.flight ≡ None }
+    requires follows { Follows flight (drop from cells.row) }
+    requires room { has_empty (drop from cells.row) ≡ true }
+    ensures tied { IsTied places.new result.row }
+    ensures row { result.row ≡ take from cells.row ++ displace flight (drop from cells.row) }
+    ensures writes { result.writes ≤ cells.writes + gained cells.row result.row }
+{
+    let mut row = cells;
+    let mut coming = flight;
+    for k in from..row.len() {
+        match row.cell(k) {
+            Cell::Empty => {
+                row.write(k, Cell::Waiting(coming));
+                places[coming.flight as usize] = Some(k);
+                return row;
+            }
+            Cell::Fixed(_) => {}
+            Cell::Waiting(held) => {
+                row.write(k, Cell::Waiting(coming));
+                places[coming.flight as usize] = Some(k);
+                coming = held;
+            }
+        }
+    }
+    row
+}
+
+/// The flight that may move up into an empty slot `hole`, with its slot.
+#[inline(always)]
+fn next_up<A: Allocator + Copy>(
+    cells: &Cells<A>,
+    shape: &FirstSlots<A>,
+    hole: u32,
+) -> Option<(u32, Planned)>
+    requires hole { hole < length cells.now.row }
+    requires entries { EntriesWithin shape.now cells.now.row }
+    ensures found { IfSome result (λ r. MovesUp shape.now cells.now.row hole r.0 r.1) }
+    ensures none { IfNone result
+        (next_up (λ e. first_slot shape.now e) hole (drop (hole + 1) cells.now.row) ≡ None) }
+{
+    let len = cells.len();
+    for next in hole + 1..len {
+        match cells.cell(next) {
+            Cell::Empty => return None,
+            Cell::Fixed(_) => {}
+            Cell::Waiting(held) => {
+                if hole < shape.at(held.entry) {
+                    return None;
+                }
+                return Some((next, held));
+            }
+        }
+    }
+    None
+}
+
+/// Takes `flight` out of slot `k`: flights move up into the hole that it leaves.
+pub(crate) fn vacate<A: Allocator + Copy>(
+    cells: Cells<A>,
+    places: &mut [Option<u32>],
+    shape: &FirstSlots<A>,
+    flight: u32,
+    k: u32,
+) -> Cells<A>
+    requires tied { IsTied places.old cells.row }
+    requires stands { flight_at cells.row k ≡ Some flight }
+    requires entries { EntriesWithin shape.now cells.row }
+    ensures tied { IsTied places.new result.row }
+    ensures row { result.row
+        ≡ take k cells.row ++ close (λ e. first_slot shape.now e) k (drop (k + 1) cells.row) }
+    ensures writes { result.writes ≤ cells.writes + gained cells.row result.row + 1 }
+{
+    let mut row = cells;
+    let mut hole = k;
+    places[flight as usize] = None;
+    while let Some((next, held)) = next_up(&row, shape, hole) {
+        row.write(hole, Cell::Waiting(held));
+        places[held.flight as usize] = Some(hole);
+        hole = next;
+    }
+    row.write(hole, Cell::Empty);
+    row
+}

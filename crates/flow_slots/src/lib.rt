@@ -1,0 +1,20 @@
+//! The slot list of one regulation.
+#![tactic(auto)]
+
+mod cell;
+mod cells;
+mod chains;
+mod change_list;
+mod first_slots;
+pub mod laws;
+mod row;
+mod shape;
+mod slot_list;
+#[cfg(test)]
+mod tests;
+
+pub use cell::{Cell, Planned};
+pub use cells::Cells;
+pub use change_list::Change;
+pub use shape::Shape;
+pub use slot_list::SlotList;

@@ -1,0 +1,113 @@
+ghost use Rattle.std.specs.Prelude.{◌≡◌, ℕ, ◌+◌, ◌<◌, ◌≤◌, ◌++◌, true, length, take, drop, vec_len, IfOk, None, replicate, ◌-◌, ◌^◌};
+ghost use Rattle.flow_slots.specs.Changed.{gained};
+ghost use Rattle.flow_slots.specs.Period.{first_slot};
+ghost use Rattle.flow_slots.specs.Row.{cell_at, flight_at, place_at, IsTied, EntriesWithin};
+ghost use Rattle.flow_slots.specs.declared.cell.Cell.TheVariants.{Empty};
+ghost use Rattle.flow_slots.specs.declared.cell.Planned.{Planned};
+ghost use Rattle.flow_slots.specs.Walk.{displace, has_empty, close, push, AllFollow};
+
+use crate::cell::{Cell, Planned};
+use crate::cells::Cells;
+use crate::chains::{displace, first_later, vacate};
+use crate::first_slots::FirstSlots;
+use std::alloc::{AllocError, Allocator};
+
+/// The row of slots, and for each flight, by its number, the slot in which it stands.
+#[derive(Drop)]
+pub(crate) struct Row<A: Allocator + Copy> {
+    pub(crate) cells: Cells<A>,
+    pub(crate) places: Vec<Option<u32>, A>,
+}
+
+impl<A: Allocator + Copy> Row<A> {
+    /// A row of empty slots, for flights with numbers up to `last`.
+    pub(crate) fn new(alloc: A, len: u32, last: u32) -> Result<Row<A>, AllocError>
+        requires { last < 2 ^ 32 - 1 }
+        ensures cells { IfOk result (λ r. r.cells ≡ record { row = replicate len Empty; writes = 0 }) }
+        ensures places { IfOk result (λ r. r.places.items ≡ replicate (last + 1) None) }
+        ensures places_len { IfOk result (λ r. vec_len r.places ≡ last + 1) }
+    {
+        Ok(Row {
+            cells: Cells::new(alloc, len)?,
+            places: vec![in alloc; None; last as usize + 1]?,
+        })
+    }
+
+    /// The slot in which `flight` stands.
+    pub(crate) fn place(&self, flight: u32) -> Option<u32>
+        ensures { result ≡ place_at self.now.places.items flight }
+    {
+        if (flight as usize) < self.places.len() {
+            self.places[flight as usize]
+        } else {
+            None
+        }
+    }
+
+    /// Takes `flight` in at slot `from`: it gets the first slot that is empty or held by a later
+    /// flight, which goes on in the same way.
+    pub(crate) fn displace(&mut self, from: u32, flight: Planned)
+        requires tied { IsTied self.old.places.items self.old.cells.row }
+        requires order { AllFollow self.old.cells.row }
+        requires some { 0 < flight.flight }
+        requires number { flight.flight < vec_len self.old.places }
+        requires absent { place_at self.old.places.items flight.flight ≡ None }
+        requires room { has_empty (drop from self.old.cells.row) ≡ true }
+        ensures tied { IsTied self.new.places.items self.new.cells.row }
+        ensures row { self.new.cells.row
+            ≡ take from self.old.cells.row ++ displace flight (drop from self.old.cells.row) }
+        ensures len { vec_len self.new.places ≡ vec_len self.old.places }
+        ensures writes { self.new.cells.writes
+            ≤ self.old.cells.writes + gained self.old.cells.row self.new.cells.row }
+    {
+        let k = first_later(&self.cells, from, flight);
+        let cells = self.cells.take();
+        self.cells = displace(cells, self.places.as_mut_slice(), k, flight);
+    }
+
+    /// Takes `flight` out of slot `k`: flights move up into the hole that it leaves.
+    pub(crate) fn vacate(&mut self, shape: &FirstSlots<A>, flight: u32, k: u32)
+        requires tied { IsTied self.old.places.items self.old.cells.row }
+        requires stands { flight_at self.old.cells.row k ≡ Some flight }
+        requires entries { EntriesWithin shape.now self.old.cells.row }
+        ensures tied { IsTied self.new.places.items self.new.cells.row }
+        ensures row { self.new.cells.row
+            ≡ take k self.old.cells.row
+            ++ close (λ e. first_slot shape.now e) k (drop (k + 1) self.old.cells.row) }
+        ensures len { vec_len self.new.places ≡ vec_len self.old.places }
+        ensures writes { self.new.cells.writes
+            ≤ self.old.cells.writes + gained self.old.cells.row self.new.cells.row + 1 }
+    {
+        let cells = self.cells.take();
+        self.cells = vacate(cells, self.places.as_mut_slice(), shape, flight, k);
+    }
+
+    /// Fixes a flight that stands nowhere in slot `k`; a flight that waits there makes way.
+    pub(crate) fn put_fixed(&mut self, flight: u32, k: u32)
+        requires tied { IsTied self.old.places.items self.old.cells.row }
+        requires order { AllFollow self.old.cells.row }
+        requires some { 0 < flight }
+        requires number { flight < vec_len self.old.places }
+        requires absent { place_at self.old.places.items flight ≡ None }
+        requires slot { k < length self.old.cells.row }
+        requires small { k < 2 ^ 32 - 1 }
+        requires open { (f : ℕ) → cell_at self.old.cells.row k ≡ Cell.Fixed f → ⊥ }
+        requires room { (held : Planned) → cell_at self.old.cells.row k ≡ Cell.Waiting held
+            → has_empty (drop (k + 1) self.old.cells.row) ≡ true }
+        ensures tied { IsTied self.new.places.items self.new.cells.row }
+        ensures row { self.new.cells.row
+            ≡ take k self.old.cells.row ++ push flight (drop k self.old.cells.row) }
+        ensures len { vec_len self.new.places ≡ vec_len self.old.places }
+        ensures writes { self.new.cells.writes
+            ≤ self.old.cells.writes + gained self.old.cells.row self.new.cells.row + 1 }
+    {
+        let cell = self.cells.cell(k);
+        self.cells.write(k, Cell::Fixed(flight));
+        self.places[flight as usize] = Some(k);
+        if let Cell::Waiting(held) = cell {
+            self.places[held.flight as usize] = None;
+            let cells = self.cells.take();
+            self.cells = displace(cells, self.places.as_mut_slice(), k + 1, held);
+        }
+    }
+}

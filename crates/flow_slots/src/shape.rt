@@ -1,0 +1,240 @@
+ghost use Rattle.std.specs.Prelude.{◌≡◌, ℕ, ◌+◌, ◌-◌, ◌*◌, ◌<◌, ◌≤◌, ◌↔◌, IsSome, IfSome, IsTrue, length};
+ghost use Rattle.flow_slots.specs.Period.{Period, IsRegular, IsWithin, AreSubperiods, slots_in, time_from, first_from, slot_time, first_slot, slots_before_end, IsFirstSlot};
+
+use fpl_text::{Minute, Part};
+use std::marker::Model;
+
+/// The first minute of the year 2000.
+const YEAR_2000: u32 = 15_778_080;
+
+/// The first minute after the year 2098.
+const AFTER_2098: u32 = 67_848_480;
+
+/// The greatest number of slots an hour.
+const MOST_AN_HOUR: u32 = 240;
+
+/// The longest period, in minutes.
+const LONGEST: u32 = 1440;
+
+/// The greatest number of further sub-periods.
+const MOST_PARTS: usize = 7;
+
+/// The period of a regulation and its hourly rates, from which its list of slots is made (ATFCM Users
+/// Manual, slot allocation). It begins with one rate, and each of the parts begins a further
+/// sub-period with a rate of its own; the last one goes on after the end.
+#[derive(Drop)]
+pub struct Shape {
+    start: Minute,
+    end: Minute,
+    rate: u32,
+    parts: [Part; 7],
+    count: usize,
+}
+
+impl Model for Shape {
+    ghost use Rattle.std.specs.Prelude.{◌≤◌, take};
+    ghost use Rattle.flow_slots.specs.Period.{Period, IsRegular};
+
+    ghost Value = { Period };
+
+    ghost view = { λ s. record {
+      start = s.start;
+      end = s.end;
+      rate = s.rate;
+      parts = take s.count s.parts;
+    } };
+
+    ghost invariant = { λ s. (s.count ≤ 7) × IsRegular (record {
+      start = s.start;
+      end = s.end;
+      rate = s.rate;
+      parts = take s.count s.parts;
+    }) };
+}
+
+/// How many slots lie in so many minutes.
+fn slots_in(rate: u32, minutes: u32) -> u32
+    requires rate { rate ≤ 240 }
+    requires minutes { minutes ≤ 1440 }
+    ensures { result ≡ slots_in rate minutes }
+{
+    (minutes * rate).div_ceil(60)
+}
+
+/// Whether the sub-periods begin one after the other before the end, and the rates keep the limits.
+fn are_subperiods(start: Minute, end: Minute, rate: u32, parts: &[Part]) -> bool
+    ensures { IsTrue result ↔ AreSubperiods end start rate parts.now }
+{
+    let mut from = start;
+    let mut hourly = rate;
+    for part in parts {
+        if part.from <= from || MOST_AN_HOUR < hourly {
+            return false;
+        }
+        from = part.from;
+        hourly = part.rate;
+    }
+    from < end && hourly <= MOST_AN_HOUR && 0 < hourly
+}
+
+/// The minute of slot `k`.
+fn time_from(start: Minute, end: Minute, rate: u32, parts: &[Part], k: u32) -> Minute
+    requires subperiods { AreSubperiods end start rate parts.now }
+    requires at_most_a_day { end - start ≤ 1440 }
+    requires before { end < 67_848_480 }
+    requires last { k ≤ 30000 }
+    ensures { result ≡ time_from start rate parts.now k }
+{
+    let mut from = start;
+    let mut hourly = rate;
+    let mut left = k;
+    for part in parts {
+        let slots = slots_in(hourly, part.from.minutes() - from.minutes());
+        if left < slots {
+            return Minute::from_minutes(from.minutes() + 60 * left / hourly);
+        }
+        left -= slots;
+        from = part.from;
+        hourly = part.rate;
+    }
+    Minute::from_minutes(from.minutes() + 60 * left / hourly)
+}
+
+/// The number of the first slot not before a moment in minutes.
+fn first_from(start: Minute, end: Minute, rate: u32, parts: &[Part], moment: u32) -> u32
+    requires subperiods { AreSubperiods end start rate parts.now }
+    requires at_most_a_day { end - start ≤ 1440 }
+    requires not_before { start ≤ moment }
+    requires not_after { moment ≤ end }
+    ensures { result ≡ first_from start rate parts.now moment }
+{
+    let mut from = start;
+    let mut hourly = rate;
+    let mut before = 0;
+    for part in parts {
+        if moment < part.from.minutes() {
+            return before + slots_in(hourly, moment - from.minutes());
+        }
+        before += slots_in(hourly, part.from.minutes() - from.minutes());
+        from = part.from;
+        hourly = part.rate;
+    }
+    before + slots_in(hourly, moment - from.minutes())
+}
+
+impl Shape {
+    /// The shape of a regulation from `start` to before `end`, which begins with so many slots an hour;
+    /// each part begins a further sub-period. None outside the limits: start and end in the years 2000
+    /// to 2098, 1 to 1440 minutes apart; at most 7 parts, whose moments rise strictly between start and
+    /// end; rates of at most 240, the last one at least 1.
+    pub fn new(start: Minute, end: Minute, rate: u32, parts: &[Part]) -> Option<Shape>
+        ensures limits { IsSome result
+            ↔ IsRegular (record { start = start; end = end; rate = rate; parts = parts.now }) }
+        ensures value { IfSome result
+            (λ s. s ≡ record { start = start; end = end; rate = rate; parts = parts.now }) }
+    {
+        let count = parts.len();
+        if count > MOST_PARTS || !are_subperiods(start, end, rate, parts) {
+            return None;
+        }
+        let first = start.minutes();
+        let last = end.minutes();
+        if first < YEAR_2000 || AFTER_2098 <= last || first + LONGEST < last {
+            return None;
+        }
+        let mut held = [Part {
+            from: start,
+            rate: 0,
+        }; MOST_PARTS];
+        held[..count].copy_from_slice(parts);
+        Some(Shape {
+            start,
+            end,
+            rate,
+            parts: held,
+            count,
+        })
+    }
+
+    /// The moment of slot `k`, counted from 0: a sub-period of so many slots an hour has one each
+    /// 60 / rate minutes from its beginning, rounded down, and the last one goes on after the end.
+    pub fn slot_time(&self, k: u32) -> Minute
+        requires { k ≤ 30000 }
+        ensures { result ≡ slot_time self.now k }
+    {
+        time_from(
+            self.start,
+            self.end,
+            self.rate,
+            &self.parts[..self.count],
+            k,
+        )
+    }
+
+    /// Whether a moment lies in the period.
+    pub fn contains(&self, moment: Minute) -> bool
+        ensures { IsTrue result ↔ IsWithin self.now moment }
+    {
+        self.start <= moment && moment < self.end
+    }
+
+    /// The number of the first slot not before `entry`.
+    pub fn first_slot(&self, entry: Minute) -> u32
+        requires { IsWithin self.now entry }
+        ensures value { result ≡ first_slot self.now entry }
+        ensures first { IsFirstSlot self.now entry result }
+    {
+        first_from(
+            self.start,
+            self.end,
+            self.rate,
+            &self.parts[..self.count],
+            entry.minutes(),
+        )
+    }
+
+    /// The minute of the start.
+    #[inline(always)]
+    pub(crate) fn start_minutes(&self) -> u32
+        ensures { result ≡ self.now.start }
+    {
+        self.start.minutes()
+    }
+
+    /// How many minutes the period has.
+    pub(crate) fn minutes(&self) -> u32
+        ensures { result ≡ self.now.end - self.now.start }
+    {
+        self.end.minutes().saturating_sub(self.start.minutes())
+    }
+
+    /// The number of the first slot so many minutes after the start.
+    pub(crate) fn first_slot_in(&self, minutes: u32) -> u32
+        requires { minutes < self.now.end - self.now.start }
+        ensures { result ≡ first_slot self.now (self.now.start + minutes) }
+    {
+        let moment = self.start.minutes() + minutes;
+        first_from(
+            self.start,
+            self.end,
+            self.rate,
+            &self.parts[..self.count],
+            moment,
+        )
+    }
+
+    /// How many slots lie before the end.
+    pub fn slots_before_end(&self) -> u32
+        ensures value { result ≡ slots_before_end self.now }
+        ensures at_most { result ≤ 5760 }
+        ensures regular { IsRegular self.now }
+    {
+        first_from(
+            self.start,
+            self.end,
+            self.rate,
+            &self.parts[..self.count],
+            self.end.minutes(),
+        )
+    }
+}

@@ -1,0 +1,227 @@
+ghost use Rattle.std.specs.Prelude.{◌≡◌, ℕ, ◌+◌, ◌<◌, ◌≤◌, length, [], None, ◌↔◌, IfOk, IfSome, IsSome, IsTrue};
+ghost use Rattle.flow_slots.specs.Period.{IsWithin};
+ghost use Rattle.flow_slots.specs.Changed.{moved_flights};
+ghost use Rattle.flow_slots.specs.Delay.{HasLeastDelay, Rise, waiting_slots};
+ghost use Rattle.flow_slots.specs.FirstServed.{IsFirstServed};
+ghost use Rattle.flow_slots.specs.Row.{flight_at};
+ghost use Rattle.flow_slots.specs.Lineup.{len_of, held_slot, held_flight, fixed_slot, with_waiting, with_fixed, without_flight, fixed_at, IsLineup, waiting_entry};
+
+use crate::cell::{Cell, Planned};
+use crate::cells::Cells;
+use crate::first_slots::FirstSlots;
+use crate::row::Row;
+use crate::shape::Shape;
+use fpl_text::Minute;
+use std::alloc::{AllocError, Allocator, Global};
+use std::marker::Model;
+
+/// The slot list of one regulation (ATFCM Users Manual, slot allocation). Flights are numbered from 1
+/// to `max_plans`, slots from 0. Some flights wait, each with its entry, and some keep a slot.
+///
+/// Contracts see the lineup: the period, the waiting flights in their order and the fixed ones by
+/// slot. Each change names what it makes of the lineup, and the row, which is changed in place, reads
+/// the fresh assignment of the lineup after any list of changes: each waiting flight in its order has
+/// the first slot not before its entry that no fixed flight and no earlier one has.
+///
+/// A change touches the cells from the flight's first slot to the end of its chain. No call but `new`
+/// takes memory.
+#[derive(Drop)]
+pub struct SlotList<A: Allocator + Copy = Global> {
+    first_slots: FirstSlots<A>,
+    capacity: u32,
+    row: Row<A>,
+}
+
+impl<A: Allocator + Copy> Model for SlotList<A> {
+    ghost use Rattle.flow_slots.specs.Lineup.{Slots, IsKept};
+    ghost use Rattle.flow_slots.specs.Row.{waiting_of, fixed_of};
+
+    ghost Value = { Slots };
+
+    ghost view = { λ s. record {
+      lineup = record {
+        period = s.first_slots;
+        capacity = s.capacity;
+        waiting = waiting_of s.row.cells.row;
+        fixed = fixed_of 0 s.row.cells.row;
+      };
+      writes = s.row.cells.writes;
+    } };
+
+    ghost invariant = { λ s. IsKept s.first_slots s.capacity s.row.cells.row s.row.places.items };
+}
+
+impl<A: Allocator + Copy> SlotList<A> {
+    /// A list with the slots before the end of the shape and `max_plans` more, all empty. `max_plans`
+    /// is 1 to 20,000. Refused where memory is.
+    pub fn new(alloc: A, shape: Shape, max_plans: u32) -> Result<SlotList<A>, AllocError>
+        requires some { 0 < max_plans }
+        requires most { max_plans ≤ 20000 }
+        ensures { IfOk result
+            (λ s. s ≡ record { lineup = record { period = shape; capacity = max_plans; waiting = []; fixed = [] }; writes = 0 }) }
+    {
+        let row = Row::new(alloc, shape.slots_before_end() + max_plans, max_plans)?;
+        let first_slots = FirstSlots::new(alloc, shape)?;
+        Ok(SlotList {
+            first_slots,
+            capacity: max_plans,
+            row,
+        })
+    }
+
+    /// The greatest flight number.
+    pub fn max_plans(&self) -> u32
+        ensures value { result ≡ self.now.lineup.capacity }
+        ensures most { result ≤ 20000 }
+    {
+        self.capacity
+    }
+
+    /// How many slots the list has: those before the end, and `max_plans` more.
+    pub fn len(&self) -> u32
+        ensures { result ≡ len_of self.now.lineup }
+    {
+        self.row.cells.len()
+    }
+
+    /// The period and its rates.
+    pub fn shape(&self) -> &Shape
+        ensures { result.now ≡ self.now.lineup.period }
+    {
+        self.first_slots.shape()
+    }
+
+    /// The row itself. Its clauses say what the lineup is: each flight has one slot and each slot at
+    /// most one flight, slots rise in the order, and no other choice of slots around the fixed ones
+    /// has a smaller sum of delays.
+    pub fn cells(&self) -> &Cells<A>
+        ensures row { (k : ℕ) → flight_at result.now.row k ≡ held_flight self.now.lineup k }
+        ensures len { length result.now.row ≡ len_of self.now.lineup }
+        ensures count { result.now.writes ≡ self.now.writes }
+        ensures one_each { (flight k : ℕ) → (held_slot self.now.lineup flight ≡ Some k)
+            ↔ (held_flight self.now.lineup k ≡ Some flight) }
+        ensures well_formed { IsLineup self.now.lineup }
+        ensures rise { Rise (waiting_slots self.now.lineup) }
+        ensures first_served { IsFirstServed self.now.lineup }
+        ensures least_delay { HasLeastDelay self.now.lineup }
+    {
+        &self.row.cells
+    }
+
+    /// The slot of a flight, None where it isn't held.
+    pub fn slot_of(&self, flight: u32) -> Option<u32>
+        ensures slot { result ≡ held_slot self.now.lineup flight }
+        ensures within { IfSome result (λ k. k < len_of self.now.lineup) }
+    {
+        self.row.place(flight)
+    }
+
+    /// The entry of a flight that waits, None where it doesn't.
+    pub fn entry_of(&self, flight: u32) -> Option<Minute>
+        ensures { result ≡ waiting_entry self.now.lineup flight }
+    {
+        match self.row.cells.cell(self.row.place(flight)?) {
+            Cell::Waiting(planned) => Some(Minute::from_minutes(planned.entry)),
+            _ => None,
+        }
+    }
+
+    /// The flight in slot `k`, None where it is empty or not below `len()`.
+    pub fn holder(&self, k: u32) -> Option<u32>
+        ensures { result ≡ held_flight self.now.lineup k }
+    {
+        if k < self.row.cells.len() {
+            self.row.cells.at(k)
+        } else {
+            None
+        }
+    }
+
+    /// Takes a flight in, to wait in the order of its entry, ties by the lower number; later flights
+    /// make way. The flight isn't held, and its entry lies in the period.
+    pub fn insert(&mut self, flight: u32, entry: Minute)
+        requires absent { held_slot self.old.lineup flight ≡ None }
+        requires first { 0 < flight }
+        requires last { flight ≤ self.old.lineup.capacity }
+        requires entry { IsWithin self.old.lineup.period entry }
+        ensures lineup { self.new.lineup
+            ≡ with_waiting (record { entry = entry; flight = flight }) self.old.lineup }
+        ensures writes { self.new.writes
+            ≤ self.old.writes + moved_flights self.old.lineup self.new.lineup + 1 }
+    {
+        let entry = entry.minutes();
+        let from = self.first_slots.at(entry);
+        self.row.displace(from, Planned { entry, flight });
+    }
+
+    /// Takes out a flight that is held, fixed or not; later flights move up.
+    pub fn remove(&mut self, flight: u32)
+        requires { IsSome (held_slot self.old.lineup flight) }
+        ensures lineup { self.new.lineup ≡ without_flight flight self.old.lineup }
+        ensures number { (0 < flight) × (flight ≤ self.old.lineup.capacity) }
+        ensures writes { self.new.writes
+            ≤ self.old.writes + moved_flights self.old.lineup self.new.lineup + 1 }
+    {
+        if let Some(k) = self.row.place(flight) {
+            self.row.vacate(&self.first_slots, flight, k);
+        }
+    }
+
+    /// Whether a flight keeps its slot.
+    pub fn is_fixed(&self, flight: u32) -> bool
+        ensures { IsTrue result ↔ IsSome (fixed_slot self.now.lineup flight) }
+    {
+        match self.row.place(flight) {
+            Some(k) => matches!(self.row.cells.cell(k), Cell::Fixed(_)),
+            None => false,
+        }
+    }
+
+    /// Lets a waiting flight keep its slot; nobody moves.
+    pub fn fix(&mut self, flight: u32)
+        requires held { IsSome (held_slot self.old.lineup flight) }
+        requires waits { fixed_slot self.old.lineup flight ≡ None }
+        ensures lineup { IfSome (held_slot self.old.lineup flight)
+            (λ k. self.new.lineup ≡ fixed_at (record { flight = flight; slot = k }) self.old.lineup) }
+        ensures nobody_moves { (other : ℕ)
+            → held_slot self.new.lineup other ≡ held_slot self.old.lineup other }
+        ensures writes { self.new.writes
+            ≤ self.old.writes + moved_flights self.old.lineup self.new.lineup + 1 }
+    {
+        if let Some(k) = self.row.place(flight) {
+            self.row.cells.write(k, Cell::Fixed(flight));
+        }
+    }
+
+    /// Lets a fixed flight wait again, with an entry in the period.
+    pub fn release(&mut self, flight: u32, entry: Minute)
+        requires fixed { IsSome (fixed_slot self.old.lineup flight) }
+        requires entry { IsWithin self.old.lineup.period entry }
+        ensures lineup { self.new.lineup
+            ≡ with_waiting (record { entry = entry; flight = flight })
+            (without_flight flight self.old.lineup) }
+        ensures writes { let between = without_flight flight self.old.lineup in
+            self.new.writes
+            ≤ self.old.writes + (moved_flights self.old.lineup between + 1)
+            + (moved_flights between self.new.lineup + 1) }
+    {
+        self.remove(flight);
+        self.insert(flight, entry);
+    }
+
+    /// Fixes a flight that isn't held in slot `k`, which no fixed flight has; waiting flights make way.
+    pub fn put_fixed(&mut self, flight: u32, k: u32)
+        requires absent { held_slot self.old.lineup flight ≡ None }
+        requires first { 0 < flight }
+        requires last { flight ≤ self.old.lineup.capacity }
+        requires slot { k < len_of self.old.lineup }
+        requires open { IfSome (held_flight self.old.lineup k)
+            (λ holder. fixed_slot self.old.lineup holder ≡ None) }
+        ensures lineup { self.new.lineup
+            ≡ with_fixed (record { flight = flight; slot = k }) self.old.lineup }
+        ensures writes { self.new.writes
+            ≤ self.old.writes + moved_flights self.old.lineup self.new.lineup + 1 }
+    {
+        self.row.put_fixed(flight, k);
+    }
+}

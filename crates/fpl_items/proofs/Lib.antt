@@ -1,0 +1,2 @@
+pub mod RoutesLemmas
+pub mod RouteLawsProofs

@@ -1,0 +1,11 @@
+use Rattle.std.proofs.Common.{◌≡◌, ◌+◌, ◌≤◌, length, vec_len, vec_capacity}
+use Rattle.fpl_items.specs.Routes.{elements_of, total_len}
+use Rattle.fpl_items.proofs.RoutesLemmas.{with_front}
+use Rattle.fpl_items.proofs.route.elements_of.Given as goal
+
+abbrev pub invariant-loop-word : goal.invariant-loop-word
+invariant-loop-word g l = record {
+  told : with_front l.elements.items (elements_of l.from l.word-iterator) ≡ elements_of l.fn.start l.fn.words;
+  places : vec_len l.elements + length l.word-iterator ≤ vec_capacity l.elements;
+  room : l.from + total_len l.word-iterator ≤ l.fn.start + total_len l.fn.words;
+}

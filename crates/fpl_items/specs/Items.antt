@@ -1,0 +1,118 @@
+-- Field 18: items, each an indicator and the words behind it, of which DOF (date of flight), EET (estimated elapsed times) and
+-- STS (reason for special handling) have an effect (ICAO Doc 4444, appendix 3, field type 18). A flight with STS/ATFMX is exempt
+-- from slot allocation (EUROCONTROL ATFCM Users Manual).
+use Rattle.std.specs.Prelude.{ℕ, ◌+◌, ◌-◌, Bool, false, not, ◌==◌, ◌&&◌, ◌||◌, nat_le, nat_lt, if◌then◌else◌, List, [], ◌∷◌, ◌++◌, length, take, drop, slice_index, slice_index_or, Option, Some, None, is_some, Result, Ok, Err, codes}
+use Rattle.std.specs.Borrow.{Bor}
+use Rattle.std.specs.Option.{option_or}
+use Rattle.std.specs.List.{list_all, list_any}
+use Rattle.fpl_items.specs.declared.fault.ItemFault.{ItemFault}
+use Rattle.fpl_items.specs.declared.fault.ItemFault.TheVariants.{BadField, DuplicateItem, BadDate}
+use Rattle.fpl_text.specs.Bytes.{is_letter, is_letter_or_digit}
+use Rattle.fpl_text.specs.Times.{elapsed_time}
+use Rattle.fpl_text.specs.Moments.{day_of}
+use Rattle.fpl_text.specs.Words.{words_of}
+use Rattle.fpl_items.specs.Kinds.{before_stroke, is_text}
+
+-- an item without where it lies in memory
+pub record Item : Type 0 where
+  pub name : List ℕ
+  pub words : List (List ℕ)
+
+-- a word begins an item where a name of 2 to 9 letters or digits, a letter first, stands before a stroke (own)
+unfoldable pub begins_item : List ℕ → Bool
+begins_item word =
+    nat_lt (before_stroke word) (length word) && nat_le 2 (before_stroke word) && nat_le (before_stroke word) 9
+    && is_letter (slice_index word 0) && list_all is_letter_or_digit (take (before_stroke word) word)
+
+-- what stands after the stroke is the item's first word, if anything does
+abbrev pub own_words : List ℕ → List (List ℕ)
+own_words word =
+    if length word == before_stroke word + 1 then [] else drop (before_stroke word + 1) word ∷ []
+
+-- a word of its own, or none
+abbrev pub own_list : Option (Bor (List ℕ)) → List (List ℕ)
+own_list None = []
+own_list (Some word) = word.now ∷ []
+
+-- the words before the first item
+abbrev pub words_before : List (List ℕ) → List (List ℕ)
+words_before [] = []
+words_before (word ∷ words) = if begins_item word then [] else word ∷ words_before words
+
+-- the items that words are, each up to the next
+abbrev pub items_of : List (List ℕ) → List Item
+items_of [] = []
+items_of (word ∷ words) =
+    if begins_item word
+    then record { name = take (before_stroke word) word; words = own_words word ++ words_before words } ∷ items_of words
+    else items_of words
+
+-- a place of 1 to 11 letters or digits, and an elapsed time
+unfoldable pub is_estimate : List ℕ → Bool
+is_estimate word =
+    nat_le 5 (length word) && nat_le (length word) 15
+    && list_all is_letter_or_digit (take (length word - 4) word)
+    && is_some (elapsed_time (drop (length word - 4) word))
+
+-- the day that the first word is
+abbrev pub day_of_words : List (List ℕ) → Option ℕ
+day_of_words [] = None
+day_of_words (word ∷ words) = day_of word
+
+-- exactly one word, which is a date
+unfoldable pub is_day : List (List ℕ) → Bool
+is_day words = (length words == 1) && is_some (day_of_words words)
+
+abbrev pub is_dof : Item → Bool
+is_dof item = is_text (codes "DOF") item.name
+
+-- the fault of an item, where a DOF stood before or not
+unfoldable pub item_fault : Bool → Item → Option ItemFault
+item_fault dof item =
+    if is_dof item
+    then (if dof then Some DuplicateItem else (if is_day item.words then None else Some BadDate))
+    else (if is_text (codes "EET") item.name && not (list_all is_estimate item.words) then Some (BadField 18) else None)
+
+-- the first fault, from the left
+abbrev pub first_fault : Bool → List Item → Option ItemFault
+first_fault dof [] = None
+first_fault dof (item ∷ items) = option_or (item_fault dof item) (first_fault (dof || is_dof item) items)
+
+abbrev pub unless_fault : Option ItemFault → List Item → Result (List Item) ItemFault
+unless_fault None items = Ok items
+unless_fault (Some fault) items = Err fault
+
+-- the first fault of field 18, which is 0 or begins with an item; a second DOF is a fault by this project's own rule
+unfoldable pub field_fault : List ℕ → Option ItemFault
+field_fault field =
+    if is_text (codes "0") field then None
+    else (if begins_item (slice_index_or (words_of field) 0 []) then first_fault false (items_of (words_of field))
+    else Some (BadField 18))
+
+-- the items of field 18, of which 0 has none, or its first fault
+abbrev pub items_or_fault : List ℕ → Result (List Item) ItemFault
+items_or_fault field = unless_fault (field_fault field) (items_of (words_of field))
+
+-- the flight is exempt where a word of an STS item is ATFMX
+abbrev pub is_exempt : List Item → Bool
+is_exempt [] = false
+is_exempt (item ∷ items) =
+    (is_text (codes "STS") item.name && list_any (is_text (codes "ATFMX")) item.words) || is_exempt items
+
+-- the elapsed time of the first of these estimates that is for a place
+abbrev pub estimate_for : List ℕ → List (List ℕ) → Option ℕ
+estimate_for place [] = None
+estimate_for place (word ∷ words) =
+    if is_text place (take (length word - 4) word) then elapsed_time (drop (length word - 4) word)
+    else estimate_for place words
+
+-- and of all EET items
+abbrev pub elapsed_to : List ℕ → List Item → Option ℕ
+elapsed_to place [] = None
+elapsed_to place (item ∷ items) =
+    option_or (if is_text (codes "EET") item.name then estimate_for place item.words else None) (elapsed_to place items)
+
+-- the day that the first DOF item gives
+abbrev pub day_of_items : List Item → Option ℕ
+day_of_items [] = None
+day_of_items (item ∷ items) = if is_dof item then day_of_words item.words else day_of_items items

@@ -1,0 +1,5 @@
+pub mod Speeds
+pub mod Kinds
+pub mod Routes
+pub mod Items
+pub mod RouteLaws

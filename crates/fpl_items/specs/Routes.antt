@@ -1,0 +1,48 @@
+-- Field 15: a speed and a level, and the elements of the route after them (ICAO Doc 4444, appendix 3, field type 15).
+use Rattle.std.specs.Prelude.{◌≡◌, ℕ, ◌+◌, if◌then◌else◌, List, [], ◌∷◌, length, take, drop, Option, Some, None, Result, Ok, Err}
+use Rattle.std.specs.Option.{option_map, option_and_then, ok_or}
+use Rattle.fpl_items.specs.declared.fault.ItemFault.{ItemFault}
+use Rattle.fpl_items.specs.declared.fault.ItemFault.TheVariants.{BadField, OutOfMemory}
+use Rattle.fpl_items.specs.declared.route.Element.{Element}
+use Rattle.fpl_text.specs.Words.{words_of}
+use Rattle.fpl_items.specs.Speeds.{speed_len, is_speed_and_level}
+use Rattle.fpl_items.specs.Kinds.{kind_of}
+
+-- what contracts see of a route
+pub record Path : Type 0 where
+  pub speed : List ℕ
+  pub level : List ℕ
+  pub elements : List Element
+
+-- the elements that these words are, of which the first stands at `from`
+abbrev pub elements_of : ℕ → List (List ℕ) → Option (List Element)
+elements_of from [] = Some []
+elements_of from (word ∷ words) =
+    option_and_then
+    (λ kind. option_map (λ elements. record { kind = kind; from = from; to = from + length word } ∷ elements) (elements_of (from + length word + 1) words))
+    (kind_of word)
+
+-- a speed and a level joined, and then the elements
+abbrev pub path_of_words : List (List ℕ) → Option Path
+path_of_words [] = None
+path_of_words (word ∷ words) =
+    if is_speed_and_level word
+    then option_map
+    (λ elements. record { speed = take (speed_len word) word; level = drop (speed_len word) word; elements = elements })
+    (elements_of (length word + 1) words)
+    else None
+
+-- field 15, or its fault
+unfoldable pub path_or_fault : List ℕ → Result Path ItemFault
+path_or_fault field = ok_or (path_of_words (words_of field)) (BadField 15)
+
+-- What a call gave, seen by `view`, is what its definition says, unless memory ran out.
+abbrev pub Gives : {X Y : Type 0} → (X → Y) → Result X ItemFault → Result Y ItemFault → Type 0
+Gives view (Ok x) expected = expected ≡ Ok (view x)
+Gives view (Err OutOfMemory) expected = Unit {0}
+Gives view (Err fault) expected = expected ≡ Err fault
+
+-- how many bytes words have, with a space after each
+abbrev pub total_len : List (List ℕ) → ℕ
+total_len [] = 0
+total_len (word ∷ words) = length word + 1 + total_len words

@@ -1,0 +1,294 @@
+//! Field 15: the route.
+
+ghost use Rattle.std.specs.Prelude.{◌≡◌, ◌≤◌, ◌<◌, ◌+◌, ◌==◌, length, count_by, IfOk, IfErr};
+ghost use Rattle.std.specs.List.{list_all};
+ghost use Rattle.fpl_text.specs.Bytes.{is_letter_or_digit};
+ghost use Rattle.std.specs.Option.{ok_or};
+ghost use Rattle.fpl_items.specs.Routes.{path_or_fault, elements_of, total_len, Gives};
+ghost use Rattle.fpl_items.specs.Kinds.{is_name, is_coordinate, is_point, is_change, is_climb_range, is_climb_speed, is_climb_from, is_climb, is_designator, is_route_byte, kind_of, before_stroke, height_len};
+
+use crate::fault::ItemFault;
+use crate::speed::{is_height, is_speed, is_speed_and_level, speed_and_level, speed_len};
+use fpl_text::byte::{
+    all_digits, all_letters, all_letters_or_digits, is_letter_or_digit, leading_letters,
+};
+use fpl_text::{Text, Words};
+use std::alloc::{Allocator, Global};
+use std::marker::Model;
+
+/// The kinds of the words of a route. A word has the first kind that fits.
+#[derive(Clone, Copy, Debug, PartialEq, Eq)]
+pub enum Kind {
+    /// DCT: direct to the next point.
+    Dct,
+    /// VFR: visual flight rules from here on.
+    Vfr,
+    /// IFR: instrument flight rules from here on.
+    Ifr,
+    /// A name, a name with bearing and distance, or a latitude and longitude.
+    Point,
+    /// A point at which speed and level change.
+    Change,
+    /// A cruise climb: a point, a speed, and the levels between which it climbs.
+    Climb,
+    /// A route, or a coded name with a digit.
+    Designator,
+    /// OAT, GAT, or any other word of letters, digits and strokes.
+    Other,
+}
+
+/// A word of a route, and where it stands in the field: from the byte at `from` to before the one at `to`.
+#[derive(Clone, Copy, Debug, PartialEq, Eq)]
+pub struct Element {
+    pub kind: Kind,
+    pub from: u16,
+    pub to: u16,
+}
+
+const _: () = prove!(size_of::<Element>() <= 8);
+
+/// Field 15: a speed and a level, and the elements of the route after them (ICAO Doc 4444, appendix 3, field type 15).
+#[derive(Drop)]
+pub struct Route<A: Allocator + Copy = Global> {
+    speed: Text<5>,
+    level: Text<5>,
+    elements: Vec<Element, A>,
+}
+
+impl<A: Allocator + Copy> Model for Route<A> {
+    ghost use Rattle.fpl_items.specs.Routes.{Path};
+
+    ghost Value = { Path };
+
+    ghost view = { λ r. record { speed = r.speed; level = r.level; elements = r.elements.items } };
+}
+
+/// A name of 2 to 5 letters, and then a bearing and a distance or nothing.
+#[tactic(auto, unfolding(crate::specs::Kinds::is_name))]
+fn is_name(word: &[u8]) -> bool
+    ensures { result ≡ is_name word.now }
+{
+    let letters = leading_letters(word);
+    letters >= 2
+        && letters <= 5
+        && all_digits(&word[letters..])
+        && (word.len() == letters || word.len() == letters + 6)
+}
+
+#[tactic(auto, unfolding(crate::specs::Kinds::is_coordinate))]
+fn is_coordinate(north: usize, east: usize, word: &[u8]) -> bool
+    requires north { north < 10 }
+    requires east { east < 10 }
+    ensures { result ≡ is_coordinate north east word.now }
+{
+    word.len() == north + east + 2
+        && all_digits(&word[..north])
+        && matches!(word[north], b'N' | b'S')
+        && all_digits(&word[north + 1..north + 1 + east])
+        && matches!(word[north + east + 1], b'E' | b'W')
+}
+
+#[tactic(auto, unfolding(crate::specs::Kinds::is_point))]
+fn is_point(word: &[u8]) -> bool
+    ensures { result ≡ is_point word.now }
+{
+    is_name(word) || is_coordinate(2, 3, word) || is_coordinate(4, 5, word)
+}
+
+/// How many bytes stand before the first stroke.
+pub(crate) fn before_stroke(word: &[u8]) -> usize
+    ensures value { result ≡ before_stroke word.now }
+    ensures bound { result ≤ length word.now }
+{
+    word.iter().take_while(|byte| **byte != b'/').count()
+}
+
+#[tactic(auto, unfolding(crate::specs::Kinds::is_change))]
+fn is_change(word: &[u8]) -> bool
+    ensures { result ≡ is_change word.now }
+{
+    let cut = before_stroke(word);
+    cut < word.len() && is_point(&word[..cut]) && is_speed_and_level(&word[cut + 1..])
+}
+
+fn height_len(text: &[u8]) -> usize
+    ensures { result ≡ height_len text.now }
+{
+    match text.first() {
+        Some(b'F' | b'A') => 4,
+        _ => 5,
+    }
+}
+
+/// A level, and a second one or PLUS.
+#[tactic(auto, unfolding(crate::specs::Kinds::is_climb_range))]
+fn is_climb_range(text: &[u8]) -> bool
+    ensures { result ≡ is_climb_range text.now }
+{
+    let (low, high) = text.split_at(height_len(text).min(text.len()));
+    is_height(low) && (is_height(high) || high == b"PLUS".as_slice())
+}
+
+#[tactic(auto, unfolding(crate::specs::Kinds::is_climb_speed))]
+fn is_climb_speed(text: &[u8]) -> bool
+    ensures { result ≡ is_climb_speed text.now }
+{
+    let (speed, range) = text.split_at(speed_len(text).min(text.len()));
+    is_speed(speed) && is_climb_range(range)
+}
+
+#[tactic(auto, unfolding(crate::specs::Kinds::is_climb_from))]
+fn is_climb_from(text: &[u8]) -> bool
+    ensures { result ≡ is_climb_from text.now }
+{
+    let cut = before_stroke(text);
+    cut < text.len() && is_point(&text[..cut]) && is_climb_speed(&text[cut + 1..])
+}
+
+#[tactic(auto, unfolding(crate::specs::Kinds::is_climb))]
+fn is_climb(word: &[u8]) -> bool
+    ensures { result ≡ is_climb word.now }
+{
+    word.len() >= 2 && word[0] == b'C' && word[1] == b'/' && is_climb_from(&word[2..])
+}
+
+#[tactic(auto, unfolding(crate::specs::Kinds::is_designator))]
+fn is_designator(word: &[u8]) -> bool
+    ensures { result ≡ is_designator word.now }
+{
+    word.len() >= 2 && word.len() <= 7 && all_letters_or_digits(word) && !all_letters(word)
+}
+
+#[tactic(auto, unfolding(crate::specs::Kinds::is_route_byte))]
+fn is_route_byte(byte: u8) -> bool
+    ensures { result ≡ is_route_byte byte }
+{
+    is_letter_or_digit(byte) || byte == b'/'
+}
+
+fn all_route_bytes(word: &[u8]) -> bool
+    ensures { result ≡ list_all is_route_byte word.now }
+{
+    word.iter().all(|byte| is_route_byte(*byte))
+}
+
+/// The first kind that fits a word.
+#[tactic(auto, unfolding(crate::specs::Kinds::kind_of))]
+fn kind_of(word: &[u8]) -> Option<Kind>
+    ensures { result ≡ kind_of word.now }
+{
+    if word == b"DCT".as_slice() {
+        Some(Kind::Dct)
+    } else if word == b"VFR".as_slice() {
+        Some(Kind::Vfr)
+    } else if word == b"IFR".as_slice() {
+        Some(Kind::Ifr)
+    } else if word == b"OAT".as_slice() || word == b"GAT".as_slice() {
+        Some(Kind::Other)
+    } else if is_point(word) {
+        Some(Kind::Point)
+    } else if is_change(word) {
+        Some(Kind::Change)
+    } else if is_climb(word) {
+        Some(Kind::Climb)
+    } else if is_designator(word) {
+        Some(Kind::Designator)
+    } else if all_route_bytes(word) {
+        Some(Kind::Other)
+    } else {
+        None
+    }
+}
+
+/// How many spaces a text has.
+fn space_count(text: &[u8]) -> usize
+    ensures value { result ≡ count_by (λ b. b == 32) text.now }
+    ensures bound { result ≤ length text.now }
+{
+    text.iter().filter(|byte| **byte == b' ').count()
+}
+
+/// The element of that kind at that place, where the place can be held.
+fn element_at(kind: Kind, from: usize, to: usize) -> Result<Element, ItemFault>
+    requires { from ≤ to }
+    ensures ok { IfOk result (λ element. element ≡ record { kind = kind; from = from; to = to }) }
+    ensures err { IfErr result (λ fault. fault ≡ ItemFault.OutOfMemory) }
+{
+    if to > 65_535 {
+        return Err(ItemFault::OutOfMemory);
+    }
+    Ok(Element {
+        kind,
+        from: from as u16,
+        to: to as u16,
+    })
+}
+
+/// The elements that words are, at most so many, of which the first stands at `start`.
+fn elements_of<A: Allocator + Copy>(
+    alloc: A,
+    most: usize,
+    start: usize,
+    words: Words<'_>,
+) -> Result<Vec<Element, A>, ItemFault>
+    requires most { length words ≤ most }
+    requires fits { start + total_len words ≤ usize.MAX }
+    ensures { Gives (λ v. v.items) result (ok_or (elements_of start words.entry) (ItemFault.BadField 15)) }
+{
+    let Ok(mut elements) = Vec::with_capacity(alloc, most) else {
+        return Err(ItemFault::OutOfMemory);
+    };
+    let mut from = start;
+    for word in words {
+        let Some(kind) = kind_of(word) else {
+            return Err(ItemFault::BadField(15));
+        };
+        let to = from + word.len();
+        elements.push_reserved(element_at(kind, from, to)?);
+        from = to + 1;
+    }
+    Ok(elements)
+}
+
+impl<A: Allocator + Copy> Route<A> {
+    /// Reads field 15. A field of more than 65,535 bytes, whose elements have places that cannot be held, is OutOfMemory.
+    #[tactic(auto, unfolding(crate::specs::Routes::path_or_fault))]
+    pub fn read(alloc: A, field: &[u8]) -> Result<Self, ItemFault>
+        ensures { Gives (λ route. route) result (path_or_fault field.now) }
+    {
+        let mut words = Words::new(field);
+        let Some(first) = words.next() else {
+            return Err(ItemFault::BadField(15));
+        };
+        let Some((speed, level)) = speed_and_level(first) else {
+            return Err(ItemFault::BadField(15));
+        };
+        let elements = elements_of(alloc, space_count(field), first.len() + 1, words)?;
+        Ok(Route {
+            speed,
+            level,
+            elements,
+        })
+    }
+
+    /// The elements, in order.
+    pub fn elements(&self) -> &[Element]
+        ensures { result.now ≡ self.now.elements }
+    {
+        self.elements.as_slice()
+    }
+
+    /// The speed.
+    pub fn speed(&self) -> &[u8]
+        ensures { result.now ≡ self.now.speed }
+    {
+        self.speed.as_bytes()
+    }
+
+    /// The level.
+    pub fn level(&self) -> &[u8]
+        ensures { result.now ≡ self.now.level }
+    {
+        self.level.as_bytes()
+    }
+}

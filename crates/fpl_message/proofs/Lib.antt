@@ -1,0 +1,3 @@
+pub mod ModificationLemmas
+pub mod OrderLemmas
+pub mod EditionLemmas

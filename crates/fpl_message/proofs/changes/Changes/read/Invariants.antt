@@ -1,0 +1,10 @@
+use Rattle.std.proofs.Common.{◌≡◌, drop, length}
+use Rattle.fpl_message.specs.Modifications.{amended, unamended}
+use Rattle.fpl_message.specs.KeptChanges.{kept, StandAmong}
+use Rattle.fpl_message.proofs.changes.Changes.read.Given as goal
+
+abbrev pub invariant-loop-place : goal.invariant-loop-place
+invariant-loop-place g l = record {
+  walk : amended (drop l.place l.fields) (kept l.fields l.changes) ≡ amended (drop l.first l.fields) (unamended l.fn.parts);
+  stand : StandAmong (length l.fields) l.changes;
+}

@@ -1,0 +1,44 @@
+-- The flight plan message, FPL (ICAO Doc 4444, appendix 2 and 3).
+use Rattle.std.specs.Prelude.{ℕ, if◌then◌else◌, List, Option, Some, None, Result, Ok}
+use Rattle.fpl_text.specs.declared.place.Destination.{Destination}
+use Rattle.fpl_text.specs.Headings.{heading_of}
+use Rattle.fpl_text.specs.Places.{ident_of, departure_of, destination_of}
+use Rattle.fpl_text.specs.Craft.{rules_of, craft_of, is_equipment}
+use Rattle.fpl_items.specs.Routes.{path_or_fault}
+use Rattle.fpl_items.specs.Items.{items_or_fault}
+use Rattle.fpl_message.specs.declared.refusal.Refusal.{Refusal}
+use Rattle.fpl_message.specs.Refusals.{◌>>=◌, by_items, in_field}
+use Rattle.fpl_message.specs.Messages.{field, Fpl}
+
+-- field 16 of a flight plan has the total elapsed time (appendix 3, field type 16)
+abbrev pub elapsed_of : Destination → Result ℕ Refusal
+elapsed_of destination = in_field 16 destination.elapsed
+
+-- field 10 is not interpreted
+abbrev pub equipment_of : List ℕ → Option (List ℕ)
+equipment_of text = if is_equipment text then Some text else None
+
+-- FPL: fields 3, 7, 8, 9, 10, 13, 15, 16 and 18, read from the left
+unfoldable pub fpl_of : List (List ℕ) → Result Fpl Refusal
+fpl_of fields =
+    in_field 3 (heading_of (field fields 0))
+    >>= (λ heading. in_field 7 (ident_of (field fields 1))
+    >>= (λ ident. in_field 8 (rules_of (field fields 2))
+    >>= (λ rules. in_field 9 (craft_of (field fields 3))
+    >>= (λ craft. in_field 10 (equipment_of (field fields 4))
+    >>= (λ equipment. in_field 13 (departure_of (field fields 5))
+    >>= (λ departure. by_items (path_or_fault (field fields 6))
+    >>= (λ route. in_field 16 (destination_of (field fields 7))
+    >>= (λ destination. elapsed_of destination
+    >>= (λ elapsed. by_items (items_or_fault (field fields 8))
+    >>= (λ items. Ok (record {
+      fields = fields;
+      ident = ident;
+      rules = rules;
+      craft = craft;
+      departure = departure;
+      route = route;
+      destination = destination;
+      elapsed = elapsed;
+      items = items;
+    })))))))))))

@@ -1,0 +1,33 @@
+-- What the code keeps of a modification: its fields, and the places of those that are amended.
+use Rattle.std.specs.Prelude.{ℕ, ◌<◌, List, Option}
+use Rattle.std.specs.Option.{option_map, ForSome}
+use Rattle.fpl_message.specs.declared.changes.Changes.{Changes}
+use Rattle.fpl_message.specs.Messages.{field, Chg}
+use Rattle.fpl_message.specs.Modifications.{amended_text}
+
+-- the amended text of the field 22 at a place
+abbrev pub text_at : List (List ℕ) → Option ℕ → Option (List ℕ)
+text_at fields place = option_map (λ at. amended_text (field fields at)) place
+
+-- the modification that is kept
+abbrev pub kept : {A : Type 0} → List (List ℕ) → Changes A → Chg
+kept fields c = record {
+  parts = c.parts;
+  rules = c.rules;
+  departure = c.departure;
+  destination = c.destination;
+  items = c.other;
+  field8 = text_at fields c.field8;
+  field9 = text_at fields c.field9;
+  field10 = text_at fields c.field10;
+  field15 = text_at fields c.field15;
+  field18 = text_at fields c.field18;
+}
+
+-- its amended fields are some of so many
+pub record StandAmong {A : Type 0} (count : ℕ) (c : Changes A) : Type 0 where
+  pub field8 : ForSome c.field8 (λ at. at < count)
+  pub field9 : ForSome c.field9 (λ at. at < count)
+  pub field10 : ForSome c.field10 (λ at. at < count)
+  pub field15 : ForSome c.field15 (λ at. at < count)
+  pub field18 : ForSome c.field18 (λ at. at < count)

@@ -1,0 +1,12 @@
+pub mod Filings
+pub mod Numbers
+pub mod Refusals
+pub mod Messages
+pub mod FlightPlans
+pub mod ShortMessages
+pub mod Modifications
+pub mod KeptChanges
+pub mod Orders
+pub mod SaidOrders
+pub mod Reads
+pub mod Said

@@ -1,0 +1,72 @@
+-- Refusals, and the steps of a reading that stops at the first.
+use Rattle.std.specs.Prelude.{◌≡◌, ℕ, Option, Result, Ok, Err}
+use Rattle.std.specs.Option.{ok_or}
+use Rattle.fpl_text.specs.declared.fault.TextFault.{TextFault}
+use Rattle.fpl_text.specs.declared.fault.TextFault.TheVariants as text
+use Rattle.fpl_text.specs.declared.fault.FieldFault.{FieldFault}
+use Rattle.fpl_text.specs.declared.fault.FieldFault.TheVariants as fields
+use Rattle.fpl_items.specs.declared.fault.ItemFault.{ItemFault}
+use Rattle.fpl_items.specs.declared.fault.ItemFault.TheVariants as item
+use Rattle.fpl_message.specs.declared.refusal.Refusal.{Refusal}
+use Rattle.fpl_message.specs.declared.refusal.Refusal.TheVariants as refusal
+use Rattle.fpl_message.specs.declared.fault.Fault.{Fault}
+use Rattle.fpl_message.specs.declared.fault.Fault.TheVariants.{Refused, OutOfMemory}
+
+infixl 10 ◌>>=◌
+-- what comes next, unless a refusal came before
+abbrev pub ◌>>=◌ : {X Y : Type 0} → Result X Refusal → (X → Result Y Refusal) → Result Y Refusal
+(Ok x) >>= next = next x
+(Err refusal) >>= next = Err refusal
+
+-- the refusal of a text that has no fields; want of memory is none, and no definition gives it
+abbrev pub text_refusal : TextFault → Refusal
+text_refusal text.Empty = refusal.Empty
+text_refusal (text.BadByte place) = refusal.BadByte place
+text_refusal text.NoBracket = refusal.NoBracket
+text_refusal text.UnknownTitle = refusal.UnknownTitle
+text_refusal text.FieldCount = refusal.FieldCount
+text_refusal text.OutOfMemory = refusal.Empty
+
+-- the refusal of a field 15 or 18
+abbrev pub item_refusal : ItemFault → Refusal
+item_refusal (item.BadField number) = refusal.BadField number
+item_refusal item.DuplicateItem = refusal.DuplicateItem
+item_refusal item.BadDate = refusal.BadDate
+item_refusal item.OutOfMemory = refusal.BadField 18
+
+-- why a reading stops at such a fault
+abbrev pub text_fault : TextFault → Fault
+text_fault text.Empty = Refused refusal.Empty
+text_fault (text.BadByte place) = Refused (refusal.BadByte place)
+text_fault text.NoBracket = Refused refusal.NoBracket
+text_fault text.UnknownTitle = Refused refusal.UnknownTitle
+text_fault text.FieldCount = Refused refusal.FieldCount
+text_fault text.OutOfMemory = OutOfMemory
+
+abbrev pub field_fault : FieldFault → Fault
+field_fault (fields.BadField number) = Refused (refusal.BadField number)
+field_fault fields.OutOfMemory = OutOfMemory
+
+abbrev pub item_fault : ItemFault → Fault
+item_fault (item.BadField number) = Refused (refusal.BadField number)
+item_fault item.DuplicateItem = Refused refusal.DuplicateItem
+item_fault item.BadDate = Refused refusal.BadDate
+item_fault item.OutOfMemory = OutOfMemory
+
+abbrev pub by_text : {X : Type 0} → Result X TextFault → Result X Refusal
+by_text (Ok x) = Ok x
+by_text (Err fault) = Err (text_refusal fault)
+
+abbrev pub by_items : {X : Type 0} → Result X ItemFault → Result X Refusal
+by_items (Ok x) = Ok x
+by_items (Err fault) = Err (item_refusal fault)
+
+-- the value of a field of this number, or its refusal
+abbrev pub in_field : {X : Type 0} → ℕ → Option X → Result X Refusal
+in_field number found = ok_or found (refusal.BadField number)
+
+-- What a call gave, seen by `view`, is what its definition says, unless memory ran out.
+abbrev pub Gives : {X Y : Type 0} → (X → Y) → Result X Fault → Result Y Refusal → Type 0
+Gives view (Ok x) expected = expected ≡ Ok (view x)
+Gives view (Err OutOfMemory) expected = Unit {0}
+Gives view (Err (Refused refusal)) expected = expected ≡ Err refusal

@@ -1,0 +1,228 @@
+//! The amended fields of a modification, field type 22.
+ghost use Rattle.std.specs.Prelude.{◌≡◌, ◌≤◌, ◌<◌, ◌∷◌, drop, length, true, IfOk};
+ghost use Rattle.fpl_text.specs.Fields.{begins_amendment};
+ghost use Rattle.fpl_message.specs.Refusals.{Gives};
+ghost use Rattle.fpl_message.specs.Messages.{field};
+ghost use Rattle.fpl_message.specs.Modifications.{amended_number, amended_text, amend_rules, amend_craft, amend_equipment, amend_departure, amend_route, amend_destination, amend_other, amend_numbered, amend, amended, unamended};
+ghost use Rattle.fpl_message.specs.KeptChanges.{kept, StandAmong};
+
+use crate::fault::Fault;
+use crate::parts::Parts;
+use crate::refusal::Refusal;
+use fpl_items::{Other18, Route};
+use fpl_text::equipment::is_equipment;
+use fpl_text::fields::begins_amendment;
+use fpl_text::{Craft, Departure, Destination, Fields, Rules};
+use std::alloc::{Allocator, Global};
+
+/// What a modification changes. An amended text is held by the place of its field 22 among the fields of the message.
+#[derive(Drop)]
+pub struct Changes<A: Allocator + Copy = Global> {
+    pub parts: Parts,
+    pub rules: Option<Rules>,
+    pub departure: Option<Departure>,
+    pub destination: Option<Destination>,
+    pub other: Option<Other18<A>>,
+    pub field8: Option<usize>,
+    pub field9: Option<usize>,
+    pub field10: Option<usize>,
+    pub field15: Option<usize>,
+    pub field18: Option<usize>,
+}
+
+/// The number of the field that a field 22 amends.
+#[tactic(auto, unfolding(crate::specs::Modifications::amended_number, fpl_text::specs::Fields::begins_amendment, fpl_text::specs::Bytes::is_digit))]
+fn amended_number(field: &[u8]) -> u8
+    requires { begins_amendment field.now ≡ true }
+    ensures { result ≡ amended_number field.now }
+{
+    match field {
+        [digit, b'/', ..] => digit - b'0',
+        [tens, units, ..] => 10 * (tens - b'0') + (units - b'0'),
+        _ => unreachable!(),
+    }
+}
+
+/// The text that a field 22 puts in place of the field's.
+#[tactic(auto, unfolding(crate::specs::Modifications::amended_text))]
+fn amended_text(field: &[u8]) -> &[u8]
+    ensures { result.now ≡ amended_text field.now }
+{
+    match field {
+        [_, b'/', text @ ..] => text,
+        _ => &field[field.len().min(3)..],
+    }
+}
+
+/// The amended text of the field 22 at a place.
+pub(crate) fn amended_at<A: Allocator + Copy>(fields: &Fields<A>, place: usize) -> &[u8]
+    requires { place < length fields.now }
+    ensures { result.now ≡ amended_text (field fields.now place) }
+{
+    amended_text(fields.field(place))
+}
+
+impl<A: Allocator + Copy> Changes<A> {
+    /// Field 8.
+    fn amend_rules(&mut self, fields: &Fields<A>, place: usize) -> Result<(), Fault>
+        requires { place < length fields.now }
+        ensures change { Gives (λ _. kept fields.now self.new) result
+            (amend_rules (amended_text (field fields.now place)) (kept fields.now self.old)) }
+        ensures stand { StandAmong (length fields.now) self.old → StandAmong (length fields.now) self.new }
+    {
+        if self.field8.is_some() {
+            return Err(Fault::Refused(Refusal::DuplicateItem));
+        }
+        let rules = Rules::read(amended_at(fields, place))?;
+        self.field8 = Some(place);
+        self.rules = Some(rules);
+        Ok(())
+    }
+
+    /// Field 9.
+    fn amend_craft(&mut self, fields: &Fields<A>, place: usize) -> Result<(), Fault>
+        requires { place < length fields.now }
+        ensures change { Gives (λ _. kept fields.now self.new) result
+            (amend_craft (amended_text (field fields.now place)) (kept fields.now self.old)) }
+        ensures stand { StandAmong (length fields.now) self.old → StandAmong (length fields.now) self.new }
+    {
+        if self.field9.is_some() {
+            return Err(Fault::Refused(Refusal::DuplicateItem));
+        }
+        let _craft = Craft::read(amended_at(fields, place))?;
+        self.field9 = Some(place);
+        Ok(())
+    }
+
+    /// Field 10.
+    fn amend_equipment(&mut self, fields: &Fields<A>, place: usize) -> Result<(), Fault>
+        requires { place < length fields.now }
+        ensures change { Gives (λ _. kept fields.now self.new) result
+            (amend_equipment (amended_text (field fields.now place)) (kept fields.now self.old)) }
+        ensures stand { StandAmong (length fields.now) self.old → StandAmong (length fields.now) self.new }
+    {
+        if self.field10.is_some() {
+            return Err(Fault::Refused(Refusal::DuplicateItem));
+        }
+        if !is_equipment(amended_at(fields, place)) {
+            return Err(Fault::Refused(Refusal::BadField(10)));
+        }
+        self.field10 = Some(place);
+        Ok(())
+    }
+
+    /// Field 13.
+    fn amend_departure(&mut self, fields: &Fields<A>, place: usize) -> Result<(), Fault>
+        requires { place < length fields.now }
+        ensures change { Gives (λ _. kept fields.now self.new) result
+            (amend_departure (amended_text (field fields.now place)) (kept fields.now self.old)) }
+        ensures stand { StandAmong (length fields.now) self.old → StandAmong (length fields.now) self.new }
+    {
+        if self.departure.is_some() {
+            return Err(Fault::Refused(Refusal::DuplicateItem));
+        }
+        let departure = Departure::read(amended_at(fields, place))?;
+        self.departure = Some(departure);
+        Ok(())
+    }
+
+    /// Field 15.
+    fn amend_route(&mut self, alloc: A, fields: &Fields<A>, place: usize) -> Result<(), Fault>
+        requires { place < length fields.now }
+        ensures change { Gives (λ _. kept fields.now self.new) result
+            (amend_route (amended_text (field fields.now place)) (kept fields.now self.old)) }
+        ensures stand { StandAmong (length fields.now) self.old → StandAmong (length fields.now) self.new }
+    {
+        if self.field15.is_some() {
+            return Err(Fault::Refused(Refusal::DuplicateItem));
+        }
+        let _route = Route::read(alloc, amended_at(fields, place))?;
+        self.field15 = Some(place);
+        Ok(())
+    }
+
+    /// Field 16, whose time and alternates may be missing.
+    fn amend_destination(&mut self, fields: &Fields<A>, place: usize) -> Result<(), Fault>
+        requires { place < length fields.now }
+        ensures change { Gives (λ _. kept fields.now self.new) result
+            (amend_destination (amended_text (field fields.now place)) (kept fields.now self.old)) }
+        ensures stand { StandAmong (length fields.now) self.old → StandAmong (length fields.now) self.new }
+    {
+        if self.destination.is_some() {
+            return Err(Fault::Refused(Refusal::DuplicateItem));
+        }
+        let destination = Destination::read(amended_at(fields, place))?;
+        self.destination = Some(destination);
+        Ok(())
+    }
+
+    /// Field 18.
+    fn amend_other(&mut self, alloc: A, fields: &Fields<A>, place: usize) -> Result<(), Fault>
+        requires { place < length fields.now }
+        ensures change { Gives (λ _. kept fields.now self.new) result
+            (amend_other (amended_text (field fields.now place)) (kept fields.now self.old)) }
+        ensures stand { StandAmong (length fields.now) self.old → StandAmong (length fields.now) self.new }
+    {
+        if self.field18.is_some() {
+            return Err(Fault::Refused(Refusal::DuplicateItem));
+        }
+        let other = Other18::read(alloc, amended_at(fields, place))?;
+        self.field18 = Some(place);
+        self.other = Some(other);
+        Ok(())
+    }
+
+    /// Adds what the field 22 at a place amends.
+    #[tactic(auto, unfolding(crate::specs::Modifications::amend, crate::specs::Modifications::amend_numbered))]
+    fn amend(&mut self, alloc: A, fields: &Fields<A>, place: usize) -> Result<(), Fault>
+        requires { place < length fields.now }
+        ensures change { Gives (λ _. kept fields.now self.new) result
+            (amend (field fields.now place) (kept fields.now self.old)) }
+        ensures stand { StandAmong (length fields.now) self.old → StandAmong (length fields.now) self.new }
+    {
+        let field = fields.field(place);
+        if !begins_amendment(field) {
+            return Err(Fault::Refused(Refusal::BadField(22)));
+        }
+        match amended_number(field) {
+            8 => self.amend_rules(fields, place),
+            9 => self.amend_craft(fields, place),
+            10 => self.amend_equipment(fields, place),
+            13 => self.amend_departure(fields, place),
+            15 => self.amend_route(alloc, fields, place),
+            16 => self.amend_destination(fields, place),
+            18 => self.amend_other(alloc, fields, place),
+            number => Err(Fault::Refused(Refusal::UnsupportedAmendment(number))),
+        }
+    }
+
+    /// The changes of a plan by the fields 22 from that place on.
+    #[tactic(auto, using(crate::proofs::ModificationLemmas::amended_steps))]
+    pub(crate) fn read(
+        alloc: A,
+        parts: Parts,
+        fields: &Fields<A>,
+        first: usize,
+    ) -> Result<Changes<A>, Fault>
+        requires { first ≤ length fields.now }
+        ensures change { Gives (kept fields.now) result (amended (drop first fields.now) (unamended parts)) }
+        ensures stand { IfOk result (StandAmong (length fields.now)) }
+    {
+        let mut changes = Changes {
+            parts,
+            rules: None,
+            departure: None,
+            destination: None,
+            other: None,
+            field8: None,
+            field9: None,
+            field10: None,
+            field15: None,
+            field18: None,
+        };
+        for place in first..fields.count() {
+            changes.amend(alloc, fields, place)?;
+        }
+        Ok(changes)
+    }
+}

@@ -1,0 +1,64 @@
+//! Why a reading stopped.
+ghost use Rattle.std.specs.Prelude.{◌≡◌};
+ghost use Rattle.fpl_message.specs.Refusals.{Gives, text_fault, field_fault, item_fault};
+
+use crate::refusal::Refusal;
+use fpl_items::ItemFault;
+use fpl_text::{FieldFault, TextFault};
+use std::alloc::Allocator;
+
+/// Why a reading stopped: the text is refused, or memory ran out.
+#[derive(Clone, Copy, Debug, PartialEq, Eq)]
+pub enum Fault {
+    Refused(Refusal),
+    OutOfMemory,
+}
+
+impl From<TextFault> for Fault {
+    ghost from_gives = { λ fault made. made ≡ text_fault fault };
+
+    fn from(fault: TextFault) -> Fault {
+        match fault {
+            TextFault::Empty => Fault::Refused(Refusal::Empty),
+            TextFault::BadByte(place) => Fault::Refused(Refusal::BadByte(place)),
+            TextFault::NoBracket => Fault::Refused(Refusal::NoBracket),
+            TextFault::UnknownTitle => Fault::Refused(Refusal::UnknownTitle),
+            TextFault::FieldCount => Fault::Refused(Refusal::FieldCount),
+            TextFault::OutOfMemory => Fault::OutOfMemory,
+        }
+    }
+}
+
+impl From<FieldFault> for Fault {
+    ghost from_gives = { λ fault made. made ≡ field_fault fault };
+
+    fn from(fault: FieldFault) -> Fault {
+        match fault {
+            FieldFault::BadField(field) => Fault::Refused(Refusal::BadField(field)),
+            FieldFault::OutOfMemory => Fault::OutOfMemory,
+        }
+    }
+}
+
+impl From<ItemFault> for Fault {
+    ghost from_gives = { λ fault made. made ≡ item_fault fault };
+
+    fn from(fault: ItemFault) -> Fault {
+        match fault {
+            ItemFault::BadField(field) => Fault::Refused(Refusal::BadField(field)),
+            ItemFault::DuplicateItem => Fault::Refused(Refusal::DuplicateItem),
+            ItemFault::BadDate => Fault::Refused(Refusal::BadDate),
+            ItemFault::OutOfMemory => Fault::OutOfMemory,
+        }
+    }
+}
+
+/// Boxes a value, or says that memory ran out.
+pub(crate) fn boxed<A: Allocator + Copy, T: Drop>(alloc: A, value: T) -> Result<Box<T, A>, Fault>
+    ensures { Gives (λ b. b.value) result (Ok value) }
+{
+    match Box::new(alloc, value) {
+        Ok(boxed) => Ok(boxed),
+        Err(_) => Err(Fault::OutOfMemory),
+    }
+}

@@ -1,0 +1,106 @@
+//! A filing: its bytes, and the reading of them.
+ghost use Rattle.std.specs.Prelude.{◌≡◌, ◌≤◌, ◌<◌, ◌↔◌, length, IfOk, IsErrOf};
+ghost use Rattle.fpl_message.specs.Reads.{reading_of};
+ghost use Rattle.fpl_message.specs.Said.{said};
+
+use crate::fault::Fault;
+use crate::message::Reading;
+use crate::reading::read;
+use std::alloc::{Allocator, Global};
+use std::marker::Model;
+
+/// The bytes of a filing at most.
+pub const MAX_BYTES: usize = 2000;
+
+/// The rules by which an order to open a regulation is read.
+#[derive(Clone, Copy, Debug, PartialEq, Eq)]
+pub enum Edition {
+    /// With one rate.
+    First,
+    /// With a rate for each sub-period.
+    Second,
+}
+
+/// Why there is no filing of some bytes.
+#[derive(Clone, Copy, Debug, PartialEq, Eq)]
+pub enum FilingFault {
+    /// More than 2,000 bytes.
+    TooLong,
+    OutOfMemory,
+}
+
+/// Bytes as they were filed, with the reading of them. Contracts see the edition and the bytes.
+#[derive(Drop)]
+pub struct Filing<A: Allocator + Copy = Global> {
+    bytes: Vec<u8, A>,
+    edition: Edition,
+    reading: Reading<A>,
+}
+
+impl<A: Allocator + Copy> Model for Filing<A> {
+    ghost use Rattle.std.specs.Prelude.{◌≡◌, ◌≤◌, length};
+    ghost use Rattle.fpl_message.specs.Filings.{FilingText};
+
+    ghost Value = { FilingText };
+
+    ghost use Rattle.fpl_message.specs.Reads.{reading_of};
+    ghost use Rattle.fpl_message.specs.Said.{said};
+
+    ghost view = { λ f. record { edition = f.edition; bytes = f.bytes.items } };
+
+    ghost invariant = { λ f. (said f.reading ≡ reading_of (record { edition = f.edition; bytes = f.bytes.items }))
+        × (length f.bytes.items ≤ 2000) };
+}
+
+impl<A: Allocator + Copy> Filing<A> {
+    /// A filing of these bytes, read by the rules of today. After an `Err` there is none.
+    pub fn new(alloc: A, bytes: &[u8]) -> Result<Self, FilingFault>
+        ensures value { IfOk result (λ filing. filing ≡ record { edition = Edition.Second; bytes = bytes.now }) }
+        ensures long { IsErrOf result FilingFault.TooLong ↔ (2000 < length bytes.now) }
+    {
+        Filing::read_as(alloc, Edition::Second, bytes)
+    }
+
+    /// A filing of these bytes, read by the rules of that edition. After an `Err` there is none.
+    pub fn read_as(alloc: A, edition: Edition, bytes: &[u8]) -> Result<Self, FilingFault>
+        ensures value { IfOk result (λ filing. filing ≡ record { edition = edition; bytes = bytes.now }) }
+        ensures long { IsErrOf result FilingFault.TooLong ↔ (2000 < length bytes.now) }
+    {
+        if bytes.len() > MAX_BYTES {
+            return Err(FilingFault::TooLong);
+        }
+        let Ok(kept) = Vec::from_slice(alloc, bytes) else {
+            return Err(FilingFault::OutOfMemory);
+        };
+        match read(alloc, edition, bytes) {
+            Some(reading) => Ok(Filing {
+                bytes: kept,
+                edition,
+                reading,
+            }),
+            None => Err(FilingFault::OutOfMemory),
+        }
+    }
+
+    /// The bytes as they were given, at most 2,000.
+    pub fn text(&self) -> &[u8]
+        ensures value { result.now ≡ self.now.bytes }
+        ensures bound { length result.now ≤ 2000 }
+    {
+        self.bytes.as_slice()
+    }
+
+    /// The edition of the rules by which they are read.
+    pub fn edition(&self) -> Edition
+        ensures { result ≡ self.now.edition }
+    {
+        self.edition
+    }
+
+    /// What they say, or their first refusal.
+    pub fn reading(&self) -> &Reading<A>
+        ensures { said result.now ≡ reading_of self.now }
+    {
+        &self.reading
+    }
+}

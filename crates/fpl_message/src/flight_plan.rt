@@ -1,0 +1,149 @@
+//! The filed flight plan message, FPL.
+ghost use Rattle.std.specs.Prelude.{◌≡◌, ◌<◌, [], length, slice_get, Some};
+ghost use Rattle.fpl_message.specs.Refusals.{Gives, by_items};
+ghost use Rattle.fpl_items.specs.Routes.{path_or_fault};
+ghost use Rattle.fpl_items.specs.Items.{items_or_fault};
+ghost use Rattle.fpl_message.specs.FlightPlans.{fpl_of};
+ghost use Rattle.fpl_message.specs.Messages.{field};
+
+use crate::fault::Fault;
+use crate::refusal::Refusal;
+use fpl_items::{Other18, Route};
+use fpl_text::equipment::is_equipment;
+use fpl_text::{Craft, Departure, Destination, Fields, Heading, Ident, Rules};
+use std::alloc::{Allocator, Global};
+use std::marker::Model;
+
+/// A filed flight plan (ICAO Doc 4444, appendix 2), with the squeezed texts of its nine fields.
+#[derive(Drop)]
+pub struct Fpl<A: Allocator + Copy = Global> {
+    fields: Fields<A>,
+    ident: Ident,
+    rules: Rules,
+    craft: Craft,
+    departure: Departure,
+    route: Route<A>,
+    destination: Destination,
+    elapsed: u32,
+    other: Other18<A>,
+}
+
+impl<A: Allocator + Copy> Model for Fpl<A> {
+    ghost use Rattle.std.specs.Prelude.{◌≡◌, length};
+    ghost use Rattle.fpl_message.specs.Messages.{Fpl as Plan};
+
+    ghost Value = { Plan };
+
+    ghost view = { λ m. record {
+      fields = m.fields;
+      ident = m.ident;
+      rules = m.rules;
+      craft = m.craft;
+      departure = m.departure;
+      route = m.route;
+      destination = m.destination;
+      elapsed = m.elapsed;
+      items = m.other;
+    } };
+
+    ghost invariant = { λ m. length m.fields ≡ 9 };
+}
+
+impl<A: Allocator + Copy> Fpl<A> {
+    /// Reads the fields of an FPL, from the left.
+    #[tactic(auto, unfolding(crate::specs::FlightPlans::fpl_of))]
+    pub(crate) fn read(alloc: A, fields: Fields<A>) -> Result<Fpl<A>, Fault>
+        requires { length fields ≡ 9 }
+        ensures { Gives (λ m. m) result (fpl_of fields) }
+    {
+        let _heading = Heading::read(fields.field(0))?;
+        let ident = Ident::read(fields.field(1))?;
+        let rules = Rules::read(fields.field(2))?;
+        let craft = Craft::read(fields.field(3))?;
+        if !is_equipment(fields.field(4)) {
+            return Err(Fault::Refused(Refusal::BadField(10)));
+        }
+        let departure = Departure::read(fields.field(5))?;
+        let route = Route::read(alloc, fields.field(6))?;
+        let destination = Destination::read(fields.field(7))?;
+        let Some(elapsed) = destination.elapsed else {
+            return Err(Fault::Refused(Refusal::BadField(16)));
+        };
+        let other = Other18::read(alloc, fields.field(8))?;
+        Ok(Fpl {
+            fields,
+            ident,
+            rules,
+            craft,
+            departure,
+            route,
+            destination,
+            elapsed,
+            other,
+        })
+    }
+
+    /// Field 7: the identification.
+    pub fn ident(&self) -> &Ident
+        ensures { result.now ≡ self.now.ident }
+    {
+        &self.ident
+    }
+
+    /// Field 8: the flight rules and the type of flight.
+    pub fn rules(&self) -> &Rules
+        ensures { result.now ≡ self.now.rules }
+    {
+        &self.rules
+    }
+
+    /// Field 9: the aircraft.
+    pub fn craft(&self) -> &Craft
+        ensures { result.now ≡ self.now.craft }
+    {
+        &self.craft
+    }
+
+    /// Field 13: the departure aerodrome and the off-block time.
+    pub fn departure(&self) -> &Departure
+        ensures { result.now ≡ self.now.departure }
+    {
+        &self.departure
+    }
+
+    /// Field 15: the route.
+    pub fn route(&self) -> &Route<A>
+        ensures { result.now ≡ self.now.route }
+    {
+        &self.route
+    }
+
+    /// Field 16: the destination and its alternates.
+    pub fn destination(&self) -> &Destination
+        ensures { result.now ≡ self.now.destination }
+    {
+        &self.destination
+    }
+
+    /// The total elapsed time of field 16, in minutes.
+    pub fn elapsed(&self) -> u32
+        ensures { result ≡ self.now.elapsed }
+    {
+        self.elapsed
+    }
+
+    /// Field 18: other information.
+    pub fn other(&self) -> &Other18<A>
+        ensures { result.now ≡ self.now.items }
+    {
+        &self.other
+    }
+
+    /// The squeezed text of the field at that place, counted from 0: fields 3, 7, 8, 9, 10, 13, 15, 16 and 18.
+    pub fn field(&self, place: usize) -> &[u8]
+        requires { place < 9 }
+        ensures { result.now ≡ field self.now.fields place }
+    {
+        self.fields.field(place)
+    }
+}

@@ -1,0 +1,33 @@
+//! What a filing says.
+use crate::flight_plan::Fpl;
+use crate::modification::Chg;
+use crate::order::Order;
+use crate::refusal::Refusal;
+use crate::short_message::{Cnl, Dep, Dla};
+use std::alloc::{Allocator, Global};
+
+/// What a message says (ICAO Doc 4444, appendix 2). Each kind lies in memory of its own size.
+#[derive(Drop)]
+pub enum Message<A: Allocator + Copy = Global> {
+    /// A filed flight plan.
+    Fpl(Box<Fpl<A>, A>),
+    /// A delay.
+    Dla(Box<Dla, A>),
+    /// A modification.
+    Chg(Box<Chg<A>, A>),
+    /// A cancellation.
+    Cnl(Box<Cnl, A>),
+    /// A departure.
+    Dep(Box<Dep, A>),
+}
+
+/// What the bytes of a filing say, or why they are refused.
+#[derive(Drop)]
+pub enum Reading<A: Allocator + Copy = Global> {
+    Msg(Message<A>),
+    Ord(Order<A>),
+    Bad(Refusal),
+}
+
+// A refused filing costs its bytes and this.
+const _: () = prove!(size_of::<Reading>() <= 40);

@@ -1,0 +1,131 @@
+//! The modification message, CHG.
+ghost use Rattle.std.specs.Prelude.{◌≡◌, ◌≤◌, ◌<◌, length, option_copied};
+ghost use Rattle.std.specs.Option.{ForSome};
+ghost use Rattle.fpl_message.specs.Refusals.{Gives};
+ghost use Rattle.fpl_message.specs.Modifications.{chg_of};
+ghost use Rattle.fpl_message.specs.KeptChanges.{text_at};
+
+use crate::changes::{Changes, amended_at};
+use crate::fault::Fault;
+use crate::parts::{Parts, read_opening};
+use fpl_items::Other18;
+use fpl_text::fields::begins_amendment;
+use fpl_text::{Departure, Destination, Fields, Rules};
+use std::alloc::{Allocator, Global};
+use std::marker::Model;
+
+/// A modification: the plan that it is about, and the amended fields, each at most once. A field that it does not amend is
+/// None.
+#[derive(Drop)]
+pub struct Chg<A: Allocator + Copy = Global> {
+    fields: Fields<A>,
+    changes: Changes<A>,
+}
+
+impl<A: Allocator + Copy> Model for Chg<A> {
+    ghost use Rattle.std.specs.Prelude.{length};
+    ghost use Rattle.fpl_message.specs.Messages.{Chg as Modification};
+    ghost use Rattle.fpl_message.specs.KeptChanges.{kept, StandAmong};
+
+    ghost Value = { Modification };
+
+    ghost view = { λ m. kept m.fields m.changes };
+
+    ghost invariant = { λ m. StandAmong (length m.fields) m.changes };
+}
+
+impl<A: Allocator + Copy> Chg<A> {
+    /// Reads the fields of a CHG, from the left.
+    #[tactic(auto, unfolding(crate::specs::Modifications::chg_of))]
+    pub(crate) fn read(alloc: A, fields: Fields<A>) -> Result<Chg<A>, Fault>
+        requires { 5 ≤ length fields }
+        ensures { Gives (λ m. m) result (chg_of fields) }
+    {
+        let has_other = !begins_amendment(fields.field(4));
+        let opening = read_opening(alloc, has_other, &fields)?;
+        let first = if has_other { 5 } else { 4 };
+        let changes = Changes::read(alloc, opening.parts, &fields, first)?;
+        Ok(Chg { fields, changes })
+    }
+
+    /// What names the plan.
+    pub fn parts(&self) -> &Parts
+        ensures { result.now ≡ self.now.parts }
+    {
+        &self.changes.parts
+    }
+
+    /// The flight rules and the type of flight that an amended field 8 says.
+    pub fn rules(&self) -> Option<&Rules>
+        ensures { option_copied result ≡ self.now.rules }
+    {
+        self.changes.rules.as_ref()
+    }
+
+    /// An amended field 13.
+    pub fn departure(&self) -> Option<&Departure>
+        ensures { option_copied result ≡ self.now.departure }
+    {
+        self.changes.departure.as_ref()
+    }
+
+    /// An amended field 16.
+    pub fn destination(&self) -> Option<&Destination>
+        ensures { option_copied result ≡ self.now.destination }
+    {
+        self.changes.destination.as_ref()
+    }
+
+    /// What an amended field 18 says.
+    pub fn other(&self) -> Option<&Other18<A>>
+        ensures { option_copied result ≡ self.now.items }
+    {
+        self.changes.other.as_ref()
+    }
+
+    /// The squeezed text of an amended field 8.
+    pub fn field8(&self) -> Option<&[u8]>
+        ensures { option_copied result ≡ self.now.field8 }
+    {
+        text_at(&self.fields, self.changes.field8)
+    }
+
+    /// The squeezed text of an amended field 9.
+    pub fn field9(&self) -> Option<&[u8]>
+        ensures { option_copied result ≡ self.now.field9 }
+    {
+        text_at(&self.fields, self.changes.field9)
+    }
+
+    /// The squeezed text of an amended field 10.
+    pub fn field10(&self) -> Option<&[u8]>
+        ensures { option_copied result ≡ self.now.field10 }
+    {
+        text_at(&self.fields, self.changes.field10)
+    }
+
+    /// The squeezed text of an amended field 15.
+    pub fn field15(&self) -> Option<&[u8]>
+        ensures { option_copied result ≡ self.now.field15 }
+    {
+        text_at(&self.fields, self.changes.field15)
+    }
+
+    /// The squeezed text of an amended field 18.
+    pub fn field18(&self) -> Option<&[u8]>
+        ensures { option_copied result ≡ self.now.field18 }
+    {
+        text_at(&self.fields, self.changes.field18)
+    }
+}
+
+/// The amended text at a place, where there is one.
+fn text_at<A: Allocator + Copy>(fields: &Fields<A>, place: Option<usize>) -> Option<&[u8]>
+    requires { ForSome place (λ at. at < length fields.now) }
+    ensures { option_copied result ≡ text_at fields.now place }
+{
+    match place {
+        Some(place) => Some(amended_at(fields, place)),
+        None => None,
+    }
+}

@@ -1,0 +1,191 @@
+//! Orders: to open and to close a regulation, and to set the desk's time.
+ghost use Rattle.std.specs.Prelude.{◌≡◌, length};
+ghost use Rattle.fpl_message.specs.Refusals.{Gives};
+ghost use Rattle.fpl_message.specs.Orders.{is_regulation, is_way_point, regulation_of, way_point_of, aerodrome_of, spot_of, open_of, shut_of, time_of, order_or_refusal};
+ghost use Rattle.fpl_message.specs.SaidOrders.{said_order};
+
+use crate::fault::{Fault, boxed};
+use crate::filing::Edition;
+use crate::refusal::Refusal;
+use crate::sub_periods::{SubPeriods, more_of, rate_of};
+use fpl_text::byte::{all_letters, all_letters_or_digits, is_letter};
+use fpl_text::{Minute, Text, Words, read_moment};
+use std::alloc::{Allocator, Global};
+
+/// Where the flow of flights is regulated.
+#[derive(Debug, Drop, PartialEq, Eq)]
+pub enum Spot {
+    /// At departure from this aerodrome.
+    Dep(Text<4>),
+    /// At arrival at this aerodrome.
+    Arr(Text<4>),
+    /// At this place on the way.
+    Via(Text<11>),
+}
+
+/// An order to open a regulation, in the form that it must have. Its limits are the desk's: that the period is 1 to 1,440
+/// minutes long, that its sub-periods rise within it, that a rate is at most 240.
+#[derive(Drop)]
+pub struct OpenReg {
+    /// The name of the regulation: a letter, and then at most 7 letters or digits.
+    pub id: Text<8>,
+    pub place: Spot,
+    /// The first moment of the period.
+    pub from: Minute,
+    /// The first moment after the period.
+    pub to: Minute,
+    /// Flights an hour in the first sub-period, at most 999.
+    pub rate: u32,
+    /// The further sub-periods.
+    pub more: SubPeriods,
+}
+
+/// An order.
+#[derive(Drop)]
+pub enum Order<A: Allocator + Copy = Global> {
+    OpenReg(Box<OpenReg, A>),
+    /// To close the regulation of this name.
+    ShutReg { id: Text<8> },
+    /// To set the desk's time.
+    SetTime { at: Minute },
+}
+
+#[tactic(auto, unfolding(crate::specs::Orders::is_regulation))]
+fn is_regulation(word: &[u8]) -> bool
+    ensures { result ≡ is_regulation word.now }
+{
+    word.len() >= 1 && word.len() <= 8 && is_letter(word[0]) && all_letters_or_digits(word)
+}
+
+/// Reads the name of a regulation.
+#[tactic(auto, unfolding(crate::specs::Orders::is_regulation))]
+fn regulation_of(word: &[u8]) -> Option<Text<8>>
+    ensures { result ≡ regulation_of word.now }
+{
+    if !is_regulation(word) {
+        return None;
+    }
+    Some(Text::new(word))
+}
+
+/// Reads the name of an aerodrome: four letters.
+#[tactic(auto, unfolding(fpl_text::specs::Places::is_place))]
+fn aerodrome_of(word: &[u8]) -> Option<Text<4>>
+    ensures { result ≡ aerodrome_of word.now }
+{
+    if word.len() != 4 || !all_letters(word) {
+        return None;
+    }
+    Some(Text::new(word))
+}
+
+#[tactic(auto, unfolding(crate::specs::Orders::is_way_point))]
+fn is_way_point(word: &[u8]) -> bool
+    ensures { result ≡ is_way_point word.now }
+{
+    word.len() >= 1 && word.len() <= 11 && all_letters_or_digits(word)
+}
+
+/// Reads the name of a place on the way.
+#[tactic(auto, unfolding(crate::specs::Orders::is_way_point))]
+fn way_point_of(word: &[u8]) -> Option<Text<11>>
+    ensures { result ≡ way_point_of word.now }
+{
+    if !is_way_point(word) {
+        return None;
+    }
+    Some(Text::new(word))
+}
+
+/// Reads where the flow is regulated: DEP, ARR or VIA, and a place.
+#[tactic(auto, unfolding(crate::specs::Orders::spot_of))]
+fn spot_of(kind: &[u8], place: &[u8]) -> Option<Spot>
+    ensures { result ≡ spot_of kind.now place.now }
+{
+    if kind == b"DEP".as_slice() {
+        Some(Spot::Dep(aerodrome_of(place)?))
+    } else if kind == b"ARR".as_slice() {
+        Some(Spot::Arr(aerodrome_of(place)?))
+    } else if kind == b"VIA".as_slice() {
+        Some(Spot::Via(way_point_of(place)?))
+    } else {
+        None
+    }
+}
+
+/// Reads what stands behind OPEN.
+fn open_of(edition: Edition, mut words: Words<'_>) -> Option<OpenReg>
+    ensures { result ≡ open_of edition words.entry }
+{
+    let id = regulation_of(words.next()?)?;
+    let kind = words.next()?;
+    let place = spot_of(kind, words.next()?)?;
+    let from = read_moment(words.next()?)?;
+    let to = read_moment(words.next()?)?;
+    let rate = rate_of(words.next()?)?;
+    let more = more_of(edition, from, words)?;
+    Some(OpenReg {
+        id,
+        place,
+        from,
+        to,
+        rate,
+        more,
+    })
+}
+
+/// Reads what stands behind SHUT.
+fn shut_of(mut words: Words<'_>) -> Option<Text<8>>
+    ensures { result ≡ shut_of words.entry }
+{
+    let id = regulation_of(words.next()?)?;
+    match words.next() {
+        Some(_) => None,
+        None => Some(id),
+    }
+}
+
+/// Reads what stands behind TIME.
+fn time_of(mut words: Words<'_>) -> Option<Minute>
+    ensures { result ≡ time_of words.entry }
+{
+    let at = read_moment(words.next()?)?;
+    match words.next() {
+        Some(_) => None,
+        None => Some(at),
+    }
+}
+
+const BAD_ORDER: Fault = Fault::Refused(Refusal::BadOrder);
+
+/// Reads an order by the rules of an edition.
+pub(crate) fn read_order<A: Allocator + Copy>(
+    alloc: A,
+    edition: Edition,
+    text: &[u8],
+) -> Result<Order<A>, Fault>
+    ensures { Gives said_order result (order_or_refusal edition text.now) }
+{
+    let mut words = Words::new(text);
+    let Some(verb) = words.next() else {
+        return Err(BAD_ORDER);
+    };
+    if verb == b"OPEN".as_slice() {
+        let Some(open) = open_of(edition, words) else {
+            return Err(BAD_ORDER);
+        };
+        Ok(Order::OpenReg(boxed(alloc, open)?))
+    } else if verb == b"SHUT".as_slice() {
+        let Some(id) = shut_of(words) else {
+            return Err(BAD_ORDER);
+        };
+        Ok(Order::ShutReg { id })
+    } else if verb == b"TIME".as_slice() {
+        let Some(at) = time_of(words) else {
+            return Err(BAD_ORDER);
+        };
+        Ok(Order::SetTime { at })
+    } else {
+        Err(BAD_ORDER)
+    }
+}

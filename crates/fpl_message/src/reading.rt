@@ -1,0 +1,74 @@
+//! The reading of bytes.
+ghost use Rattle.std.specs.Prelude.{◌≡◌, IfSome};
+ghost use Rattle.fpl_text.specs.Squeezing.{squeezed_or_fault};
+ghost use Rattle.fpl_text.specs.Fields.{fields_or_fault};
+ghost use Rattle.fpl_message.specs.Refusals.{Gives, by_text};
+ghost use Rattle.fpl_message.specs.Said.{said, said_message};
+ghost use Rattle.fpl_message.specs.Reads.{reading_of, reading_or_refusal, message_of, begins_message};
+
+use crate::fault::{Fault, boxed};
+use crate::filing::Edition;
+use crate::flight_plan::Fpl;
+use crate::message::{Message, Reading};
+use crate::modification::Chg;
+use crate::order::read_order;
+use crate::short_message::{Cnl, Dep, Dla};
+use fpl_text::{Fields, Squeezed, Title};
+use std::alloc::Allocator;
+
+/// What bytes say by the rules of an edition. None where memory ran out.
+#[tactic(auto, unfolding(crate::specs::Reads::reading_of))]
+pub(crate) fn read<A: Allocator + Copy>(
+    alloc: A,
+    edition: Edition,
+    bytes: &[u8],
+) -> Option<Reading<A>>
+    ensures { IfSome result (λ r. said r ≡ reading_of (record { edition = edition; bytes = bytes.now })) }
+{
+    match read_filed(alloc, edition, bytes) {
+        Ok(reading) => Some(reading),
+        Err(Fault::Refused(refusal)) => Some(Reading::Bad(refusal)),
+        Err(Fault::OutOfMemory) => None,
+    }
+}
+
+/// What bytes say, or why not.
+fn read_filed<A: Allocator + Copy>(
+    alloc: A,
+    edition: Edition,
+    bytes: &[u8],
+) -> Result<Reading<A>, Fault>
+    ensures { Gives said result (reading_or_refusal (record { edition = edition; bytes = bytes.now })) }
+{
+    let squeezed = Squeezed::read(alloc, bytes)?;
+    if !begins_message(squeezed.as_bytes()) {
+        let order = read_order(alloc, edition, squeezed.as_bytes())?;
+        return Ok(Reading::Ord(order));
+    }
+    read_message(alloc, squeezed.into_fields()?)
+}
+
+/// Whether a squeezed text begins as a message does.
+#[tactic(auto, unfolding(crate::specs::Reads::begins_message))]
+fn begins_message(text: &[u8]) -> bool
+    ensures { result ≡ begins_message text.now }
+{
+    match text.first() {
+        Some(byte) => *byte == b'(',
+        None => false,
+    }
+}
+
+/// Reads the fields of a message.
+fn read_message<A: Allocator + Copy>(alloc: A, fields: Fields<A>) -> Result<Reading<A>, Fault>
+    ensures { Gives said result (message_of fields) }
+{
+    let message = match fields.title() {
+        Title::Fpl => Message::Fpl(boxed(alloc, Fpl::read(alloc, fields)?)?),
+        Title::Dla => Message::Dla(boxed(alloc, Dla::read(alloc, &fields)?)?),
+        Title::Chg => Message::Chg(boxed(alloc, Chg::read(alloc, fields)?)?),
+        Title::Cnl => Message::Cnl(boxed(alloc, Cnl::read(alloc, &fields)?)?),
+        Title::Dep => Message::Dep(boxed(alloc, Dep::read(alloc, &fields)?)?),
+    };
+    Ok(Reading::Msg(message))
+}

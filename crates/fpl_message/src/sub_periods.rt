@@ -1,0 +1,126 @@
+//! The further sub-periods of a regulation.
+ghost use Rattle.std.specs.Prelude.{◌≡◌, ◌≤◌, ◌<◌, ◌∷◌, ◌++◌, ◌-◌, [], true, nat_le, if◌then◌else◌, length};
+ghost use Rattle.fpl_text.specs.Bytes.{is_digit};
+ghost use Rattle.fpl_message.specs.Orders.{rate_of, part_of, parts_of, more_of};
+
+use crate::filing::Edition;
+use fpl_text::byte::all_digits;
+use fpl_text::{Minute, Part, Words, read_moment};
+use std::marker::Model;
+
+/// The further sub-periods of a regulation at most.
+const MOST: usize = 7;
+
+/// The further sub-periods of a regulation, at most 7, seen as their list.
+#[derive(Drop)]
+pub struct SubPeriods {
+    parts: [Part; MOST],
+    count: usize,
+}
+
+impl Model for SubPeriods {
+    ghost use Rattle.std.specs.Prelude.{◌≤◌, List, take};
+    ghost use Rattle.fpl_text.specs.declared.part.Part.{Part};
+
+    ghost Value = { List Part };
+
+    ghost view = { λ s. take s.count s.parts };
+
+    ghost invariant = { λ s. s.count ≤ 7 };
+}
+
+impl SubPeriods {
+    /// None, in a regulation from that moment on.
+    fn none(from: Minute) -> SubPeriods
+        ensures { result ≡ [] }
+    {
+        SubPeriods {
+            parts: [Part { from, rate: 0 }; MOST],
+            count: 0,
+        }
+    }
+
+    /// One more behind the others.
+    fn push(&mut self, part: Part)
+        requires { length self.old < 7 }
+        ensures { self.new ≡ self.old ++ part ∷ [] }
+    {
+        self.parts[self.count] = part;
+        self.count += 1;
+    }
+
+    /// The sub-periods, in order.
+    pub fn as_slice(&self) -> &[Part]
+        ensures value { result.now ≡ self.now }
+        ensures fits { length result.now ≤ 7 }
+    {
+        &self.parts[..self.count]
+    }
+}
+
+/// The number that a digit is.
+#[tactic(auto, unfolding(fpl_text::specs::Bytes::is_digit))]
+fn digit(byte: u8) -> u32
+    requires { is_digit byte ≡ true }
+    ensures value { result ≡ byte - 48 }
+    ensures bound { result < 10 }
+{
+    u32::from(byte - b'0')
+}
+
+/// Reads a rate of flights an hour: 1 to 3 digits.
+#[tactic(auto, unfolding(crate::specs::Orders::rate_of))]
+pub(crate) fn rate_of(word: &[u8]) -> Option<u32>
+    ensures { result ≡ rate_of word.now }
+{
+    if !all_digits(word) {
+        return None;
+    }
+    match word {
+        [units] => Some(digit(*units)),
+        [tens, units] => Some(10 * digit(*tens) + digit(*units)),
+        [hundreds, tens, units] => {
+            Some(100 * digit(*hundreds) + 10 * digit(*tens) + digit(*units))
+        }
+        _ => None,
+    }
+}
+
+/// Reads a sub-period: a moment and a rate.
+#[tactic(auto, unfolding(crate::specs::Orders::part_of))]
+fn part_of(moment: &[u8], rate: &[u8]) -> Option<Part>
+    ensures { result ≡ part_of moment.now rate.now }
+{
+    let from = read_moment(moment)?;
+    let rate = rate_of(rate)?;
+    Some(Part { from, rate })
+}
+
+/// Reads pairs of a moment and a rate, at most 7.
+fn parts_of(from: Minute, mut words: Words<'_>) -> Option<SubPeriods>
+    ensures { result ≡ (if nat_le (length words.entry) 14 then parts_of words.entry else None) }
+{
+    let mut parts = SubPeriods::none(from);
+    while let Some(moment) = words.next() {
+        let rate = words.next()?;
+        if parts.as_slice().len() == MOST {
+            return None;
+        }
+        parts.push(part_of(moment, rate)?);
+    }
+    Some(parts)
+}
+
+/// Reads the sub-periods behind the first, which begins at `from`, by the rules of an edition.
+#[tactic(auto, unfolding(crate::specs::Orders::more_of))]
+pub(crate) fn more_of(edition: Edition, from: Minute, mut words: Words<'_>) -> Option<SubPeriods>
+    ensures { result ≡ more_of edition words.entry }
+{
+    match edition {
+        Edition::First => match words.next() {
+            Some(_) => None,
+            None => Some(SubPeriods::none(from)),
+        },
+        Edition::Second => parts_of(from, words),
+    }
+}

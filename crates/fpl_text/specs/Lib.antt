@@ -1,0 +1,12 @@
+pub mod Bytes
+pub mod Squeezing
+pub mod Fields
+pub mod Borders
+pub mod Headings
+pub mod FieldLaws
+pub mod Times
+pub mod Words
+pub mod Craft
+pub mod Places
+pub mod Moments
+pub mod Days

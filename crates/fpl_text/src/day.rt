@@ -1,0 +1,82 @@
+//! Days of the calendar.
+
+ghost use Rattle.std.specs.Prelude.{◌≡◌, ◌≤◌, ℕ, pos, unsigned_abs};
+ghost use Rattle.jiff_core.specs.Calendar.{IsBetween};
+ghost use Rattle.jiff_core.specs.Date.{epoch_day};
+ghost use Rattle.fpl_text.specs.Moments.{day_of};
+
+use crate::date::read_date;
+use jiff::civil::Date;
+use jiff_core::civil;
+use std::marker::Model;
+
+/// A day of the calendar, seen as its number: the days from 1970-01-01 to it, at most 69,444.
+#[derive(Clone, Copy, Debug, PartialEq, Eq, PartialOrd, Ord, Hash)]
+pub struct Day {
+    number: u32,
+}
+
+impl Model for Day {
+    ghost Value = { ℕ };
+
+    ghost view = { λ d. d.number };
+
+    ghost invariant = { λ d. d.number ≤ 69_444 };
+
+    ghost inverse = { λ number. record { number = number } };
+}
+
+/// How many days a date of the years 2000 to 2099 lies after 1970-01-01.
+fn day_number(date: Date) -> u32
+    requires { IsBetween (pos 2000) (pos 2099) date.year }
+    ensures value { result ≡ unsigned_abs (epoch_day date) }
+    ensures bound { result ≤ 47_481 }
+{
+    date.to_plain().to_unix_epoch_day() as u32
+}
+
+impl Day {
+    /// Reads yymmdd, a date of the years 2000 to 2099.
+    #[tactic(auto, unfolding(crate::specs::Moments::day_of))]
+    pub fn read(text: &[u8]) -> Option<Day>
+        ensures { result ≡ day_of text.now }
+    {
+        let date = read_date(text)?;
+        Some(Day::of(date))
+    }
+
+    /// The day of a date of the years 2000 to 2099.
+    pub fn of(date: Date) -> Day
+        requires { IsBetween (pos 2000) (pos 2099) date.year }
+        ensures value { result ≡ unsigned_abs (epoch_day date) }
+        ensures bound { result ≤ 47_481 }
+    {
+        Day {
+            number: day_number(date),
+        }
+    }
+
+    /// The day with that number, of which [`Minute::day`](crate::Minute::day) makes use.
+    pub(crate) fn numbered(number: u32) -> Day
+        requires { number ≤ 69_444 }
+        ensures { result ≡ number }
+    {
+        Day { number }
+    }
+
+    /// How many days it lies after 1970-01-01.
+    pub fn number(self) -> u32
+        ensures value { result ≡ self }
+        ensures bound { result ≤ 69_444 }
+    {
+        self.number
+    }
+
+    /// The date.
+    pub fn date(self) -> Date
+        ensures value { epoch_day result ≡ pos self }
+        ensures bound { self ≤ 69_444 }
+    {
+        Date::from_plain(civil::Date::from_unix_epoch_day(i64::from(self.number)).unwrap())
+    }
+}

@@ -1,0 +1,204 @@
+//! The fields of a message.
+
+ghost use Rattle.std.specs.Prelude.{[], ◌≡◌, ◌<◌, List, ℕ, IsTrue, Some, length, slice_get, slice_index_or, MatchOption, IfOk, IfErr, Err, true, false};
+ghost use Rattle.fpl_text.specs.Words.{words_of};
+ghost use Rattle.fpl_text.specs.Squeezing.{Gives};
+ghost use Rattle.fpl_text.specs.Borders.{parts, IsCut, IsMessage};
+ghost use Rattle.fpl_text.specs.Fields.{stands_in_brackets, is_bracketed, inside, fields_of, first_field, title_of, begins_amendment, has_its_fields, fields_or_fault, split_or_fault};
+
+use crate::borders::{Borders, borders_of};
+use crate::byte::is_digit;
+use crate::fault::TextFault;
+use crate::squeezed::Squeezed;
+use crate::words::Words;
+use std::alloc::{Allocator, Global};
+use std::marker::Model;
+
+/// The kinds of messages (ICAO Doc 4444, appendix 3).
+#[derive(Clone, Copy, Debug, PartialEq, Eq)]
+pub enum Title {
+    /// A filed flight plan.
+    Fpl,
+    /// A delay.
+    Dla,
+    /// A change of a flight plan.
+    Chg,
+    /// A cancellation.
+    Cnl,
+    /// A departure.
+    Dep,
+}
+
+/// The fields of a message: a squeezed text in one pair of brackets, cut at its hyphens.
+#[derive(Drop)]
+pub struct Fields<A: Allocator + Copy = Global> {
+    text: Vec<u8, A>,
+    borders: Borders,
+    title: Title,
+}
+
+impl<A: Allocator + Copy> Model for Fields<A> {
+    ghost Value = { List (List ℕ) };
+
+    ghost view = { λ f. fields_of f.text.items };
+
+    ghost invariant = { λ f. IsMessage f.text.items f.borders.places.items f.borders.count f.title };
+}
+
+/// What stands between the first byte and the last one, where they are an opening and a closing bracket.
+#[tactic(auto, unfolding(crate::specs::Fields::stands_in_brackets))]
+fn between_brackets(text: &[u8]) -> Option<&[u8]>
+    ensures value { MatchOption result (stands_in_brackets text.now ≡ false)
+        (λ between. (stands_in_brackets text.now ≡ true) × (between.now ≡ inside text.now)) }
+{
+    match text {
+        [b'(', between @ .., b')'] => Some(between),
+        _ => None,
+    }
+}
+
+/// The title with which a first field begins.
+#[tactic(auto, unfolding(crate::specs::Fields::title_of))]
+pub(crate) fn title_of(field: &[u8]) -> Option<Title>
+    ensures { result ≡ title_of field.now }
+{
+    if field.starts_with(b"FPL") {
+        Some(Title::Fpl)
+    } else if field.starts_with(b"DLA") {
+        Some(Title::Dla)
+    } else if field.starts_with(b"CHG") {
+        Some(Title::Chg)
+    } else if field.starts_with(b"CNL") {
+        Some(Title::Cnl)
+    } else if field.starts_with(b"DEP") {
+        Some(Title::Dep)
+    } else {
+        None
+    }
+}
+
+/// Whether a field begins as an amended field does, with a number and a stroke.
+#[tactic(auto, unfolding(crate::specs::Fields::begins_amendment))]
+pub fn begins_amendment(field: &[u8]) -> bool
+    ensures { result ≡ begins_amendment field.now }
+{
+    match field {
+        [first, b'/', ..] => is_digit(*first),
+        [first, second, b'/', ..] => is_digit(*first) && is_digit(*second),
+        _ => false,
+    }
+}
+
+/// Whether a message of this title may have these fields, of which there are `count`.
+fn has_its_fields(title: Title, inside: &[u8], borders: &Borders) -> bool
+    requires { IsCut inside.now borders.now.places.items borders.now.count }
+    ensures { result ≡ has_its_fields title (parts inside.now) }
+{
+    let count = borders.count;
+    match title {
+        Title::Fpl => count == 9,
+        Title::Dla | Title::Cnl | Title::Dep => count == 4 || count == 5,
+        Title::Chg => count > 5 || (count == 5 && begins_amendment(borders.part(inside, 4))),
+    }
+}
+
+/// Where the fields of a message stand, which has one pair of brackets round it.
+#[tactic(auto, unfolding(crate::specs::Fields::is_bracketed))]
+fn borders_in_brackets(text: &[u8]) -> Option<Borders>
+    ensures { MatchOption result (is_bracketed text.now ≡ false)
+        (λ borders. (is_bracketed text.now ≡ true) × IsCut (inside text.now) borders.places.items borders.count) }
+{
+    let Some(inside) = between_brackets(text) else {
+        return None;
+    };
+    borders_of(inside)
+}
+
+/// What stands between the brackets of a text.
+#[tactic(auto, unfolding(crate::specs::Fields::is_bracketed, crate::specs::Fields::stands_in_brackets))]
+fn inside(text: &[u8]) -> &[u8]
+    requires { is_bracketed text.now ≡ true }
+    ensures { result.now ≡ inside text.now }
+{
+    &text[1..text.len() - 1]
+}
+
+/// The title of a message, and where its fields stand, or why it is none.
+#[tactic(auto, unfolding(crate::specs::Fields::fields_or_fault, crate::specs::Fields::fields_of))]
+fn title_and_borders(text: &[u8]) -> Result<(Borders, Title), TextFault>
+    ensures ok { IfOk result (λ found. IsMessage text.now found.0.places.items found.0.count found.1) }
+    ensures err { IfErr result (λ fault. fields_or_fault text.now ≡ Err fault) }
+{
+    let Some(borders) = borders_in_brackets(text) else {
+        return Err(TextFault::NoBracket);
+    };
+    let inside = inside(text);
+    let Some(title) = title_of(borders.part(inside, 0)) else {
+        return Err(TextFault::UnknownTitle);
+    };
+    if !has_its_fields(title, inside, &borders) {
+        return Err(TextFault::FieldCount);
+    }
+    Ok((borders, title))
+}
+
+impl<A: Allocator + Copy> Fields<A> {
+    /// The title of the message, whose form allows these fields.
+    pub fn title(&self) -> Title
+        ensures title { title_of (first_field self.now) ≡ Some result }
+        ensures counted { IsTrue (has_its_fields result self.now) }
+    {
+        self.title
+    }
+
+    /// How many fields there are.
+    #[tactic(auto, unfolding(crate::specs::Fields::fields_of))]
+    pub fn count(&self) -> usize
+        ensures { result ≡ length self.now }
+    {
+        self.borders.count
+    }
+
+    /// The field at that place, counted from 0.
+    #[tactic(auto, unfolding(crate::specs::Fields::fields_of))]
+    pub fn field(&self, i: usize) -> &[u8]
+        requires { i < length self.now }
+        ensures { slice_get self.now i ≡ Some result.now }
+    {
+        self.borders.part(inside(&self.text), i)
+    }
+
+    /// The words of the field at that place.
+    pub fn words(&self, i: usize) -> Words<'_>
+        requires { i < length self.now }
+        ensures { result ≡ words_of (slice_index_or self.now i []) }
+    {
+        Words::new(self.field(i))
+    }
+}
+
+impl<A: Allocator + Copy> Squeezed<A> {
+    /// Cuts the text at its hyphens into the fields of a message, or says why it is none: no pair of brackets round it, an
+    /// unknown title, a number of fields that the title does not have. Takes no memory.
+    #[tactic(auto, unfolding(crate::specs::Fields::fields_of, crate::specs::Fields::fields_or_fault))]
+    pub fn into_fields(self) -> Result<Fields<A>, TextFault>
+        ensures { result ≡ fields_or_fault self }
+    {
+        let text = self.into_bytes();
+        let (borders, title) = title_and_borders(&text)?;
+        Ok(Fields {
+            text,
+            borders,
+            title,
+        })
+    }
+}
+
+/// The fields of a message text, or its first fault: nothing but blanks, a byte that is not accepted, no pair of brackets round
+/// it, an unknown title, a number of fields that the title does not have.
+#[tactic(auto, unfolding(crate::specs::Fields::split_or_fault))]
+pub fn split<A: Allocator + Copy>(alloc: A, text: &[u8]) -> Result<Fields<A>, TextFault>
+    ensures { Gives result (split_or_fault text.now) }
+{
+    Squeezed::read(alloc, text)?.into_fields()
+}

@@ -1,0 +1,10 @@
+//! Sub-periods of a regulation.
+
+use crate::minute::Minute;
+
+/// A sub-period of a regulation: from that moment on, that many flights an hour.
+#[derive(Clone, Copy, Debug, PartialEq, Eq)]
+pub struct Part {
+    pub from: Minute,
+    pub rate: u32,
+}

@@ -1,0 +1,162 @@
+//! Fields 13 and 16: a departure, a destination.
+
+ghost use Rattle.std.specs.Prelude.{◌≡◌, ◌≤◌, List, ℕ, length};
+ghost use Rattle.std.specs.Option.{ok_or};
+ghost use Rattle.fpl_text.specs.Places.{is_place, arrival_of, alternates_of, departure_of, destination_of};
+
+use crate::byte::all_letters;
+use crate::fault::FieldFault;
+use crate::text::Text;
+use crate::time::{TimeOfDay, read_elapsed};
+use crate::words::Words;
+use arrayvec::ArrayVec;
+use std::marker::Model;
+
+/// Field 13: a departure aerodrome and a time (ICAO Doc 4444, appendix 3, field type 13): of off-block, or in a DEP of take-off.
+/// AFIL and ZZZZ stand for departures too.
+#[derive(Debug, Drop, PartialEq, Eq)]
+pub struct Departure {
+    pub place: Text<4>,
+    pub time: TimeOfDay,
+}
+
+/// The alternate aerodromes of a destination, at most two, seen as the list of their names.
+#[derive(Debug, Drop, PartialEq, Eq)]
+pub struct Alternates {
+    places: ArrayVec<Text<4>, 2>,
+}
+
+impl Model for Alternates {
+    ghost use Rattle.std.specs.Prelude.{List, ℕ};
+
+    ghost Value = { List (List ℕ) };
+
+    ghost view = { λ a. a.places.items };
+
+    ghost inverse = { λ places. record { places = record { items = places } } };
+}
+
+impl Alternates {
+    /// The names, in order.
+    pub fn as_slice(&self) -> &[Text<4>]
+        ensures value { result.now ≡ self.now }
+        ensures fits { length result.now ≤ 2 }
+    {
+        self.places.as_slice()
+    }
+
+    /// A copy, which takes no memory.
+    pub fn copied(&self) -> Alternates
+        ensures { result ≡ self.now }
+    {
+        Alternates {
+            places: copied_places(self.as_slice()),
+        }
+    }
+}
+
+/// The same places again.
+fn copied_places(places: &[Text<4>]) -> ArrayVec<Text<4>, 2>
+    requires { length places.now ≤ 2 }
+    ensures { result.items ≡ places.now }
+{
+    let mut copies = ArrayVec::new();
+    for place in places {
+        copies.push(place.copied());
+    }
+    copies
+}
+
+/// Field 16: a destination, the total estimated elapsed time in minutes where it is given, and alternates (ICAO Doc 4444,
+/// appendix 3, field type 16). A flight plan has to give the time; other messages may leave it out.
+#[derive(Debug, Drop, PartialEq, Eq)]
+pub struct Destination {
+    pub place: Text<4>,
+    pub elapsed: Option<u32>,
+    pub alternates: Alternates,
+}
+
+/// Whether a text is four letters.
+#[tactic(auto, unfolding(crate::specs::Places::is_place))]
+fn is_place(text: &[u8]) -> bool
+    ensures { result ≡ is_place text.now }
+{
+    text.len() == 4 && all_letters(text)
+}
+
+impl Departure {
+    /// Reads field 13: four letters, and a time of day hhmm.
+    #[tactic(auto, unfolding(crate::specs::Places::departure_of, crate::specs::Places::is_place))]
+    pub fn read(field: &[u8]) -> Result<Departure, FieldFault>
+        ensures { result ≡ ok_or (departure_of field.now) (FieldFault.BadField 13) }
+    {
+        if field.len() < 4 || !is_place(&field[..4]) {
+            return Err(FieldFault::BadField(13));
+        }
+        match TimeOfDay::read(&field[4..]) {
+            Some(time) => Ok(Departure {
+                place: Text::new(&field[..4]),
+                time,
+            }),
+            None => Err(FieldFault::BadField(13)),
+        }
+    }
+}
+
+/// Four letters, and then nothing or an elapsed time.
+#[tactic(auto, unfolding(crate::specs::Places::arrival_of, crate::specs::Places::is_place))]
+fn arrival_of(word: &[u8]) -> Option<(Text<4>, Option<u32>)>
+    ensures { result ≡ arrival_of word.now }
+{
+    if word.len() < 4 || !is_place(&word[..4]) {
+        return None;
+    }
+    let place = Text::new(&word[..4]);
+    if word.len() == 4 {
+        return Some((place, None));
+    }
+    let minutes = read_elapsed(&word[4..])?;
+    Some((place, Some(minutes)))
+}
+
+/// At most two places, in order.
+#[tactic(auto, unfolding(crate::specs::Places::is_place))]
+fn alternates_of(words: Words<'_>) -> Option<Alternates>
+    ensures { result ≡ alternates_of words.entry }
+{
+    let mut alternates = ArrayVec::new();
+    for word in words {
+        if alternates.is_full() {
+            return None;
+        }
+        if !is_place(word) {
+            return None;
+        }
+        alternates.push(Text::new(word));
+    }
+    Some(Alternates { places: alternates })
+}
+
+/// The parts of field 16.
+#[tactic(auto, unfolding(crate::specs::Places::destination_of))]
+fn destination_of(field: &[u8]) -> Option<Destination>
+    ensures { result ≡ destination_of field.now }
+{
+    let mut words = Words::new(field);
+    let (place, elapsed) = arrival_of(words.next()?)?;
+    let alternates = alternates_of(words)?;
+    Some(Destination {
+        place,
+        elapsed,
+        alternates,
+    })
+}
+
+impl Destination {
+    /// Reads field 16: four letters, then nothing or an elapsed time hhmm, and then at most two words of four letters.
+    pub fn read(field: &[u8]) -> Result<Destination, FieldFault>
+        ensures { result ≡ ok_or (destination_of field.now) (FieldFault.BadField 16) }
+    {
+        destination_of(field).ok_or(FieldFault::BadField(16))
+    }
+}

@@ -1,0 +1,105 @@
+//! Times of four digits.
+
+ghost use Rattle.std.specs.Prelude.{◌≡◌, ◌<◌, ◌≤◌, ◌+◌, ◌*◌, ◌/◌, ◌%◌, ℕ, true, ◌-◌, IfSome};
+ghost use Rattle.fpl_text.specs.Bytes.{is_digit};
+ghost use Rattle.fpl_text.specs.Times.{two_digits, hhmm_below, time_of_day, elapsed_time};
+
+use crate::byte::all_digits;
+use std::marker::Model;
+
+/// A time of day, seen as its minutes after midnight.
+#[derive(Clone, Copy, Debug, PartialEq, Eq)]
+pub struct TimeOfDay {
+    minutes: u16,
+}
+
+impl Model for TimeOfDay {
+    ghost Value = { ℕ };
+
+    ghost view = { λ t. t.minutes };
+
+    ghost invariant = { λ t. t.minutes < 1440 };
+
+    ghost inverse = { λ minutes. record { minutes = minutes } };
+}
+
+impl TimeOfDay {
+    /// Reads hhmm, of hours 00 to 23 and minutes 00 to 59.
+    pub fn read(text: &[u8]) -> Option<TimeOfDay>
+        ensures { result ≡ time_of_day text.now }
+    {
+        let minutes = hhmm_below(24, text)?;
+        Some(TimeOfDay { minutes })
+    }
+
+    /// That many minutes after midnight.
+    pub(crate) fn from_minutes(minutes: u16) -> TimeOfDay
+        requires { minutes < 1440 }
+        ensures { result ≡ minutes }
+    {
+        TimeOfDay { minutes }
+    }
+
+    /// How many minutes it lies after midnight.
+    pub fn minutes(self) -> u16
+        ensures value { result ≡ self }
+        ensures bound { result < 1440 }
+    {
+        self.minutes
+    }
+
+    /// The hour, from 0 to 23.
+    pub fn hour(self) -> u8
+        ensures value { result ≡ self / 60 }
+        ensures bound { result < 24 }
+    {
+        (self.minutes / 60) as u8
+    }
+
+    /// The minute of the hour, from 0 to 59.
+    pub fn minute(self) -> u8
+        ensures value { result ≡ self % 60 }
+        ensures bound { result < 60 }
+    {
+        (self.minutes % 60) as u8
+    }
+}
+
+/// The number of the two digits from that place on.
+#[tactic(auto, unfolding(crate::specs::Times::two_digits, crate::specs::Bytes::is_digit))]
+pub(crate) fn two_digits(first: u8, second: u8) -> u8
+    requires first { is_digit first ≡ true }
+    requires second { is_digit second ≡ true }
+    ensures value { result ≡ 10 * (first - 48) + (second - 48) }
+    ensures bound { result < 100 }
+{
+    10 * (first - b'0') + (second - b'0')
+}
+
+/// The minutes of an hhmm whose hours lie below `hours`.
+#[tactic(auto, unfolding(crate::specs::Times::hhmm_below, crate::specs::Times::two_digits))]
+pub(crate) fn hhmm_below(hours: u8, text: &[u8]) -> Option<u16>
+    requires { hours ≤ 100 }
+    ensures value { result ≡ hhmm_below hours text.now }
+    ensures bound { IfSome result (λ minutes. minutes < 60 * hours) }
+{
+    if text.len() != 4 || !all_digits(text) {
+        return None;
+    }
+    let hour = two_digits(text[0], text[1]);
+    let minute = two_digits(text[2], text[3]);
+    if hour < hours && minute < 60 {
+        Some(60 * hour as u16 + minute as u16)
+    } else {
+        None
+    }
+}
+
+/// Reads an elapsed time hhmm, of hours 00 to 99 and minutes 00 to 59, in minutes.
+pub fn read_elapsed(text: &[u8]) -> Option<u32>
+    ensures value { result ≡ elapsed_time text.now }
+    ensures bound { IfSome result (λ minutes. minutes < 6000) }
+{
+    let minutes = hhmm_below(100, text)?;
+    Some(u32::from(minutes))
+}

@@ -1,0 +1,113 @@
+//! The words of the command line.
+ghost use Rattle.std.specs.Prelude.{◌≡◌, ◌≤◌, IfOk};
+
+use clap::builder::ValueParser;
+use clap::error::ErrorKind;
+use clap::{Arg, ArgAction, Command, Error};
+use flow_plans::{MAX_PLANS, MAX_TAXI};
+use std::alloc::{AllocError, Global};
+
+const ABOUT: &str = "A flight plan desk with departure slots.\n\n\
+    Reads ICAO flight plan messages (FPL, DLA, CHG, CNL, DEP) and the orders OPEN, SHUT and TIME \
+    from standard input, and writes a line for each, with the slot notices that it causes.";
+
+/// How many feeders there are at most.
+const MAX_FEEDERS: u64 = 64;
+
+const AFTER: &str = "Times are UTC. Example:\n  \
+    echo '(FPL-AAA1-IS-A320/M-SDFG/LB1-LIML0800-N0450F350 DCT-EDDF0150-0)' | slotdesk --start 2409010500";
+
+/// What the words of the command line ask for.
+#[derive(Clone, Copy)]
+pub struct Options<'a> {
+    /// The desk's time at the start, as it was given.
+    pub start: &'a str,
+    /// Whether the input begins with the journal of the desk that goes on. The start, the taxi time and the number of
+    /// plans are then those of that journal.
+    pub resume: bool,
+    /// Whether the journal is written at the end.
+    pub journal: bool,
+    /// How many feeders file.
+    pub feeders: u32,
+    /// Minutes from off-block to take-off.
+    pub taxi: u32,
+    /// How many flight plans are accepted.
+    pub plans: u32,
+}
+
+fn start_argument<'a>(alloc: Global) -> Result<Arg<'a>, AllocError> {
+    Arg::new(alloc, "start")
+        .long("start")
+        .value_name("yymmddhhmm")
+        .help("The desk's time at the start, from 0001010000 to 9812312359 (years 2000 to 2098)")
+        .required_unless_present("resume")
+}
+
+fn taxi_argument<'a>(alloc: Global) -> Arg<'a> {
+    Arg::new(alloc, "taxi")
+        .long("taxi")
+        .value_name("MIN")
+        .default_value("10")
+        .value_parser(ValueParser::unsigned(0, MAX_TAXI as u64))
+        .help("Minutes from off-block to take-off at every aerodrome, 0 to 120")
+}
+
+fn plans_argument<'a>(alloc: Global) -> Arg<'a> {
+    Arg::new(alloc, "plans")
+        .long("plans")
+        .value_name("N")
+        .default_value("1000")
+        .value_parser(ValueParser::unsigned(1, MAX_PLANS as u64))
+        .help("How many flight plans are accepted in all, cancelled ones counted, 1 to 20000")
+}
+
+fn feeders_argument<'a>(alloc: Global) -> Arg<'a> {
+    Arg::new(alloc, "feeders")
+        .long("feeders")
+        .value_name("N")
+        .default_value("1")
+        .value_parser(ValueParser::unsigned(1, MAX_FEEDERS))
+        .help("How many feeders file, 1 to 64; only 1 is served yet")
+}
+
+fn journal_argument<'a>(alloc: Global) -> Arg<'a> {
+    Arg::new(alloc, "journal")
+        .long("journal")
+        .action(ArgAction::SetTrue)
+        .help("Writes the journal after the answers")
+}
+
+fn resume_argument<'a>(alloc: Global) -> Result<Arg<'a>, AllocError> {
+    Arg::new(alloc, "resume")
+        .long("resume")
+        .action(ArgAction::SetTrue)
+        .help(
+            "Goes on with the desk whose journal the input begins with; --taxi and --plans then have no effect",
+        )
+        .conflicts_with("start")
+}
+
+fn command<'a>(alloc: Global) -> Result<Command<'a>, AllocError> {
+    Command::new(alloc, "slotdesk")
+        .about(ABOUT)
+        .after_help(AFTER)
+        .arg(start_argument(alloc)?)?
+        .arg(taxi_argument(alloc))?
+        .arg(plans_argument(alloc))?
+        .arg(feeders_argument(alloc))?
+        .arg(journal_argument(alloc))?
+        .arg(resume_argument(alloc)?)
+}
+
+/// Reads the words of the command line, of which the first is the program's name.
+pub fn read_options<'a>(alloc: Global, words: &'a [String]) -> Result<Options<'a>, Error> {
+    let matches = command(alloc)?.try_get_matches_from(words)?;
+    Ok(Options {
+        start: matches.get_str("start").unwrap_or(""),
+        resume: matches.get_flag("resume"),
+        journal: matches.get_flag("journal"),
+        feeders: matches.get_one::<u32>("feeders").unwrap_or(1),
+        taxi: matches.get_one::<u32>("taxi").unwrap_or(10),
+        plans: matches.get_one::<u32>("plans").unwrap_or(1000),
+    })
+}
