@@ -132,7 +132,7 @@ pub capacity-advanced : (n taxi now max i : ℕ) (plans : List Plan) (os ns : Li
 capacity-advanced n taxi now max i plans os ns e w a = walked-all (IsAdvancing n taxi now plans) (λ l. l.lineup.capacity ≡ max) (λ l. l.lineup.capacity ≡ max) (λ o m h r. r.capacity ∙ h) i os ns e w a
 
 -- a flight that was due earlier is due now
-due-later : (earlier now : ℕ) (p : Plan) → earlier ≤ now → is_due earlier p ≡ true → is_due now p ≡ true
+pub due-later : (earlier now : ℕ) (p : Plan) → earlier ≤ now → is_due earlier p ≡ true → is_due now p ≡ true
 due-later earlier now p h e =
     let parts = and_parts (is_filed p.state) (leb p.off_block (earlier + 120)) e in
     let bound = leb-true p.off_block (earlier + 120) parts.1 in

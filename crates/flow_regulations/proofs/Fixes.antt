@@ -31,7 +31,7 @@ filter-append T (x ∷ xs) ys = cases (filter-append T xs ys) (T x) where
   cases again true = ap (λ v. x ∷ v) again
   cases again false = again
 
-pairs-none : (n : ℕ) (xs : List Placed) → NoneFixed n xs → pairs_of n xs ≡ []
+pub pairs-none : (n : ℕ) (xs : List Placed) → NoneFixed n xs → pairs_of n xs ≡ []
 pairs-none n [] h = refl
 pairs-none n (x ∷ xs) h = ap (λ b. cond b (x ∷ pairs_of n xs) (pairs_of n xs)) (ne_eqb x.flight n h.0) ∙ pairs-none n xs h.1
 

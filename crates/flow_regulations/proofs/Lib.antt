@@ -6,6 +6,7 @@ pub mod Delays
 pub mod Firsts
 pub mod FixedOnes
 pub mod Fixes
+pub mod ForTheDesk
 pub mod Frozen
 pub mod Looked
 pub mod Looks

@@ -60,7 +60,7 @@ advice-same taxi f p rs ss k = ap (option_map _) (sym (worst-same taxi f p rs ss
 pub quiet-same : (taxi f : ℕ) (p : Plan) (told : Option Told) (rs ss : List Regulation) → KeepsSlots f rs ss → IsQuiet taxi f rs p told → IsQuiet taxi f ss p told
 quiet-same taxi f p told rs ss k q = ap (λ a. notices_to p told a) (advice-same taxi f p rs ss k) ∙ q
 
-caused-none : (taxi f : ℕ) (p : Plan) (r : Regulation) → pairs_of f r.fixed ≡ [] → option_map (caused_by r) (delay_in taxi f p r) ≡ None
+pub caused-none : (taxi f : ℕ) (p : Plan) (r : Regulation) → pairs_of f r.fixed ≡ [] → option_map (caused_by r) (delay_in taxi f p r) ≡ None
 caused-none taxi f p r none = caused-pairs taxi f p r ∙ ap (λ (pairs : List Placed). delay_caused taxi p r.id r.spot r.period pairs) none
 
 worst-other : (taxi f : ℕ) (p : Plan) (r : Regulation) (before after : List Regulation) → pairs_of f r.fixed ≡ []
