@@ -1,3 +1,4 @@
 pub mod ModificationLemmas
 pub mod OrderLemmas
 pub mod EditionLemmas
+pub mod OrderYears

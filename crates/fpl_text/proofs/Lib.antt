@@ -6,3 +6,4 @@ pub mod SqueezingLemmas
 pub mod WordsLemmas
 pub mod MomentsLemmas
 pub mod ReadBackLemmas
+pub mod MomentYears
