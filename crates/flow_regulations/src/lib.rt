@@ -14,5 +14,6 @@ mod telling_tests;
 mod window;
 
 pub use notice::{Notice, Said, Told, Window};
+pub use regulation::is_due;
 pub use regulations::Regulations;
 pub use window::window_of;

@@ -197,7 +197,7 @@ impl<A: Allocator + Copy> Regulation<A> {
 }
 
 /// Whether the flight of this number is due: filed, and at most two hours before its off-block moment.
-pub(crate) fn is_due<A: Allocator + Copy>(plans: &PlanStore<A>, number: u32, now: Minute) -> bool
+pub fn is_due<A: Allocator + Copy>(plans: &PlanStore<A>, number: u32, now: Minute) -> bool
     requires { 0 < number }
     ensures { (p : Held) → plan_at plans.now.plans number ≡ Some p → result ≡ is_due now p }
 {

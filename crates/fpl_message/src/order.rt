@@ -23,6 +23,19 @@ pub enum Spot {
     Via(Text<11>),
 }
 
+impl Spot {
+    /// A copy, which takes no memory.
+    pub fn copied(&self) -> Spot
+        ensures { result ≡ self.now }
+    {
+        match self {
+            Spot::Dep(place) => Spot::Dep(place.copied()),
+            Spot::Arr(place) => Spot::Arr(place.copied()),
+            Spot::Via(place) => Spot::Via(place.copied()),
+        }
+    }
+}
+
 /// An order to open a regulation, in the form that it must have. Its limits are the desk's: that the period is 1 to 1,440
 /// minutes long, that its sub-periods rise within it, that a rate is at most 240.
 #[derive(Drop)]

@@ -1,0 +1,186 @@
+-- The traffic after an accepted reading, from what the calls left.
+use Rattle.std.proofs.Common.{◌≡◌, ℕ, ◌<◌, ◌≤◌, ◌+◌, ◌-◌, List, [], ◌∷◌, ◌++◌, map, length, Bool, true, false, not, nat_lt, nat_le, filter, refl, sym, ap, ◌∙◌, subst, arith, Option, Some, None, Result, Ok, Err, MatchResult, MatchOption, IfSome, IfNone, slice_get, ◌⊎◌, inl, inr}
+use Rattle.std.specs.List.{list_any}
+use Rattle.std.specs.Str.{bytes_eq}
+use Rattle.std.proofs.lemmas.List.{append-nil}
+use Rattle.fpl_message.specs.declared.refusal.Refusal.{Refusal}
+use Rattle.fpl_message.specs.declared.refusal.Refusal.TheVariants as refusal
+use Rattle.fpl_message.specs.declared.order.OpenReg.{OpenReg}
+use Rattle.fpl_message.specs.Messages.{Message, Order, open_reg, shut_reg, set_time}
+use Rattle.fpl_message.specs.Reads.{Reading, msg, ord}
+use Rattle.fpl_message.specs.Refusals.{◌>>=◌}
+use Rattle.flow_plans.specs.Plans.{Plan, plan_at}
+use Rattle.flow_plans.specs.Times.{unless}
+use Rattle.flow_plans.specs.declared.fault.PlanFault.{PlanFault}
+use Rattle.flow_plans.specs.Changes.{Changed, refusal_of, IsRefusal, Refuses}
+use Rattle.flow_regulations.specs.Regulations.{Regulation}
+use Rattle.flow_regulations.specs.Settling.{settled}
+use Rattle.flow_regulations.specs.Listing.{Listed, regulation_of, IsListed, IsSettled, IsOpened, AreRenewed, AreSameBut, is_named, without_named}
+use Rattle.flow_regulations.specs.Notices.{notices_from, told_from}
+use Rattle.flow_regulations.specs.declared.notice.Told.{Told}
+use Rattle.flow_regulations.specs.declared.notice.Notice.{Notice}
+use Rattle.flow_regulations.proofs.ForTheDesk.{already-settled, opened-regulations, shut-regulations, named-regulations, count-regulations}
+use Rattle.flow_traffic.specs.declared.verdict.Verdict.{Verdict}
+use Rattle.flow_traffic.specs.declared.verdict.Kind.{Kind}
+use Rattle.flow_traffic.specs.declared.verdict.Kind.TheVariants as kind
+use Rattle.flow_traffic.specs.declared.verdict.Verdict.TheVariants.{Accepted, Refused}
+use Rattle.flow_traffic.specs.Traffic.{Traffic}
+use Rattle.flow_traffic.specs.Opening.{is_period, rates_fit, regulation_by}
+use Rattle.flow_traffic.specs.Asked.{Asked, asked, changed_by, verdict_on, is_departure, departing, asked_by_message, asked_to_open, asked_to_shut, asked_at, is_called, ordered, max_regulations}
+use Rattle.flow_traffic.specs.Answers.{settle, told_to, Answers}
+use Rattle.flow_traffic.specs.Kept.{IsSettledFor}
+use Rattle.flow_traffic.proofs.Telling.{told_to-same}
+
+-- an accepted reading
+pub accepted : (reading : Reading) (t new : Traffic) (v : Verdict) (a : Asked) → asked t reading ≡ Ok a → new ≡ settle t a → v ≡ a.verdict → Answers reading t new v
+accepted reading t new v a e same verdict =
+    subst (λ (r : Result Asked Refusal). MatchResult r (λ a. (new ≡ settle t a) × (v ≡ a.verdict)) (λ refusal. (new ≡ t) × (v ≡ Refused refusal))) (sym e) (same, verdict)
+
+-- a refused one
+pub refused : (reading : Reading) (t : Traffic) (r : Refusal) → asked t reading ≡ Err r → Answers reading t t (Refused r)
+refused reading t r e =
+    subst (λ (r' : Result Asked Refusal). MatchResult r' (λ a. (t ≡ settle t a) × (Refused r ≡ a.verdict)) (λ refusal. (t ≡ t) × (Refused r ≡ Refused refusal))) (sym e) (refl, refl)
+
+-- the traffic after the regulations were settled and plans were told their slots
+pub settled-traffic : (t : Traffic) (a : Asked) (taxi max : ℕ) (regulations : List Regulation) (told1 told2 : List (Option Told)) (notices2 : List Notice)
+    → taxi ≡ t.taxi → max ≡ t.max_plans → regulations ≡ map (settled t.taxi a.now a.plans) a.regulations → told1 ≡ told_to a.plans t.told
+    → told2 ≡ told_from 1 t.taxi regulations a.plans told1 → notices2 ≡ t.notices ++ notices_from 1 t.taxi regulations a.plans told1
+    → record { taxi = taxi; max_plans = max; now = a.now; plans = a.plans; regulations = regulations; told = told2; notices = notices2 } ≡ settle t a
+unfolding settle
+settled-traffic t a taxi max regulations told1 told2 notices2 e5 e6 e1 e2 e3 e4 = rw (e5, e6, e4, e3, e2, e1) refl
+
+-- ---- messages
+
+pub message-asked : (t : Traffic) (m : Message) (c : Changed) → changed_by t.max_plans t.now t.plans m ≡ Ok c
+    → asked t (msg m) ≡ Ok (record { plans = c.plans; now = t.now; regulations = departing (is_departure m) c.number t.taxi t.max_plans t.plans t.regulations; verdict = verdict_on t.told m c.number })
+unfolding asked_by_message
+message-asked t m c e = rw e refl
+
+pub message-refused : (t : Traffic) (m : Message) (r : Refusal) → changed_by t.max_plans t.now t.plans m ≡ Err r → asked t (msg m) ≡ Err r
+unfolding asked_by_message
+message-refused t m r e = rw e refl
+
+-- ---- orders
+
+pub opened-asked : (t : Traffic) (m : OpenReg) → is_period m ≡ true → rates_fit m.rate m.more ≡ true → list_any (is_called m.id) t.regulations ≡ false → nat_le max_regulations (length t.regulations) ≡ false
+    → asked t (ord (open_reg m)) ≡ Ok (ordered t kind.Open t.now (t.regulations ++ regulation_by m ∷ []))
+unfolding asked_to_open
+opened-asked t m a b c d = rw (a, b, c, d) refl
+
+pub period-refused : (t : Traffic) (m : OpenReg) → is_period m ≡ false → asked t (ord (open_reg m)) ≡ Err refusal.BadPeriod
+unfolding asked_to_open
+period-refused t m a = rw a refl
+
+pub rate-refused : (t : Traffic) (m : OpenReg) → is_period m ≡ true → rates_fit m.rate m.more ≡ false → asked t (ord (open_reg m)) ≡ Err refusal.BadRate
+unfolding asked_to_open
+rate-refused t m a b = rw (a, b) refl
+
+pub held-refused : (t : Traffic) (m : OpenReg) → is_period m ≡ true → rates_fit m.rate m.more ≡ true → list_any (is_called m.id) t.regulations ≡ true → asked t (ord (open_reg m)) ≡ Err refusal.RegulationHeld
+unfolding asked_to_open
+held-refused t m a b c = rw (a, b, c) refl
+
+pub full-refused : (t : Traffic) (m : OpenReg) → is_period m ≡ true → rates_fit m.rate m.more ≡ true → list_any (is_called m.id) t.regulations ≡ false → nat_le max_regulations (length t.regulations) ≡ true
+    → asked t (ord (open_reg m)) ≡ Err refusal.RegulationsFull
+unfolding asked_to_open
+full-refused t m a b c d = rw (a, b, c, d) refl
+
+pub shut-asked : (t : Traffic) (id : List ℕ) → list_any (is_called id) t.regulations ≡ true
+    → asked t (ord (shut_reg id)) ≡ Ok (ordered t kind.Shut t.now (filter (λ r. not (is_called id r)) t.regulations))
+unfolding asked_to_shut
+shut-asked t id a = rw a refl
+
+pub none-refused : (t : Traffic) (id : List ℕ) → list_any (is_called id) t.regulations ≡ false → asked t (ord (shut_reg id)) ≡ Err refusal.NoRegulation
+unfolding asked_to_shut
+none-refused t id a = rw a refl
+
+pub time-asked : (t : Traffic) (at : ℕ) → nat_lt at t.now ≡ false → asked t (ord (set_time at)) ≡ Ok (ordered t kind.Time at t.regulations)
+unfolding asked_at
+time-asked t at a = rw a refl
+
+pub back-refused : (t : Traffic) (at : ℕ) → nat_lt at t.now ≡ true → asked t (ord (set_time at)) ≡ Err refusal.TimeBack
+unfolding asked_at
+back-refused t at a = rw a refl
+
+-- one more settled regulation behind the others
+pub opened-map : (taxi max now : ℕ) (plans : List Plan) (r : Regulation) (lists new : List Listed) → IsOpened taxi max now plans r lists new → IsListed taxi max plans lists → IsSettled taxi now plans lists
+    → map regulation_of new ≡ map (settled taxi now plans) (map regulation_of lists ++ r ∷ [])
+opened-map taxi max now plans r lists new h listed settled_in =
+    opened-regulations taxi max now plans r lists new h
+    ∙ ap (λ (rs : List Regulation). rs ++ settled taxi now plans r ∷ []) (sym (already-settled taxi max now plans lists listed settled_in))
+    ∙ map-last (settled taxi now plans) (map regulation_of lists) r
+  where
+    map-last : (f : Regulation → Regulation) (xs : List Regulation) (x : Regulation) → map f xs ++ f x ∷ [] ≡ map f (xs ++ x ∷ [])
+    map-last f [] x = refl
+    map-last f (y ∷ ys) x = ap (λ (rs : List Regulation). f y ∷ rs) (map-last f ys x)
+
+-- ---- after the calls
+
+abbrev pub traffic_of : (taxi max now : ℕ) → List Plan → List Listed → List (Option Told) → List Notice → Traffic
+traffic_of taxi max now plans lists told notices =
+    record { taxi = taxi; max_plans = max; now = now; plans = plans; regulations = map regulation_of lists; told = told; notices = notices }
+
+-- after an accepted message
+pub message-answers : (taxi max now : ℕ) (plans plans2 : List Plan) (lists lists2 : List Listed) (told told1 told2 : List (Option Told)) (notices notices2 : List Notice) (m : Message) (n : ℕ) (v : Verdict) (taxi2 max2 limit : ℕ) (departs : Bool)
+    → taxi2 ≡ taxi → max2 ≡ max → limit ≡ max → departs ≡ is_departure m
+    → changed_by max now plans m ≡ Ok (record { plans = plans2; number = n }) → v ≡ verdict_on told m n
+    → IsSettledFor departs n taxi2 limit now plans plans2 lists lists2 → told1 ≡ told_to plans2 told
+    → told2 ≡ told_from 1 taxi2 (map regulation_of lists2) plans2 told1 → notices2 ≡ notices ++ notices_from 1 taxi2 (map regulation_of lists2) plans2 told1
+    → Answers (msg m) (traffic_of taxi max now plans lists told notices) (traffic_of taxi2 max2 now plans2 lists2 told2 notices2) v
+message-answers taxi max now plans plans2 lists lists2 told told1 told2 notices notices2 m n v taxi2 max2 limit departs e1 e2 e3 e4 changed verdict settled_for place told_is notices_is =
+    let t : Traffic = traffic_of taxi max now plans lists told notices in
+    let a : Asked = record { plans = plans2; now = now; regulations = departing (is_departure m) n taxi max plans (map regulation_of lists); verdict = verdict_on told m n } in
+    accepted (msg m) t (traffic_of taxi2 max2 now plans2 lists2 told2 notices2) v a (message-asked t m (record { plans = plans2; number = n }) changed)
+    (settled-traffic t a taxi2 max2 (map regulation_of lists2) told1 told2 notices2 e1 e2 (rw (e1, e3, e4) at settled_for.regulations) place (rw e1 at told_is) (rw e1 at notices_is))
+    verdict
+
+-- after an accepted order
+pub order-answers : (taxi max now at : ℕ) (plans : List Plan) (lists lists2 : List Listed) (told told2 : List (Option Told)) (notices notices2 : List Notice) (order : Order) (kind : Kind) (regulations : List Regulation)
+    → asked (traffic_of taxi max now plans lists told notices) (ord order) ≡ Ok (ordered (traffic_of taxi max now plans lists told notices) kind at regulations)
+    → map regulation_of lists2 ≡ map (settled taxi at plans) regulations → length told ≡ length plans
+    → told2 ≡ told_from 1 taxi (map regulation_of lists2) plans told → notices2 ≡ notices ++ notices_from 1 taxi (map regulation_of lists2) plans told
+    → Answers (ord order) (traffic_of taxi max now plans lists told notices) (traffic_of taxi max at plans lists2 told2 notices2) (Accepted kind 0)
+order-answers taxi max now at plans lists lists2 told told2 notices notices2 order kind regulations e settled_is each told_is notices_is =
+    let t : Traffic = traffic_of taxi max now plans lists told notices in
+    let a : Asked = ordered t kind at regulations in
+    accepted (ord order) t (traffic_of taxi max at plans lists2 told2 notices2) (Accepted kind 0) a e
+    (settled-traffic t a taxi max (map regulation_of lists2) told told2 notices2 refl refl settled_is (sym (told_to-same plans told each)) told_is notices_is)
+    refl
+
+length-map : {X Y : Type 0} (f : X → Y) (xs : List X) → length (map f xs) ≡ length xs
+length-map f [] = refl
+length-map f (x ∷ xs) = let h : length (map f xs) ≡ length xs = length-map f xs in omega (arith, h)
+
+-- settling closes and opens no regulation
+pub settled-count : (departs : Bool) (n taxi max now : ℕ) (before plans : List Plan) (lists new : List Listed) → IsSettledFor departs n taxi max now before plans lists new → length new ≡ length lists
+settled-count departs n taxi max now before plans lists new h =
+    sym (count-regulations new) ∙ ap (λ (rs : List Regulation). length rs) h.regulations
+    ∙ length-map (settled taxi now plans) (departing departs n taxi max before (map regulation_of lists)) ∙ same departs ∙ count-regulations lists
+  where
+    same : (b : Bool) → length (departing b n taxi max before (map regulation_of lists)) ≡ length (map regulation_of lists)
+    same false = refl
+    same true = length-map _ (map regulation_of lists)
+
+pub renewed-count : (taxi max now : ℕ) (plans : List Plan) (lists new : List Listed) → AreRenewed taxi max now plans lists new → length new ≡ length lists
+renewed-count taxi max now plans lists new h =
+    sym (count-regulations new) ∙ ap (λ (rs : List Regulation). length rs) h.regulations
+    ∙ length-map (settled taxi now plans) (map regulation_of lists) ∙ count-regulations lists
+
+-- the period or a rate passes a limit
+pub shape-refused : (t : Traffic) (m : OpenReg) (r : Refusal)
+    → ((r ≡ refusal.BadPeriod) × (is_period m ≡ false)) ⊎ ((r ≡ refusal.BadRate) × (is_period m ≡ true) × (rates_fit m.rate m.more ≡ false))
+    → asked t (ord (open_reg m)) ≡ Err r
+shape-refused t m r (inl h) = rw h.0 (period-refused t m h.1)
+shape-refused t m r (inr h) = rw h.0 (rate-refused t m h.1 h.2)
+
+-- a fault of the plans
+pub fault-answers : (t new : Traffic) (m : Message) (fault : PlanFault) (v : Option Verdict) → new ≡ t
+    → MatchOption (refusal_of fault) (v ≡ None) (λ r. v ≡ Some (Refused r)) → IsRefusal fault (changed_by t.max_plans t.now t.plans m)
+    → IfSome v (Answers (msg m) t new)
+fault-answers t new m fault v same h e = by (refusal_of fault) h e where
+  by : (o : Option Refusal) → MatchOption o (v ≡ None) (λ r. v ≡ Some (Refused r)) → Refuses o (changed_by t.max_plans t.now t.plans m) → IfSome v (Answers (msg m) t new)
+  by None h e = rw h tt
+  by (Some r) h e = rw (h, same) (refused (msg m) t r (message-refused t m r e))
+
+pub fault-none : (fault : PlanFault) (v : Option Verdict) {P : Type 0} → P → IfNone v P
+fault-none fault None p = p
+fault-none fault (Some v) p = tt

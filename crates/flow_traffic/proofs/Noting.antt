@@ -1,0 +1,86 @@
+-- Noting the plans that are due, one after the other.
+use Rattle.std.proofs.Common.{◌≡◌, ◌≤◌, ◌<◌, ◌+◌, ◌-◌, ◌∙◌, ℕ, zero, suc, List, [], ◌∷◌, ◌++◌, length, length-append, refl, ap, arith, Bool, true, false, ◌||◌, ◌==◌, nat_le, sym, Option, Some, None, slice_get, get_or, inl, inr, ◌⊎◌}
+use Rattle.std.specs.List.{All}
+use Rattle.std.specs.List.Sorted.{IsNonDecreasing}
+use Rattle.std.specs.Option.{option_map_or}
+use Rattle.std.proofs.lemmas.Bool.{or_left, or_right, false≢true, true≢false, leb-true, leb-false, eq-eqb}
+use Rattle.std.proofs.lemmas.List.Sorted.{IsNonDecreasingBy-push, IsNonDecreasingBy-short}
+use Rattle.std.proofs.lemmas.List.Elements.{All-nil, All-push}
+use Rattle.flow_plans.specs.Plans.{Plan, plan_at}
+use Rattle.flow_slots.specs.Assignment.{is_in}
+use Rattle.flow_regulations.specs.Settling.{is_due}
+use Rattle.flow_regulations.specs.Listing.{is_due_flight}
+use Rattle.flow_traffic.specs.Kept.{AreNoted}
+
+same-test : (n : ℕ) → (n == n) ≡ true
+same-test n = eq-eqb n n refl
+
+pub in-last : (f : ℕ) (xs : List ℕ) → is_in f (xs ++ f ∷ []) ≡ true
+in-last f [] = or_left (f == f) false (same-test f)
+in-last f (x ∷ xs) = or_right (x == f) (is_in f (xs ++ f ∷ [])) (in-last f xs)
+
+or-more : (a b c : Bool) → (b ≡ true → c ≡ true) → (a || b) ≡ true → (a || c) ≡ true
+or-more true b c h e = refl
+or-more false b c h e = h e
+
+pub in-more : (f y : ℕ) (xs : List ℕ) → is_in f xs ≡ true → is_in f (xs ++ y ∷ []) ≡ true
+in-more f y [] e = absurd (false≢true e)
+in-more f y (x ∷ xs) e = or-more (x == f) (is_in f xs) (is_in f (xs ++ y ∷ [])) (in-more f y xs) e
+
+-- a flight that is due has a plan
+due-in : (now : ℕ) (plans : List Plan) (i : ℕ) → option_map_or (is_due now) (slice_get plans i) false ≡ true → i < length plans
+due-in now [] i e = absurd (false≢true e)
+due-in now (p ∷ ps) zero e = omega arith
+due-in now (p ∷ ps) (suc i) e = omega (arith, due-in now ps i e)
+
+pub due-within : (now : ℕ) (plans : List Plan) (f : ℕ) → 0 < f → is_due_flight now plans f ≡ true → f ≤ length plans
+due-within now plans f some e = omega (arith, some, due-in now plans (f - 1) e)
+
+up-to : (f i : ℕ) → f ≤ i + 1 → (f ≤ i) ⊎ (f ≡ i + 1)
+up-to f i h = by (nat_le f i) refl where
+  by : (b : Bool) → nat_le f i ≡ b → (f ≤ i) ⊎ (f ≡ i + 1)
+  by true e = inl (leb-true f i e)
+  by false e = inr (omega (arith, h, leb-false f i e))
+
+widen : (i : ℕ) (due : List ℕ) → All (λ n. (0 < n) × (n ≤ i)) due → All (λ n. (0 < n) × (n ≤ i + 1)) due
+widen i due h = λ k d within.
+    let one = h k d within in
+    (one.0, omega (arith, one.1))
+
+pub noted-none : (now : ℕ) (plans : List Plan) → AreNoted now plans 0 []
+noted-none now plans = record {
+      rising = IsNonDecreasingBy-short (λ x. x) [] (omega arith);
+      numbers = All-nil (λ n. (0 < n) × (n ≤ 0));
+      all = λ f some last due. absurd (omega (arith, some, last));
+      few = omega arith;
+    }
+
+pub noted-due : (now : ℕ) (plans : List Plan) (i : ℕ) (due : List ℕ) → AreNoted now plans i due → AreNoted now plans (i + 1) (due ++ (i + 1) ∷ [])
+noted-due now plans i due h = record {
+      rising = IsNonDecreasingBy-push (λ x. x) due (i + 1) h.rising (λ d some. let one = h.numbers (length due - 1) d (omega (arith, some)) in omega (arith, one.1));
+      numbers = All-push (λ n. (0 < n) × (n ≤ i + 1)) due (i + 1) (widen i due h.numbers) (omega arith, omega arith);
+      all = λ f some last due_at. by f some due_at (up-to f i last);
+      few = omega (arith, h.few, length-append due ((i + 1) ∷ []));
+    }
+  where
+    by : (f : ℕ) → 0 < f → is_due_flight now plans f ≡ true → (f ≤ i) ⊎ (f ≡ i + 1) → is_in f (due ++ (i + 1) ∷ []) ≡ true
+    by f some due_at (inl before) = in-more f (i + 1) due (h.all f some before due_at)
+    by f some due_at (inr last) = rw last (in-last (i + 1) due)
+
+pub noted-not : (now : ℕ) (plans : List Plan) (i : ℕ) (due : List ℕ) → AreNoted now plans i due → is_due_flight now plans (i + 1) ≡ false → AreNoted now plans (i + 1) due
+noted-not now plans i due h not_due = record {
+      rising = h.rising;
+      numbers = widen i due h.numbers;
+      all = λ f some last due_at. by f some due_at (up-to f i last);
+      few = omega (arith, h.few);
+    }
+  where
+    by : (f : ℕ) → 0 < f → is_due_flight now plans f ≡ true → (f ≤ i) ⊎ (f ≡ i + 1) → is_in f due ≡ true
+    by f some due_at (inl before) = h.all f some before due_at
+    by f some due_at (inr last) = absurd (true≢false (sym due_at ∙ ap (λ (n : ℕ). is_due_flight now plans n) last ∙ not_due))
+
+pub due-answer : (now : ℕ) (plans : List Plan) (n : ℕ) (b : Bool) → ((p : Plan) → plan_at plans n ≡ Some p → b ≡ is_due now p) → b ≡ false → is_due_flight now plans n ≡ false
+due-answer now plans n b h e = by (plan_at plans n) h where
+  by : (o : Option Plan) → ((p : Plan) → o ≡ Some p → b ≡ is_due now p) → option_map_or (is_due now) o false ≡ false
+  by None h = refl
+  by (Some p) h = sym (h p refl) ∙ e

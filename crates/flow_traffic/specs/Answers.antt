@@ -1,0 +1,45 @@
+-- What becomes of the traffic: each regulation is settled by itself, and then plans are told their slots, by number.
+use Rattle.std.specs.Prelude.{◌≡◌, List, [], ◌∷◌, ◌++◌, map, Option, None, MatchResult}
+use Rattle.fpl_message.specs.Reads.{Reading, ord}
+use Rattle.fpl_message.specs.Messages.{open_reg, set_time}
+use Rattle.flow_plans.specs.Settings.{IsDeskTime}
+use Rattle.flow_plans.specs.Plans.{Plan}
+use Rattle.flow_regulations.specs.Settling.{settled}
+use Rattle.flow_regulations.specs.Notices.{notices_from, told_from}
+use Rattle.flow_regulations.specs.declared.notice.Told.{Told}
+use Rattle.flow_traffic.specs.declared.verdict.Verdict.{Verdict}
+use Rattle.flow_traffic.specs.declared.verdict.Verdict.TheVariants.{Refused}
+use Rattle.flow_traffic.specs.Traffic.{Traffic}
+use Rattle.flow_traffic.specs.Asked.{Asked, asked}
+
+-- what each plan was last told, a new one nothing
+abbrev pub told_to : List Plan → List (Option Told) → List (Option Told)
+told_to [] told = []
+told_to (p ∷ ps) [] = None ∷ told_to ps []
+told_to (p ∷ ps) (t ∷ ts) = t ∷ told_to ps ts
+
+-- the traffic after an accepted reading
+unfoldable pub settle : Traffic → Asked → Traffic
+settle t a =
+    let regulations = map (settled t.taxi a.now a.plans) a.regulations in
+    let told = told_to a.plans t.told in
+    record t {
+      now = a.now;
+      plans = a.plans;
+      regulations = regulations;
+      told = told_from 1 t.taxi regulations a.plans told;
+      notices = t.notices ++ notices_from 1 t.taxi regulations a.plans told;
+    }
+
+-- the traffic after a reading, and the verdict; a refused one changes nothing
+abbrev pub Answers : Reading → Traffic → Traffic → Verdict → Type 0
+Answers reading old new verdict =
+    MatchResult (asked old reading)
+    (λ a. (new ≡ settle old a) × (verdict ≡ a.verdict))
+    (λ refusal. (new ≡ old) × (verdict ≡ Refused refusal))
+
+-- the moments of an order lie in the years 2000 to 2098
+abbrev pub HasDeskMoments : Reading → Type 0
+HasDeskMoments (ord (open_reg m)) = IsDeskTime m.from × IsDeskTime m.to
+HasDeskMoments (ord (set_time at)) = IsDeskTime at
+HasDeskMoments _ = Unit {0}

@@ -1,0 +1,113 @@
+-- What a reading asks of plans, regulations and time, or why it is refused.
+use Rattle.std.specs.Prelude.{ℕ, Bool, true, false, not, nat_lt, nat_le, if◌then◌else◌, List, [], ◌∷◌, ◌++◌, length, map, filter, Option, Result, Ok, Err}
+use Rattle.std.specs.List.{list_any}
+use Rattle.std.specs.Str.{bytes_eq}
+use Rattle.fpl_message.specs.declared.refusal.Refusal.{Refusal}
+use Rattle.fpl_message.specs.declared.refusal.Refusal.TheVariants as refusal
+use Rattle.fpl_message.specs.declared.order.OpenReg.{OpenReg}
+use Rattle.fpl_message.specs.Messages.{Message, fpl, dla, chg, cnl, dep, Order, open_reg, shut_reg, set_time}
+use Rattle.fpl_message.specs.Reads.{Reading, msg, ord, bad}
+use Rattle.fpl_message.specs.Refusals.{◌>>=◌}
+use Rattle.flow_plans.specs.Plans.{Plan}
+use Rattle.flow_plans.specs.Times.{unless}
+use Rattle.flow_plans.specs.Changes.{Changed, filed, delayed, amended, cancelled, departed}
+use Rattle.flow_regulations.specs.Regulations.{Regulation}
+use Rattle.flow_regulations.specs.Settling.{frozen_at_departure}
+use Rattle.flow_regulations.specs.Notices.{window_of}
+use Rattle.flow_regulations.specs.declared.notice.Told.{Told}
+use Rattle.flow_traffic.specs.declared.verdict.Kind.{Kind}
+use Rattle.flow_traffic.specs.declared.verdict.Kind.TheVariants as kind
+use Rattle.flow_traffic.specs.declared.verdict.Verdict.{Verdict}
+use Rattle.flow_traffic.specs.declared.verdict.Verdict.TheVariants.{Accepted, Departed}
+use Rattle.flow_traffic.specs.Traffic.{Traffic, told_of}
+use Rattle.flow_traffic.specs.Opening.{is_period, rates_fit, regulation_by}
+
+-- plans, time and regulations as they are asked for, before the regulations are settled, and the verdict
+pub record Asked : Type 0 where
+  pub plans : List Plan
+  pub now : ℕ
+  pub regulations : List Regulation
+  pub verdict : Verdict
+
+-- ---- messages
+
+-- the plans after a message, and the number of the plan that it is about; a new plan is the last
+unfoldable pub changed_by : ℕ → ℕ → List Plan → Message → Result Changed Refusal
+changed_by max now plans (fpl m) = filed max now plans m >>= (λ more. Ok (record { plans = more; number = length more }))
+changed_by max now plans (dla m) = delayed now plans m
+changed_by max now plans (chg m) = amended now plans m
+changed_by max now plans (cnl m) = cancelled plans m
+changed_by max now plans (dep m) = departed plans m
+
+-- the verdict on a message about that plan; a departure is compared with what the plan was last told
+unfoldable pub verdict_on : List (Option Told) → Message → ℕ → Verdict
+verdict_on told (fpl m) number = Accepted kind.Fpl number
+verdict_on told (dla m) number = Accepted kind.Dla number
+verdict_on told (chg m) number = Accepted kind.Chg number
+verdict_on told (cnl m) number = Accepted kind.Cnl number
+verdict_on told (dep m) number = Departed number (window_of (told_of told number) m.time)
+
+unfoldable pub is_departure : Message → Bool
+is_departure (fpl m) = false
+is_departure (dla m) = false
+is_departure (chg m) = false
+is_departure (cnl m) = false
+is_departure (dep m) = true
+
+-- a departing flight keeps the slot that it has by the plans before, frozen or not
+abbrev pub departing : Bool → ℕ → ℕ → ℕ → List Plan → List Regulation → List Regulation
+departing false number taxi max before regulations = regulations
+departing true number taxi max before regulations = map (frozen_at_departure taxi max before number) regulations
+
+unfoldable pub asked_by_message : Traffic → Message → Result Asked Refusal
+asked_by_message t m =
+    changed_by t.max_plans t.now t.plans m >>= (λ changed. Ok (record {
+      plans = changed.plans;
+      now = t.now;
+      regulations = departing (is_departure m) changed.number t.taxi t.max_plans t.plans t.regulations;
+      verdict = verdict_on t.told m changed.number;
+    }))
+
+-- ---- orders
+
+-- how many regulations may be open at once
+abbrev pub max_regulations : ℕ
+max_regulations = 64
+
+abbrev pub is_called : List ℕ → Regulation → Bool
+is_called id r = bytes_eq r.id id
+
+-- an accepted order leaves the plans as they are
+abbrev pub ordered : Traffic → Kind → ℕ → List Regulation → Asked
+ordered t kind now regulations = record { plans = t.plans; now = now; regulations = regulations; verdict = Accepted kind 0 }
+
+-- OPEN: one more regulation, the last
+unfoldable pub asked_to_open : Traffic → OpenReg → Result Asked Refusal
+asked_to_open t m =
+    unless (not (is_period m)) refusal.BadPeriod
+    (unless (not (rates_fit m.rate m.more)) refusal.BadRate
+    (unless (list_any (is_called m.id) t.regulations) refusal.RegulationHeld
+    (unless (nat_le max_regulations (length t.regulations)) refusal.RegulationsFull
+    (Ok (ordered t kind.Open t.now (t.regulations ++ regulation_by m ∷ []))))))
+
+-- SHUT: the regulation of that name is open no more
+unfoldable pub asked_to_shut : Traffic → List ℕ → Result Asked Refusal
+asked_to_shut t id =
+    unless (not (list_any (is_called id) t.regulations)) refusal.NoRegulation
+    (Ok (ordered t kind.Shut t.now (filter (λ r. not (is_called id r)) t.regulations)))
+
+-- TIME: the desk's time does not go back
+unfoldable pub asked_at : Traffic → ℕ → Result Asked Refusal
+asked_at t at = unless (nat_lt at t.now) refusal.TimeBack (Ok (ordered t kind.Time at t.regulations))
+
+abbrev pub asked_by_order : Traffic → Order → Result Asked Refusal
+asked_by_order t (open_reg m) = asked_to_open t m
+asked_by_order t (shut_reg id) = asked_to_shut t id
+asked_by_order t (set_time at) = asked_at t at
+
+-- ---- any reading
+
+abbrev pub asked : Traffic → Reading → Result Asked Refusal
+asked t (msg m) = asked_by_message t m
+asked t (ord order) = asked_by_order t order
+asked t (bad refusal) = Err refusal

@@ -1,0 +1,38 @@
+-- How the traffic is kept: the slot lists are those of the plans, all regulations are settled, and no plan is left to which
+-- anything is to be said.
+use Rattle.std.specs.Prelude.{◌≡◌, ◌≤◌, ◌<◌, ℕ, Bool, true, List, length, map, Option}
+use Rattle.std.specs.List.{All}
+use Rattle.std.specs.List.Sorted.{IsNonDecreasing}
+use Rattle.flow_plans.specs.Settings.{IsDeskTime}
+use Rattle.flow_plans.specs.Stores.{Store}
+use Rattle.flow_plans.specs.Plans.{Plan}
+use Rattle.flow_regulations.specs.declared.notice.Told.{Told}
+use Rattle.flow_regulations.specs.Settling.{settled}
+use Rattle.flow_slots.specs.Assignment.{is_in}
+use Rattle.flow_regulations.specs.Listing.{Listed, Listing, regulation_of, IsListed, IsSettled, is_due_flight}
+use Rattle.flow_regulations.specs.Quiet.{AllQuiet, KeepsSlots}
+use Rattle.flow_traffic.specs.Asked.{departing, max_regulations}
+
+pub record IsKept (time : ℕ) (store : Store) (listing : Listing) (told : List (Option Told)) : Type 0 where
+  pub desk_time : IsDeskTime time
+  pub limit : listing.max_plans ≡ store.max_plans
+  pub few : length listing.lists ≤ max_regulations
+  pub room : length store.plans ≤ store.max_plans
+  pub each : length told ≡ length store.plans
+  pub listed : IsListed store.taxi listing.max_plans store.plans listing.lists
+  pub settled_in : IsSettled store.taxi time store.plans listing.lists
+  pub quiet : AllQuiet store.taxi (map regulation_of listing.lists) store.plans told
+
+-- the regulations were settled after a message about one flight, which departs or does not
+pub record IsSettledFor (departs : Bool) (number taxi max now : ℕ) (before plans : List Plan) (lists new : List Listed) : Type 0 where
+  pub regulations : map regulation_of new ≡ map (settled taxi now plans) (departing departs number taxi max before (map regulation_of lists))
+  pub listed : IsListed taxi max plans new
+  pub settled_in : IsSettled taxi now plans new
+  pub others : (f : ℕ) → (f ≡ number → ⊥) → KeepsSlots f (map regulation_of lists) (map regulation_of new)
+
+-- of the plans with numbers up to this one, all that are due are among these, by number
+pub record AreNoted (now : ℕ) (plans : List Plan) (last : ℕ) (due : List ℕ) : Type 0 where
+  pub rising : IsNonDecreasing due
+  pub numbers : All (λ n. (0 < n) × (n ≤ last)) due
+  pub all : (flight : ℕ) → 0 < flight → flight ≤ last → is_due_flight now plans flight ≡ true → is_in flight due ≡ true
+  pub few : length due ≤ last

@@ -1,0 +1,5 @@
+pub mod Traffic
+pub mod Opening
+pub mod Asked
+pub mod Answers
+pub mod Kept

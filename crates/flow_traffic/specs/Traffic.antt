@@ -1,0 +1,32 @@
+-- What a desk allocates, beside its journal.
+use Rattle.std.specs.Prelude.{ℕ, ◌-◌, List, [], slice_get, Option, None}
+use Rattle.std.specs.Option.{option_map_or}
+use Rattle.flow_plans.specs.Settings.{Settings}
+use Rattle.flow_plans.specs.Plans.{Plan}
+use Rattle.flow_regulations.specs.Regulations.{Regulation}
+use Rattle.flow_regulations.specs.declared.notice.Told.{Told}
+use Rattle.flow_regulations.specs.declared.notice.Notice.{Notice}
+
+pub record Traffic : Type 0 where
+  -- from off-block to take-off, in minutes, at every aerodrome
+  pub taxi : ℕ
+  -- how many flight plans are accepted in all
+  pub max_plans : ℕ
+  -- the desk's time, in minutes from 1970-01-01 00:00 UTC
+  pub now : ℕ
+  -- plan n is the n-th
+  pub plans : List Plan
+  -- the open regulations, in order of opening
+  pub regulations : List Regulation
+  -- what each plan was last told
+  pub told : List (Option Told)
+  -- the notices issued
+  pub notices : List Notice
+
+-- of a desk at which nothing was filed
+abbrev pub no_traffic : Settings → Traffic
+no_traffic setup = record { taxi = setup.taxi; max_plans = setup.max_plans; now = setup.start; plans = []; regulations = []; told = []; notices = [] }
+
+-- what the plan of this number was last told
+abbrev pub told_of : List (Option Told) → ℕ → Option Told
+told_of told number = option_map_or (λ t. t) (slice_get told (number - 1)) None

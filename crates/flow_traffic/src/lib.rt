@@ -1,0 +1,11 @@
+//! What a desk allocates: plans, open regulations and their slots, and what each plan was told.
+#![tactic(auto)]
+
+mod messages;
+mod opening;
+mod orders;
+mod traffic;
+mod verdict;
+
+pub use traffic::Traffic;
+pub use verdict::{Kind, Verdict};

@@ -1,0 +1,205 @@
+//! What messages do to the traffic.
+ghost use Rattle.std.specs.Prelude.{◌≡◌, ◌≤◌, ◌<◌, ◌+◌, List, Ok, IfOk, IfSome, IfNone, OnOk, OnErr, IfErr, MatchOption, length, slice_get, option_copied, vec_len, vec_capacity, ◌-◌};
+ghost use Rattle.fpl_message.specs.Said.{said_message};
+ghost use Rattle.fpl_message.specs.Reads.{msg};
+ghost use Rattle.flow_plans.specs.Settings.{IsDeskTime};
+ghost use Rattle.flow_plans.specs.Plans.{Plan};
+ghost use Rattle.flow_plans.specs.Changes.{refusal_of, IsRefusal};
+ghost use Rattle.flow_regulations.specs.Notices.{window_of};
+ghost use Rattle.flow_regulations.specs.Listing.{IsListed, IsSettled, AreSameBut};
+ghost use Rattle.flow_traffic.specs.Traffic.{told_of};
+ghost use Rattle.flow_traffic.specs.Asked.{changed_by, verdict_on, is_departure};
+ghost use Rattle.flow_traffic.specs.Answers.{Answers, told_to};
+ghost use Rattle.flow_traffic.specs.Kept.{IsSettledFor};
+
+use crate::traffic::Traffic;
+use crate::verdict::{Kind, Verdict};
+use flow_plans::{PlanFault, PlanStore};
+use flow_regulations::{Notice, Regulations, Told, Window, window_of};
+use fpl_message::{Message, Refusal};
+use fpl_text::{Minute, TimeOfDay};
+use std::alloc::{AllocError, Allocator};
+
+impl<A: Allocator + Copy> Traffic<A> {
+    /// Takes in a message, and answers the verdict on it.
+    pub(crate) fn answer_message(&mut self, message: &Message<A>) -> Option<Verdict>
+        ensures answers { IfSome result (Answers (msg (said_message message.now)) self.old self.new) }
+        ensures none { IfNone result (self.new ≡ self.old) }
+        ensures grow { length self.old.notices ≤ length self.new.notices }
+        ensures few { length self.new.notices ≤ length self.old.notices + 20_000 }
+    {
+        let Ok(()) = make_room(&mut self.told, &mut self.notices) else {
+            return None;
+        };
+        let number = match change_plans(&mut self.plans, self.time, message) {
+            Ok(number) => number,
+            Err(fault) => return refused(fault),
+        };
+        let count = self.plans.count();
+        let verdict = verdict_on(&self.told, message, number);
+        settle_for(
+            &mut self.regulations,
+            &self.plans,
+            number,
+            is_departure(message),
+            self.time,
+        );
+        make_place(count, &mut self.told);
+        self.regulations
+            .tell(&self.plans, &[number], &mut self.told, &mut self.notices);
+        Some(verdict)
+    }
+}
+
+/// Makes room for what one more plan is told, and for one more notice.
+fn make_room<A: Allocator + Copy>(
+    told: &mut Vec<Option<Told>, A>,
+    notices: &mut Vec<Notice, A>,
+) -> Result<(), AllocError>
+    ensures told { told.new.items ≡ told.old.items }
+    ensures notices { notices.new.items ≡ notices.old.items }
+    ensures told_room { OnOk result (vec_len told.new < vec_capacity told.new) }
+    ensures notices_room { OnOk result (vec_len notices.new < vec_capacity notices.new) }
+{
+    told.reserve(1)?;
+    notices.reserve(1)
+}
+
+/// Does what a message asks of the plans, and answers the number of the plan that it is about.
+#[tactic(auto, unfolding(crate::specs::Asked::changed_by))]
+fn change_plans<A: Allocator + Copy>(
+    plans: &mut PlanStore<A>,
+    now: Minute,
+    message: &Message<A>,
+) -> Result<u32, PlanFault>
+    requires { IsDeskTime now }
+    ensures ok { IfOk result (λ n. changed_by plans.old.max_plans now plans.old.plans (said_message message.now) ≡ Ok (record { plans = plans.new.plans; number = n })) }
+    ensures some { IfOk result (λ n. 0 < n) }
+    ensures within { IfOk result (λ n. n ≤ length plans.new.plans) }
+    ensures same { IfOk result (λ n. AreSameBut n plans.old.plans plans.new.plans) }
+    ensures one { length plans.old.plans ≤ length plans.new.plans }
+    ensures more { length plans.new.plans ≤ length plans.old.plans + 1 }
+    ensures last { IfOk result (λ n. length plans.old.plans < length plans.new.plans → n ≡ length plans.new.plans) }
+    ensures refused { IfErr result (λ e. IsRefusal e (changed_by plans.old.max_plans now plans.old.plans (said_message message.now))) }
+    ensures err { OnErr result (plans.new.plans ≡ plans.old.plans) }
+    ensures limit { plans.new.max_plans ≡ plans.old.max_plans }
+    ensures taxi { plans.new.taxi ≡ plans.old.taxi }
+{
+    match message {
+        Message::Fpl(flight_plan) => plans.file(flight_plan, now),
+        Message::Dla(delay) => plans.delay(delay, now),
+        Message::Chg(modification) => plans.amend(modification, now),
+        Message::Cnl(cancellation) => plans.cancel(cancellation),
+        Message::Dep(departure) => plans.depart(departure),
+    }
+}
+
+/// The verdict on an accepted message about the plan of this number. A departure is compared with what the plan was last
+/// told.
+#[tactic(auto, unfolding(crate::specs::Asked::verdict_on))]
+fn verdict_on<A: Allocator + Copy>(
+    told: &[Option<Told>],
+    message: &Message<A>,
+    number: u32,
+) -> Verdict
+    requires { 0 < number }
+    ensures { result ≡ verdict_on told.now (said_message message.now) number }
+{
+    let kind = match message {
+        Message::Fpl(_) => Kind::Fpl,
+        Message::Dla(_) => Kind::Dla,
+        Message::Chg(_) => Kind::Chg,
+        Message::Cnl(_) => Kind::Cnl,
+        Message::Dep(departure) => {
+            return Verdict::Departed {
+                plan: number,
+                window: departure_window(told, number, departure.time),
+            };
+        }
+    };
+    Verdict::Accepted { kind, plan: number }
+}
+
+/// How a departure of the plan of this number lies to what it was last told.
+fn departure_window(told: &[Option<Told>], number: u32, time: TimeOfDay) -> Window
+    requires { 0 < number }
+    ensures { result ≡ window_of (told_of told.now number) time }
+{
+    match told_at(told, number) {
+        Some(told) => window_of(told.as_ref(), time),
+        None => Window::None,
+    }
+}
+
+/// What the plan of this number was last told, where there is such a plan.
+fn told_at(told: &[Option<Told>], number: u32) -> Option<&Option<Told>>
+    requires { 0 < number }
+    ensures { option_copied result ≡ slice_get told.now (number - 1) }
+{
+    told.get((number - 1) as usize)
+}
+
+/// Whether a message is a departure.
+#[tactic(auto, unfolding(crate::specs::Asked::is_departure))]
+fn is_departure<A: Allocator + Copy>(message: &Message<A>) -> bool
+    ensures { result ≡ is_departure (said_message message.now) }
+{
+    matches!(message, Message::Dep(_))
+}
+
+/// Settles the regulations after a message about the plan of this number, which departs or does not.
+fn settle_for<A: Allocator + Copy>(
+    regulations: &mut Regulations<A>,
+    plans: &PlanStore<A>,
+    number: u32,
+    departs: bool,
+    now: Minute,
+)
+    requires some { 0 < number }
+    requires within { number ≤ length plans.now.plans }
+    requires room { number ≤ regulations.old.max_plans }
+    ensures limit { regulations.new.max_plans ≡ regulations.old.max_plans }
+    ensures settled { (before : List Plan)
+        → IsListed plans.now.taxi regulations.old.max_plans before regulations.old.lists
+        → IsSettled plans.now.taxi now before regulations.old.lists
+        → AreSameBut number before plans.now.plans
+        → IsSettledFor departs number plans.now.taxi regulations.old.max_plans now before plans.now.plans regulations.old.lists regulations.new.lists }
+{
+    if departs {
+        regulations.freeze_departing(number);
+    }
+    regulations.look_again(plans, number, now);
+}
+
+/// A place for what a new plan is told.
+fn make_place<A: Allocator>(count: u32, told: &mut Vec<Option<Told>, A>)
+    requires one { count ≤ length told.old.items + 1 }
+    requires all { length told.old.items ≤ count }
+    requires room { vec_len told.old < vec_capacity told.old }
+    ensures told { (plans : List Plan) → length plans ≡ count → told.new.items ≡ told_to plans told.old.items }
+    ensures each { length told.new.items ≡ count }
+{
+    if told.len() < count as usize {
+        told.push_reserved(None);
+    }
+}
+
+/// The verdict on a message that the plans refused; none where memory was.
+fn refused(fault: PlanFault) -> Option<Verdict>
+    ensures { MatchOption (refusal_of fault) (result ≡ None) (λ r. result ≡ Some (Verdict.Refused r)) }
+{
+    let refusal = match fault {
+        PlanFault::AlreadyHeld => Refusal::AlreadyHeld,
+        PlanFault::NoPlan => Refusal::NoPlan,
+        PlanFault::Ambiguous => Refusal::Ambiguous,
+        PlanFault::AlreadyDeparted => Refusal::AlreadyDeparted,
+        PlanFault::KeyChange => Refusal::KeyChange,
+        PlanFault::NotLater => Refusal::NotLater,
+        PlanFault::DelayTooLong => Refusal::DelayTooLong,
+        PlanFault::Past => Refusal::Past,
+        PlanFault::TooEarly => Refusal::TooEarly,
+        PlanFault::PlansFull => Refusal::PlansFull,
+        PlanFault::OutOfMemory => return None,
+    };
+    Some(Verdict::Refused(refusal))
+}

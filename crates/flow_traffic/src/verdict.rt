@@ -1,0 +1,25 @@
+//! How a filing went.
+use flow_regulations::Window;
+use fpl_message::Refusal;
+
+/// What was accepted.
+#[derive(Clone, Copy, Debug, PartialEq, Eq)]
+pub enum Kind {
+    Fpl,
+    Dla,
+    Chg,
+    Cnl,
+    Open,
+    Shut,
+    Time,
+}
+
+/// How a filing went.
+#[derive(Clone, Copy, Debug, PartialEq, Eq)]
+pub enum Verdict {
+    /// The plan is 0 for an order.
+    Accepted { kind: Kind, plan: u32 },
+    /// A departure was accepted.
+    Departed { plan: u32, window: Window },
+    Refused(Refusal),
+}
