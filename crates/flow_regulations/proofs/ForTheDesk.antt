@@ -3,8 +3,10 @@ use Rattle.std.proofs.Common.{◌≡◌, ℕ, ◌+◌, ◌-◌, ◌<◌, ◌≤�
 use Rattle.std.specs.List.{AllByRecursion, filter, list_any}
 use Rattle.std.specs.Option.{option_map, option_map_or}
 use Rattle.std.specs.Str.{bytes_eq}
-use Rattle.std.proofs.lemmas.Bool.{eq-eqb, true≢false, false≢true}
-use Rattle.flow_plans.specs.Plans.{Plan, plan_at, is_departed}
+use Rattle.std.proofs.lemmas.Bool.{eq-eqb, and_parts, true≢false, false≢true}
+use Rattle.flow_plans.specs.Plans.{Plan, plan_at, is_filed, is_departed}
+use Rattle.flow_plans.specs.declared.plan.PlanState.{PlanState}
+use Rattle.flow_plans.specs.declared.plan.PlanState.TheVariants as state
 use Rattle.flow_slots.specs.Period.{slot_time}
 use Rattle.flow_slots.specs.Assignment.{Placed, is_in}
 use Rattle.flow_slots.specs.Lineup.{NoneFixed, assigned}
@@ -174,3 +176,22 @@ quiet-by-due taxi now plans told old new changed earlier late was is holds quiet
     at : (o : Option Plan) → plan_at plans f ≡ o → IfSome o (λ p. IfSome (told_at told f) (λ t. IsQuiet taxi f (map regulation_of old) p t)) → IfSome o (λ p. IfSome (told_at told f) (λ t. IsQuiet taxi f (map regulation_of new) p t))
     at None e q = tt
     at (Some p) e q = told-there p e (told_at told f) q
+
+-- flights that became due were fixed, and the slots of all others stayed
+pub quiet-but-due : (taxi : ℕ) (changed : List ℕ) (before after : List Regulation) (plans : List Plan) (told : List (Option Told)) → ((f : ℕ) → is_in f changed ≡ false → KeepsSlots f before after) → AllQuiet taxi before plans told → AreQuietBut changed taxi after plans told
+quiet-but-due taxi changed before after plans told keep quiet f positive out =
+    quiet-untouched taxi f before plans told after plans told (refl, refl, λ p _. advice-same taxi f p before after (keep f out)) (quiet f positive)
+
+-- a flight that is due now and was not due earlier had no slot to keep
+pub newly-due-unfixed : (taxi earlier now f : ℕ) (plans : List Plan) (ls : List Listed) → IsSettled taxi earlier plans ls → is_due_flight earlier plans f ≡ false → is_due_flight now plans f ≡ true → AllByRecursion (λ r. pairs_of f r.fixed ≡ []) (map regulation_of ls)
+newly-due-unfixed taxi earlier now f plans ls s then_not now_is = nothing-to-advise taxi earlier plans ls f s then_not (filed (plan_at plans f) now_is) where
+  apart-states : (p : Plan) → is_filed p.state ≡ true → is_departed p.state ≡ false
+  apart-states p e = cases p.state e where
+    cases : (v : PlanState) → is_filed v ≡ true → is_departed v ≡ false
+    cases state.Filed e = refl
+    cases state.Departed e = absurd cc
+    cases state.Cancelled e = refl
+
+  filed : (o : Option Plan) → option_map_or (is_due now) o false ≡ true → option_map_or (λ p. is_departed p.state) o false ≡ false
+  filed None e = refl
+  filed (Some p) e = apart-states p (and_parts (is_filed p.state) (leb p.off_block (now + 120)) e).0

@@ -7,13 +7,13 @@ use Rattle.flow_plans.specs.Plans.{Plan, plan_at}
 use Rattle.flow_slots.specs.Period.{Period, first_slot}
 use Rattle.flow_slots.specs.Lineup.{Lineup, held_slot}
 use Rattle.flow_regulations.specs.Regulations.{Regulation, subject_to, with_entry, waiting_from}
-use Rattle.flow_regulations.specs.Listing.{Listed, regulation_of, with_lineup, let_in, opened, with_no_flights, IsListedIn, IsSettledIn, IsAdvanced, IsAdvancing}
+use Rattle.flow_regulations.specs.Listing.{Listed, regulation_of, with_lineup, let_in, opened, with_no_flights, IsListedIn, IsSettledIn, IsAdvanced, IsAdvancing, is_below}
 use Rattle.flow_regulations.specs.Settling.{settled}
 use Rattle.fpl_message.specs.declared.order.Spot.{Spot}
 use Rattle.flow_regulations.proofs.Waiting.{with_entry-with_entry}
 use Rattle.flow_regulations.proofs.FixedOnes.{all-map}
 use Rattle.flow_regulations.proofs.Fixes.{slot-none}
-use Rattle.flow_regulations.proofs.Advances.{below, advanced-settled, advanced-settled_in}
+use Rattle.flow_regulations.proofs.Advances.{below, none-due-below, advanced-settled, advanced-settled_in}
 
 -- one more plan, the last
 waiting-append : (n k taxi : ℕ) (r : Regulation) (ps : List Plan) (p : Plan) → n ≡ k + length ps → waiting_from k taxi r [] (ps ++ p ∷ []) ≡ with_entry (subject_to taxi r p) false n (waiting_from k taxi r [] ps)
@@ -45,10 +45,11 @@ opened-absent taxi i n plans l e h =
     (all-map (λ w. w.flight < n) (λ w. w.flight ≡ n → ⊥) ws (λ w h q. omega (arith, h, q)) (below 1 taxi (regulation_of l) [] (take i plans) n (omega (arith, e, len))))
 
 -- an opened regulation, settled
-pub opened-settled : (taxi max now : ℕ) (plans : List Plan) (id : List ℕ) (spot : Spot) (period : Period) (o m : Listed) → o ≡ opened taxi plans (with_no_flights id spot period max) → IsAdvancing (length plans + 1) taxi now plans o m
+pub opened-settled : (taxi max now : ℕ) (plans : List Plan) (id : List ℕ) (spot : Spot) (period : Period) (o m : Listed) → o ≡ opened taxi plans (with_no_flights id spot period max) → IsAdvancing (is_below (length plans + 1)) taxi now plans o m
     → (regulation_of m ≡ settled taxi now plans (record { id = id; spot = spot; period = period; fixed = [] })) × IsListedIn taxi max plans m × IsSettledIn taxi now plans m
 opened-settled taxi max now plans id spot period o m e a =
-    let A : Listed → Type 0 = λ v. IsAdvancing (length plans + 1) taxi now plans v m in
+    let A : Listed → Type 0 = λ v. IsAdvancing (is_below (length plans + 1)) taxi now plans v m in
     let l : Listed = opened taxi plans (with_no_flights id spot period max) in
-    let b : IsAdvanced (length plans + 1) taxi max now plans l m = (subst A e a).advanced max refl tt in
-    (advanced-settled (length plans + 1) taxi max now plans l m b (omega arith), b.listed, advanced-settled_in (length plans + 1) taxi max now plans l m b (omega arith))
+    let b : IsAdvanced (is_below (length plans + 1)) taxi max now plans l m = (subst A e a).advanced max refl tt in
+    let none = none-due-below (length plans + 1) taxi max now plans l m b (omega arith) in
+    (advanced-settled (is_below (length plans + 1)) taxi max now plans l m b none, b.listed, advanced-settled_in (is_below (length plans + 1)) taxi max now plans l m b none)

@@ -3,7 +3,7 @@ use Rattle.std.proofs.Common.{◌≡◌, ℕ, ◌⊎◌, inl, inr, Bool, true, f
 use Rattle.std.specs.Option.{is_some}
 use Rattle.std.proofs.lemmas.Bool.{ne_eqb, cases_eq}
 use Rattle.flow_slots.specs.Assignment.{Placed}
-use Rattle.flow_slots.specs.Lineup.{Lineup, slot_in, held_slot, fixed_slot, without_fixed, insert_fixed, with_waiting, without_flight}
+use Rattle.flow_slots.specs.Lineup.{Lineup, held_slot, fixed_slot, without_fixed, insert_fixed, with_waiting, without_flight}
 use Rattle.flow_slots.specs.ChangeList.{fixed_there}
 use Rattle.flow_regulations.specs.Settling.{pairs_of}
 use Rattle.flow_regulations.specs.Listing.{Listed, with_lineup, placed, fixed_waiting}
@@ -42,28 +42,11 @@ pairs-out f n l t ne e = ap (λ v. pairs_of f v.lineup.fixed) e ∙ pairs-withou
 pub pairs-in : (f n : ℕ) (o : Option ℕ) (d : Bool) (l t : Listed) → (f ≡ n → ⊥) → t ≡ with_lineup (placed o d n l.lineup) l → pairs_of f t.lineup.fixed ≡ pairs_of f l.lineup.fixed
 pairs-in f n o d l t ne e = ap (λ v. pairs_of f v.lineup.fixed) e ∙ pairs-placed f n o d l.lineup ne
 
-pub pairs-fixed : (f n : ℕ) (l m : Listed) → (f ≡ n → ⊥) → m ≡ with_lineup (fixed_waiting n l.lineup) l → pairs_of f m.lineup.fixed ≡ pairs_of f l.lineup.fixed
-pairs-fixed f n l m ne e = ap (λ v. pairs_of f v.lineup.fixed) e ∙ cases (is_some (fixed_slot l.lineup n)) where
-  cases : (b : Bool) → pairs_of f (cond b l.lineup (fixed_there (held_slot l.lineup n) n l.lineup)).fixed ≡ pairs_of f l.lineup.fixed
+pub pairs-waiting : (f n : ℕ) (l : Lineup) → (f ≡ n → ⊥) → pairs_of f (fixed_waiting n l).fixed ≡ pairs_of f l.fixed
+pairs-waiting f n l ne = cases (is_some (fixed_slot l n)) where
+  cases : (b : Bool) → pairs_of f (cond b l (fixed_there (held_slot l n) n l)).fixed ≡ pairs_of f l.fixed
   cases true = refl
-  cases false = pairs-there f n (held_slot l.lineup n) l.lineup ne
+  cases false = pairs-there f n (held_slot l n) l ne
 
--- a slot is found by the pairs of its flight
-slot-pairs : (f : ℕ) (xs : List Placed) → slot_in f (pairs_of f xs) ≡ slot_in f xs
-slot-pairs f [] = refl
-slot-pairs f (x ∷ xs) = cases (slot-pairs f xs) (eqb x.flight f) refl where
-  cases : slot_in f (pairs_of f xs) ≡ slot_in f xs → (b : Bool) → eqb x.flight f ≡ b → slot_in f (cond b (x ∷ pairs_of f xs) (pairs_of f xs)) ≡ cond b (Some x.slot) (slot_in f xs)
-  cases again true e = ap (λ b. cond b (Some x.slot) (slot_in f (pairs_of f xs))) e
-  cases again false e = again
-
--- a flight that keeps a slot keeps it
-pub pairs-kept : (f n : ℕ) (o l m : Listed) → (is_some (fixed_slot o.lineup f) ≡ true) → pairs_of f l.lineup.fixed ≡ pairs_of f o.lineup.fixed → m ≡ with_lineup (fixed_waiting n l.lineup) l → pairs_of f m.lineup.fixed ≡ pairs_of f o.lineup.fixed
-pairs-kept f n o l m some same e = cases (cases_eq f n) where
-  still : is_some (fixed_slot l.lineup f) ≡ true
-  still = ap (λ v. is_some v) (sym (slot-pairs f l.lineup.fixed) ∙ (ap (slot_in f) same ∙ slot-pairs f o.lineup.fixed)) ∙ some
-
-  cases : (f ≡ n) ⊎ (f ≡ n → ⊥) → pairs_of f m.lineup.fixed ≡ pairs_of f o.lineup.fixed
-  cases (inr ne) = pairs-fixed f n l m ne e ∙ same
-  cases (inl q) =
-      let there : is_some (fixed_slot l.lineup n) ≡ true = ap (λ j. is_some (fixed_slot l.lineup j)) (sym q) ∙ still in
-      ap (λ v. pairs_of f v.lineup.fixed) e ∙ (ap (λ b. pairs_of f (cond b l.lineup (fixed_there (held_slot l.lineup n) n l.lineup)).fixed) there ∙ same)
+pub pairs-fixed : (f n : ℕ) (l m : Listed) → (f ≡ n → ⊥) → m ≡ with_lineup (fixed_waiting n l.lineup) l → pairs_of f m.lineup.fixed ≡ pairs_of f l.lineup.fixed
+pairs-fixed f n l m ne e = ap (λ v. pairs_of f v.lineup.fixed) e ∙ pairs-waiting f n l.lineup ne

@@ -37,6 +37,17 @@ module _ {X : Type 0} (R : X → X → Type 0) where
   walked-map P f g h (suc n) (x ∷ xs) (y ∷ ys) e w a =
       ap (λ v. v ∷ map f ys) (h x y a.0 w.0) ∙ ap (λ vs. g x ∷ vs) (walked-map P f g h n xs ys (omega arith) w.1 a.1)
 
+-- each was replaced by what a function makes of it
+pub walked-is : {X : Type 0} (R : X → X → Type 0) (g : X → X) → ((x y : X) → R x y → y ≡ g x) → (n : ℕ) (xs ys : List X) → n ≡ length ys → Walked R n xs ys → ys ≡ map g xs
+walked-is R g h zero [] [] e w = refl
+walked-is R g h zero (x ∷ xs) [] e w = (let no : x ∷ xs ≡ [] = sym w in absurd cc)
+walked-is R g h zero xs (y ∷ ys) e w = absurd (omega arith)
+walked-is R g h (suc n) [] [] e w = refl
+walked-is R g h (suc n) (x ∷ xs) [] e w = absurd w
+walked-is R g h (suc n) [] (y ∷ ys) e w = absurd w
+walked-is R g h (suc n) (x ∷ xs) (y ∷ ys) e w =
+    ap (λ v. v ∷ ys) (h x y w.0) ∙ ap (λ vs. g x ∷ vs) (walked-is R g h n xs ys (omega (arith, e)) w.1)
+
 pub all-set : {X : Type 0} (P : X → Type 0) (i : ℕ) (ys : List X) (z : X) → P z → AllByRecursion P ys → AllByRecursion P (slice_set ys i z)
 all-set P i [] z h a = tt
 all-set P zero (y ∷ ys) z h a = (h, a.1)
@@ -59,13 +70,6 @@ pub walked-start : {X : Type 0} (R : X → X → Type 0) → ((x : X) → R x x)
 walked-start R f zero xs e = refl
 walked-start R f (suc n) [] e = tt
 walked-start R f (suc n) (x ∷ xs) e = (f x, walked-start R f n xs (omega (arith, e)))
-
-pub walked-like : {X : Type 0} (R T : X → X → Type 0) → ((x y : X) → R x y → T x y) → (n : ℕ) (xs ys : List X) → Walked R n xs ys → Walked T n xs ys
-walked-like R T f zero xs ys w = w
-walked-like R T f (suc n) [] [] w = tt
-walked-like R T f (suc n) [] (y ∷ ys) w = absurd w
-walked-like R T f (suc n) (x ∷ xs) [] w = absurd w
-walked-like R T f (suc n) (x ∷ xs) (y ∷ ys) w = (f x y w.0, walked-like R T f n xs ys w.1)
 
 pub walked-then : {X : Type 0} (R S T : X → X → Type 0) → ((x y z : X) → R x y → S y z → T x z) → (n : ℕ) (xs ys zs : List X) → n ≡ length ys → Walked R n xs ys → Walked S n ys zs → Walked T n xs zs
 walked-then R S T f zero xs [] zs e w v = v ∙ w

@@ -1,12 +1,12 @@
 -- Open regulations with their slot lists, and what those keep of the plans.
-use Rattle.std.specs.Prelude.{◌⊎◌, ◌≡◌, ℕ, zero, suc, ◌<◌, Bool, true, false, if◌then◌else◌, List, [], ◌∷◌, ◌++◌, map, filter, not, Option, Some, None}
-use Rattle.std.specs.List.{AllByRecursion}
+use Rattle.std.specs.Prelude.{◌⊎◌, ◌≡◌, ℕ, zero, suc, ◌<◌, Bool, true, false, nat_lt, if◌then◌else◌, List, [], ◌∷◌, ◌++◌, map, filter, not, Option, Some, None}
+use Rattle.std.specs.List.{All, AllByRecursion}
 use Rattle.std.specs.Option.{option_map_or, is_some}
 use Rattle.std.specs.Str.{bytes_eq}
 use Rattle.fpl_message.specs.declared.order.Spot.{Spot}
 use Rattle.flow_plans.specs.Plans.{Plan, plan_at}
 use Rattle.flow_slots.specs.Period.{Period, IsRegular}
-use Rattle.flow_slots.specs.Assignment.{Placed}
+use Rattle.flow_slots.specs.Assignment.{Placed, is_in}
 use Rattle.flow_slots.specs.Lineup.{Lineup, IsLineup, held_slot, fixed_slot, with_waiting, without_flight}
 use Rattle.flow_slots.specs.ChangeList.{fixed_there}
 use Rattle.flow_regulations.specs.Regulations.{Regulation, subject_to, waiting_from, lineup_of}
@@ -134,18 +134,46 @@ pub record AreFrozen (taxi max flight : ℕ) (before : List Plan) (lists new : L
 abbrev pub AllStay : ℕ → ℕ → List Plan → Listed → Type 0
 AllStay taxi now plans l = AllByRecursion (λ a. (0 < a.flight) × (stays taxi now plans (regulation_of l) a ≡ true)) l.lineup.fixed
 
--- on the way to the settled regulation: of the flights below `number`, those that are due are fixed
-pub record IsAdvanced (number taxi max now : ℕ) (plans : List Plan) (l m : Listed) : Type 0 where
+-- no waiting flight is due
+abbrev pub NoneDue : ℕ → List Plan → Listed → Type 0
+NoneDue now plans l = AllByRecursion (λ w. is_due_flight now plans w.flight ≡ false) l.lineup.waiting
+
+-- on the way to the settled regulation: of these flights, those that are due are fixed
+pub record IsAdvanced (done : ℕ → Bool) (taxi max now : ℕ) (plans : List Plan) (l m : Listed) : Type 0 where
   pub regulation : settled taxi now plans (regulation_of m) ≡ settled taxi now plans (regulation_of l)
   pub listed : IsListedIn taxi max plans m
   pub stay : AllStay taxi now plans m
-  pub waiting : AllByRecursion (λ w. w.flight < number → is_due_flight now plans w.flight ≡ false) m.lineup.waiting
+  pub waiting : AllByRecursion (λ w. done w.flight ≡ true → is_due_flight now plans w.flight ≡ false) m.lineup.waiting
+  pub undue : (earlier : ℕ) → NoneDue earlier plans l → NoneDue earlier plans m
 
-pub record IsAdvancing (number taxi now : ℕ) (plans : List Plan) (l m : Listed) : Type 0 where
+pub record IsAdvancing (done : ℕ → Bool) (taxi now : ℕ) (plans : List Plan) (l m : Listed) : Type 0 where
   pub capacity : m.lineup.capacity ≡ l.lineup.capacity
-  pub undue : (f : ℕ) → is_due_flight now plans f ≡ false → pairs_of f m.lineup.fixed ≡ pairs_of f l.lineup.fixed
-  pub kept_on : (f : ℕ) → is_some (fixed_slot l.lineup f) ≡ true → pairs_of f m.lineup.fixed ≡ pairs_of f l.lineup.fixed
-  pub advanced : (max : ℕ) → IsListedIn taxi max plans l → AllStay taxi now plans l → IsAdvanced number taxi max now plans l m
+  pub advanced : (max : ℕ) → IsListedIn taxi max plans l → AllStay taxi now plans l → IsAdvanced done taxi max now plans l m
+
+-- the flights below a number
+abbrev pub is_below : ℕ → ℕ → Bool
+is_below number flight = nat_lt flight number
+
+-- and those of a list
+abbrev pub is_among : List ℕ → ℕ → Bool
+is_among numbers flight = is_in flight numbers
+
+-- an open regulation in which these flights are fixed where they wait, one after the other
+abbrev pub all_fixed_waiting : List ℕ → Lineup → Lineup
+all_fixed_waiting [] l = l
+all_fixed_waiting (n ∷ ns) l = all_fixed_waiting ns (fixed_waiting n l)
+
+abbrev pub with_fixed_waiting : List ℕ → Listed → Listed
+with_fixed_waiting flights l = with_lineup (all_fixed_waiting flights l.lineup) l
+
+-- each of these flights is due
+abbrev pub AreDue : ℕ → List Plan → List ℕ → Type 0
+AreDue now plans flights = All (λ n. (0 < n) × (is_due_flight now plans n ≡ true)) flights
+
+-- each flight that is due now and was not due earlier is one of these
+abbrev pub HoldNewlyDue : ℕ → ℕ → List Plan → List ℕ → Type 0
+HoldNewlyDue earlier now plans flights =
+    (flight : ℕ) → 0 < flight → is_due_flight now plans flight ≡ true → is_due_flight earlier plans flight ≡ false → is_in flight flights ≡ true
 
 -- a regulation as it is opened, without flights
 abbrev pub with_no_flights : List ℕ → Spot → Period → ℕ → Listed

@@ -3,8 +3,9 @@ ghost use Rattle.std.specs.Prelude.{◌≡◌, ◌<◌, ◌≤◌, ◌+◌, ◌+
 ghost use Rattle.std.specs.List.{All, AllByRecursion, list_any};
 ghost use Rattle.std.specs.List.Sorted.{IsNonDecreasing};
 ghost use Rattle.flow_plans.specs.Plans.{Plan, plan_at};
+ghost use Rattle.flow_slots.specs.Assignment.{is_in};
 ghost use Rattle.flow_regulations.specs.Advice.{advice};
-ghost use Rattle.flow_regulations.specs.Listing.{Walked, IsLookedAgain, IsListed, AreSettledBut, AreSameBut, AreRenewed, IsFixedWaiting, AreFrozen, IsSettled, IsAdvancing, IsOpened, opened, is_named, without_named, lineup_named, pairs_in, is_due_flight, regulation_of};
+ghost use Rattle.flow_regulations.specs.Listing.{Walked, IsLookedAgain, IsListed, AreSettledBut, AreSameBut, AreRenewed, IsFixedWaiting, AreFrozen, IsSettled, IsAdvancing, is_below, is_among, with_fixed_waiting, AreDue, HoldNewlyDue, IsOpened, opened, is_named, without_named, lineup_named, pairs_in, regulation_of};
 ghost use Rattle.flow_regulations.specs.Notices.{notices_from, told_from};
 ghost use Rattle.flow_regulations.specs.Quiet.{AreQuietBut, AllQuiet};
 
@@ -122,17 +123,20 @@ impl<A: Allocator + Copy> Regulations<A> {
         look_again_in(&mut self.regulations, plans, number, now);
     }
 
-    /// Settles the regulations when the desk's time has advanced: the flights that are due now are fixed where they wait,
-    /// and no other flight is touched.
-    pub fn advance(&mut self, plans: &PlanStore<A>, now: Minute)
+    /// Settles the regulations when the desk's time has advanced: these flights, which are due now, are fixed where they
+    /// wait, and no other flight is touched. With each flight among them that has become due, the regulations are settled.
+    pub fn advance_due(&mut self, due: &[u32])
         ensures limit { self.new.max_plans ≡ self.old.max_plans }
-        ensures others { (f : ℕ) → is_due_flight now plans.now.plans f ≡ false → pairs_in f self.new.lists ≡ pairs_in f self.old.lists }
-        ensures renewed { (earlier : ℕ) → earlier ≤ now
-            → IsListed plans.now.taxi self.old.max_plans plans.now.plans self.old.lists
-            → IsSettled plans.now.taxi earlier plans.now.plans self.old.lists
-            → AreRenewed plans.now.taxi self.old.max_plans now plans.now.plans self.old.lists self.new.lists }
+        ensures lists { self.new.lists ≡ map (with_fixed_waiting due.now) self.old.lists }
+        ensures others { (f : ℕ) → is_in f due.now ≡ false → pairs_in f self.new.lists ≡ pairs_in f self.old.lists }
+        ensures renewed { (taxi earlier now : ℕ) (plans : List Plan) → earlier ≤ now
+            → AreDue now plans due.now
+            → HoldNewlyDue earlier now plans due.now
+            → IsListed taxi self.old.max_plans plans self.old.lists
+            → IsSettled taxi earlier plans self.old.lists
+            → AreRenewed taxi self.old.max_plans now plans self.old.lists self.new.lists }
     {
-        advance_in(&mut self.regulations, plans, now);
+        advance_in(&mut self.regulations, due);
     }
 
     /// Freezes the slots that a departing flight holds, frozen before or not: it is fixed where it waits, and nobody
@@ -217,18 +221,14 @@ fn fix_waiting_in<A: Allocator + Copy>(regulations: &mut [Regulation<A>], number
     }
 }
 
-/// Each regulation fixes the flights that are due, where they wait.
-fn advance_in<A: Allocator + Copy>(
-    regulations: &mut [Regulation<A>],
-    plans: &PlanStore<A>,
-    now: Minute,
-)
-    ensures { Walked (IsAdvancing (length plans.now.plans + 1) plans.now.taxi now plans.now.plans) (length regulations.new) regulations.old regulations.new }
+/// Each regulation fixes these flights where they wait.
+fn advance_in<A: Allocator + Copy>(regulations: &mut [Regulation<A>], due: &[u32])
+    ensures lists { regulations.new ≡ map (with_fixed_waiting due.now) regulations.old }
+    ensures walked { (taxi now : ℕ) (plans : List Plan) → AreDue now plans due.now
+        → Walked (IsAdvancing (is_among due.now) taxi now plans) (length regulations.new) regulations.old regulations.new }
 {
-    for index in 0..plans.count() {
-        if is_due(plans, index + 1, now) {
-            fix_waiting_in(regulations, index + 1);
-        }
+    for number in due {
+        fix_waiting_in(regulations, *number);
     }
 }
 
@@ -245,7 +245,7 @@ fn let_all_in<A: Allocator + Copy>(regulation: &mut Regulation<A>, plans: &PlanS
 
 /// Fixes the flights that are due, where they wait.
 fn settle<A: Allocator + Copy>(regulation: &mut Regulation<A>, plans: &PlanStore<A>, now: Minute)
-    ensures { IsAdvancing (length plans.now.plans + 1) plans.now.taxi now plans.now.plans regulation.old regulation.new }
+    ensures { IsAdvancing (is_below (length plans.now.plans + 1)) plans.now.taxi now plans.now.plans regulation.old regulation.new }
 {
     for index in 0..plans.count() {
         if is_due(plans, index + 1, now) {

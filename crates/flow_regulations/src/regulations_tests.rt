@@ -74,7 +74,7 @@ fn a_flight_is_frozen_once_it_is_due(rt: HostRuntime) -> Result<(), Fail> {
     regulations.open(rt.alloc(), id.copied(), arrivals, shape, &plans, at(5, 0))?;
     regulations.look_again(&plans, 1, at(5, 59));
     assert_eq!(rt; regulations.advice(&plans, 1), None);
-    regulations.advance(&plans, at(6, 0));
+    regulations.advance_due(&[1]);
     assert_eq!(rt;
         regulations.advice(&plans, 1),
         Some(told(at(8, 12), b"RMZ01"))

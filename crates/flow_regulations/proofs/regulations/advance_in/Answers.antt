@@ -1,29 +1,43 @@
-use Rattle.std.proofs.Common.{◌≡◌, ℕ, ◌+◌, ◌<◌, ◌≤◌, List, length, refl, sym, subst, ◌∙◌, arith}
-use Rattle.flow_regulations.specs.Listing.{Listed, Walked, IsFixedWaiting, IsAdvancing}
-use Rattle.flow_regulations.proofs.Advances.{walk-start, walk-step, walk-past, due-is}
+use Rattle.std.proofs.Common.{◌≡◌, ℕ, ◌+◌, ◌<◌, ◌≤◌, List, [], length, map, take, get_or, refl, sym, ap, subst, ◌∙◌, arith}
+use Rattle.std.proofs.lemmas.List.{take_all}
+use Rattle.flow_plans.specs.Plans.{Plan}
+use Rattle.flow_regulations.specs.Listing.{Listed, Walked, IsFixedWaiting, IsAdvancing, is_among, with_fixed_waiting, AreDue}
+use Rattle.flow_regulations.proofs.Advances.{walk-start, walk-step, among-more, fixed-start, fixed-more}
 use Rattle.flow_regulations.proofs.regulations.advance_in.Goals as goal
-use Rattle.flow_regulations.proofs.regulations.advance_in.Goals.{then-is_due, else-is_due}
 
-pub loop-index-init : goal.loop-index-init
-loop-index-init g c = walk-start c.args.plans.now.taxi c.args.now c.args.plans.now.plans c.args.regulations.now
+pub loop-number-init : goal.loop-number-init
+loop-number-init g c = record {
+  lists = fixed-start c.args.regulations.now;
+  walked = λ taxi now plans _. walk-start (is_among []) taxi now plans c.args.regulations.now (λ f h. refl);
+}
 
-pub loop-index-preserved : goal.loop-index-preserved
-loop-index-preserved g c =
-    let plans = c.args.plans.now.plans in
-    let taxi = c.args.plans.now.taxi in
+pub loop-number-preserved : goal.loop-number-preserved
+loop-number-preserved g c =
     let os : List Listed = c.args.regulations.now in
-    let ms : List Listed = c.loop-index.regulations in
-    let n : ℕ = c.loop-index.index + 1 in
-    let positive : 0 < n = omega arith in
-    let within : n ≤ length plans = omega (arith, c.loop-index-test.true, c.count-index-end.ensures.count) in
-    let due = due-is c.args.now n plans c.is_due.result positive within c.is_due.ensures in
-    let W : List Listed → Type 0 = λ xs. Walked (IsAdvancing (n + 1) taxi c.args.now plans) (length xs) os xs in
-    elim c.if-is_due.branch [
-      | then-is_due w ↦
-          (let xs : List Listed = w.fix_waiting_in.new.regulations in
-          let len : length ms ≡ length xs = sym w.fix_waiting_in.auto.regulations in
-          let V : ℕ → Type 0 = λ i. Walked (IsAdvancing (n + 1) taxi c.args.now plans) i os xs in
+    let ms : List Listed = c.loop-number.regulations in
+    let xs : List Listed = c.fix_waiting_in.new.regulations in
+    let j : ℕ = c.loop-number.number-index in
+    let ns : List ℕ = c.args.due.now in
+    let n : ℕ = get_or ns j 0 in
+    let within : j < length ns = c.loop-number-test.true in
+    let len : length ms ≡ length xs = sym c.fix_waiting_in.auto.regulations in
+    record {
+      lists = fixed-more j n ns os ms xs within refl c.loop-number.invariant.lists c.fix_waiting_in.ensures;
+      walked = λ taxi now plans all.
+          (let V : ℕ → Type 0 = λ i. Walked (IsAdvancing (is_among (take (j + 1) ns)) taxi now plans) i os xs in
           let U : ℕ → Type 0 = λ i. Walked (IsFixedWaiting n) i ms xs in
-          subst W (sym w.regulations-is) (subst V len (walk-step n taxi c.args.now (length ms) plans os ms xs positive (due ∙ w.if-is_due.true) refl c.loop-index.invariant (subst U (sym len) w.fix_waiting_in.ensures))))
-      | else-is_due w ↦ subst W (sym w.regulations-is) (walk-past n taxi c.args.now (length ms) plans os ms (due ∙ w.if-is_due.false) c.loop-index.invariant)
-    ]
+          let d = all j 0 within in
+          subst V len (walk-step n (is_among (take j ns)) (is_among (take (j + 1) ns)) taxi now (length ms) plans os ms xs (among-more j n ns within refl) d.0 d.1 refl (c.loop-number.invariant.walked taxi now plans all) (subst U (sym len) c.fix_waiting_in.ensures)));
+    }
+
+pub returns-clause-lists : goal.returns-clause-lists
+returns-clause-lists g c =
+    let all : take c.loop-number.number-index c.args.due.now ≡ c.args.due.now = take_all c.loop-number.number-index c.args.due.now (omega arith) in
+    c.loop-number.invariant.lists ∙ ap (λ ns. map (with_fixed_waiting ns) c.args.regulations.now) all
+
+pub returns-clause-walked : goal.returns-clause-walked
+returns-clause-walked g c = λ taxi now plans due.
+    (let all : take c.loop-number.number-index c.args.due.now ≡ c.args.due.now = take_all c.loop-number.number-index c.args.due.now (omega arith) in
+    let xs : List Listed = c.loop-number.regulations in
+    let W : List ℕ → Type 0 = λ ns. Walked (IsAdvancing (is_among ns) taxi now plans) (length xs) c.args.regulations.now xs in
+    subst W all (c.loop-number.invariant.walked taxi now plans due))

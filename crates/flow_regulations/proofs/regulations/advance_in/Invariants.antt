@@ -1,6 +1,11 @@
-use Rattle.std.proofs.Common.{◌+◌, length}
-use Rattle.flow_regulations.specs.Listing.{Walked, IsAdvancing}
+use Rattle.std.proofs.Common.{◌≡◌, ℕ, List, length, map, take}
+use Rattle.flow_plans.specs.Plans.{Plan}
+use Rattle.flow_regulations.specs.Listing.{Walked, IsAdvancing, is_among, with_fixed_waiting, AreDue}
 use Rattle.flow_regulations.proofs.regulations.advance_in.Given as goal
 
-abbrev pub invariant-loop-index : goal.invariant-loop-index
-invariant-loop-index g l = Walked (IsAdvancing (l.index + 1) l.plans.taxi l.now l.plans.plans) (length l.regulations) l.initial.regulations l.regulations
+abbrev pub invariant-loop-number : goal.invariant-loop-number
+invariant-loop-number g l = record {
+  lists : l.regulations ≡ map (with_fixed_waiting (take l.number-index l.due)) l.initial.regulations;
+  walked : (taxi now : ℕ) (plans : List Plan) → AreDue now plans l.due
+      → Walked (IsAdvancing (is_among (take l.number-index l.due)) taxi now plans) (length l.regulations) l.initial.regulations l.regulations;
+}

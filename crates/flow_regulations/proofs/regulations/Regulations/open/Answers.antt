@@ -12,5 +12,5 @@ returns-clause-opened g c =
     let o : Listed = c.let_all_in.new.regulation in
     let empty : o ≡ opened taxi plans (with_no_flights c.args.id c.args.spot c.args.shape c.args.self.now.max_plans) =
     c.let_all_in.ensures ∙ (ap (λ v. opened taxi plans v) c.in_ok-regulation.ensures.empty ∙ ap (λ m. opened taxi plans (with_no_flights c.args.id c.args.spot c.args.shape m)) max) in
-    let all = opened-settled taxi c.args.self.now.max_plans c.args.now plans c.args.id c.args.spot c.args.shape o x empty (record { capacity = c.settle.ensures.capacity; undue = c.settle.ensures.undue; kept_on = c.settle.ensures.kept_on; advanced = c.settle.ensures.advanced }) in
+    let all = opened-settled taxi c.args.self.now.max_plans c.args.now plans c.args.id c.args.spot c.args.shape o x empty (record { capacity = c.settle.ensures.capacity; advanced = c.settle.ensures.advanced }) in
     (x, c.push_reserved.ensures.items ∙ ap (λ xs. xs ++ x ∷ []) (c.in_ok-reserve.ensures.items ∙ ap (λ v. v.lists) c.self.view_is), all.0, all.1, all.2)
