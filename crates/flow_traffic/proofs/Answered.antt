@@ -1,5 +1,5 @@
 -- The traffic after an accepted reading, from what the calls left.
-use Rattle.std.proofs.Common.{◌≡◌, ℕ, ◌<◌, ◌≤◌, ◌+◌, ◌-◌, List, [], ◌∷◌, ◌++◌, map, length, Bool, true, false, not, nat_lt, nat_le, filter, refl, sym, ap, ◌∙◌, subst, arith, Option, Some, None, Result, Ok, Err, MatchResult, MatchOption, IfSome, IfNone, slice_get, ◌⊎◌, inl, inr}
+use Rattle.std.proofs.Common.{◌≡◌, ℕ, ◌<◌, ◌≤◌, ◌+◌, ◌-◌, List, [], ◌∷◌, ◌++◌, map, length, Bool, true, false, not, nat_lt, nat_le, if◌then◌else◌, filter, refl, sym, ap, ◌∙◌, subst, arith, Option, Some, None, Result, Ok, Err, MatchResult, MatchOption, IfSome, IfNone, slice_get, ◌⊎◌, inl, inr}
 use Rattle.std.specs.List.{list_any}
 use Rattle.std.specs.Str.{bytes_eq}
 use Rattle.std.proofs.lemmas.List.{append-nil}
@@ -184,3 +184,11 @@ fault-answers t new m fault v same h e = by (refusal_of fault) h e where
 pub fault-none : (fault : PlanFault) (v : Option Verdict) {P : Type 0} → P → IfNone v P
 fault-none fault None p = p
 fault-none fault (Some v) p = tt
+
+-- closing opens none
+pub fewer-named : (id : List ℕ) (ls : List Listed) → length (without_named id ls) ≤ length ls
+fewer-named id [] = omega arith
+fewer-named id (l ∷ ls) = by (is_named id l) (fewer-named id ls) where
+  by : (b : Bool) → length (without_named id ls) ≤ length ls → length (if not b then l ∷ without_named id ls else without_named id ls) ≤ length (l ∷ ls)
+  by true h = omega (arith, h)
+  by false h = omega (arith, h)

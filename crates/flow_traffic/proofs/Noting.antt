@@ -49,19 +49,21 @@ widen i due h = λ k d within.
 
 pub noted-none : (now : ℕ) (plans : List Plan) → AreNoted now plans 0 []
 noted-none now plans = record {
-      rising = IsNonDecreasingBy-short (λ x. x) [] (omega arith);
-      numbers = All-nil (λ n. (0 < n) × (n ≤ 0));
-      all = λ f some last due. absurd (omega (arith, some, last));
-      few = omega arith;
-    }
+  rising = IsNonDecreasingBy-short (λ x. x) [] (omega arith);
+  numbers = All-nil (λ n. (0 < n) × (n ≤ 0));
+  all = λ f some last due. absurd (omega (arith, some, last));
+  are_due = All-nil (λ n. (0 < n) × (is_due_flight now plans n ≡ true));
+  few = omega arith;
+}
 
-pub noted-due : (now : ℕ) (plans : List Plan) (i : ℕ) (due : List ℕ) → AreNoted now plans i due → AreNoted now plans (i + 1) (due ++ (i + 1) ∷ [])
-noted-due now plans i due h = record {
-      rising = IsNonDecreasingBy-push (λ x. x) due (i + 1) h.rising (λ d some. let one = h.numbers (length due - 1) d (omega (arith, some)) in omega (arith, one.1));
-      numbers = All-push (λ n. (0 < n) × (n ≤ i + 1)) due (i + 1) (widen i due h.numbers) (omega arith, omega arith);
-      all = λ f some last due_at. by f some due_at (up-to f i last);
-      few = omega (arith, h.few, length-append due ((i + 1) ∷ []));
-    }
+pub noted-due : (now : ℕ) (plans : List Plan) (i : ℕ) (due : List ℕ) → AreNoted now plans i due → is_due_flight now plans (i + 1) ≡ true → AreNoted now plans (i + 1) (due ++ (i + 1) ∷ [])
+noted-due now plans i due h here = record {
+  rising = IsNonDecreasingBy-push (λ x. x) due (i + 1) h.rising (λ d some. let one = h.numbers (length due - 1) d (omega (arith, some)) in omega (arith, one.1));
+  numbers = All-push (λ n. (0 < n) × (n ≤ i + 1)) due (i + 1) (widen i due h.numbers) (omega arith, omega arith);
+  all = λ f some last due_at. by f some due_at (up-to f i last);
+  are_due = All-push (λ n. (0 < n) × (is_due_flight now plans n ≡ true)) due (i + 1) h.are_due (omega arith, here);
+  few = omega (arith, h.few, length-append due ((i + 1) ∷ []));
+}
   where
     by : (f : ℕ) → 0 < f → is_due_flight now plans f ≡ true → (f ≤ i) ⊎ (f ≡ i + 1) → is_in f (due ++ (i + 1) ∷ []) ≡ true
     by f some due_at (inl before) = in-more f (i + 1) due (h.all f some before due_at)
@@ -69,11 +71,12 @@ noted-due now plans i due h = record {
 
 pub noted-not : (now : ℕ) (plans : List Plan) (i : ℕ) (due : List ℕ) → AreNoted now plans i due → is_due_flight now plans (i + 1) ≡ false → AreNoted now plans (i + 1) due
 noted-not now plans i due h not_due = record {
-      rising = h.rising;
-      numbers = widen i due h.numbers;
-      all = λ f some last due_at. by f some due_at (up-to f i last);
-      few = omega (arith, h.few);
-    }
+  rising = h.rising;
+  numbers = widen i due h.numbers;
+  all = λ f some last due_at. by f some due_at (up-to f i last);
+  are_due = h.are_due;
+  few = omega (arith, h.few);
+}
   where
     by : (f : ℕ) → 0 < f → is_due_flight now plans f ≡ true → (f ≤ i) ⊎ (f ≡ i + 1) → is_in f due ≡ true
     by f some due_at (inl before) = h.all f some before due_at
@@ -84,3 +87,13 @@ due-answer now plans n b h e = by (plan_at plans n) h where
   by : (o : Option Plan) → ((p : Plan) → o ≡ Some p → b ≡ is_due now p) → option_map_or (is_due now) o false ≡ false
   by None h = refl
   by (Some p) h = sym (h p refl) ∙ e
+
+plan-there : (plans : List Plan) (i : ℕ) → i < length plans → (p : Plan) × (slice_get plans i ≡ Some p)
+plan-there [] i h = absurd (omega (arith, h))
+plan-there (p ∷ ps) zero h = (p, refl)
+plan-there (p ∷ ps) (suc i) h = plan-there ps i (omega (arith, h))
+
+pub due-found : (now : ℕ) (plans : List Plan) (n : ℕ) (b : Bool) → 0 < n → n ≤ length plans → ((p : Plan) → plan_at plans n ≡ Some p → b ≡ is_due now p) → b ≡ true → is_due_flight now plans n ≡ true
+due-found now plans n b some within h e =
+    let there = plan-there plans (n - 1) (omega (arith, some, within)) in
+    ap (λ (o : Option Plan). option_map_or (is_due now) o false) there.1 ∙ sym (h there.0 there.1) ∙ e

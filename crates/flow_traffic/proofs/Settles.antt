@@ -12,11 +12,11 @@ pub staying : (n taxi max now : ℕ) (before plans : List Plan) (lists new : Lis
     → ((f : ℕ) → (f ≡ n → ⊥) → pairs_in f new ≡ pairs_in f lists) → AreRenewed taxi max now plans lists new
     → IsSettledFor false n taxi max now before plans lists new
 staying n taxi max now before plans lists new others renewed = record {
-      regulations = renewed.regulations;
-      listed = renewed.listed;
-      settled_in = renewed.settled_in;
-      others = λ f ne. kept-slots-settled f taxi now plans lists new renewed.regulations (others f ne);
-    }
+  regulations = renewed.regulations;
+  listed = renewed.listed;
+  settled_in = renewed.settled_in;
+  others = λ f ne. kept-slots-settled f taxi now plans lists new renewed.regulations (others f ne);
+}
 
 -- where it departs: its slots were frozen before
 pub leaving : (n taxi max now : ℕ) (before plans : List Plan) (lists mid new : List Listed)
@@ -24,10 +24,10 @@ pub leaving : (n taxi max now : ℕ) (before plans : List Plan) (lists mid new :
     → ((f : ℕ) → (f ≡ n → ⊥) → pairs_in f new ≡ pairs_in f mid) → AreRenewed taxi max now plans mid new
     → IsSettledFor true n taxi max now before plans lists new
 leaving n taxi max now before plans lists mid new frozen_others frozen others renewed = record {
-      regulations = rw (frozen.regulations) at renewed.regulations;
-      listed = renewed.listed;
-      settled_in = renewed.settled_in;
-      others = λ f ne. keeps-trans f (map regulation_of lists) (map regulation_of mid) (map regulation_of new)
-          (kept-slots-frozen f taxi max before n lists mid frozen.regulations (frozen_others f ne))
-          (kept-slots-settled f taxi now plans mid new renewed.regulations (others f ne));
-    }
+  regulations = rw (frozen.regulations) at renewed.regulations;
+  listed = renewed.listed;
+  settled_in = renewed.settled_in;
+  others = λ f ne. keeps-trans f (map regulation_of lists) (map regulation_of mid) (map regulation_of new)
+      (kept-slots-frozen f taxi max before n lists mid frozen.regulations (frozen_others f ne))
+      (kept-slots-settled f taxi now plans mid new renewed.regulations (others f ne));
+}

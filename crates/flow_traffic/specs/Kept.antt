@@ -9,7 +9,7 @@ use Rattle.flow_plans.specs.Plans.{Plan}
 use Rattle.flow_regulations.specs.declared.notice.Told.{Told}
 use Rattle.flow_regulations.specs.Settling.{settled}
 use Rattle.flow_slots.specs.Assignment.{is_in}
-use Rattle.flow_regulations.specs.Listing.{Listed, Listing, regulation_of, IsListed, IsSettled, is_due_flight}
+use Rattle.flow_regulations.specs.Listing.{Listed, Listing, regulation_of, IsListed, IsSettled, is_due_flight, AreDue}
 use Rattle.flow_regulations.specs.Quiet.{AllQuiet, KeepsSlots}
 use Rattle.flow_traffic.specs.Asked.{departing, max_regulations}
 
@@ -35,4 +35,5 @@ pub record AreNoted (now : ℕ) (plans : List Plan) (last : ℕ) (due : List ℕ
   pub rising : IsNonDecreasing due
   pub numbers : All (λ n. (0 < n) × (n ≤ last)) due
   pub all : (flight : ℕ) → 0 < flight → flight ≤ last → is_due_flight now plans flight ≡ true → is_in flight due ≡ true
+  pub are_due : AreDue now plans due
   pub few : length due ≤ last

@@ -104,7 +104,7 @@ impl<A: Allocator + Copy> Traffic<A> {
         ensures grow { length self.old.notices ≤ length self.new.notices }
         ensures few { length self.new.notices ≤ length self.old.notices + 20_000 }
     {
-        if at < self.time {
+        if at.minutes() < self.time.minutes() {
             return Some(Verdict::Refused(Refusal::TimeBack));
         }
         let Ok(()) = note_due(&self.plans, at, &mut self.changed) else {
@@ -113,7 +113,7 @@ impl<A: Allocator + Copy> Traffic<A> {
         let Ok(()) = self.notices.reserve(self.changed.len()) else {
             return None;
         };
-        self.regulations.advance(&self.plans, at);
+        self.regulations.advance_due(&self.changed);
         self.time = at;
         self.regulations.tell(
             &self.plans,
