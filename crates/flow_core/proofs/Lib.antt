@@ -1,5 +1,4 @@
 pub mod Runs
-pub mod Telling
 pub mod Lines
 pub mod Rows
 pub mod Serves

@@ -1,5 +1,5 @@
 -- The row of one plan.
-use Rattle.std.proofs.Common.{◌≡◌, ◌<◌, get_or, ℕ, zero, suc, List, [], ◌∷◌, length, ap, sym, ◌∙◌, refl, arith, Option, Some, None, slice_get}
+use Rattle.std.proofs.Common.{◌≡◌, ℕ, zero, suc, List, [], ◌∷◌, length, ap, sym, ◌∙◌, refl, arith, Option, Some, None, slice_get}
 use Rattle.flow_plans.specs.Plans.{Plan}
 use Rattle.flow_regulations.specs.declared.notice.Told.{Told}
 use Rattle.flow_core.specs.declared.row.Row.{Row}
@@ -18,12 +18,9 @@ rows-beyond (q ∷ ps) [] i a = refl
 rows-beyond (q ∷ ps) (u ∷ ts) zero a = cc
 rows-beyond (q ∷ ps) (u ∷ ts) (suc i) a = rows-beyond ps ts i a
 
-pub at-within : {X : Type 0} (xs : List X) (i : ℕ) (x : X) → slice_get xs i ≡ Some x → i < length xs
-at-within [] i x e = cc
-at-within (y ∷ ys) zero x e = omega arith
-at-within (y ∷ ys) (suc i) x e = omega (arith, at-within ys i x e)
-
-pub at-some : {X : Type 0} (xs : List X) (i : ℕ) (x : X) → i < length xs → x ≡ get_or xs i x → slice_get xs i ≡ Some x
-at-some [] i x h e = absurd (omega arith)
-at-some (y ∷ ys) zero x h e = ap (λ z. Some z) (sym e)
-at-some (y ∷ ys) (suc i) x h e = let h' : i < length ys = omega arith in at-some ys i x h' e
+-- each plan has its place
+pub told-there : (ps : List Plan) (ts : List (Option Told)) (i : ℕ) (p : Plan) → length ts ≡ length ps → slice_get ps i ≡ Some p → slice_get ts i ≡ None → ⊥
+told-there [] ts i p e a b = cc
+told-there (q ∷ ps) [] i p e a b = absurd (omega (arith, e))
+told-there (q ∷ ps) (u ∷ ts) zero p e a b = cc
+told-there (q ∷ ps) (u ∷ ts) (suc i) p e a b = told-there ps ts i p (omega (arith, e)) a b

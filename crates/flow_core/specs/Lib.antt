@@ -2,7 +2,6 @@ pub mod State
 pub mod Steps
 pub mod History
 pub mod CoreView
-pub mod Changes
 pub mod Output
 pub mod Served
 pub mod Serving

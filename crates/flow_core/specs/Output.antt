@@ -5,10 +5,10 @@ use Rattle.std.specs.Option.{option_map_or}
 use Rattle.fpl_text.specs.Moments.{day_digits, hhmm_of}
 use Rattle.fpl_message.specs.declared.refusal.Refusal.{Refusal}
 use Rattle.fpl_message.specs.Numbers.{number_of, name_of, detail_of}
-use Rattle.flow_core.specs.declared.receipt.Kind.{Kind}
-use Rattle.flow_core.specs.declared.receipt.Kind.TheVariants as kind
-use Rattle.flow_core.specs.declared.receipt.Verdict.{Verdict}
-use Rattle.flow_core.specs.declared.receipt.Verdict.TheVariants.{Accepted, Departed, Refused}
+use Rattle.flow_traffic.specs.declared.verdict.Kind.{Kind}
+use Rattle.flow_traffic.specs.declared.verdict.Kind.TheVariants as kind
+use Rattle.flow_traffic.specs.declared.verdict.Verdict.{Verdict}
+use Rattle.flow_traffic.specs.declared.verdict.Verdict.TheVariants.{Accepted, Departed, Refused}
 use Rattle.flow_core.specs.declared.receipt.Receipt.{Receipt}
 use Rattle.flow_regulations.specs.declared.notice.Window.{Window}
 use Rattle.flow_regulations.specs.declared.notice.Window.TheVariants as window
@@ -74,7 +74,7 @@ notice_line n = notice_text n n.says
 
 -- the answer line of an entry and the lines of its notices
 abbrev pub answer_of : State → Record → List ℕ
-answer_of s e = answer_line e.receipt ++ flat_map notice_line (slice_range s.notices e.receipt.first_notice (e.receipt.first_notice + e.receipt.notices))
+answer_of s e = answer_line e.receipt ++ flat_map notice_line (slice_range s.traffic.notices e.receipt.first_notice (e.receipt.first_notice + e.receipt.notices))
 
 -- the answer to the entry at an index, from 0
 abbrev pub answer_text : State → ℕ → List ℕ

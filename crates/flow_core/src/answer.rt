@@ -7,10 +7,11 @@ ghost use Rattle.arrayvec.specs.ArrayVec.{array_vec_len};
 ghost use Rattle.flow_core.specs.Output.{kind_text, window_text, plan_text, refusal_text, verdict_text, answer_line, flight_text, told_text, notice_line};
 
 use crate::line::{Line, put, put_number};
-use crate::receipt::{Kind, Receipt, Verdict};
+use crate::receipt::Receipt;
 use arrayvec::ArrayVec;
 use flow_intake::{Counted, WriteFault, write_bytes};
 use flow_regulations::{Notice, Said, Told, Window};
+use flow_traffic::{Kind, Verdict};
 use fpl_message::Refusal;
 use std::io::Write;
 

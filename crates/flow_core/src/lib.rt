@@ -2,7 +2,6 @@
 #![tactic(auto)]
 
 mod answer;
-mod answering;
 mod desk;
 mod journal;
 mod journal_reading;
@@ -19,6 +18,7 @@ pub use desk::{Core, StepFault};
 pub use flow_intake::{Counted, Frame, Intake, IntakeFault, MAX_INPUT, WriteFault};
 pub use flow_regulations::{Notice, Said, Told, Window};
 pub use journal_reading::{JournalFault, read_journal};
-pub use receipt::{Entry, Kind, Receipt, Verdict};
+pub use flow_traffic::{Kind, Verdict};
+pub use receipt::{Entry, Receipt};
 pub use row::Row;
 pub use serving::{ServeFault, serve};

@@ -1,30 +1,8 @@
 //! What a filing is answered.
-use flow_regulations::Window;
-use fpl_message::{Filing, Refusal};
+use flow_traffic::Verdict;
+use fpl_message::Filing;
 use std::alloc::{Allocator, Global};
 use std::marker::Model;
-
-/// What was accepted.
-#[derive(Clone, Copy, Debug, PartialEq, Eq)]
-pub enum Kind {
-    Fpl,
-    Dla,
-    Chg,
-    Cnl,
-    Open,
-    Shut,
-    Time,
-}
-
-/// How a filing went.
-#[derive(Clone, Copy, Debug, PartialEq, Eq)]
-pub enum Verdict {
-    /// The plan is 0 for an order.
-    Accepted { kind: Kind, plan: u32 },
-    /// A departure was accepted.
-    Departed { plan: u32, window: Window },
-    Refused(Refusal),
-}
 
 /// The answer to a filing. Entries are numbered from 1, notices from 0.
 #[derive(Clone, Copy, Debug, PartialEq, Eq)]
