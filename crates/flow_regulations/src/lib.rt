@@ -2,6 +2,9 @@
 #![tactic(auto)]
 
 mod advice;
+mod due_queue;
+#[cfg(test)]
+mod due_queue_tests;
 pub mod laws;
 mod notice;
 mod regulation;
@@ -13,6 +16,7 @@ mod telling;
 mod telling_tests;
 mod window;
 
+pub use due_queue::{Awaited, DueQueue};
 pub use notice::{Notice, Said, Told, Window};
 pub use regulations::Regulations;
 pub use window::window_of;
