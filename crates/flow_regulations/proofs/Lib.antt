@@ -18,6 +18,7 @@ pub mod Queues
 pub mod Renewed
 pub mod Saying
 pub mod Served
+pub mod Standing
 pub mod Stays
 pub mod Steps
 pub mod Subjects

@@ -4,4 +4,5 @@ pub mod Listing
 pub mod Advice
 pub mod Awaiting
 pub mod Notices
+pub mod Places
 pub mod Quiet

@@ -7,6 +7,7 @@ mod due_queue;
 mod due_queue_tests;
 pub mod laws;
 mod notice;
+mod places;
 mod regulation;
 mod regulations;
 #[cfg(test)]
@@ -18,5 +19,6 @@ mod window;
 
 pub use due_queue::{Awaited, DueQueue};
 pub use notice::{Notice, Said, Told, Window};
+pub use places::Place;
 pub use regulations::Regulations;
 pub use window::window_of;
