@@ -1,13 +1,18 @@
 -- The open regulations together, each changed by itself.
-use Rattle.std.proofs.Common.{◌≡◌, ℕ, ◌<◌, ◌≤◌, List, [], ◌∷◌, length, sym, ap, subst, ◌∙◌, arith}
+use Rattle.std.proofs.Common.{◌≡◌, ℕ, ◌<◌, ◌≤◌, List, [], ◌∷◌, length, map, sym, ap, subst, ◌∙◌, arith}
 use Rattle.std.specs.List.{AllByRecursion}
 use Rattle.flow_plans.specs.Plans.{Plan}
 use Rattle.flow_regulations.specs.Settling.{settled, frozen_at_departure, pairs_of}
-use Rattle.flow_regulations.specs.Listing.{Listed, regulation_of, IsListedIn, IsListed, IsSettledIn, IsSettledBut, AreSettledBut, AreSameBut, Walked, IsLookedAgain, AreRenewed, HaveCapacity, IsFixedWaiting, AreFrozen, pairs_in}
+use Rattle.flow_regulations.specs.Listing.{Listed, regulation_of, IsListedIn, IsListed, IsSettledIn, IsSettledBut, AreSettledBut, AreSameBut, Walked, IsLookedAgain, AreRenewed, HaveCapacity, IsFixedWaiting, AreFrozen, with_lineup, without_in, pairs_in}
 use Rattle.flow_regulations.proofs.Fixes.{is_frozen}
 use Rattle.flow_regulations.proofs.Others.{pairs-fixed}
 use Rattle.flow_regulations.proofs.FixedOnes.{all-map, all-both}
+use Rattle.flow_regulations.proofs.Standing.{alone-fixed_waiting}
 use Rattle.flow_regulations.proofs.Walks.{walked-all, walked-map, map-map}
+
+units : (os : List Listed) → AllByRecursion (λ _. Unit {0}) os
+units [] = tt
+units (l ∷ ls) = (tt, units ls)
 
 pub room-at : (n max : ℕ) (ls : List Listed) → n ≤ max → HaveCapacity max ls → AllByRecursion (λ l. n ≤ l.lineup.capacity) ls
 room-at n max ls h a = all-map (λ l. l.lineup.capacity ≡ max) (λ l. n ≤ l.lineup.capacity) ls (λ l e. omega (arith, h, e)) a
@@ -43,14 +48,16 @@ all-frozen n taxi max i before os ns positive e w listed =
 
 pub others-looked : (n taxi now i f : ℕ) (plans : List Plan) (os ns : List Listed) → (f ≡ n → ⊥) → i ≡ length ns → Walked (IsLookedAgain n taxi now plans) i os ns → pairs_in f ns ≡ pairs_in f os
 others-looked n taxi now i f plans os ns ne e w =
-    walked-map (IsLookedAgain n taxi now plans) (λ _. Unit {0}) (λ l. pairs_of f l.lineup.fixed) (λ l. pairs_of f l.lineup.fixed) (λ o m h r. r.others f ne) i os ns e w (units os) where
-      units : (os : List Listed) → AllByRecursion (λ _. Unit {0}) os
-      units [] = tt
-      units (l ∷ ls) = (tt, units ls)
+    walked-map (IsLookedAgain n taxi now plans) (λ _. Unit {0}) (λ l. pairs_of f l.lineup.fixed) (λ l. pairs_of f l.lineup.fixed) (λ o m h r. r.others f ne) i os ns e w (units os)
 
 pub others-fixed : (n i f : ℕ) (os ns : List Listed) → (f ≡ n → ⊥) → i ≡ length ns → Walked (IsFixedWaiting n) i os ns → pairs_in f ns ≡ pairs_in f os
 others-fixed n i f os ns ne e w =
-    walked-map (IsFixedWaiting n) (λ _. Unit {0}) (λ l. pairs_of f l.lineup.fixed) (λ l. pairs_of f l.lineup.fixed) (λ o m h r. pairs-fixed f n o m ne r.same) i os ns e w (units os) where
-      units : (os : List Listed) → AllByRecursion (λ _. Unit {0}) os
-      units [] = tt
-      units (l ∷ ls) = (tt, units ls)
+    walked-map (IsFixedWaiting n) (λ _. Unit {0}) (λ l. pairs_of f l.lineup.fixed) (λ l. pairs_of f l.lineup.fixed) (λ o m h r. pairs-fixed f n o m ne r.same) i os ns e w (units os)
+
+-- the other flights stand where they stood
+pub alone-looked : (n taxi now i : ℕ) (plans : List Plan) (os ns : List Listed) → i ≡ length ns → Walked (IsLookedAgain n taxi now plans) i os ns → map (without_in n) ns ≡ map (without_in n) os
+alone-looked n taxi now i plans os ns e w = walked-map (IsLookedAgain n taxi now plans) (λ _. Unit {0}) (without_in n) (without_in n) (λ o m h r. r.alone) i os ns e w (units os)
+
+pub alone-fixed : (n i : ℕ) (os ns : List Listed) → i ≡ length ns → Walked (IsFixedWaiting n) i os ns → map (without_in n) ns ≡ map (without_in n) os
+alone-fixed n i os ns e w =
+    walked-map (IsFixedWaiting n) (λ _. Unit {0}) (without_in n) (without_in n) (λ o m h r. ap (without_in n) r.same ∙ ap (λ v. with_lineup v o) (alone-fixed_waiting n o.lineup)) i os ns e w (units os)

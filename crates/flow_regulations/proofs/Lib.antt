@@ -14,9 +14,11 @@ pub mod Numbers
 pub mod Openings
 pub mod Others
 pub mod Placing
+pub mod Queues
 pub mod Renewed
 pub mod Saying
 pub mod Served
+pub mod Standing
 pub mod Stays
 pub mod Steps
 pub mod Subjects

@@ -66,6 +66,10 @@ pub record IsRenewed (taxi max now : ℕ) (plans : List Plan) (l : Listed) (line
 abbrev pub AreSameBut : ℕ → List Plan → List Plan → Type 0
 AreSameBut number before plans = (flight : ℕ) → 0 < flight → (flight ≡ number → ⊥) → plan_at plans flight ≡ plan_at before flight
 
+-- and without a flight
+abbrev pub without_in : ℕ → Listed → Listed
+without_in flight l = with_lineup (without_flight flight l.lineup) l
+
 -- whether a fixed flight keeps its slot
 abbrev pub keeps_slot : ℕ → ℕ → Regulation → ℕ → Plan → Lineup → Bool
 keeps_slot taxi now r flight p l = option_map_or (λ slot. keeps taxi now r slot p) (fixed_slot l flight) false
@@ -96,6 +100,7 @@ pub record IsLookedAgain (number taxi now : ℕ) (plans : List Plan) (l m : List
   pub same : m ≡ with_lineup m.lineup l
   pub capacity : m.lineup.capacity ≡ l.lineup.capacity
   pub others : (f : ℕ) → (f ≡ number → ⊥) → pairs_of f m.lineup.fixed ≡ pairs_of f l.lineup.fixed
+  pub alone : without_in number m ≡ without_in number l
   pub renewed : (max : ℕ) (before : List Plan) → IsListedIn taxi max before l → IsSettledBut number taxi now before l → AreSameBut number before plans → IsRenewed taxi max now plans l m.lineup
 
 -- all regulations are settled by these plans

@@ -2,8 +2,12 @@
 #![tactic(auto)]
 
 mod advice;
+mod due_queue;
+#[cfg(test)]
+mod due_queue_tests;
 pub mod laws;
 mod notice;
+mod places;
 mod regulation;
 mod regulations;
 #[cfg(test)]
@@ -13,7 +17,9 @@ mod telling;
 mod telling_tests;
 mod window;
 
+pub use due_queue::{Awaited, DueQueue};
 pub use notice::{Notice, Said, Told, Window};
+pub use places::Place;
 pub use regulation::is_due;
 pub use regulations::Regulations;
 pub use window::window_of;

@@ -1,12 +1,14 @@
 //! An open regulation.
-ghost use Rattle.std.specs.Prelude.{◌≡◌, ◌<◌, ◌≤◌, ℕ, List, None, Some, IfSome, IfOk, OnOk, length};
+ghost use Rattle.std.specs.Prelude.{◌≡◌, ◌<◌, ◌≤◌, ℕ, List, None, Some, true, IfSome, IfOk, OnOk, length};
 ghost use Rattle.flow_plans.specs.Plans.{Plan as Held, plan_at, is_departed, is_filed};
-ghost use Rattle.flow_slots.specs.Lineup.{held_slot, fixed_slot, without_flight, IsLineup};
+ghost use Rattle.flow_slots.specs.Lineup.{held_slot, fixed_slot, without_flight, waiting_entry, len_of, IsLineup};
 ghost use Rattle.flow_slots.specs.Period.{IsWithin, IsRegular};
+ghost use Rattle.flow_regulations.specs.Places.{IsPlaceOf};
 ghost use Rattle.flow_regulations.specs.Regulations.{subject_to};
 ghost use Rattle.flow_regulations.specs.Settling.{is_due, pairs_of};
-ghost use Rattle.flow_regulations.specs.Listing.{regulation_of, with_lineup, keeps_slot, placed, with_no_flights, let_in, is_named, fixed_waiting, IsListedIn, IsSettledBut, AreSameBut, IsRenewed};
+ghost use Rattle.flow_regulations.specs.Listing.{regulation_of, with_lineup, without_in, keeps_slot, placed, with_no_flights, let_in, is_named, fixed_waiting, IsListedIn, IsSettledBut, AreSameBut, IsRenewed};
 
+use crate::places::Place;
 use flow_plans::{Plan, PlanState, PlanStore};
 use flow_slots::{Shape, SlotList};
 use fpl_message::Spot;
@@ -103,6 +105,7 @@ impl<A: Allocator + Copy> Regulation<A> {
     /// The slot that a flight keeps, None where it keeps none.
     fn fixed_slot(&self, number: u32) -> Option<u32>
         ensures slot { result ≡ fixed_slot self.now.lineup number }
+        ensures below { IfSome result (λ k. k < len_of self.now.lineup) }
         ensures within { IfSome result (λ k. k ≤ 30_000) }
     {
         if self.list.is_fixed(number) {
@@ -155,6 +158,51 @@ impl<A: Allocator + Copy> Regulation<A> {
         }
     }
 
+    /// Lets a flight wait from this entry on, wherever it stood, and fixes it where it waits if it is due. Nothing moves
+    /// where it waits from there already.
+    fn stand(&mut self, number: u32, entry: Minute, due: bool)
+        requires first { 0 < number }
+        requires last { number ≤ self.old.lineup.capacity }
+        requires entry { IsWithin self.old.lineup.period entry }
+        ensures { self.new ≡ with_lineup (placed (Some entry) due number (without_flight number self.old.lineup)) self.old }
+    {
+        if !self.waits_from(number, entry) {
+            self.take_out(number);
+            self.place(number, entry, due);
+            return;
+        }
+        if due {
+            self.fix_waiting(number);
+        }
+    }
+
+    /// Whether a flight waits with this entry.
+    fn waits_from(&self, number: u32, entry: Minute) -> bool
+        ensures lined { IsLineup self.now.lineup }
+        ensures yes { result ≡ true → waiting_entry self.now.lineup number ≡ Some entry }
+        ensures no { waiting_entry self.now.lineup number ≡ Some entry → result ≡ true }
+    {
+        let _no_flight_twice = self.list.cells();
+        match self.list.entry_of(number) {
+            Some(held) => held == entry,
+            None => false,
+        }
+    }
+
+    /// Where a flight stands.
+    pub(crate) fn place_of(&self, number: u32) -> Place
+        ensures { IsPlaceOf number result self.now }
+    {
+        let _no_flight_twice = self.list.cells();
+        if let Some(slot) = self.fixed_slot(number) {
+            return Place::Fixed { slot };
+        }
+        match self.list.entry_of(number) {
+            Some(entry) => Place::Waiting { entry },
+            None => Place::Absent,
+        }
+    }
+
     /// Fixes a flight where it waits, if it waits.
     pub(crate) fn fix_waiting(&mut self, number: u32)
         ensures fixed { self.new ≡ with_lineup (fixed_waiting number self.old.lineup) self.old }
@@ -179,6 +227,7 @@ impl<A: Allocator + Copy> Regulation<A> {
         ensures same { self.new ≡ with_lineup self.new.lineup self.old }
         ensures capacity { self.new.lineup.capacity ≡ self.old.lineup.capacity }
         ensures others { (f : ℕ) → (f ≡ number → ⊥) → pairs_of f self.new.lineup.fixed ≡ pairs_of f self.old.lineup.fixed }
+        ensures alone { without_in number self.new ≡ without_in number self.old }
         ensures renewed { (max : ℕ) (before : List Held)
             → IsListedIn plans.now.taxi max before self.old
             → IsSettledBut number plans.now.taxi now before self.old
@@ -189,9 +238,9 @@ impl<A: Allocator + Copy> Regulation<A> {
         if self.keeps(plans, number, now) {
             return;
         }
-        self.take_out(number);
-        if let Some(entry) = self.subject(plans, number) {
-            self.place(number, entry, is_due(plans, number, now));
+        match self.subject(plans, number) {
+            Some(entry) => self.stand(number, entry, is_due(plans, number, now)),
+            None => self.take_out(number),
         }
     }
 }

@@ -5,7 +5,7 @@ ghost use Rattle.std.specs.List.Sorted.{IsNonDecreasing};
 ghost use Rattle.flow_plans.specs.Plans.{Plan, plan_at};
 ghost use Rattle.flow_slots.specs.Assignment.{is_in};
 ghost use Rattle.flow_regulations.specs.Advice.{advice};
-ghost use Rattle.flow_regulations.specs.Listing.{Walked, IsLookedAgain, IsListed, AreSettledBut, AreSameBut, AreRenewed, IsFixedWaiting, AreFrozen, IsSettled, IsAdvancing, is_below, is_among, with_fixed_waiting, AreDue, HoldNewlyDue, IsOpened, opened, is_named, without_named, lineup_named, pairs_in, regulation_of};
+ghost use Rattle.flow_regulations.specs.Listing.{Walked, without_in, IsLookedAgain, IsListed, AreSettledBut, AreSameBut, AreRenewed, IsFixedWaiting, AreFrozen, IsSettled, IsAdvancing, is_below, is_among, with_fixed_waiting, AreDue, HoldNewlyDue, IsOpened, opened, is_named, without_named, lineup_named, pairs_in, regulation_of};
 ghost use Rattle.flow_regulations.specs.Notices.{notices_from, told_from};
 ghost use Rattle.flow_regulations.specs.Quiet.{AreQuietBut, AllQuiet};
 
@@ -114,6 +114,7 @@ impl<A: Allocator + Copy> Regulations<A> {
         requires room { number ≤ self.old.max_plans }
         ensures limit { self.new.max_plans ≡ self.old.max_plans }
         ensures others { (f : ℕ) → (f ≡ number → ⊥) → pairs_in f self.new.lists ≡ pairs_in f self.old.lists }
+        ensures alone { map (without_in number) self.new.lists ≡ map (without_in number) self.old.lists }
         ensures renewed { (before : List Plan)
             → IsListed plans.now.taxi self.old.max_plans before self.old.lists
             → AreSettledBut number plans.now.taxi now before self.old.lists
@@ -145,6 +146,7 @@ impl<A: Allocator + Copy> Regulations<A> {
         requires { 0 < number }
         ensures limit { self.new.max_plans ≡ self.old.max_plans }
         ensures others { (f : ℕ) → (f ≡ number → ⊥) → pairs_in f self.new.lists ≡ pairs_in f self.old.lists }
+        ensures alone { map (without_in number) self.new.lists ≡ map (without_in number) self.old.lists }
         ensures frozen { (taxi : ℕ) (before : List Plan)
             → IsListed taxi self.old.max_plans before self.old.lists
             → AreFrozen taxi self.old.max_plans number before self.old.lists self.new.lists }

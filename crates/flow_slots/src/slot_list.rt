@@ -118,7 +118,8 @@ impl<A: Allocator + Copy> SlotList<A> {
 
     /// The entry of a flight that waits, None where it doesn't.
     pub fn entry_of(&self, flight: u32) -> Option<Minute>
-        ensures { result ≡ waiting_entry self.now.lineup flight }
+        ensures entry { result ≡ waiting_entry self.now.lineup flight }
+        ensures within { IfSome result (λ e. IsWithin self.now.lineup.period e) }
     {
         match self.row.cells.cell(self.row.place(flight)?) {
             Cell::Waiting(planned) => Some(Minute::from_minutes(planned.entry)),

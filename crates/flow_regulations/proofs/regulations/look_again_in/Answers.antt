@@ -14,6 +14,6 @@ loop-regulation-preserved g c =
     let within : i < length ys = omega (arith, c.loop-regulation-test.true) in
     let room = all-at (λ r. c.args.number ≤ r.lineup.capacity) i ys d within s.invariant.room in
     record {
-      walked = walked-step (IsLookedAgain c.args.number c.args.plans.now.taxi c.args.now c.args.plans.now.plans) i c.args.regulations.now ys d z within (record { same = e.same; capacity = e.capacity; others = e.others; renewed = e.renewed }) s.invariant.walked;
+      walked = walked-step (IsLookedAgain c.args.number c.args.plans.now.taxi c.args.now c.args.plans.now.plans) i c.args.regulations.now ys d z within (record { same = e.same; capacity = e.capacity; others = e.others; alone = e.alone; renewed = e.renewed }) s.invariant.walked;
       room = all-set (λ r. c.args.number ≤ r.lineup.capacity) i ys z (let all : c.args.number ≤ z.lineup.capacity = omega (arith, e.capacity, room) in all) s.invariant.room;
     }

@@ -1,6 +1,6 @@
-use Rattle.std.proofs.Common.{◌≡◌, List, length, sym, refl, ap, subst, ◌∙◌, arith}
-use Rattle.flow_regulations.specs.Listing.{Listed, Walked, IsFixedWaiting, AreFrozen, HaveCapacity, pairs_in}
-use Rattle.flow_regulations.proofs.Alls.{capacity-fixed, all-frozen, others-fixed}
+use Rattle.std.proofs.Common.{◌≡◌, List, length, map, sym, refl, ap, subst, ◌∙◌, arith}
+use Rattle.flow_regulations.specs.Listing.{Listed, Walked, IsFixedWaiting, AreFrozen, HaveCapacity, without_in, pairs_in}
+use Rattle.flow_regulations.proofs.Alls.{capacity-fixed, all-frozen, others-fixed, alone-fixed}
 use Rattle.flow_regulations.proofs.Walks.{written-back}
 use Rattle.flow_regulations.proofs.regulations.Regulations.freeze_departing.Goals as goal
 
@@ -32,3 +32,12 @@ returns-clause-others g c = λ f ne.
     let W : List Listed → Type 0 = λ os. Walked (IsFixedWaiting c.args.number) (length ns) os ns in
     ap (pairs_in f) (written-back s.regulations.len ns _ len)
     ∙ others-fixed c.args.number (length ns) f c.args.self.now.lists ns ne refl (subst W (c.deref_mut.ensures.value ∙ ap (λ v. v.lists) c.self.view_is) c.fix_waiting_in.ensures))
+
+pub returns-clause-alone : goal.returns-clause-alone
+returns-clause-alone g c =
+    let s = c.self.inside in
+    let ns : List Listed = c.fix_waiting_in.new.regulations in
+    let len : s.regulations.len ≡ length ns = omega (arith, c.fix_waiting_in.auto.regulations, c.deref_mut.ensures.len) in
+    let W : List Listed → Type 0 = λ os. Walked (IsFixedWaiting c.args.number) (length ns) os ns in
+    ap (map (without_in c.args.number)) (written-back s.regulations.len ns _ len)
+    ∙ alone-fixed c.args.number (length ns) c.args.self.now.lists ns refl (subst W (c.deref_mut.ensures.value ∙ ap (λ v. v.lists) c.self.view_is) c.fix_waiting_in.ensures)

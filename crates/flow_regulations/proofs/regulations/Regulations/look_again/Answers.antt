@@ -1,6 +1,6 @@
-use Rattle.std.proofs.Common.{◌≡◌, List, length, sym, refl, ap, subst, ◌∙◌, arith}
-use Rattle.flow_regulations.specs.Listing.{Listed, Walked, IsLookedAgain, AreRenewed, HaveCapacity, pairs_in}
-use Rattle.flow_regulations.proofs.Alls.{capacity-looked, all-looked, others-looked}
+use Rattle.std.proofs.Common.{◌≡◌, List, length, map, sym, refl, ap, subst, ◌∙◌, arith}
+use Rattle.flow_regulations.specs.Listing.{Listed, Walked, IsLookedAgain, AreRenewed, HaveCapacity, without_in, pairs_in}
+use Rattle.flow_regulations.proofs.Alls.{capacity-looked, all-looked, others-looked, alone-looked}
 use Rattle.flow_regulations.proofs.Walks.{written-back}
 use Rattle.flow_regulations.proofs.regulations.Regulations.look_again.Goals as goal
 
@@ -33,3 +33,12 @@ returns-clause-others g c = λ f ne.
     let W : List Listed → Type 0 = λ os. Walked (IsLookedAgain c.args.number c.args.plans.now.taxi c.args.now c.args.plans.now.plans) (length ns) os ns in
     ap (pairs_in f) (written-back s.regulations.len ns _ len)
     ∙ others-looked c.args.number c.args.plans.now.taxi c.args.now (length ns) f c.args.plans.now.plans c.args.self.now.lists ns ne refl (subst W (c.deref_mut.ensures.value ∙ ap (λ v. v.lists) c.self.view_is) c.look_again_in.ensures))
+
+pub returns-clause-alone : goal.returns-clause-alone
+returns-clause-alone g c =
+    let s = c.self.inside in
+    let ns : List Listed = c.look_again_in.new.regulations in
+    let len : s.regulations.len ≡ length ns = omega (arith, c.look_again_in.auto.regulations, c.deref_mut.ensures.len) in
+    let W : List Listed → Type 0 = λ os. Walked (IsLookedAgain c.args.number c.args.plans.now.taxi c.args.now c.args.plans.now.plans) (length ns) os ns in
+    ap (map (without_in c.args.number)) (written-back s.regulations.len ns _ len)
+    ∙ alone-looked c.args.number c.args.plans.now.taxi c.args.now (length ns) c.args.plans.now.plans c.args.self.now.lists ns refl (subst W (c.deref_mut.ensures.value ∙ ap (λ v. v.lists) c.self.view_is) c.look_again_in.ensures)

@@ -1,5 +1,6 @@
-use Rattle.std.proofs.Common.{sym, ap, ◌∙◌, Some, arith}
-use Rattle.flow_slots.specs.Lineup.{waiting_entry}
+use Rattle.std.proofs.Common.{ℕ, sym, ap, subst, ◌∙◌, Some, arith}
+use Rattle.flow_slots.specs.Period.{IsWithin}
+use Rattle.flow_slots.specs.Lineup.{Slots, waiting_entry}
 use Rattle.flow_slots.proofs.Held.{entry-none, entry-waiting, entry-not}
 use Rattle.flow_slots.proofs.Kept.{EntriesWithin-row}
 use Rattle.flow_slots.proofs.Tied.{flight_at-within}
@@ -15,20 +16,28 @@ from_minutes-requires g c =
     let within = EntriesWithin-row s.first_slots s.row.cells.row c.self.invariant.entries c.in_ok-place.field-0 c.in-Waiting.planned (sym c.in-Waiting.ensures) in
     omega (arith, within.1, c.self.invariant.regular.before)
 
-pub returns-in_err-place : goal.returns-in_err-place
-returns-in_err-place g c =
+pub returns-in_err-place-clause-entry : goal.returns-in_err-place-clause-entry
+returns-in_err-place-clause-entry g c =
     let s = c.self.inside in
     let none = entry-none s.row.places.items s.row.cells.row c.args.flight c.self.invariant.tied (sym c.in_err-place.ensures) in
     c.from_residual.ensures ∙ (sym none ∙ ap (λ v. waiting_entry v.lineup c.args.flight) c.self.view_is)
 
-pub returns-in-Waiting : goal.returns-in-Waiting
-returns-in-Waiting g c =
+pub returns-in-Waiting-clause-entry : goal.returns-in-Waiting-clause-entry
+returns-in-Waiting-clause-entry g c =
     let s = c.self.inside in
     let found = entry-waiting s.row.places.items s.row.cells.row c.args.flight c.in_ok-place.field-0 c.in-Waiting.planned c.self.invariant.tied (sym c.in_ok-place.ensures) (sym c.in-Waiting.ensures) in
     ap Some c.from_minutes.ensures ∙ (sym found ∙ ap (λ v. waiting_entry v.lineup c.args.flight) c.self.view_is)
 
-pub returns-in_default : goal.returns-in_default
-returns-in_default g c =
+pub returns-in_default-clause-entry : goal.returns-in_default-clause-entry
+returns-in_default-clause-entry g c =
     let s = c.self.inside in
     let none = entry-not s.row.places.items s.row.cells.row c.args.flight c.in_ok-place.field-0 c.self.invariant.tied (sym c.in_ok-place.ensures) (λ w e. c.in_default.not-Waiting w (c.cell.ensures ∙ e)) in
     sym none ∙ ap (λ v. waiting_entry v.lineup c.args.flight) c.self.view_is
+
+pub returns-in-Waiting-clause-within : goal.returns-in-Waiting-clause-within
+returns-in-Waiting-clause-within g c =
+    let s = c.self.inside in
+    let within = EntriesWithin-row s.first_slots s.row.cells.row c.self.invariant.entries c.in_ok-place.field-0 c.in-Waiting.planned (sym c.in-Waiting.ensures) in
+    let W : ℕ → Type 0 = λ e. IsWithin s.first_slots e in
+    let V : Slots → Type 0 = λ v. IsWithin v.lineup.period c.from_minutes.result in
+    subst V c.self.view_is (subst W (sym c.from_minutes.ensures) within)

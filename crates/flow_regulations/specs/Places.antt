@@ -1,0 +1,39 @@
+-- Where a flight stands in the slot lists, by which it is put back there.
+use Rattle.std.specs.Prelude.{◌≡◌, ℕ, ◌<◌, List, [], ◌∷◌}
+use Rattle.std.specs.Option.{option_map_or}
+use Rattle.flow_slots.specs.Period.{IsWithin}
+use Rattle.flow_slots.specs.Lineup.{Lineup, IsLineup, len_of, fixed_slot, waiting_entry, with_waiting, with_fixed}
+use Rattle.flow_regulations.specs.declared.places.Place.{Place}
+use Rattle.flow_regulations.specs.declared.places.Place.TheVariants as place
+use Rattle.flow_regulations.specs.Listing.{Listed}
+
+-- where a flight stands in a slot list
+abbrev pub place_in : ℕ → Lineup → Place
+place_in flight l =
+    option_map_or (λ slot. place.Fixed slot) (fixed_slot l flight)
+    (option_map_or (λ entry. place.Waiting entry) (waiting_entry l flight) place.Absent)
+
+-- the slot list where it stands there
+abbrev pub stood : Place → ℕ → Lineup → Lineup
+stood place.Absent flight l = l
+stood (place.Waiting entry) flight l = with_waiting (record { entry = entry; flight = flight }) l
+stood (place.Fixed slot) flight l = with_fixed (record { flight = flight; slot = slot }) l
+
+-- the slot list has that place
+abbrev pub HasPlace : Place → Lineup → Type 0
+HasPlace place.Absent l = Unit {0}
+HasPlace (place.Waiting entry) l = IsWithin l.period entry
+HasPlace (place.Fixed slot) l = slot < len_of l
+
+-- that is where the flight stands in an open regulation
+pub record IsPlaceOf (flight : ℕ) (place : Place) (l : Listed) : Type 0 where
+  pub is : place ≡ place_in flight l.lineup
+  pub lined : IsLineup l.lineup
+  pub has : HasPlace place l.lineup
+
+-- and in each of them
+abbrev pub ArePlaces : ℕ → List Place → List Listed → Type 0
+ArePlaces flight [] [] = Unit {0}
+ArePlaces flight [] (l ∷ ls) = ⊥
+ArePlaces flight (p ∷ ps) [] = ⊥
+ArePlaces flight (p ∷ ps) (l ∷ ls) = IsPlaceOf flight p l × ArePlaces flight ps ls
