@@ -7,3 +7,4 @@ pub mod JournalTexts
 pub mod Journals
 pub mod Entries
 pub mod ReadBack
+pub mod JournalTaken
