@@ -8,3 +8,4 @@ pub mod Journals
 pub mod Entries
 pub mod ReadBack
 pub mod JournalTaken
+pub mod JournalBack
