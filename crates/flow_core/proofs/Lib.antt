@@ -9,3 +9,5 @@ pub mod Entries
 pub mod ReadBack
 pub mod JournalTaken
 pub mod JournalBack
+pub mod JournalShown
+pub mod JournalHeld
