@@ -5,6 +5,7 @@ mod answer;
 mod answering;
 mod desk;
 mod journal;
+pub mod journal_laws;
 mod journal_reading;
 #[cfg(test)]
 mod journal_tests;
