@@ -6,3 +6,7 @@ pub mod JournalTexts
 pub mod Journals
 pub mod Entries
 pub mod ReadBack
+pub mod JournalTaken
+pub mod JournalBack
+pub mod JournalShown
+pub mod JournalHeld

@@ -4,6 +4,7 @@
 mod answer;
 mod desk;
 mod journal;
+pub mod journal_laws;
 mod journal_reading;
 #[cfg(test)]
 mod journal_tests;

@@ -1,9 +1,9 @@
 -- What is read as a moment lies in the years 2000 to 2098.
-use Rattle.std.proofs.Common.{◌≡◌, ℕ, ◌+◌, ◌*◌, ◌<◌, ◌≤◌, refl, arith, pos, unsigned_abs, Bool, true, false, cond, take, drop, ◌&&◌, leb, ltb, eqb, List, length}
+use Rattle.std.proofs.Common.{◌≡◌, ℕ, ◌+◌, ◌*◌, ◌<◌, ◌≤◌, refl, arith, pos, unsigned_abs, Bool, true, false, cond, take, drop, ◌&&◌, leb, ltb, eqb, List, length, length-drop, length-take}
 use Rattle.std.specs.Prelude.{Option, Some, None}
 use Rattle.std.specs.Option.{option_map}
 use Rattle.std.specs.List.{list_all}
-use Rattle.std.proofs.lemmas.Bool.{leb-true, ltb-true, and_parts}
+use Rattle.std.proofs.lemmas.Bool.{leb-true, ltb-true, eqb-true, and_parts}
 use Rattle.jiff_core.specs.Calendar.{days_from_civil, days_in_year, day_count, IsCivilDate, days_in_month}
 use Rattle.jiff_core.proofs.SignedLemmas.{signed_arith}
 use Rattle.jiff_core.proofs.CalendarLemmas.{day_count-epoch, day_count-later_year, day_count-day_of_year, day_count-lt_year}
@@ -87,3 +87,26 @@ moment-within text minute h =
         let day = days both.0 both.1 in
         let time = times read.1.0 read.1.1 in
         (omega (arith, day, read.1.2), omega (arith, day, time, read.1.2))
+
+-- a moment is ten digits
+pub moment-length : (text : List ℕ) (minute : ℕ) → moment_of text ≡ Some minute → length text ≡ 10
+unfolding moment_of is_date hhmm_below
+moment-length text minute h =
+    ten
+    ((eqb (length (take 6 text)) 6) && list_all is_digit (take 6 text) && is_civil_date (two_digits (take 6 text) 0) (month_of (take 6 text)) (month_day_of (take 6 text)))
+    (leb (year_of (take 6 text)) 2098)
+    ((eqb (length (drop 6 text)) 4) && list_all is_digit (drop 6 text) && ltb (two_digits (drop 6 text) 0) 24 && ltb (two_digits (drop 6 text) 2) 60)
+    (day_number_of (take 6 text)) (60 * two_digits (drop 6 text) 0 + two_digits (drop 6 text) 2)
+    (λ d. eqb-true _ _ (and_parts (eqb (length (take 6 text)) 6) (list_all is_digit (take 6 text)) (and_parts (eqb (length (take 6 text)) 6 && list_all is_digit (take 6 text)) (is_civil_date (two_digits (take 6 text) 0) (month_of (take 6 text)) (month_day_of (take 6 text))) d).0).0)
+    (λ t. eqb-true _ _ (and_parts (eqb (length (drop 6 text)) 4) (list_all is_digit (drop 6 text)) (and_parts (eqb (length (drop 6 text)) 4 && list_all is_digit (drop 6 text)) (ltb (two_digits (drop 6 text) 0) 24) (and_parts (eqb (length (drop 6 text)) 4 && list_all is_digit (drop 6 text) && ltb (two_digits (drop 6 text) 0) 24) (ltb (two_digits (drop 6 text) 2) 60) t).0).0).0)
+    h
+  where
+    long : length (take 6 text) ≡ 6 → length (drop 6 text) ≡ 4 → length text ≡ 10
+    long date time = omega (arith, date, time, length-drop 6 text, length-take 6 text)
+
+    ten : (date early clock : Bool) (day time : ℕ) → (date ≡ true → length (take 6 text) ≡ 6) → (clock ≡ true → length (drop 6 text) ≡ 4)
+        → cond (date && early) (option_map (λ minutes. 1440 * day + minutes) (cond clock (Some time) None)) None ≡ Some minute → length text ≡ 10
+    ten true true true day time d t is = long (d refl) (t refl)
+    ten true true false day time d t is = absurd cc
+    ten true false clock day time d t is = absurd cc
+    ten false early clock day time d t is = absurd cc
