@@ -55,7 +55,8 @@ impl<A: Allocator + Copy> DueQueue<A> {
 
     /// How many flights were noted and not yet taken or dropped.
     pub fn count(&self) -> usize
-        ensures { result ≡ length self.now.flights }
+        ensures value { result ≡ length self.now.flights }
+        ensures fits { result ≤ self.now.room }
     {
         self.heap.len()
     }

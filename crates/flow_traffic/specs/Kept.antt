@@ -1,5 +1,5 @@
--- How the traffic is kept: the slot lists are those of the plans, all regulations are settled, and no plan is left to which
--- anything is to be said.
+-- How the traffic is kept: the slot lists are those of the plans, all regulations are settled, the queue holds each filed
+-- flight that isn't due, and no plan is left to which anything is to be said.
 use Rattle.std.specs.Prelude.{◌≡◌, ◌≤◌, ◌<◌, ℕ, Bool, true, List, length, map, Option}
 use Rattle.std.specs.List.{All}
 use Rattle.std.specs.List.Sorted.{IsNonDecreasing}
@@ -7,20 +7,24 @@ use Rattle.flow_plans.specs.Settings.{IsDeskTime}
 use Rattle.flow_plans.specs.Stores.{Store}
 use Rattle.flow_plans.specs.Plans.{Plan}
 use Rattle.flow_regulations.specs.declared.notice.Told.{Told}
+use Rattle.flow_regulations.specs.declared.due_queue.Awaited.{Awaited}
+use Rattle.flow_regulations.specs.Awaiting.{Covers}
 use Rattle.flow_regulations.specs.Settling.{settled}
 use Rattle.flow_slots.specs.Assignment.{is_in}
 use Rattle.flow_regulations.specs.Listing.{Listed, Listing, regulation_of, IsListed, IsSettled, is_due_flight, AreDue}
 use Rattle.flow_regulations.specs.Quiet.{AllQuiet, KeepsSlots}
 use Rattle.flow_traffic.specs.Asked.{departing, max_regulations}
 
-pub record IsKept (time : ℕ) (store : Store) (listing : Listing) (told : List (Option Told)) : Type 0 where
+pub record IsKept (time : ℕ) (store : Store) (listing : Listing) (flights : List Awaited) (told : List (Option Told)) : Type 0 where
   pub desk_time : IsDeskTime time
   pub limit : listing.max_plans ≡ store.max_plans
   pub few : length listing.lists ≤ max_regulations
   pub room : length store.plans ≤ store.max_plans
+  pub most : store.max_plans ≤ 20_000
   pub each : length told ≡ length store.plans
   pub listed : IsListed store.taxi listing.max_plans store.plans listing.lists
   pub settled_in : IsSettled store.taxi time store.plans listing.lists
+  pub covers : Covers time store.plans flights
   pub quiet : AllQuiet store.taxi (map regulation_of listing.lists) store.plans told
 
 -- the regulations were settled after a message about one flight, which departs or does not

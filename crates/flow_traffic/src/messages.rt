@@ -1,11 +1,14 @@
 //! What messages do to the traffic.
-ghost use Rattle.std.specs.Prelude.{◌≡◌, ◌≤◌, ◌<◌, ◌+◌, List, Ok, IfOk, IfSome, IfNone, OnOk, OnErr, IfErr, MatchOption, length, slice_get, option_copied, vec_len, vec_capacity, ◌-◌};
+ghost use Rattle.std.specs.Prelude.{◌≡◌, ◌≤◌, ◌<◌, ◌+◌, List, Ok, IfOk, IfSome, IfNone, OnOk, OnErr, IfErr, MatchOption, length, slice_get, option_copied, vec_len, vec_capacity, ◌-◌, ◌&&◌, nat_lt};
 ghost use Rattle.fpl_message.specs.Said.{said_message};
 ghost use Rattle.fpl_message.specs.Reads.{msg};
 ghost use Rattle.flow_plans.specs.Settings.{IsDeskTime};
-ghost use Rattle.flow_plans.specs.Plans.{Plan};
+ghost use Rattle.std.specs.List.{Contains};
+ghost use Rattle.flow_plans.specs.Plans.{Plan as Held, is_filed};
 ghost use Rattle.flow_plans.specs.Changes.{refusal_of, IsRefusal};
 ghost use Rattle.flow_regulations.specs.Notices.{window_of};
+ghost use Rattle.flow_regulations.specs.Awaiting.{Covers};
+ghost use Rattle.flow_regulations.specs.declared.due_queue.Awaited.{Awaited};
 ghost use Rattle.flow_regulations.specs.Listing.{IsListed, IsSettled, AreSameBut};
 ghost use Rattle.flow_traffic.specs.Traffic.{told_of};
 ghost use Rattle.flow_traffic.specs.Asked.{changed_by, verdict_on, is_departure};
@@ -14,8 +17,8 @@ ghost use Rattle.flow_traffic.specs.Kept.{IsSettledFor};
 
 use crate::traffic::Traffic;
 use crate::verdict::{Kind, Verdict};
-use flow_plans::{PlanFault, PlanStore};
-use flow_regulations::{Notice, Regulations, Told, Window, window_of};
+use flow_plans::{Plan, PlanFault, PlanState, PlanStore};
+use flow_regulations::{DueQueue, Notice, Regulations, Told, Window, window_of};
 use fpl_message::{Message, Refusal};
 use fpl_text::{Minute, TimeOfDay};
 use std::alloc::{AllocError, Allocator};
@@ -31,6 +34,9 @@ impl<A: Allocator + Copy> Traffic<A> {
         let Ok(()) = make_room(&mut self.told, &mut self.notices) else {
             return None;
         };
+        let Ok(()) = self.queue.reserve() else {
+            return None;
+        };
         let number = match change_plans(&mut self.plans, self.time, message) {
             Ok(number) => number,
             Err(fault) => return refused(fault),
@@ -44,6 +50,7 @@ impl<A: Allocator + Copy> Traffic<A> {
             is_departure(message),
             self.time,
         );
+        note_flight(&mut self.queue, &self.plans, number, self.time);
         make_place(count, &mut self.told);
         self.regulations
             .tell(&self.plans, &[number], &mut self.told, &mut self.notices);
@@ -159,7 +166,7 @@ fn settle_for<A: Allocator + Copy>(
     requires within { number ≤ length plans.now.plans }
     requires room { number ≤ regulations.old.max_plans }
     ensures limit { regulations.new.max_plans ≡ regulations.old.max_plans }
-    ensures settled { (before : List Plan)
+    ensures settled { (before : List Held)
         → IsListed plans.now.taxi regulations.old.max_plans before regulations.old.lists
         → IsSettled plans.now.taxi now before regulations.old.lists
         → AreSameBut number before plans.now.plans
@@ -171,12 +178,40 @@ fn settle_for<A: Allocator + Copy>(
     regulations.look_again(plans, number, now);
 }
 
+/// Whether a plan is filed, and its flight isn't due.
+fn awaits<A: Allocator + Copy>(plan: &Plan<A>, now: Minute) -> bool
+    ensures { result ≡ (is_filed plan.now.state && nat_lt (now + 120) plan.now.off_block) }
+{
+    matches!(plan.state(), PlanState::Filed) && now.minutes() + 120 < plan.off_block().minutes()
+}
+
+/// Notes the flight of the plan of this number, if it is filed and isn't due.
+fn note_flight<A: Allocator + Copy>(
+    queue: &mut DueQueue<A>,
+    plans: &PlanStore<A>,
+    number: u32,
+    now: Minute,
+)
+    requires some { 0 < number }
+    requires room { length queue.old.flights < queue.old.room }
+    ensures covers { (before : List Held) → AreSameBut number before plans.now.plans
+        → Covers now before queue.old.flights → Covers now plans.now.plans queue.new.flights }
+    ensures kept { (a : Awaited) → Contains queue.old.flights a → Contains queue.new.flights a }
+{
+    let Some(plan) = plans.plan(number) else {
+        return;
+    };
+    if awaits(plan, now) {
+        queue.note(number, plan.off_block());
+    }
+}
+
 /// A place for what a new plan is told.
 fn make_place<A: Allocator>(count: u32, told: &mut Vec<Option<Told>, A>)
     requires one { count ≤ length told.old.items + 1 }
     requires all { length told.old.items ≤ count }
     requires room { vec_len told.old < vec_capacity told.old }
-    ensures told { (plans : List Plan) → length plans ≡ count → told.new.items ≡ told_to plans told.old.items }
+    ensures told { (plans : List Held) → length plans ≡ count → told.new.items ≡ told_to plans told.old.items }
     ensures each { length told.new.items ≡ count }
 {
     if told.len() < count as usize {

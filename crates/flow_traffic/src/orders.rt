@@ -107,10 +107,14 @@ impl<A: Allocator + Copy> Traffic<A> {
         if at.minutes() < self.time.minutes() {
             return Some(Verdict::Refused(Refusal::TimeBack));
         }
-        let Ok(()) = note_due(&self.plans, at, &mut self.changed) else {
+        self.changed.clear();
+        let Ok(()) = self.changed.reserve(self.queue.count()) else {
             return None;
         };
+        self.queue
+            .take_due(&self.plans, self.time, at, &mut self.changed);
         let Ok(()) = self.notices.reserve(self.changed.len()) else {
+            self.queue.put_back(&self.plans, &self.changed);
             return None;
         };
         self.regulations.advance_due(&self.changed);

@@ -7,7 +7,7 @@ ghost use Rattle.flow_traffic.specs.Answers.{Answers, HasDeskMoments};
 
 use crate::verdict::Verdict;
 use flow_plans::{Plan, PlanStore, Setup};
-use flow_regulations::{Notice, Regulations, Told};
+use flow_regulations::{DueQueue, Notice, Regulations, Told};
 use fpl_message::{Order, Reading};
 use fpl_text::Minute;
 use std::alloc::{Allocator, Global};
@@ -20,6 +20,8 @@ pub struct Traffic<A: Allocator + Copy = Global> {
     pub(crate) time: Minute,
     pub(crate) plans: PlanStore<A>,
     pub(crate) regulations: Regulations<A>,
+    /// The flights that aren't due yet.
+    pub(crate) queue: DueQueue<A>,
     pub(crate) told: Vec<Option<Told>, A>,
     pub(crate) notices: Vec<Notice, A>,
     /// Room to note plans whose slots may have changed.
@@ -44,7 +46,7 @@ impl<A: Allocator + Copy> Model for Traffic<A> {
       notices = t.notices.items;
     } };
 
-    ghost invariant = { λ t. IsKept t.time t.plans t.regulations t.told.items };
+    ghost invariant = { λ t. IsKept t.time t.plans t.regulations t.queue.flights t.told.items };
 }
 
 impl<A: Allocator + Copy> Traffic<A> {
@@ -58,6 +60,7 @@ impl<A: Allocator + Copy> Traffic<A> {
             time: setup.start(),
             plans: PlanStore::new(alloc, setup),
             regulations: Regulations::new(alloc, max_plans),
+            queue: DueQueue::new(alloc),
             told: Vec::new(alloc),
             notices: Vec::new(alloc),
             changed: Vec::new(alloc),

@@ -62,9 +62,11 @@ invariant_of-self-2 g c =
       limit = c.settle_for.ensures.limit ∙ c.self.invariant.limit ∙ sym c.change_plans.ensures.limit;
       few = omega (arith, c.self.invariant.few, count);
       room = omega (arith, c.count-count.ensures.count, c.count-count.ensures.limit);
+      most = omega (arith, c.self.invariant.most, c.change_plans.ensures.limit);
       each = c.tell.ensures.each;
       listed = rw (sym c.settle_for.ensures.limit) at s.listed;
       settled_in = s.settled_in;
+      covers = c.note_flight.ensures.covers c.self.inside.plans.plans c.in-Ok-change_plans.ensures.same (rw (sym c.reserve.ensures.flights) at c.self.invariant.covers);
       quiet = c.tell.ensures.quiet;
     }
 

@@ -51,9 +51,11 @@ invariant_of-self-2 g c =
       limit = c.shut.ensures.limit ∙ c.self.invariant.limit;
       few = omega (arith, c.self.invariant.few, ap (λ (ls : List Listed). length ls) c.shut.ensures.lists, fewer-named c.args.id.now lists);
       room = c.self.invariant.room;
+      most = c.self.invariant.most;
       each = c.tell.ensures.each;
       listed = rw (sym c.shut.ensures.limit, same) at listed;
       settled_in = rw same at (shut-settled taxi now plans c.args.id.now lists c.self.invariant.settled_in);
+      covers = c.self.invariant.covers;
       quiet = c.tell.ensures.quiet;
     }
 

@@ -1,0 +1,18 @@
+use Rattle.std.proofs.Common.{◌≡◌, ◌-◌, ◌∙◌, sym, ap, Option, Some, slice_get}
+use Rattle.std.specs.Option.{option_copied}
+use Rattle.flow_plans.specs.Plans.{Plan}
+use Rattle.flow_regulations.specs.declared.due_queue.Awaited.{Awaited}
+use Rattle.flow_regulations.proofs.Queues.{covers-noted, noted-kept}
+use Rattle.flow_traffic.proofs.Both.{some-same}
+use Rattle.flow_traffic.proofs.messages.note_flight.Goals as goal
+
+pub returns-then-awaits-clause-covers : goal.returns-then-awaits-clause-covers
+returns-then-awaits-clause-covers g c = λ before same covers.
+    let here : slice_get c.args.plans.now.plans (c.args.number - 1) ≡ Some c.in-Some.plan.now = sym c.plan.ensures ∙ ap (λ o. option_copied o) c.in-Some.is in
+    covers-noted c.args.now c.args.number c.off_block.result before c.args.plans.now.plans c.args.queue.now.flights c.note.new.self.flights same
+    (λ p there. ap (λ (q : Plan). q.off_block) (some-same _ p c.in-Some.plan.now there here) ∙ sym c.off_block.ensures.value)
+    c.note.ensures.flights covers
+
+pub returns-then-awaits-clause-kept : goal.returns-then-awaits-clause-kept
+returns-then-awaits-clause-kept g c = λ a h.
+    noted-kept (record { off_block = c.off_block.result; number = c.args.number }) c.args.queue.now.flights c.note.new.self.flights c.note.ensures.flights a h
