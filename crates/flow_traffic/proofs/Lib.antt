@@ -5,3 +5,4 @@ pub mod Noting
 pub mod Settles
 pub mod Answered
 pub mod Both
+pub mod Slots

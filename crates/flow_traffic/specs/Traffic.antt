@@ -1,9 +1,11 @@
 -- What a desk allocates, beside its journal.
-use Rattle.std.specs.Prelude.{ℕ, ◌-◌, List, [], slice_get, Option, None}
-use Rattle.std.specs.Option.{option_map_or}
+use Rattle.std.specs.Prelude.{ℕ, ◌-◌, if◌then◌else◌, List, [], ◌∷◌, slice_get, Option, Some, None}
+use Rattle.std.specs.Option.{option_map, option_map_or}
+use Rattle.std.specs.Str.{bytes_eq}
 use Rattle.flow_plans.specs.Settings.{Settings}
 use Rattle.flow_plans.specs.Plans.{Plan}
-use Rattle.flow_regulations.specs.Regulations.{Regulation}
+use Rattle.flow_slots.specs.Lineup.{Lineup}
+use Rattle.flow_regulations.specs.Regulations.{Regulation, lineup_of}
 use Rattle.flow_regulations.specs.declared.notice.Told.{Told}
 use Rattle.flow_regulations.specs.declared.notice.Notice.{Notice}
 
@@ -26,6 +28,15 @@ pub record Traffic : Type 0 where
 -- of a desk at which nothing was filed
 abbrev pub no_traffic : Settings → Traffic
 no_traffic setup = record { taxi = setup.taxi; max_plans = setup.max_plans; now = setup.start; plans = []; regulations = []; told = []; notices = [] }
+
+-- the first open regulation of this name
+abbrev pub regulation_named : List ℕ → List Regulation → Option Regulation
+regulation_named id [] = None
+regulation_named id (r ∷ rs) = if bytes_eq r.id id then Some r else regulation_named id rs
+
+-- its slot list: the flights that it applies to wait in their order, around those that keep their slots
+abbrev pub slots_of : Traffic → List ℕ → Option Lineup
+slots_of t id = option_map (lineup_of t.taxi t.max_plans t.plans) (regulation_named id t.regulations)
 
 -- what the plan of this number was last told
 abbrev pub told_of : List (Option Told) → ℕ → Option Told

@@ -1,15 +1,16 @@
 //! The traffic of a desk: plans, open regulations, and what each plan was told.
-ghost use Rattle.std.specs.Prelude.{◌≡◌, ◌≤◌, ◌<◌, ◌+◌, ◌-◌, IfSome, IfNone, MatchOption, length, slice_get, option_copied};
+ghost use Rattle.std.specs.Prelude.{◌≡◌, ◌≤◌, ◌<◌, ◌+◌, ◌-◌, IfSome, IfNone, MatchOption, Some, None, length, slice_get, option_copied};
 ghost use Rattle.fpl_message.specs.Said.{said};
 ghost use Rattle.flow_plans.specs.Settings.{IsDeskTime};
-ghost use Rattle.flow_traffic.specs.Traffic.{no_traffic};
+ghost use Rattle.flow_traffic.specs.Traffic.{no_traffic, slots_of};
 ghost use Rattle.flow_traffic.specs.Answers.{Answers, HasDeskMoments};
 
 use crate::verdict::Verdict;
 use flow_plans::{Plan, PlanStore, Setup};
 use flow_regulations::{DueQueue, Notice, Regulations, Told};
+use flow_slots::SlotList;
 use fpl_message::{Order, Reading};
-use fpl_text::Minute;
+use fpl_text::{Minute, Text};
 use std::alloc::{Allocator, Global};
 use std::marker::Model;
 
@@ -97,6 +98,13 @@ impl<A: Allocator + Copy> Traffic<A> {
         ensures { result.now ≡ self.now.notices }
     {
         self.notices.as_slice()
+    }
+
+    /// The slot list of the open regulation of this name. None where none is open.
+    pub fn slots(&self, id: &Text<8>) -> Option<&SlotList<A>>
+        ensures { MatchOption result (slots_of self.now id.now ≡ None) (λ list. slots_of self.now id.now ≡ Some list.now.lineup) }
+    {
+        self.regulations.slots(id)
     }
 
     /// Takes in a reading, and answers the verdict on it. A refused one changes nothing. Only want of memory answers
