@@ -86,14 +86,24 @@ fn make_writer(alloc: Global, most: usize, calls: usize, fails: bool) -> Taker {
     }
 }
 
+/// Three flights at a regulation, of which one is due and gets a slot, among words that are nothing.
 const INPUT: &[u8] =
-    b"(FPL-AAA1-IS-A320/M-SDFG/LB1-LIML0800-N0450F350 DCT-EDDF0150-0)\r\n (DLA-AAA1-LIML0800-EDDF)WORD\n(CNL(CNL-AAA1-LIML0800-EDDF) ";
+    b"OPEN RMZ01 ARR EDDF 2409011000 2409011200 20\n(FPL-XXX1-IS-A320/M-SDFG/LB1-LIML0800-N0450F350 DCT-EDDF0153-0)\r\nTIME 2409010605\n(FPL-YYY1-IS-A320/M-SDFG/LB1-LIML0820-N0450F350 DCT-EDDF0130-0)WORD((FPL-ZZZ1-IS-A320/M-SDFG/LB1-LIML0820-N0450F350 DCT-EDDF0131-0) ";
 
 const OUTPUT: &[u8] =
-    b"1 OK FPL 1\n2 NO 25 NotLater\n3 NO 30 BadOrder\n4 NO 3 NoBracket\n5 OK CNL 1\n";
+    b"1 OK OPEN\n2 OK FPL 1\n3 OK TIME\n-TITLE SAM -ARCID XXX1 -ADEP LIML -ADES EDDF -EOBD 240901 -EOBT 0800 -CTOT 0810 -REGUL RMZ01\n4 OK FPL 2\n5 NO 30 BadOrder\n6 NO 3 NoBracket\n7 OK FPL 3\n";
 
 /// How many frames of the input have ended in so many bytes of it.
-const ENDED: [(usize, u32); 6] = [(0, 0), (63, 1), (90, 2), (95, 3), (100, 4), (123, 5)];
+const ENDED: [(usize, u32); 8] = [
+    (0, 0),
+    (45, 1),
+    (108, 2),
+    (126, 3),
+    (189, 4),
+    (194, 5),
+    (195, 6),
+    (257, 7),
+];
 
 #[test]
 fn brackets_by_themselves(rt: HostRuntime) -> Result<(), Fail> {
@@ -124,7 +134,7 @@ fn pieces_have_no_effect(rt: HostRuntime) -> Result<(), Fail> {
             calls: 1000,
         };
         let mut writer = make_writer(rt.alloc(), 1, 1000, true);
-        assert_eq!(rt; run(&rt, rt.alloc(), reader, &mut writer)?, (None, 5));
+        assert_eq!(rt; run(&rt, rt.alloc(), reader, &mut writer)?, (None, 7));
         assert_eq!(rt; writer.taken.as_slice(), OUTPUT, "by {most}");
     }
     Ok(())
@@ -155,7 +165,7 @@ fn reads_fail_in_turn(rt: HostRuntime) -> Result<(), Fail> {
 #[test]
 fn writes_fail_in_turn(rt: HostRuntime) -> Result<(), Fail> {
     for fails in [true, false] {
-        for calls in 0..13 {
+        for calls in 0..32 {
             let reader = Cutter {
                 rest: INPUT,
                 most: 5,
