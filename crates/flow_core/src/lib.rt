@@ -8,6 +8,7 @@ pub mod journal_laws;
 mod journal_reading;
 #[cfg(test)]
 mod journal_tests;
+pub mod laws;
 mod line;
 mod receipt;
 mod row;
