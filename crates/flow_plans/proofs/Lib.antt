@@ -4,3 +4,4 @@ pub mod ChainLemmas
 pub mod Walks
 pub mod Keepings
 pub mod Distincts
+pub mod RunLemmas

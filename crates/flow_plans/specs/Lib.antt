@@ -9,3 +9,4 @@ pub mod Entries
 pub mod Stores
 pub mod Undoing
 pub mod Distinct
+pub mod Runs

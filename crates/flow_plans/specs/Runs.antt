@@ -1,0 +1,67 @@
+-- What a store of plans goes through: changes that messages ask for, and taking the last one back.
+use Rattle.std.specs.Prelude.{ℕ, List, [], ◌∷◌, Option, Some, None, Result, Ok, Err}
+use Rattle.fpl_message.specs.declared.refusal.Refusal.{Refusal}
+use Rattle.fpl_message.specs.declared.short_message.Dla.{Dla}
+use Rattle.fpl_message.specs.declared.short_message.Cnl.{Cnl}
+use Rattle.fpl_message.specs.declared.short_message.Dep.{Dep}
+use Rattle.fpl_message.specs.Messages.{Fpl, Chg}
+use Rattle.fpl_message.specs.Refusals.{◌>>=◌}
+use Rattle.flow_plans.specs.Plans.{Plan}
+use Rattle.flow_plans.specs.Changes.{Changed, filed, delayed, cancelled, departed, amended}
+
+-- a message, with the desk's time at which it comes and how many plans are accepted, where these matter
+pub data Change : Type 0 where
+  file : ℕ → ℕ → Fpl → Change
+  delay : ℕ → Dla → Change
+  amend : ℕ → Chg → Change
+  cancel : Cnl → Change
+  depart : Dep → Change
+
+-- the plans after it, or why it is refused
+abbrev pub change_of : List Plan → Change → Result (List Plan) Refusal
+change_of plans (file max now m) = filed max now plans m
+change_of plans (delay now m) = delayed now plans m >>= (λ later. Ok later.plans)
+change_of plans (amend now m) = amended now plans m >>= (λ later. Ok later.plans)
+change_of plans (cancel m) = cancelled plans m >>= (λ later. Ok later.plans)
+change_of plans (depart m) = departed plans m >>= (λ later. Ok later.plans)
+
+-- a refused change leaves all as it was
+abbrev pub or_same : List Plan → Result (List Plan) Refusal → List Plan
+or_same plans (Ok later) = later
+or_same plans (Err refusal) = plans
+
+-- the plans after changes, one after the other
+abbrev pub changed_all : List Change → List Plan → List Plan
+changed_all [] plans = plans
+changed_all (change ∷ changes) plans = changed_all changes (or_same plans (change_of plans change))
+
+-- a change, or taking the last accepted one back
+pub data Turn : Type 0 where
+  changes : Change → Turn
+  takes_back : Turn
+
+-- the plans, and those before the last accepted change, where that can be taken back
+pub record Held : Type 0 where
+  pub plans : List Plan
+  pub before : Option (List Plan)
+
+abbrev pub held_after : Held → Result (List Plan) Refusal → Held
+held_after held (Ok later) = record { plans = later; before = Some held.plans }
+held_after held (Err refusal) = held
+
+abbrev pub held_before : Held → Option (List Plan) → Held
+held_before held (Some plans) = record { plans = plans; before = None }
+held_before held None = held
+
+abbrev pub after_turn : Held → Turn → Held
+after_turn held (changes change) = held_after held (change_of held.plans change)
+after_turn held takes_back = held_before held held.before
+
+-- what is held after turns, one after the other
+abbrev pub after_turns : List Turn → Held → Held
+after_turns [] held = held
+after_turns (turn ∷ turns) held = after_turns turns (after_turn held turn)
+
+-- a store at the start
+abbrev pub nothing_held : Held
+nothing_held = record { plans = []; before = None }
