@@ -6,3 +6,5 @@ pub mod SqueezingLemmas
 pub mod WordsLemmas
 pub mod MomentsLemmas
 pub mod ReadBackLemmas
+pub mod LaneLemmas
+pub mod FirstBytes

@@ -11,9 +11,11 @@ pub mod fault;
 pub mod fields;
 pub mod heading;
 pub mod ident;
+mod lanes;
 pub mod laws;
 pub mod minute;
 pub mod part;
+mod pass;
 pub mod place;
 pub mod squeezed;
 #[cfg(test)]
