@@ -1,5 +1,5 @@
 -- What the operations on vectors of 16 bytes hold at each lane.
-use Rattle.std.proofs.Common.{◌≡◌, ◌↔◌, ℕ, ◌%◌, ◌^◌, ◌<◌, ◌≤◌, List, [], ◌∷◌, Bool, true, false, cond, leb, eqb, ◌&&◌, ◌||◌, length, get_or, map, replicate, refl, sym, ap, ◌∙◌, arith, w8, w64, bit_and, bit_or, ⊎_elim}
+use Rattle.std.proofs.Common.{◌≡◌, ◌↔◌, ℕ, ◌%◌, ◌^◌, ◌<◌, ◌≤◌, List, [], ◌∷◌, Bool, true, false, cond, not, leb, eqb, ◌&&◌, ◌||◌, length, get_or, map, replicate, refl, sym, ap, ◌∙◌, arith, w8, w64, bit_and, bit_or, ⊎_elim}
 use Rattle.std.specs.Int.{bit_at, trailing_ones}
 use Rattle.std.specs.Simd.Lanes.{zip2, sel_l, mask_l, top}
 use Rattle.std.proofs.lemmas.Simd.{length-zip2, get_or-zip2, get_or-replicate, length-sel_l, get_or-sel_l, bit_mask_l, tops_compared, mask_l-mod, mask_l-lt}
@@ -72,6 +72,18 @@ flags-left t v x long =
     (λ k l. λ i. cond (t (get_or-replicate 16 k x 0 l i) (get_or v k 0)) (get_or-replicate 16 k 255 0 l i) (get_or-replicate 16 k 0 0 l i))
     (lanes-compared t (replicate 16 x) v (replicate 16 255) (replicate 16 0) refl long refl refl)
 
+unlike : (p : Bool) → cond p 0 255 ≡ flag (not p)
+unlike true = refl
+unlike false = refl
+
+-- flags where the comparison with a splat fails
+pub flags-other : (t : ℕ → ℕ → Bool) (v : List ℕ) (x : ℕ) → length v ≡ 16
+    → HasFlags (sel_l (zip2 t v (replicate 16 x)) (replicate 16 0) (replicate 16 255)) (λ k. not (t (get_or v k 0) x))
+flags-other t v x long =
+    lanes-same _ _ _
+    (λ k l. (λ i. cond (t (get_or v k 0) (get_or-replicate 16 k x 0 l i)) (get_or-replicate 16 k 0 0 l i) (get_or-replicate 16 k 255 0 l i)) ∙ unlike (t (get_or v k 0) x))
+    (lanes-compared t v (replicate 16 x) (replicate 16 0) (replicate 16 255) long refl refl refl)
+
 chosen : (p : Bool) (x : ℕ) → cond (eqb (flag p) 255) 32 x ≡ cond p 32 x
 chosen true x = refl
 chosen false x = refl
@@ -123,10 +135,15 @@ mask-tops v long = record {
 pub record IsFront (v : List ℕ) (n : ℕ) : Type 0 where
   pub bound : n ≤ 16
   pub set : (p : ℕ → Bool) → HasFlags v p → (k : ℕ) → k < n → p k ≡ true
+  pub stops : (p : ℕ → Bool) → HasFlags v p → n < 16 → p n ≡ false
 
 set_flag : (p : Bool) → 128 ≤ flag p → p ≡ true
 set_flag true h = refl
 set_flag false h = absurd (omega arith)
+
+unset_flag : (p : Bool) → (128 ≤ flag p → ⊥) → p ≡ false
+unset_flag true h = absurd (h (omega arith))
+unset_flag false h = refl
 
 pub front-mask : (v : List ℕ) (m : ℕ) → length v ≡ 16 → ((k : ℕ) → (bit_at m k ≡ 1) ↔ (128 ≤ get_or v k 0)) → m < 65536 → IsFront v (trailing_ones w64 m)
 front-mask v m long bits small =
@@ -136,6 +153,7 @@ front-mask v m long bits small =
     record {
       bound = bound;
       set = λ p h k l. set_flag (p k) (rw (h.each k (omega arith)) at ((bits k).0 (t.2 k l)));
+      stops = λ p h l. unset_flag (p n) (λ high. let one = (bits n).1 (rw (h.each n l) high) in absurd (omega (arith, t.1, one)));
     }
 
 or_assoc : (p q r : Bool) → (p || q) || r ≡ p || (q || r)
@@ -154,6 +172,14 @@ pub digits_and_marks : (x : ℕ) → (leb 46 x && leb x 58) || eqb x 44 || eqb x
 unfolding is_digit is_other_mark
 digits_and_marks x =
     sym (or_more _ _ _ (eqb x 61) (or_more _ _ _ (eqb x 43) (or_more _ _ _ (eqb x 63) (or_more _ _ _ (eqb x 39) (or_more _ _ _ (eqb x 44) (mark_range x))))))
+
+pub letters_are : (x : ℕ) → (leb 65 x && leb x 90) ≡ is_letter x
+unfolding is_letter
+letters_are x = refl
+
+pub digits_are : (x : ℕ) → (leb 48 x && leb x 57) ≡ is_digit x
+unfolding is_digit
+digits_are x = refl
 
 pub letters_and_others : (x : ℕ) → (leb 65 x && leb x 90) || (is_digit x || is_other_mark x) ≡ is_plain x
 unfolding is_plain is_letter

@@ -1,8 +1,8 @@
 //! Sixteen bytes at once.
 
-ghost use Rattle.std.specs.Prelude.{◌≡◌, ◌≤◌, ◌<◌, ◌+◌, ◌↔◌, ◌==◌, ◌&&◌, ◌||◌, if◌then◌else◌, nat_le, ℕ, Bool, true, length, slice_index};
+ghost use Rattle.std.specs.Prelude.{◌≡◌, ◌≤◌, ◌<◌, ◌+◌, ◌↔◌, ◌==◌, ◌&&◌, ◌||◌, if◌then◌else◌, nat_le, not, ℕ, Bool, true, false, length, slice_index};
 ghost use Rattle.std.specs.Int.{bit_at};
-ghost use Rattle.fpl_text.specs.Bytes.{is_blank, is_digit, is_other_mark, is_plain};
+ghost use Rattle.fpl_text.specs.Bytes.{is_blank, is_letter, is_digit, is_letter_or_digit, is_other_mark, is_plain};
 ghost use Rattle.fpl_text.specs.Lanes.{HasLanes, HasFlags};
 
 use std::simd::prelude::*;
@@ -105,6 +105,32 @@ fn digit_or_mark_lanes(v: u8x16) -> u8x16
     or_equal_to(four, v, b'=')
 }
 
+/// Which lanes hold a letter.
+#[inline(always)]
+pub(crate) fn letter_lanes(v: u8x16) -> u8x16
+    ensures { HasFlags result (λ k. is_letter (slice_index v k)) }
+{
+    between(v, b'A', b'Z')
+}
+
+/// Which lanes hold a letter or a digit, of which `letters` are the letters.
+#[inline(always)]
+pub(crate) fn letter_or_digit_lanes(letters: u8x16, v: u8x16) -> u8x16
+    requires { HasFlags letters (λ k. is_letter (slice_index v k)) }
+    ensures { HasFlags result (λ k. is_letter_or_digit (slice_index v k)) }
+{
+    either(letters, between(v, b'0', b'9'))
+}
+
+/// Which lanes hold another byte than this.
+#[inline(always)]
+pub(crate) fn other_lanes(v: u8x16, byte: u8) -> u8x16
+    ensures { HasFlags result (λ k. not (slice_index v k == byte)) }
+{
+    v.simd_eq(u8x16::splat(byte))
+        .select(u8x16::splat(0), u8x16::splat(255))
+}
+
 /// Which lanes hold a plain byte.
 #[inline(always)]
 pub(crate) fn plain_lanes(v: u8x16) -> u8x16
@@ -118,6 +144,7 @@ pub(crate) fn plain_lanes(v: u8x16) -> u8x16
 pub(crate) fn set_lanes(flags: u8x16) -> usize
     ensures bound { result ≤ 16 }
     ensures set { (p : ℕ → Bool) → HasFlags flags p → (k : ℕ) → k < result → p k ≡ true }
+    ensures stops { (p : ℕ → Bool) → HasFlags flags p → result < 16 → p result ≡ false }
 {
     top_bits(flags).trailing_ones() as usize
 }

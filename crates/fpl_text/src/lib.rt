@@ -37,4 +37,4 @@ pub use place::{Alternates, Departure, Destination};
 pub use squeezed::Squeezed;
 pub use text::Text;
 pub use time::{TimeOfDay, read_elapsed};
-pub use words::Words;
+pub use words::{Measured, Words};
