@@ -1,9 +1,12 @@
 -- What the operations on vectors of 16 bytes hold at each lane.
-use Rattle.std.proofs.Common.{◌≡◌, ◌↔◌, ℕ, ◌%◌, ◌^◌, ◌<◌, ◌≤◌, List, [], ◌∷◌, Bool, true, false, cond, not, leb, eqb, ◌&&◌, ◌||◌, length, get_or, map, replicate, refl, sym, ap, ◌∙◌, arith, w8, w64, bit_and, bit_or, ⊎_elim}
+use Rattle.std.proofs.Common.{◌+◌, ◌≡◌, ◌↔◌, ℕ, ◌%◌, ◌^◌, ◌<◌, ◌≤◌, List, [], ◌∷◌, Bool, true, false, cond, not, leb, eqb, ◌&&◌, ◌||◌, length, get_or, map, replicate, refl, sym, ap, ◌∙◌, arith, w8, w64, bit_and, bit_or, ⊎_elim, inl, inr, shr-shr, ◌/◌}
 use Rattle.std.specs.Int.{bit_at, trailing_ones}
 use Rattle.std.specs.Simd.Lanes.{zip2, sel_l, mask_l, top}
 use Rattle.std.proofs.lemmas.Simd.{length-zip2, get_or-zip2, get_or-replicate, length-sel_l, get_or-sel_l, bit_mask_l, tops_compared, mask_l-mod, mask_l-lt}
-use Rattle.std.proofs.lemmas.Nat.Bits.{bit_at-trailing_ones}
+use Rattle.std.proofs.lemmas.Nat.Bits.{bit_at-trailing_ones, bit_at_or, bit_at_and, bit_at-lt}
+use Rattle.std.proofs.lemmas.Nat.{and_le_l}
+use lib.Bits.{or_add_and}
+use Rattle.std.specs.Prelude.{◌⊎◌, max, min}
 use Rattle.std.proofs.lemmas.Bool.{cases_lt, leb-true, leb-false}
 use Rattle.std.proofs.lemmas.List.{length-map, get_or_past}
 use Rattle.std.proofs.Math.ListN.{get_or-map}
@@ -154,6 +157,48 @@ front-mask v m long bits small =
       bound = bound;
       set = λ p h k l. set_flag (p k) (rw (h.each k (omega arith)) at ((bits k).0 (t.2 k l)));
       stops = λ p h l. unset_flag (p n) (λ high. let one = (bits n).1 (rw (h.each n l) high) in absurd (omega (arith, t.1, one)));
+    }
+
+-- the lowest bits of one mask, or of another before those of the first
+pub record IsFrontBefore (v w : List ℕ) (n : ℕ) : Type 0 where
+  pub bound : n ≤ 16
+  pub each : (p q : ℕ → Bool) → HasFlags v p → HasFlags w q → (k : ℕ) → k < n → p k || (q k && p (k + 1)) ≡ true
+
+bit_below : (v : List ℕ) (m k : ℕ) → length v ≡ 16 → ((k : ℕ) → (bit_at m k ≡ 1) ↔ (128 ≤ get_or v k 0)) → bit_at m k ≡ 1 → k < 16
+bit_below v m k long bits one =
+    ⊎_elim (λ l. l) (λ h. let past : 128 ≤ 0 = rw (get_or_past v k 0 (omega arith)) at ((bits k).0 one) in absurd (omega arith)) (cases_lt k 16)
+
+is_one : (a b c : ℕ) → max a (min b c) ≡ 1 → a < 2 → b < 2 → c < 2 → (a ≡ 1) ⊎ ((b ≡ 1) × (c ≡ 1))
+is_one a b c h l m n = ⊎_elim (λ z. inr (omega (arith, z), omega (arith, z))) (λ o. inl (omega (arith, o))) (cases_lt a 1)
+
+or_before : (p q r : Bool) → (p ≡ true) ⊎ ((q ≡ true) × (r ≡ true)) → p || (q && r) ≡ true
+or_before p q r (inl h) = rw h refl
+or_before true q r (inr h) = refl
+or_before false q r (inr h) = rw (h.0, h.1) refl
+
+pub front-before : (v w : List ℕ) (m n : ℕ) → length v ≡ 16 → length w ≡ 16 → ((k : ℕ) → (bit_at m k ≡ 1) ↔ (128 ≤ get_or v k 0)) → m < 65536
+    → ((k : ℕ) → (bit_at n k ≡ 1) ↔ (128 ≤ get_or w k 0)) → n < 65536 → IsFrontBefore v w (trailing_ones w64 (bit_or m (bit_and n (m / 2 ^ 1))))
+front-before v w m n long wide bits small others few =
+    let low : bit_and n (m / 2 ^ 1) ≤ n = and_le_l n (m / 2 ^ 1) in
+    let t = bit_at-trailing_ones w64 (bit_or m (bit_and n (m / 2 ^ 1))) (omega (arith, or_add_and m (bit_and n (m / 2 ^ 1)), low)) in
+    let count = trailing_ones w64 (bit_or m (bit_and n (m / 2 ^ 1))) in
+    let parts : (k : ℕ) → k < count → (bit_at m k ≡ 1) ⊎ ((bit_at n k ≡ 1) × (bit_at m (1 + k) ≡ 1)) = (λ k l.
+    let shifted : bit_at (m / 2 ^ 1) k ≡ bit_at m (1 + k) = ap (λ x. x % 2) (shr-shr m 1 k) in
+    let whole : max (bit_at m k) (min (bit_at n k) (bit_at m (1 + k))) ≡ 1 =
+    rw (bit_at_or m (bit_and n (m / 2 ^ 1)) k, bit_at_and n (m / 2 ^ 1) k, shifted) at (t.2 k l) in
+    is_one _ _ _ whole (bit_at-lt m k) (bit_at-lt n k) (bit_at-lt m (1 + k))) in
+    let inside : (k : ℕ) → k < count → k < 16 = (λ k l. ⊎_elim (λ a. bit_below v m k long bits a) (λ b. bit_below w n k wide others b.0) (parts k l)) in
+    record {
+      bound = ⊎_elim (λ h. absurd (let in_it = inside 16 h in omega arith)) (λ h. h) (cases_lt 16 count);
+      each = λ p q hp hq k l.
+          or_before (p k) (q k) (p (k + 1))
+          (⊎_elim
+          (λ a. inl (set_flag (p k) (rw (hp.each k (inside k l)) at ((bits k).0 a))))
+          (λ b.
+          let next : 1 + k ≡ k + 1 = omega arith in
+          let within = bit_below v m (1 + k) long bits b.1 in
+          inr (set_flag (q k) (rw (hq.each k (inside k l)) at ((others k).0 b.0)), set_flag (p (k + 1)) (rw (next, hp.each (k + 1) (omega arith)) at ((bits (1 + k)).0 b.1))))
+          (parts k l));
     }
 
 or_assoc : (p q r : Bool) → (p || q) || r ≡ p || (q || r)

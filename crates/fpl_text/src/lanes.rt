@@ -46,7 +46,7 @@ fn at_most(v: u8x16, high: u8) -> u8x16
 
 /// Where both are set.
 #[inline(always)]
-pub(crate) fn both(a: u8x16, b: u8x16) -> u8x16
+fn both(a: u8x16, b: u8x16) -> u8x16
     ensures { (p q : ℕ → Bool) → HasFlags a p → HasFlags b q → HasFlags result (λ k. p k && q k) }
 {
     a & b
@@ -54,7 +54,7 @@ pub(crate) fn both(a: u8x16, b: u8x16) -> u8x16
 
 /// Where one of them is set.
 #[inline(always)]
-pub(crate) fn either(a: u8x16, b: u8x16) -> u8x16
+fn either(a: u8x16, b: u8x16) -> u8x16
     ensures { (p q : ℕ → Bool) → HasFlags a p → HasFlags b q → HasFlags result (λ k. p k || q k) }
 {
     a | b
@@ -147,6 +147,16 @@ pub(crate) fn set_lanes(flags: u8x16) -> usize
     ensures stops { (p : ℕ → Bool) → HasFlags flags p → result < 16 → p result ≡ false }
 {
     top_bits(flags).trailing_ones() as usize
+}
+
+/// How many of the first lanes are set, or are among `others` with the lane behind them set.
+#[inline(always)]
+pub(crate) fn set_or_before(flags: u8x16, others: u8x16) -> usize
+    ensures bound { result ≤ 16 }
+    ensures each { (p q : ℕ → Bool) → HasFlags flags p → HasFlags others q → (k : ℕ) → k < result → p k || (q k && p (k + 1)) ≡ true }
+{
+    let set = top_bits(flags);
+    (set | (top_bits(others) & (set >> 1))).trailing_ones() as usize
 }
 
 /// Bit k is the top bit of lane k.

@@ -7,7 +7,7 @@ ghost use Rattle.fpl_text.specs.Passes.{IsPass, IsInside, is_easy, as_space};
 ghost use Rattle.fpl_text.specs.declared.fault.TextFault.TheVariants.{Empty, BadByte};
 
 use crate::byte::{is_accepted, is_blank, is_border};
-use crate::lanes::{blank_lanes, both, either, load, plain_lanes, set_lanes, spaces_or};
+use crate::lanes::{blank_lanes, load, plain_lanes, set_or_before, spaces_or};
 use std::simd::prelude::*;
 
 /// How far a text is squeezed.
@@ -102,19 +102,19 @@ fn pass_bytes(text: &[u8], out: &mut [u8], from: Pass) -> Result<Pass, usize>
     Ok(pass)
 }
 
-/// The 16 bytes from a place on, each blank as a space, and how many of the first of them are easy.
+/// The 16 bytes from a place on, each blank as a space, and how many of the first of them are easy. A blank in the last of them
+/// is left to the next 16.
 #[inline(always)]
 fn easy_front(text: &[u8], at: usize) -> (u8x16, usize)
-    requires { at + 16 < length text.now }
+    requires { at + 16 ≤ length text.now }
     ensures bound { result.1 ≤ 16 }
     ensures easy { (k : ℕ) → k < result.1 → is_easy text.now (at + k) ≡ true }
     ensures lanes { HasLanes result.0 (λ k. as_space (slice_index text.now (at + k))) }
 {
     let here = load(text, at);
     let blanks = blank_lanes(here);
-    let before_plain = both(blanks, plain_lanes(load(text, at + 1)));
-    let easy = either(plain_lanes(here), before_plain);
-    (spaces_or(blanks, here), set_lanes(easy))
+    let count = set_or_before(plain_lanes(here), blanks);
+    (spaces_or(blanks, here), count)
 }
 
 /// Passes easy bytes, 16 at a time. What is written behind those that are easy is written over later.
@@ -125,12 +125,12 @@ fn pass_easy(text: &[u8], out: &mut [u8], from: Pass) -> Pass
     ensures further { from.place ≤ result.place }
 {
     let mut pass = from;
-    'easy: while text.len() - pass.place > 16 {
+    'easy: while text.len() - pass.place >= 16 {
         let (lanes, count) = easy_front(text, pass.place);
         lanes.copy_to_slice(&mut out[pass.made..]);
         pass.place += count;
         pass.made += count;
-        if count < 16 {
+        if count < 15 {
             return pass;
         }
     }
