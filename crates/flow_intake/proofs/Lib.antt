@@ -9,3 +9,4 @@ pub mod Takes
 pub mod Runs
 pub mod Ranges
 pub mod Written
+pub mod FirstBytes

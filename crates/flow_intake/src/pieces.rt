@@ -1,6 +1,7 @@
 //! An input in pieces, from any reader, however it cuts the bytes.
 ghost use Rattle.std.specs.Prelude.{◌≡◌, ◌≢◌, ◌≤◌, ◌<◌, ◌+◌, ◌-◌, ◌^◌, [], false, min, length, drop, slice_get, IfOk, OnOk, OnErr, IsErrOf, Err, IsTrue};
 ghost use Rattle.std.specs.List.{position};
+ghost use Rattle.flow_intake.specs.Frames.{is_text};
 ghost use Rattle.std.specs.Io.KnownBytes.{Consumes};
 ghost use Rattle.flow_intake.specs.Reader.{Agrees, BeginsWithStop, Came, CameTooMuch, Filled, TakesIf, Took, TookRun};
 ghost use Rattle.flow_intake.specs.Until.{stops_at};
@@ -8,6 +9,7 @@ ghost use Rattle.flow_intake.specs.Until.{stops_at};
 use crate::counted::Counted;
 use crate::intake::IntakeFault;
 use crate::kept::Kept;
+use memchr::memchr2;
 use std::alloc::{AllocError, Allocator, Global};
 use std::io::Read;
 use std::marker::Model;
@@ -26,24 +28,24 @@ pub(crate) enum Until {
     OrderEnd,
 }
 
-impl Until {
-    /// Whether the run stops before this byte.
-    fn stops_at(self, byte: u8) -> bool
-        ensures { result ≡ stops_at self byte }
-    {
-        match self {
-            Until::Text => !(byte == b' ' || byte == b'\r' || byte == b'\n'),
-            Until::Bracket => byte == b'(' || byte == b')',
-            Until::OrderEnd => byte == b'\n' || byte == b'(',
-        }
-    }
+/// Where the first byte stands that is no blank. Blanks before a frame are few, so a search by vectors would gain nothing.
+fn text_in(bytes: &[u8]) -> Option<usize>
+    ensures { result ≡ position is_text bytes.now }
+{
+    bytes
+        .iter()
+        .position(|byte| !(*byte == b' ' || *byte == b'\r' || *byte == b'\n'))
 }
 
 /// Where the first byte stands that stops the run.
 fn stop_in(bytes: &[u8], until: Until) -> Option<usize>
     ensures { result ≡ position (stops_at until) bytes.now }
 {
-    bytes.iter().position(|byte| until.stops_at(*byte))
+    match until {
+        Until::Text => text_in(bytes),
+        Until::Bracket => memchr2(b'(', b')', bytes),
+        Until::OrderEnd => memchr2(b'\n', b'(', bytes),
+    }
 }
 
 /// The piece of the input that was read last, and how much of it was taken.

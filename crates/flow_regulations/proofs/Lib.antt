@@ -14,6 +14,7 @@ pub mod Numbers
 pub mod Openings
 pub mod Others
 pub mod Placing
+pub mod PutBack
 pub mod Queues
 pub mod Renewed
 pub mod Saying

@@ -1,8 +1,8 @@
 -- Where a flight stands in the slot lists, by which it is put back there.
-use Rattle.std.specs.Prelude.{◌≡◌, ℕ, ◌<◌, List, [], ◌∷◌}
+use Rattle.std.specs.Prelude.{◌≡◌, ℕ, ◌<◌, List, [], ◌∷◌, None, IfSome}
 use Rattle.std.specs.Option.{option_map_or}
 use Rattle.flow_slots.specs.Period.{IsWithin}
-use Rattle.flow_slots.specs.Lineup.{Lineup, IsLineup, len_of, fixed_slot, waiting_entry, with_waiting, with_fixed}
+use Rattle.flow_slots.specs.Lineup.{Lineup, IsLineup, len_of, held_flight, fixed_slot, waiting_entry, with_waiting, with_fixed}
 use Rattle.flow_regulations.specs.declared.places.Place.{Place}
 use Rattle.flow_regulations.specs.declared.places.Place.TheVariants as place
 use Rattle.flow_regulations.specs.Listing.{Listed}
@@ -24,6 +24,12 @@ abbrev pub HasPlace : Place → Lineup → Type 0
 HasPlace place.Absent l = Unit {0}
 HasPlace (place.Waiting entry) l = IsWithin l.period entry
 HasPlace (place.Fixed slot) l = slot < len_of l
+
+-- a flight that isn't held may stand there
+abbrev pub MayStand : Place → Lineup → Type 0
+MayStand place.Absent l = Unit {0}
+MayStand (place.Waiting entry) l = IsWithin l.period entry
+MayStand (place.Fixed slot) l = (slot < len_of l) × IfSome (held_flight l slot) (λ holder. fixed_slot l holder ≡ None)
 
 -- that is where the flight stands in an open regulation
 pub record IsPlaceOf (flight : ℕ) (place : Place) (l : Listed) : Type 0 where

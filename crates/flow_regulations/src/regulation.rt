@@ -3,10 +3,10 @@ ghost use Rattle.std.specs.Prelude.{◌≡◌, ◌<◌, ◌≤◌, ℕ, List, No
 ghost use Rattle.flow_plans.specs.Plans.{Plan as Held, plan_at, is_departed, is_filed};
 ghost use Rattle.flow_slots.specs.Lineup.{held_slot, fixed_slot, without_flight, waiting_entry, len_of, IsLineup};
 ghost use Rattle.flow_slots.specs.Period.{IsWithin, IsRegular};
-ghost use Rattle.flow_regulations.specs.Places.{IsPlaceOf};
+ghost use Rattle.flow_regulations.specs.Places.{IsPlaceOf, MayStand, stood};
 ghost use Rattle.flow_regulations.specs.Regulations.{subject_to};
 ghost use Rattle.flow_regulations.specs.Settling.{is_due, pairs_of};
-ghost use Rattle.flow_regulations.specs.Listing.{regulation_of, with_lineup, without_in, keeps_slot, placed, with_no_flights, let_in, is_named, fixed_waiting, IsListedIn, IsSettledBut, AreSameBut, IsRenewed};
+ghost use Rattle.flow_regulations.specs.Listing.{Listed, regulation_of, with_lineup, without_in, keeps_slot, placed, with_no_flights, let_in, is_named, fixed_waiting, IsListedIn, IsSettledBut, AreSameBut, IsRenewed};
 
 use crate::places::Place;
 use flow_plans::{Plan, PlanState, PlanStore};
@@ -201,6 +201,35 @@ impl<A: Allocator + Copy> Regulation<A> {
             Some(entry) => Place::Waiting { entry },
             None => Place::Absent,
         }
+    }
+
+    /// Lets a flight that isn't held stand in a place.
+    fn stand_in(&mut self, number: u32, place: Place)
+        requires absent { held_slot self.old.lineup number ≡ None }
+        requires first { 0 < number }
+        requires last { number ≤ self.old.lineup.capacity }
+        requires may { MayStand place self.old.lineup }
+        ensures { self.new ≡ with_lineup (stood place number self.old.lineup) self.old }
+    {
+        match place {
+            Place::Absent => {}
+            Place::Waiting { entry } => self.list.insert(number, entry),
+            Place::Fixed { slot } => self.list.put_fixed(number, slot),
+        }
+    }
+
+    /// Puts a flight back where it stood, and all stand as they did then: the others stand so already.
+    pub(crate) fn put_back(&mut self, number: u32, place: Place)
+        requires first { 0 < number }
+        requires last { number ≤ self.old.lineup.capacity }
+        requires before { (before : Listed) × IsPlaceOf number place before × (without_in number self.old ≡ without_in number before) }
+        ensures { (before : Listed) → IsPlaceOf number place before → without_in number self.old ≡ without_in number before → self.new ≡ before }
+    {
+        if self.place_of(number).is(&place) {
+            return;
+        }
+        self.take_out(number);
+        self.stand_in(number, place);
     }
 
     /// Fixes a flight where it waits, if it waits.

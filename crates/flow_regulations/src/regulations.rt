@@ -5,12 +5,14 @@ ghost use Rattle.std.specs.List.Sorted.{IsNonDecreasing};
 ghost use Rattle.flow_plans.specs.Plans.{Plan, plan_at};
 ghost use Rattle.flow_slots.specs.Assignment.{is_in};
 ghost use Rattle.flow_regulations.specs.Advice.{advice};
-ghost use Rattle.flow_regulations.specs.Listing.{Walked, without_in, IsLookedAgain, IsListed, AreSettledBut, AreSameBut, AreRenewed, IsFixedWaiting, AreFrozen, IsSettled, IsAdvancing, is_below, is_among, with_fixed_waiting, AreDue, HoldNewlyDue, IsOpened, opened, is_named, without_named, lineup_named, pairs_in, regulation_of};
+ghost use Rattle.flow_regulations.specs.Listing.{Listed, Walked, without_in, IsLookedAgain, IsListed, AreSettledBut, AreSameBut, AreRenewed, IsFixedWaiting, AreFrozen, IsSettled, IsAdvancing, is_below, is_among, with_fixed_waiting, AreDue, HoldNewlyDue, IsOpened, opened, is_named, without_named, lineup_named, pairs_in, regulation_of};
 ghost use Rattle.flow_regulations.specs.Notices.{notices_from, told_from};
+ghost use Rattle.flow_regulations.specs.Places.{ArePlaces};
 ghost use Rattle.flow_regulations.specs.Quiet.{AreQuietBut, AllQuiet};
 
 use crate::advice::advice_of;
 use crate::notice::{Notice, Told};
+use crate::places::Place;
 use crate::regulation::{Regulation, is_due};
 use crate::telling::tell;
 use flow_plans::PlanStore;
@@ -154,6 +156,29 @@ impl<A: Allocator + Copy> Regulations<A> {
         fix_waiting_in(&mut self.regulations, number);
     }
 
+    /// Notes where a flight stands in each regulation, in the order of opening, for `put_back`. The caller keeps room for
+    /// as many places as regulations are open.
+    pub fn note_places(&self, number: u32, places: &mut Vec<Place, A>)
+        requires { length self.now.lists ≤ vec_capacity places.old }
+        ensures places { ArePlaces number places.new.items self.now.lists }
+        ensures capacity { vec_capacity places.new ≡ vec_capacity places.old }
+    {
+        note_places_in(&self.regulations, number, places);
+    }
+
+    /// Puts a flight back where it stood in each regulation before `look_again` or `freeze_departing`, as its places were
+    /// noted then. The regulations are those of that time. It takes no memory.
+    pub fn put_back(&mut self, number: u32, places: &[Place])
+        requires some { 0 < number }
+        requires room { number ≤ self.old.max_plans }
+        requires before { (before : List Listed) × ArePlaces number places.now before × (map (without_in number) self.old.lists ≡ map (without_in number) before) }
+        ensures limit { self.new.max_plans ≡ self.old.max_plans }
+        ensures lists { (before : List Listed) → ArePlaces number places.now before
+            → map (without_in number) self.old.lists ≡ map (without_in number) before → self.new.lists ≡ before }
+    {
+        put_back_in(&mut self.regulations, number, places);
+    }
+
     /// What the flight of the plan of this number is to be told: its take-off delayed by the most penalising of the
     /// regulations where it keeps a slot, of equal ones by the one opened first, and the name of that one (ATFCM Users
     /// Manual, slot allocation). None where it keeps no slot.
@@ -211,6 +236,39 @@ fn look_again_in<A: Allocator + Copy>(
 {
     for regulation in regulations.iter_mut() {
         regulation.look_again(plans, number, now);
+    }
+}
+
+/// Notes where a flight stands in each regulation.
+fn note_places_in<A: Allocator + Copy>(
+    regulations: &[Regulation<A>],
+    number: u32,
+    places: &mut Vec<Place, A>,
+)
+    requires { length regulations.now ≤ vec_capacity places.old }
+    ensures places { ArePlaces number places.new.items regulations.now }
+    ensures capacity { vec_capacity places.new ≡ vec_capacity places.old }
+{
+    places.clear();
+    for regulation in regulations {
+        places.push_reserved(regulation.place_of(number));
+    }
+}
+
+/// Each regulation puts one flight back.
+fn put_back_in<A: Allocator + Copy>(
+    regulations: &mut [Regulation<A>],
+    number: u32,
+    places: &[Place],
+)
+    requires some { 0 < number }
+    requires room { AllByRecursion (λ l. number ≤ l.lineup.capacity) regulations.old }
+    requires before { (before : List Listed) × ArePlaces number places.now before × (map (without_in number) regulations.old ≡ map (without_in number) before) }
+    ensures { (before : List Listed) → ArePlaces number places.now before
+        → map (without_in number) regulations.old ≡ map (without_in number) before → regulations.new ≡ before }
+{
+    for (index, regulation) in regulations.iter_mut().enumerate() {
+        regulation.put_back(number, places[index]);
     }
 }
 

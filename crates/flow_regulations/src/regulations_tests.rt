@@ -2,6 +2,7 @@
 //! 10:04 and leaves its stand at 08:00.
 
 use crate::notice::{Notice, Said, Told};
+use crate::places::Place;
 use crate::regulations::Regulations;
 use crate::telling_tests::{at, one_plan, told};
 use flow_plans::{PlanStore, Setup};
@@ -80,6 +81,34 @@ fn a_flight_is_frozen_once_it_is_due(rt: HostRuntime) -> Result<(), Fail> {
         Some(told(at(8, 12), b"RMZ01"))
     );
     Ok(())
+}
+
+#[test]
+fn a_frozen_flight_is_put_back_where_it_waited(rt: HostRuntime) -> Result<(), Fail> {
+    let plans = one_plan(&rt, rt.alloc())?;
+    assert!(rt; plans.count() == 1);
+    let id: Text<8> = Text::new(b"RMZ01");
+    let arrivals = Spot::Arr(Text::new(b"EDDF"));
+    let shape = Shape::new(at(10, 0), at(12, 0), 20, &[]).expect(&rt, "a shape");
+    let mut regulations = Regulations::new(rt.alloc(), 100);
+    regulations.open(rt.alloc(), id.copied(), arrivals, shape, &plans, at(5, 0))?;
+    let mut places = Vec::new(rt.alloc());
+    places.reserve(regulations.count())?;
+    regulations.note_places(1, &mut places);
+    assert_eq!(rt;
+        places.as_slice(),
+        [Place::Waiting { entry: at(10, 4) }].as_slice()
+    );
+    regulations.freeze_departing(1);
+    assert!(rt; is_fixed(&rt, &regulations, &id));
+    regulations.put_back(1, &places);
+    assert!(rt; !is_fixed(&rt, &regulations, &id));
+    Ok(())
+}
+
+/// Whether flight 1 keeps a slot.
+fn is_fixed(rt: &impl Abort, regulations: &Regulations, id: &Text<8>) -> bool {
+    regulations.slots(id).expect(rt, "a slot list").is_fixed(1)
 }
 
 /// Whether a regulation is opened over a heap. Where it is refused for want of memory, none is open.

@@ -1,2 +1,4 @@
 pub mod RoutesLemmas
 pub mod RouteLawsProofs
+pub mod ItemsLemmas
+pub mod KindsLemmas

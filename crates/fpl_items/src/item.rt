@@ -1,27 +1,34 @@
 //! The items of field 18.
 
-ghost use Rattle.std.specs.Prelude.{◌≡◌, ◌<◌, ◌∷◌, ◌++◌, [], List, ℕ, IsTrue, take, MatchOption};
+ghost use Rattle.std.specs.Prelude.{◌≡◌, ◌==◌, ◌&&◌, ◌∷◌, ◌++◌, [], nat_le, nat_lt, List, ℕ, true, IsTrue, length, take, slice_index, MatchOption};
 ghost use Rattle.std.specs.Iterator.{YieldsFirst, YieldsFirstRef, item_count};
+ghost use Rattle.std.specs.List.{prefix_len};
+ghost use Rattle.fpl_text.specs.Bytes.{is_letter, is_letter_or_digit};
 ghost use Rattle.fpl_text.specs.Words.{words_of};
 ghost use Rattle.fpl_items.specs.Kinds.{before_stroke};
 ghost use Rattle.fpl_items.specs.Items.{begins_item, own_words, own_list, words_before, items_of};
 
-use crate::route::before_stroke;
-use fpl_text::Words;
-use fpl_text::byte::{all_letters_or_digits, is_letter};
+use fpl_text::{Measured, Words};
 use std::marker::Model;
 
-/// Whether a word begins an item.
-#[tactic(auto, unfolding(crate::specs::Items::begins_item))]
-pub(crate) fn begins_item(word: &[u8]) -> bool
-    ensures { result ≡ begins_item word.now }
+/// Whether a stroke stands at a place of a word, and what is before it is as long as a name and begins with a letter.
+#[inline(always)]
+fn has_name(stroke: usize, letters: usize, word: &[u8]) -> bool
+    ensures { result ≡ (nat_lt stroke (length word.now) && (slice_index word.now stroke == 47) && nat_le 2 stroke
+        && nat_le stroke 9 && nat_le 1 letters) }
 {
-    let stroke = before_stroke(word);
-    stroke < word.len()
-        && stroke >= 2
-        && stroke <= 9
-        && is_letter(word[0])
-        && all_letters_or_digits(&word[..stroke])
+    stroke < word.len() && word[stroke] == b'/' && stroke >= 2 && stroke <= 9 && letters >= 1
+}
+
+/// Whether a word begins an item: whether the letters and digits at its front are a name with a stroke behind it.
+#[inline(always)]
+pub(crate) fn begins_item(measured: &Measured<'_>) -> bool
+    requires letters { measured.now.letters ≡ prefix_len is_letter measured.now.word.now }
+    requires letters_or_digits { measured.now.letters_or_digits ≡ prefix_len is_letter_or_digit measured.now.word.now }
+    ensures value { result ≡ begins_item measured.now.word.now }
+    ensures stroke { result ≡ true → measured.now.letters_or_digits ≡ before_stroke measured.now.word.now }
+{
+    has_name(measured.letters_or_digits, measured.letters, measured.word)
 }
 
 /// The words of an item, which end before the next item.
@@ -50,12 +57,12 @@ impl<'a> Iterator for ItemWords<'a> {
             self.own = None;
             return Some(own);
         }
-        let word = self.following.next()?;
-        if begins_item(word) {
+        let measured = self.following.next_measured()?;
+        if begins_item(&measured) {
             self.following = Words::new(&[]);
             return None;
         }
-        Some(word)
+        Some(measured.word)
     }
 }
 
@@ -63,11 +70,12 @@ impl<'a> Iterator for ItemWords<'a> {
 #[derive(Drop)]
 pub struct Item<'a> {
     first: &'a [u8],
+    stroke: usize,
     following: Words<'a>,
 }
 
 impl<'a> Model for Item<'a> {
-    ghost use Rattle.std.specs.Prelude.{◌++◌, take, IsTrue};
+    ghost use Rattle.std.specs.Prelude.{◌≡◌, ◌++◌, take, IsTrue};
     ghost use Rattle.fpl_items.specs.Kinds.{before_stroke};
     ghost use Rattle.fpl_items.specs.Items.{Item as Entry, begins_item, own_words, words_before};
 
@@ -78,7 +86,7 @@ impl<'a> Model for Item<'a> {
       words = own_words i.first.now ++ words_before i.following;
     } };
 
-    ghost invariant = { λ i. IsTrue (begins_item i.first.now) };
+    ghost invariant = { λ i. IsTrue (begins_item i.first.now) × (i.stroke ≡ before_stroke i.first.now) };
 }
 
 impl<'a> Item<'a> {
@@ -86,7 +94,7 @@ impl<'a> Item<'a> {
     pub fn name(&self) -> &'a [u8]
         ensures { result.now ≡ self.now.name }
     {
-        &self.first[..before_stroke(self.first)]
+        &self.first[..self.stroke]
     }
 
     /// The words up to the next item.
@@ -94,7 +102,7 @@ impl<'a> Item<'a> {
     pub fn words(&self) -> ItemWords<'a>
         ensures { result ≡ self.now.words }
     {
-        let own = &self.first[before_stroke(self.first) + 1..];
+        let own = &self.first[self.stroke + 1..];
         ItemWords {
             own: if own.is_empty() { None } else { Some(own) },
             following: self.following.duplicate(),
@@ -107,10 +115,11 @@ fn next_item<'a>(words: &mut Words<'a>) -> Option<Item<'a>>
     ensures { MatchOption result ((items_of words.old ≡ []) × (words.new ≡ []))
         (λ item. items_of words.old ≡ item ∷ items_of words.new) }
 {
-    while let Some(word) = words.next() {
-        if begins_item(word) {
+    'words: while let Some(measured) = words.next_measured() {
+        if begins_item(&measured) {
             return Some(Item {
-                first: word,
+                first: measured.word,
+                stroke: measured.letters_or_digits,
                 following: words.duplicate(),
             });
         }

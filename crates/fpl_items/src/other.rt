@@ -123,8 +123,8 @@ impl<A: Allocator + Copy> Model for Other18<A> {
 fn begins_with_item(field: &[u8]) -> bool
     ensures { result ≡ begins_item (slice_index_or (words_of field.now) 0 []) }
 {
-    match Words::new(field).next() {
-        Some(word) => begins_item(word),
+    match Words::new(field).next_measured() {
+        Some(measured) => begins_item(&measured),
         None => false,
     }
 }

@@ -1,8 +1,8 @@
 //! Field 15: the route.
 
-ghost use Rattle.std.specs.Prelude.{◌≡◌, ◌≤◌, ◌<◌, ◌+◌, ◌==◌, length, count_by, IfOk, IfErr};
-ghost use Rattle.std.specs.List.{list_all};
-ghost use Rattle.fpl_text.specs.Bytes.{is_letter_or_digit};
+ghost use Rattle.std.specs.Prelude.{◌≡◌, ◌≤◌, ◌<◌, ◌+◌, ◌==◌, Some, length, count_by, IfOk, IfErr};
+ghost use Rattle.std.specs.List.{list_all, prefix_len};
+ghost use Rattle.fpl_text.specs.Bytes.{is_letter, is_letter_or_digit};
 ghost use Rattle.std.specs.Option.{ok_or};
 ghost use Rattle.fpl_items.specs.Routes.{path_or_fault, elements_of, total_len, Gives};
 ghost use Rattle.fpl_items.specs.Kinds.{is_name, is_coordinate, is_point, is_change, is_climb_range, is_climb_speed, is_climb_from, is_climb, is_designator, is_route_byte, kind_of, before_stroke, height_len};
@@ -12,7 +12,7 @@ use crate::speed::{is_height, is_speed, is_speed_and_level, speed_and_level, spe
 use fpl_text::byte::{
     all_digits, all_letters, all_letters_or_digits, is_letter_or_digit, leading_letters,
 };
-use fpl_text::{Text, Words};
+use fpl_text::{Measured, Text, Words};
 use std::alloc::{Allocator, Global};
 use std::marker::Model;
 
@@ -172,20 +172,66 @@ fn all_route_bytes(word: &[u8]) -> bool
     word.iter().all(|byte| is_route_byte(*byte))
 }
 
-/// The first kind that fits a word.
+/// The first kind that fits a word of three letters.
 #[tactic(auto, unfolding(crate::specs::Kinds::kind_of))]
-fn kind_of(word: &[u8]) -> Option<Kind>
-    ensures { result ≡ kind_of word.now }
+fn kind_of_three(word: &[u8]) -> Kind
+    requires letters { prefix_len is_letter word.now ≡ length word.now }
+    requires three { length word.now ≡ 3 }
+    ensures { kind_of word.now ≡ Some result }
 {
     if word == b"DCT".as_slice() {
-        Some(Kind::Dct)
+        Kind::Dct
     } else if word == b"VFR".as_slice() {
-        Some(Kind::Vfr)
+        Kind::Vfr
     } else if word == b"IFR".as_slice() {
-        Some(Kind::Ifr)
-    } else if word == b"OAT".as_slice() || word == b"GAT".as_slice() {
-        Some(Kind::Other)
-    } else if is_point(word) {
+        Kind::Ifr
+    } else if word == b"OAT".as_slice() {
+        Kind::Other
+    } else if word == b"GAT".as_slice() {
+        Kind::Other
+    } else {
+        Kind::Point
+    }
+}
+
+/// The first kind that fits a word of letters alone.
+#[inline(always)]
+fn kind_of_letters(word: &[u8]) -> Kind
+    requires { prefix_len is_letter word.now ≡ length word.now }
+    ensures { kind_of word.now ≡ Some result }
+{
+    if word.len() == 3 {
+        kind_of_three(word)
+    } else if word.len() < 2 {
+        Kind::Other
+    } else if word.len() > 5 {
+        Kind::Other
+    } else {
+        Kind::Point
+    }
+}
+
+/// The first kind that fits a word of up to 6 letters and digits, not all of them letters: too short for a point.
+#[inline(always)]
+fn kind_with_digit(word: &[u8]) -> Kind
+    requires digit { prefix_len is_letter word.now < length word.now }
+    requires alone { prefix_len is_letter_or_digit word.now ≡ length word.now }
+    requires short { length word.now < 7 }
+    ensures { kind_of word.now ≡ Some result }
+{
+    if word.len() >= 2 {
+        Kind::Designator
+    } else {
+        Kind::Other
+    }
+}
+
+/// The first kind that fits a word that is not of letters alone.
+fn kind_with_other(word: &[u8]) -> Option<Kind>
+    requires { prefix_len is_letter word.now < length word.now }
+    ensures { result ≡ kind_of word.now }
+{
+    if is_point(word) {
         Some(Kind::Point)
     } else if is_change(word) {
         Some(Kind::Change)
@@ -198,6 +244,23 @@ fn kind_of(word: &[u8]) -> Option<Kind>
     } else {
         None
     }
+}
+
+/// The first kind that fits a word.
+#[inline(always)]
+fn kind_of(measured: &Measured<'_>) -> Option<Kind>
+    requires letters { measured.now.letters ≡ prefix_len is_letter measured.now.word.now }
+    requires letters_or_digits { measured.now.letters_or_digits ≡ prefix_len is_letter_or_digit measured.now.word.now }
+    ensures { result ≡ kind_of measured.now.word.now }
+{
+    let len = measured.word.len();
+    if measured.letters == len {
+        return Some(kind_of_letters(measured.word));
+    }
+    if len < 7 && measured.letters_or_digits == len {
+        return Some(kind_with_digit(measured.word));
+    }
+    kind_with_other(measured.word)
 }
 
 /// How many spaces a text has.
@@ -229,7 +292,7 @@ fn elements_of<A: Allocator + Copy>(
     alloc: A,
     most: usize,
     start: usize,
-    words: Words<'_>,
+    mut words: Words<'_>,
 ) -> Result<Vec<Element, A>, ItemFault>
     requires most { length words ≤ most }
     requires fits { start + total_len words ≤ usize.MAX }
@@ -239,11 +302,11 @@ fn elements_of<A: Allocator + Copy>(
         return Err(ItemFault::OutOfMemory);
     };
     let mut from = start;
-    for word in words {
-        let Some(kind) = kind_of(word) else {
+    'words: while let Some(measured) = words.next_measured() {
+        let Some(kind) = kind_of(&measured) else {
             return Err(ItemFault::BadField(15));
         };
-        let to = from + word.len();
+        let to = from + measured.word.len();
         elements.push_reserved(element_at(kind, from, to)?);
         from = to + 1;
     }

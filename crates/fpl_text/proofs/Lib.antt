@@ -7,3 +7,5 @@ pub mod WordsLemmas
 pub mod MomentsLemmas
 pub mod ReadBackLemmas
 pub mod MomentYears
+pub mod LaneLemmas
+pub mod FirstBytes

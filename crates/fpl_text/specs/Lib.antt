@@ -10,3 +10,5 @@ pub mod Craft
 pub mod Places
 pub mod Moments
 pub mod Days
+pub mod Lanes
+pub mod Passes

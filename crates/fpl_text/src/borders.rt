@@ -6,8 +6,8 @@ ghost use Rattle.fpl_text.specs.Bytes.{is_border};
 ghost use Rattle.fpl_text.specs.Fields.{is_bracket};
 ghost use Rattle.fpl_text.specs.Borders.{parts, IsCut, with_border};
 
-use crate::byte::is_border;
 use arrayvec::ArrayVec;
+use memchr::memchr3;
 
 /// The places of the first borders of a message's fields, counted from the opening bracket, which is the first of them;
 /// behind it come the hyphens and the closing bracket. No message that is accepted has more than 12 fields.
@@ -23,7 +23,7 @@ fn part_len(text: &[u8]) -> usize
     ensures value { result ≡ position_or_len is_border text.now }
     ensures bound { result ≤ length text.now }
 {
-    text.iter().take_while(|byte| !is_border(**byte)).count()
+    memchr3(b'-', b'(', b')', text).unwrap_or(text.len())
 }
 
 /// Notes a border behind which there are so many, where all those are noted and there is room for its place.

@@ -48,7 +48,7 @@ pub(crate) fn is_border(byte: u8) -> bool
 pub(crate) fn is_other_mark(byte: u8) -> bool
     ensures { result ≡ is_other_mark byte }
 {
-    matches!(byte, b'/' | b'.' | b',' | b'\'' | b'?' | b':' | b'+' | b'=')
+    matches!(byte, b'/' | b'.' | b':' | b',' | b'\'' | b'?' | b'+' | b'=')
 }
 
 /// A byte that a text may have.

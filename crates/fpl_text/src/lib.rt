@@ -11,9 +11,11 @@ pub mod fault;
 pub mod fields;
 pub mod heading;
 pub mod ident;
+mod lanes;
 pub mod laws;
 pub mod minute;
 pub mod part;
+mod pass;
 pub mod place;
 pub mod squeezed;
 #[cfg(test)]
@@ -35,4 +37,4 @@ pub use place::{Alternates, Departure, Destination};
 pub use squeezed::Squeezed;
 pub use text::Text;
 pub use time::{TimeOfDay, read_elapsed};
-pub use words::Words;
+pub use words::{Measured, Words};

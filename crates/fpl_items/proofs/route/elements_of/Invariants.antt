@@ -3,9 +3,12 @@ use Rattle.fpl_items.specs.Routes.{elements_of, total_len}
 use Rattle.fpl_items.proofs.RoutesLemmas.{with_front}
 use Rattle.fpl_items.proofs.route.elements_of.Given as goal
 
-abbrev pub invariant-loop-word : goal.invariant-loop-word
-invariant-loop-word g l = record {
-  told : with_front l.elements.items (elements_of l.from l.word-iterator) ≡ elements_of l.fn.start l.fn.words;
-  places : vec_len l.elements + length l.word-iterator ≤ vec_capacity l.elements;
-  room : l.from + total_len l.word-iterator ≤ l.fn.start + total_len l.fn.words;
+abbrev pub invariant-words : goal.invariant-words
+invariant-words g l = record {
+  told : with_front l.elements.items (elements_of l.from l.words) ≡ elements_of l.fn.start l.fn.words;
+  places : vec_len l.elements + length l.words ≤ vec_capacity l.elements;
+  room : l.from + total_len l.words ≤ l.fn.start + total_len l.fn.words;
 }
+
+abbrev pub decreases-words : goal.decreases-words
+decreases-words g l = length l.words

@@ -1,0 +1,224 @@
+-- A flight is put back where it stood.
+use Rattle.std.proofs.Common.{◌≡◌, ℕ, zero, suc, ◌+◌, ◌<◌, ◌≤◌, ◌++◌, Bool, true, false, not, cond, eqb, List, [], ◌∷◌, length, map, take, get_or, Option, Some, None, refl, sym, ap, subst, ◌∙◌, arith}
+use Rattle.std.proofs.lemmas.List.{take_more, length-map}
+use Rattle.std.specs.Prelude.{IsSome, IfSome, slice_set}
+use Rattle.std.specs.List.{AllByRecursion}
+use Rattle.std.specs.Option.{option_map_or}
+use Rattle.std.proofs.lemmas.Bool.{eqb-true, eqb-false, ne_eqb}
+use Rattle.flow_slots.specs.declared.cell.Planned.{Planned}
+use Rattle.flow_slots.specs.Period.{first_slot}
+use Rattle.flow_slots.specs.Order.{without}
+use Rattle.flow_slots.specs.Assignment.{Placed, first_free, greedy, slots}
+use Rattle.flow_slots.specs.Lineup.{Lineup, IsLineup, NoneIs, NoneFixed, BySlot, WaitingApart, slot_in, flight_in, held_slot, held_flight, fixed_slot, entry_in, waiting_entry, without_fixed, with_waiting, with_fixed, without_flight}
+use Rattle.flow_slots.proofs.TakenBack.{removed-inserted, removed-put_fixed}
+use Rattle.flow_regulations.specs.declared.places.Place.{Place}
+use Rattle.flow_regulations.specs.declared.places.Place.TheVariants as place
+use Rattle.flow_regulations.specs.Listing.{Listed, with_lineup, without_in, HaveCapacity}
+use Rattle.flow_regulations.specs.Places.{place_in, stood, HasPlace, MayStand, IsPlaceOf, ArePlaces}
+use Rattle.flow_regulations.proofs.FixedOnes.{all-map, slot_in-none, without_fixed-none}
+use Rattle.flow_regulations.proofs.Looks.{slot_in-before}
+use Rattle.flow_regulations.proofs.Standing.{none-slot}
+use Rattle.flow_regulations.proofs.Waiting.{without-none}
+
+-- a flight that neither waits nor is fixed is none of them
+entry-none : (f : ℕ) (ws : List Planned) → entry_in f ws ≡ None → NoneIs f ws
+entry-none f [] e = tt
+entry-none f (w ∷ ws) e = cases (entry-none f ws) (eqb w.flight f) refl e where
+  cases : (entry_in f ws ≡ None → NoneIs f ws) → (b : Bool) → eqb w.flight f ≡ b → cond b (Some w.entry) (entry_in f ws) ≡ None → NoneIs f (w ∷ ws)
+  cases again true q h = absurd cc
+  cases again false q h = (eqb-false w.flight f q, again h)
+
+out-already : (f : ℕ) (l : Lineup) → fixed_slot l f ≡ None → waiting_entry l f ≡ None → without_flight f l ≡ l
+out-already f l a b =
+    ap (λ ws. let m : Lineup = record { period = l.period; capacity = l.capacity; waiting = ws; fixed = without_fixed f l.fixed } in m) (without-none f l.waiting (entry-none f l.waiting b))
+    ∙ ap (λ fs. let m : Lineup = record { period = l.period; capacity = l.capacity; waiting = l.waiting; fixed = fs } in m) (without_fixed-none f l.fixed (slot_in-none f l.fixed a))
+
+-- where it stood, it stands again
+pub stood-back : (f : ℕ) (l : Lineup) → IsLineup l → stood (place_in f l) f (without_flight f l) ≡ l
+stood-back f l lined = fixed (fixed_slot l f) refl where
+  waits : fixed_slot l f ≡ None → (o : Option ℕ) → waiting_entry l f ≡ o → stood (option_map_or (λ entry. place.Waiting entry) o place.Absent) f (without_flight f l) ≡ l
+  waits a None b = out-already f l a b
+  waits a (Some e) b = removed-inserted l (record { entry = e; flight = f }) lined b
+
+  fixed : (o : Option ℕ) → fixed_slot l f ≡ o → stood (option_map_or (λ slot. place.Fixed slot) o (option_map_or (λ entry. place.Waiting entry) (waiting_entry l f) place.Absent)) f (without_flight f l) ≡ l
+  fixed None a = waits a (waiting_entry l f) refl
+  fixed (Some k) a = removed-put_fixed l (record { flight = f; slot = k }) lined (slot_in-before f k l.fixed _ a) (let S : Option ℕ → Type 0 = λ o. IsSome o in subst S (sym a) refl)
+
+-- two slot lists in which a flight stands in the same place, and the others too, are the same
+pub same-place : (f : ℕ) (p : Place) (l m : Listed) → IsPlaceOf f p l → IsPlaceOf f p m → without_in f l ≡ without_in f m → l ≡ m
+same-place f p l m a b e =
+    let s : Listed → Listed = λ v. with_lineup (stood p f v.lineup) v in
+    let back : (v : Listed) → IsPlaceOf f p v → s (without_in f v) ≡ v = λ v h. ap (λ q. with_lineup (stood q f (without_flight f v.lineup)) v) h.is ∙ ap (λ u. with_lineup u v) (stood-back f v.lineup h.lined) in
+    sym (back l a) ∙ (ap s e ∙ back m b)
+
+pub stood-there : (f : ℕ) (p : Place) (l t m before : Listed) → IsPlaceOf f p before → without_in f l ≡ without_in f before → t ≡ without_in f l → m ≡ with_lineup (stood p f t.lineup) t → m ≡ before
+stood-there f p l t m before b e out made =
+    made ∙ (ap (λ v. with_lineup (stood p f v.lineup) v) (out ∙ e) ∙ (ap (λ q. with_lineup (stood q f (without_flight f before.lineup)) before) b.is ∙ ap (λ u. with_lineup u before) (stood-back f before.lineup b.lined)))
+
+-- no other fixed flight has its slot
+slots-later : (k f : ℕ) (xs : List Placed) → AllByRecursion (λ b. k < b.slot) xs → flight_in k (without_fixed f xs) ≡ None
+slots-later k f [] h = refl
+slots-later k f (x ∷ xs) h = cases (slots-later k f xs h.1) (not (eqb x.flight f)) where
+  cases : flight_in k (without_fixed f xs) ≡ None → (b : Bool) → flight_in k (cond b (x ∷ without_fixed f xs) (without_fixed f xs)) ≡ None
+  cases again true = ap (λ b. cond b (Some x.flight) (flight_in k (without_fixed f xs))) (ne_eqb x.slot k (λ e. omega (arith, h.0, e))) ∙ again
+  cases again false = again
+
+slot-later : (k f j : ℕ) (xs : List Placed) → AllByRecursion (λ b. k < b.slot) xs → slot_in f xs ≡ Some j → k < j
+slot-later k f j [] h e = absurd cc
+slot-later k f j (x ∷ xs) h e = cases (slot-later k f j xs h.1) (eqb x.flight f) e where
+  cases : (slot_in f xs ≡ Some j → k < j) → (b : Bool) → cond b (Some x.slot) (slot_in f xs) ≡ Some j → k < j
+  cases again true q = (let same : x.slot ≡ j = cc in omega (arith, h.0, same))
+  cases again false q = again q
+
+slot-free : (f k : ℕ) (xs : List Placed) → BySlot xs → slot_in f xs ≡ Some k → flight_in k (without_fixed f xs) ≡ None
+slot-free f k [] s e = refl
+slot-free f k (x ∷ xs) s e = cases (slot-free f k xs s.1) (eqb x.flight f) e where
+  cases : (slot_in f xs ≡ Some k → flight_in k (without_fixed f xs) ≡ None) → (b : Bool) → cond b (Some x.slot) (slot_in f xs) ≡ Some k → flight_in k (cond (not b) (x ∷ without_fixed f xs) (without_fixed f xs)) ≡ None
+  cases again true q =
+      let same : x.slot ≡ k = cc in
+      let L : ℕ → Type 0 = λ j. AllByRecursion (λ b. j < b.slot) xs in
+      slots-later k f xs (subst L same s.0)
+  cases again false q = ap (λ b. cond b (Some x.flight) (flight_in k (without_fixed f xs))) (ne_eqb x.slot k (λ j. (let later = slot-later x.slot f k xs s.0 q in omega (arith, later, j)))) ∙ again q
+
+flight-after : (k : ℕ) (xs ys : List Placed) → flight_in k xs ≡ None → flight_in k (xs ++ ys) ≡ flight_in k ys
+flight-after k [] ys e = refl
+flight-after k (x ∷ xs) ys e = cases (flight-after k xs ys) (eqb x.slot k) e where
+  cases : (flight_in k xs ≡ None → flight_in k (xs ++ ys) ≡ flight_in k ys) → (b : Bool) → cond b (Some x.flight) (flight_in k xs) ≡ None → cond b (Some x.flight) (flight_in k (xs ++ ys)) ≡ flight_in k ys
+  cases again true q = absurd cc
+  cases again false q = again q
+
+-- a flight of the fresh assignment is one that waits
+holder-waits : (k : ℕ) (first : ℕ → ℕ) (taken : List ℕ) (fixed : List Placed) (ws : List Planned) → AllByRecursion (λ w. slot_in w.flight fixed ≡ None) ws → IfSome (flight_in k (greedy first taken ws)) (λ holder. slot_in holder fixed ≡ None)
+holder-waits k first taken fixed [] h = tt
+holder-waits k first taken fixed (w ∷ ws) h =
+    cases (holder-waits k first (first_free taken (first w.entry) ∷ taken) fixed ws h.1) (eqb (first_free taken (first w.entry)) k)
+  where
+    cases : IfSome (flight_in k (greedy first (first_free taken (first w.entry) ∷ taken) ws)) (λ holder. slot_in holder fixed ≡ None) → (b : Bool)
+        → IfSome (cond b (Some w.flight) (flight_in k (greedy first (first_free taken (first w.entry) ∷ taken) ws))) (λ holder. slot_in holder fixed ≡ None)
+    cases again true = h.0
+    cases again false = again
+
+none-less : (g f : ℕ) (xs : List Placed) → NoneFixed g xs → NoneFixed g (without_fixed f xs)
+none-less g f [] h = tt
+none-less g f (x ∷ xs) h = cases (none-less g f xs h.1) (not (eqb x.flight f)) where
+  cases : NoneFixed g (without_fixed f xs) → (b : Bool) → NoneFixed g (cond b (x ∷ without_fixed f xs) (without_fixed f xs))
+  cases again true = (h.0, again)
+  cases again false = again
+
+waiting-unfixed : (f : ℕ) (fixed : List Placed) (ws : List Planned) → WaitingApart fixed ws → AllByRecursion (λ w. slot_in w.flight (without_fixed f fixed) ≡ None) (without f ws)
+waiting-unfixed f fixed [] a = tt
+waiting-unfixed f fixed (w ∷ ws) a = cases (waiting-unfixed f fixed ws a.2) (not (eqb w.flight f)) where
+  cases : AllByRecursion (λ v. slot_in v.flight (without_fixed f fixed) ≡ None) (without f ws) → (b : Bool) → AllByRecursion (λ v. slot_in v.flight (without_fixed f fixed) ≡ None) (cond b (w ∷ without f ws) (without f ws))
+  cases again true = (none-slot w.flight (without_fixed f fixed) (none-less w.flight f fixed a.0), again)
+  cases again false = again
+
+-- a flight that was taken out may stand where it stood
+pub may-stand : (f : ℕ) (p : Place) (l : Listed) → IsPlaceOf f p l → MayStand p (without_flight f l.lineup)
+may-stand f p l h = cases p h.is h.has where
+  is-fixed : (k : ℕ) → place.Fixed k ≡ place_in f l.lineup → fixed_slot l.lineup f ≡ Some k
+  is-fixed k e = at (fixed_slot l.lineup f) (waiting_entry l.lineup f) e where
+    at : (o v : Option ℕ) → place.Fixed k ≡ option_map_or (λ slot. place.Fixed slot) o (option_map_or (λ entry. place.Waiting entry) v place.Absent) → o ≡ Some k
+    at None None e = absurd cc
+    at None (Some t) e = absurd cc
+    at (Some j) v e = (let same : k ≡ j = cc in ap Some (sym same))
+
+  open_there : (k : ℕ) → fixed_slot l.lineup f ≡ Some k → IfSome (held_flight (without_flight f l.lineup) k) (λ holder. fixed_slot (without_flight f l.lineup) holder ≡ None)
+  open_there k e =
+      let fs = without_fixed f l.lineup.fixed in
+      let ws = without f l.lineup.waiting in
+      let H : Option ℕ → Type 0 = λ o. IfSome o (λ holder. slot_in holder fs ≡ None) in
+      subst H (sym (flight-after k fs _ (slot-free f k l.lineup.fixed h.lined.by_slot e))) (holder-waits k (λ e. first_slot l.lineup.period e) (slots fs) fs ws (waiting-unfixed f l.lineup.fixed l.lineup.waiting h.lined.waiting_apart))
+
+  cases : (p : Place) → p ≡ place_in f l.lineup → HasPlace p l.lineup → MayStand p (without_flight f l.lineup)
+  cases place.Absent e q = tt
+  cases (place.Waiting t) e q = q
+  cases (place.Fixed k) e q = (q, open_there k (is-fixed k e))
+
+-- the places of one more regulation
+pub places-more : (f j : ℕ) (ps : List Place) (ls : List Listed) (d : Listed) (p : Place) → j < length ls → IsPlaceOf f p (get_or ls j d) → ArePlaces f ps (take j ls) → ArePlaces f (ps ++ p ∷ []) (take (j + 1) ls)
+places-more f j ps ls d p h i a =
+    let A : List Listed → Type 0 = λ xs. ArePlaces f (ps ++ p ∷ []) xs in
+    subst A (sym (take_more ls j d h)) (last ps (take j ls) a)
+  where
+    last : (ps : List Place) (xs : List Listed) → ArePlaces f ps xs → ArePlaces f (ps ++ p ∷ []) (xs ++ get_or ls j d ∷ [])
+    last [] [] a = (i, tt)
+    last [] (x ∷ xs) a = absurd a
+    last (q ∷ qs) [] a = absurd a
+    last (q ∷ qs) (x ∷ xs) a = (a.0, last qs xs a.1)
+
+-- a walk over a list beside another, that replaces its elements in turn
+abbrev pub WalkedBy : {X Y : Type 0} → (Y → X → X → Type 0) → ℕ → List Y → List X → List X → Type 0
+WalkedBy R zero ys xs zs = zs ≡ xs
+WalkedBy R (suc i) [] xs zs = ⊥
+WalkedBy R (suc i) (y ∷ ys) [] zs = ⊥
+WalkedBy R (suc i) (y ∷ ys) (x ∷ xs) [] = ⊥
+WalkedBy R (suc i) (y ∷ ys) (x ∷ xs) (z ∷ zs) = R y x z × WalkedBy R i ys xs zs
+
+-- what the flight's regulation is after it was put back
+abbrev pub IsBack : ℕ → Place → Listed → Listed → Type 0
+IsBack f p o n = (before : Listed) → IsPlaceOf f p before → without_in f o ≡ without_in f before → n ≡ before
+
+walk-suc : {X Y : Type 0} (R : Y → X → X → Type 0) (i : ℕ) (ys : List Y) (xs zs : List X) (dy : Y) (d z : X) → i < length ys → i < length zs → R (get_or ys i dy) (get_or zs i d) z → WalkedBy R i ys xs zs → WalkedBy R (suc i) ys xs (slice_set zs i z)
+walk-suc R i [] xs zs dy d z h k r w = absurd (omega arith)
+walk-suc R i (y ∷ ys) xs [] dy d z h k r w = absurd (omega arith)
+walk-suc R zero (y ∷ ys) xs (v ∷ zs) dy d z h k r w = (let W : List _ → Type 0 = λ us. WalkedBy R (suc zero) (y ∷ ys) us (z ∷ zs) in subst W w (r, refl))
+walk-suc R (suc i) (y ∷ ys) [] (v ∷ zs) dy d z h k r w = absurd w
+walk-suc R (suc i) (y ∷ ys) (x ∷ xs) (v ∷ zs) dy d z h k r w = (w.0, walk-suc R i ys xs zs dy d z (omega (arith, h)) (omega (arith, k)) r w.1)
+
+pub walk-by : {X Y : Type 0} (R : Y → X → X → Type 0) (i : ℕ) (ys : List Y) (xs zs : List X) (dy : Y) (d z : X) → i < length ys → i < length zs → R (get_or ys i dy) (get_or zs i d) z → WalkedBy R i ys xs zs → WalkedBy R (i + 1) ys xs (slice_set zs i z)
+walk-by R i ys xs zs dy d z h k r w =
+    let W : ℕ → Type 0 = λ j. WalkedBy R j ys xs (slice_set zs i z) in
+    let same : suc i ≡ i + 1 = omega arith in
+    subst W same (walk-suc R i ys xs zs dy d z h k r w)
+
+-- those that it hasn't come to are as they were
+pub walk-rest : {X Y : Type 0} (R : Y → X → X → Type 0) (i : ℕ) (ys : List Y) (xs zs : List X) (d : X) → WalkedBy R i ys xs zs → get_or zs i d ≡ get_or xs i d
+walk-rest R zero ys xs zs d w = ap (λ vs. get_or vs zero d) w
+walk-rest R (suc i) [] xs zs d w = absurd w
+walk-rest R (suc i) (y ∷ ys) [] zs d w = absurd w
+walk-rest R (suc i) (y ∷ ys) (x ∷ xs) [] d w = absurd w
+walk-rest R (suc i) (y ∷ ys) (x ∷ xs) (z ∷ zs) d w = walk-rest R i ys xs zs d w.1
+
+-- there are as many places as regulations
+pub places-length : (f : ℕ) (ps : List Place) (bs : List Listed) → ArePlaces f ps bs → length bs ≡ length ps
+places-length f [] [] a = refl
+places-length f [] (b ∷ bs) a = absurd a
+places-length f (p ∷ ps) [] a = absurd a
+places-length f (p ∷ ps) (b ∷ bs) a = (let again = places-length f ps bs a.1 in omega arith)
+
+pub place-at : (f i : ℕ) (ps : List Place) (bs : List Listed) (dp : Place) (db : Listed) → i < length ps → ArePlaces f ps bs → IsPlaceOf f (get_or ps i dp) (get_or bs i db)
+place-at f i [] bs dp db h a = absurd (omega arith)
+place-at f i (p ∷ ps) [] dp db h a = absurd a
+place-at f zero (p ∷ ps) (b ∷ bs) dp db h a = a.0
+place-at f (suc i) (p ∷ ps) (b ∷ bs) dp db h a = place-at f i ps bs dp db (omega (arith, h)) a.1
+
+pub map-at : (f i : ℕ) (os bs : List Listed) (d e : Listed) → i < length os → map (without_in f) os ≡ map (without_in f) bs → without_in f (get_or os i d) ≡ without_in f (get_or bs i e)
+map-at f i [] bs d e h q = absurd (omega arith)
+map-at f i (o ∷ os) [] d e h q = absurd cc
+map-at f zero (o ∷ os) (b ∷ bs) d e h q = cc
+map-at f (suc i) (o ∷ os) (b ∷ bs) d e h q = (let rest : map (without_in f) os ≡ map (without_in f) bs = cc in map-at f i os bs d e (omega (arith, h)) rest)
+
+pub all-back : (f n : ℕ) (ps : List Place) (os ns bs : List Listed) → n ≡ length ps → WalkedBy (IsBack f) n ps os ns → ArePlaces f ps bs → map (without_in f) os ≡ map (without_in f) bs → ns ≡ bs
+all-back f zero [] [] ns [] e w a q = w
+all-back f zero [] (o ∷ os) ns [] e w a q = absurd cc
+all-back f zero [] os ns (b ∷ bs) e w a q = absurd a
+all-back f zero (p ∷ ps) os ns bs e w a q = absurd (omega arith)
+all-back f (suc n) [] os ns bs e w a q = absurd w
+all-back f (suc n) (p ∷ ps) [] ns bs e w a q = absurd w
+all-back f (suc n) (p ∷ ps) (o ∷ os) [] bs e w a q = absurd w
+all-back f (suc n) (p ∷ ps) (o ∷ os) (v ∷ ns) [] e w a q = absurd a
+all-back f (suc n) (p ∷ ps) (o ∷ os) (v ∷ ns) (b ∷ bs) e w a q =
+    let here : without_in f o ≡ without_in f b = cc in
+    let rest : map (without_in f) os ≡ map (without_in f) bs = cc in
+    ap (λ u. u ∷ ns) (w.0 b a.0 here) ∙ ap (λ us. b ∷ us) (all-back f n ps os ns bs (omega (arith, e)) w.1 a.1 rest)
+
+pub same-count : (f : ℕ) (os bs : List Listed) → map (without_in f) os ≡ map (without_in f) bs → length os ≡ length bs
+same-count f os bs q = sym (length-map os (without_in f)) ∙ (ap length q ∙ length-map bs (without_in f))
+
+pub capacity-back : (f max : ℕ) (os bs : List Listed) → map (without_in f) os ≡ map (without_in f) bs → HaveCapacity max os → HaveCapacity max bs
+capacity-back f max os [] q h = tt
+capacity-back f max [] (b ∷ bs) q h = absurd cc
+capacity-back f max (o ∷ os) (b ∷ bs) q h =
+    let here : without_in f o ≡ without_in f b = cc in
+    let rest : map (without_in f) os ≡ map (without_in f) bs = cc in
+    (ap (λ v. v.lineup.capacity) (sym here) ∙ h.0, capacity-back f max os bs rest h.1)

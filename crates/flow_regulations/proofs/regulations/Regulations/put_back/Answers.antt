@@ -1,0 +1,28 @@
+use Rattle.std.proofs.Common.{◌≡◌, List, length, map, sym, refl, ap, subst, ◌∙◌, arith}
+use Rattle.flow_regulations.specs.Listing.{Listed, HaveCapacity, without_in}
+use Rattle.flow_regulations.specs.Places.{ArePlaces}
+use Rattle.flow_regulations.proofs.PutBack.{capacity-back}
+use Rattle.flow_regulations.proofs.Walks.{written-back}
+use Rattle.flow_regulations.proofs.regulations.Regulations.put_back.Goals as goal
+
+pub invariant_of-self : goal.invariant_of-self
+invariant_of-self g c =
+    let s = c.self.inside in
+    let b = c.requires.before in
+    let n = c.args.number in
+    let ns : List Listed = c.put_back_in.new.regulations in
+    let len : s.regulations.len ≡ length ns = omega (arith, c.put_back_in.auto.regulations, c.deref_mut.ensures.len) in
+    let H : List Listed → Type 0 = HaveCapacity s.max_plans in
+    let M : List Listed → Type 0 = λ ls. map (without_in n) ls ≡ map (without_in n) b.0 in
+    let lists = ap (λ v. v.lists) c.self.view_is in
+    let back : ns ≡ b.0 = c.put_back_in.ensures b.0 b.1 (subst M (sym (c.deref_mut.ensures.value ∙ lists)) b.2) in
+    (c.self.invariant.0, c.self.invariant.1, subst H (sym (written-back s.regulations.len ns _ len ∙ back)) (capacity-back n s.max_plans s.regulations.items b.0 (subst M (sym lists) b.2) c.self.invariant.2))
+
+pub returns-clause-lists : goal.returns-clause-lists
+returns-clause-lists g c = λ before are same.
+    (let s = c.self.inside in
+    let n = c.args.number in
+    let ns : List Listed = c.put_back_in.new.regulations in
+    let len : s.regulations.len ≡ length ns = omega (arith, c.put_back_in.auto.regulations, c.deref_mut.ensures.len) in
+    let M : List Listed → Type 0 = λ ls. map (without_in n) ls ≡ map (without_in n) before in
+    written-back s.regulations.len ns _ len ∙ c.put_back_in.ensures before are (subst M (sym (c.deref_mut.ensures.value ∙ ap (λ v. v.lists) c.self.view_is)) same))

@@ -1,0 +1,6 @@
+use Rattle.std.proofs.Common.{◌≡◌, length}
+use Rattle.flow_regulations.proofs.PutBack.{WalkedBy, IsBack}
+use Rattle.flow_regulations.proofs.regulations.put_back_in.Given as goal
+
+abbrev pub invariant-loop-index : goal.invariant-loop-index
+invariant-loop-index g l = WalkedBy (IsBack l.number) l.index l.places l.initial.regulations l.regulations

@@ -1,0 +1,235 @@
+-- What the operations on vectors of 16 bytes hold at each lane.
+use Rattle.std.proofs.Common.{◌+◌, ◌≡◌, ◌↔◌, ℕ, ◌%◌, ◌^◌, ◌<◌, ◌≤◌, List, [], ◌∷◌, Bool, true, false, cond, not, leb, eqb, ◌&&◌, ◌||◌, length, get_or, map, replicate, refl, sym, ap, ◌∙◌, arith, w8, w64, bit_and, bit_or, ⊎_elim, inl, inr, shr-shr, ◌/◌}
+use Rattle.std.specs.Int.{bit_at, trailing_ones}
+use Rattle.std.specs.Simd.Lanes.{zip2, sel_l, mask_l, top}
+use Rattle.std.proofs.lemmas.Simd.{length-zip2, get_or-zip2, get_or-replicate, length-sel_l, get_or-sel_l, bit_mask_l, tops_compared, mask_l-mod, mask_l-lt}
+use Rattle.std.proofs.lemmas.Nat.Bits.{bit_at-trailing_ones, bit_at_or, bit_at_and, bit_at-lt}
+use Rattle.std.proofs.lemmas.Nat.{and_le_l}
+use lib.Bits.{or_add_and}
+use Rattle.std.specs.Prelude.{◌⊎◌, max, min}
+use Rattle.std.proofs.lemmas.Bool.{cases_lt, leb-true, leb-false}
+use Rattle.std.proofs.lemmas.List.{length-map, get_or_past}
+use Rattle.std.proofs.Math.ListN.{get_or-map}
+use Rattle.fpl_text.specs.Bytes.{is_letter, is_digit, is_blank, is_other_mark, is_plain}
+use Rattle.fpl_text.specs.Lanes.{HasLanes, HasFlags, flag}
+
+and_flags : (p q : Bool) → bit_and (flag p) (flag q) ≡ flag (p && q)
+and_flags true true = refl
+and_flags true false = refl
+and_flags false true = refl
+and_flags false false = refl
+
+or_flags : (p q : Bool) → bit_or (flag p) (flag q) ≡ flag (p || q)
+or_flags true true = refl
+or_flags true false = refl
+or_flags false true = refl
+or_flags false false = refl
+
+-- an operator on two vectors
+lanes-zip2 : (f : ℕ → ℕ → ℕ) (a b : List ℕ) → length a ≡ 16 → length b ≡ 16 → HasLanes (zip2 f a b) (λ k. f (get_or a k 0) (get_or b k 0))
+lanes-zip2 f a b p q = record {
+  long = length-zip2 f a b (p ∙ sym q) ∙ p;
+  each = λ k l. get_or-zip2 f a b k 0 0 0 (omega arith) (omega arith);
+}
+
+pub lanes-both : (a b : List ℕ) (p q : ℕ → Bool) → HasFlags a p → HasFlags b q → HasFlags (zip2 bit_and a b) (λ k. p k && q k)
+lanes-both a b p q h i = record {
+  long = (lanes-zip2 bit_and a b h.long i.long).long;
+  each = λ k l. (lanes-zip2 bit_and a b h.long i.long).each k l ∙ rw (h.each k l, i.each k l) (and_flags (p k) (q k));
+}
+
+pub lanes-either : (a b : List ℕ) (p q : ℕ → Bool) → HasFlags a p → HasFlags b q → HasFlags (zip2 bit_or a b) (λ k. p k || q k)
+lanes-either a b p q h i = record {
+  long = (lanes-zip2 bit_or a b h.long i.long).long;
+  each = λ k l. (lanes-zip2 bit_or a b h.long i.long).each k l ∙ rw (h.each k l, i.each k l) (or_flags (p k) (q k));
+}
+
+-- a choice of two vectors by the comparison of two others
+pub lanes-compared : (t : ℕ → ℕ → Bool) (a b ys zs : List ℕ) → length a ≡ 16 → length b ≡ 16 → length ys ≡ 16 → length zs ≡ 16
+    → HasLanes (sel_l (zip2 t a b) ys zs) (λ k. cond (t (get_or a k 0) (get_or b k 0)) (get_or ys k 0) (get_or zs k 0))
+lanes-compared t a b ys zs p q r s =
+    let long : length (zip2 t a b) ≡ 16 = length-zip2 t a b (p ∙ sym q) ∙ p in
+    record {
+      long = length-sel_l _ ys zs (long ∙ sym r) (long ∙ sym s) ∙ long;
+      each = λ k l.
+          get_or-sel_l _ ys zs k 0 (omega arith) (omega arith) (omega arith)
+          ∙ ap (λ c. cond c (get_or ys k 0) (get_or zs k 0)) (get_or-zip2 t a b k 0 0 false (omega arith) (omega arith));
+    }
+
+-- other lanes of the same values
+pub lanes-same : (v : List ℕ) (f g : ℕ → ℕ) → ((k : ℕ) → k < 16 → f k ≡ g k) → HasLanes v f → HasLanes v g
+lanes-same v f g same h = record { long = h.long; each = λ k l. h.each k l ∙ same k l }
+
+-- flags by the comparison with a splat, on either side
+pub flags-right : (t : ℕ → ℕ → Bool) (v : List ℕ) (x : ℕ) → length v ≡ 16
+    → HasFlags (sel_l (zip2 t v (replicate 16 x)) (replicate 16 255) (replicate 16 0)) (λ k. t (get_or v k 0) x)
+flags-right t v x long =
+    lanes-same _ _ _
+    (λ k l. λ i. cond (t (get_or v k 0) (get_or-replicate 16 k x 0 l i)) (get_or-replicate 16 k 255 0 l i) (get_or-replicate 16 k 0 0 l i))
+    (lanes-compared t v (replicate 16 x) (replicate 16 255) (replicate 16 0) long refl refl refl)
+
+pub flags-left : (t : ℕ → ℕ → Bool) (v : List ℕ) (x : ℕ) → length v ≡ 16
+    → HasFlags (sel_l (zip2 t (replicate 16 x) v) (replicate 16 255) (replicate 16 0)) (λ k. t x (get_or v k 0))
+flags-left t v x long =
+    lanes-same _ _ _
+    (λ k l. λ i. cond (t (get_or-replicate 16 k x 0 l i) (get_or v k 0)) (get_or-replicate 16 k 255 0 l i) (get_or-replicate 16 k 0 0 l i))
+    (lanes-compared t (replicate 16 x) v (replicate 16 255) (replicate 16 0) refl long refl refl)
+
+unlike : (p : Bool) → cond p 0 255 ≡ flag (not p)
+unlike true = refl
+unlike false = refl
+
+-- flags where the comparison with a splat fails
+pub flags-other : (t : ℕ → ℕ → Bool) (v : List ℕ) (x : ℕ) → length v ≡ 16
+    → HasFlags (sel_l (zip2 t v (replicate 16 x)) (replicate 16 0) (replicate 16 255)) (λ k. not (t (get_or v k 0) x))
+flags-other t v x long =
+    lanes-same _ _ _
+    (λ k l. (λ i. cond (t (get_or v k 0) (get_or-replicate 16 k x 0 l i)) (get_or-replicate 16 k 0 0 l i) (get_or-replicate 16 k 255 0 l i)) ∙ unlike (t (get_or v k 0) x))
+    (lanes-compared t v (replicate 16 x) (replicate 16 0) (replicate 16 255) long refl refl refl)
+
+chosen : (p : Bool) (x : ℕ) → cond (eqb (flag p) 255) 32 x ≡ cond p 32 x
+chosen true x = refl
+chosen false x = refl
+
+-- a space where a flag is set
+pub lanes-spaces : (flags v : List ℕ) (p : ℕ → Bool) → length v ≡ 16 → HasFlags flags p
+    → HasLanes (sel_l (zip2 eqb flags (replicate 16 255)) (replicate 16 32) v) (λ k. cond (p k) 32 (get_or v k 0))
+lanes-spaces flags v p long h =
+    lanes-same _ _ _
+    (λ k l. (λ i. cond (eqb (h.each k l i) (get_or-replicate 16 k 255 0 l i)) (get_or-replicate 16 k 32 0 l i) (get_or v k 0)) ∙ chosen (p k) (get_or v k 0))
+    (lanes-compared eqb flags (replicate 16 255) (replicate 16 32) v h.long refl refl long)
+
+abbrev is_set : ℕ → Bool
+is_set x = leb 128 x
+
+set_tells : (x : ℕ) (b : Bool) → leb 128 x ≡ b → (cond {A = ℕ} b 1 0 ≡ 1) ↔ (128 ≤ x)
+set_tells x true e = (λ h. leb-true 128 x e, λ h. refl)
+set_tells x false e = (λ h. absurd (omega arith), λ h. omega (arith, leb-false 128 x e))
+
+bit_at-mask_l : (v : List ℕ) (k : ℕ) → (bit_at (mask_l (map is_set v)) k ≡ 1) ↔ (128 ≤ get_or v k 0)
+bit_at-mask_l v k =
+    let e : bit_at (mask_l (map is_set v)) k ≡ cond (is_set (get_or v k 0)) 1 0 = bit_mask_l (map is_set v) k ∙ ap (λ b. cond b 1 0) (get_or-map is_set v k 0) in
+    let t = set_tells (get_or v k 0) _ refl in
+    (λ h. t.0 (sym e ∙ h), λ h. e ∙ t.1 h)
+
+splat_zip2 : {Z : Type 0} (f : ℕ → ℕ → Z) (x : ℕ) (ys : List ℕ) → zip2 f (replicate (length ys) x) ys ≡ map (f x) ys
+splat_zip2 f x [] = refl
+splat_zip2 f x (y ∷ ys) = ap (λ rest. f x y ∷ rest) (splat_zip2 f x ys)
+
+-- `to_bitmask` of `simd_ge` with 128
+pub top_bitmask : (v : List ℕ) (n : ℕ) → length v ≡ n → n ≤ 64
+    → mask_l (map (top 7) (zip2 (λ a b. cond (leb a b) 255 0) (replicate n 128) v)) % 2 ^ 64 ≡ mask_l (map is_set v)
+top_bitmask v n long small =
+    ap (λ ms. mask_l ms % 2 ^ 64) (tops_compared w8 leb (replicate n 128) v ∙ ap (λ m. zip2 leb (replicate m 128) v) (sym long) ∙ splat_zip2 leb 128 v)
+    ∙ mask_l-mod (map is_set v) 64 (omega (arith, length-map v is_set))
+
+-- the mask of the lanes' top bits
+pub record IsMask (v : List ℕ) (m : ℕ) : Type 0 where
+  pub bits : (k : ℕ) → (bit_at m k ≡ 1) ↔ (128 ≤ get_or v k 0)
+  pub small : m < 65536
+
+pub mask-tops : (v : List ℕ) → length v ≡ 16 → IsMask v (mask_l (map is_set v))
+mask-tops v long = record {
+  bits = bit_at-mask_l v;
+  small = rw (length-map v is_set, long) at (mask_l-lt (map is_set v));
+}
+
+-- how many of the lowest bits of a mask are set
+pub record IsFront (v : List ℕ) (n : ℕ) : Type 0 where
+  pub bound : n ≤ 16
+  pub set : (p : ℕ → Bool) → HasFlags v p → (k : ℕ) → k < n → p k ≡ true
+  pub stops : (p : ℕ → Bool) → HasFlags v p → n < 16 → p n ≡ false
+
+set_flag : (p : Bool) → 128 ≤ flag p → p ≡ true
+set_flag true h = refl
+set_flag false h = absurd (omega arith)
+
+unset_flag : (p : Bool) → (128 ≤ flag p → ⊥) → p ≡ false
+unset_flag true h = absurd (h (omega arith))
+unset_flag false h = refl
+
+pub front-mask : (v : List ℕ) (m : ℕ) → length v ≡ 16 → ((k : ℕ) → (bit_at m k ≡ 1) ↔ (128 ≤ get_or v k 0)) → m < 65536 → IsFront v (trailing_ones w64 m)
+front-mask v m long bits small =
+    let t = bit_at-trailing_ones w64 m (omega arith) in
+    let n = trailing_ones w64 m in
+    let bound : n ≤ 16 = ⊎_elim (λ h. let past : 128 ≤ 0 = rw (get_or_past v 16 0 (omega arith)) at ((bits 16).0 (t.2 16 h)) in absurd (omega arith)) (λ h. h) (cases_lt 16 n) in
+    record {
+      bound = bound;
+      set = λ p h k l. set_flag (p k) (rw (h.each k (omega arith)) at ((bits k).0 (t.2 k l)));
+      stops = λ p h l. unset_flag (p n) (λ high. let one = (bits n).1 (rw (h.each n l) high) in absurd (omega (arith, t.1, one)));
+    }
+
+-- the lowest bits of one mask, or of another before those of the first
+pub record IsFrontBefore (v w : List ℕ) (n : ℕ) : Type 0 where
+  pub bound : n ≤ 16
+  pub each : (p q : ℕ → Bool) → HasFlags v p → HasFlags w q → (k : ℕ) → k < n → p k || (q k && p (k + 1)) ≡ true
+
+bit_below : (v : List ℕ) (m k : ℕ) → length v ≡ 16 → ((k : ℕ) → (bit_at m k ≡ 1) ↔ (128 ≤ get_or v k 0)) → bit_at m k ≡ 1 → k < 16
+bit_below v m k long bits one =
+    ⊎_elim (λ l. l) (λ h. let past : 128 ≤ 0 = rw (get_or_past v k 0 (omega arith)) at ((bits k).0 one) in absurd (omega arith)) (cases_lt k 16)
+
+is_one : (a b c : ℕ) → max a (min b c) ≡ 1 → a < 2 → b < 2 → c < 2 → (a ≡ 1) ⊎ ((b ≡ 1) × (c ≡ 1))
+is_one a b c h l m n = ⊎_elim (λ z. inr (omega (arith, z), omega (arith, z))) (λ o. inl (omega (arith, o))) (cases_lt a 1)
+
+or_before : (p q r : Bool) → (p ≡ true) ⊎ ((q ≡ true) × (r ≡ true)) → p || (q && r) ≡ true
+or_before p q r (inl h) = rw h refl
+or_before true q r (inr h) = refl
+or_before false q r (inr h) = rw (h.0, h.1) refl
+
+pub front-before : (v w : List ℕ) (m n : ℕ) → length v ≡ 16 → length w ≡ 16 → ((k : ℕ) → (bit_at m k ≡ 1) ↔ (128 ≤ get_or v k 0)) → m < 65536
+    → ((k : ℕ) → (bit_at n k ≡ 1) ↔ (128 ≤ get_or w k 0)) → n < 65536 → IsFrontBefore v w (trailing_ones w64 (bit_or m (bit_and n (m / 2 ^ 1))))
+front-before v w m n long wide bits small others few =
+    let low : bit_and n (m / 2 ^ 1) ≤ n = and_le_l n (m / 2 ^ 1) in
+    let t = bit_at-trailing_ones w64 (bit_or m (bit_and n (m / 2 ^ 1))) (omega (arith, or_add_and m (bit_and n (m / 2 ^ 1)), low)) in
+    let count = trailing_ones w64 (bit_or m (bit_and n (m / 2 ^ 1))) in
+    let parts : (k : ℕ) → k < count → (bit_at m k ≡ 1) ⊎ ((bit_at n k ≡ 1) × (bit_at m (1 + k) ≡ 1)) = (λ k l.
+    let shifted : bit_at (m / 2 ^ 1) k ≡ bit_at m (1 + k) = ap (λ x. x % 2) (shr-shr m 1 k) in
+    let whole : max (bit_at m k) (min (bit_at n k) (bit_at m (1 + k))) ≡ 1 =
+    rw (bit_at_or m (bit_and n (m / 2 ^ 1)) k, bit_at_and n (m / 2 ^ 1) k, shifted) at (t.2 k l) in
+    is_one _ _ _ whole (bit_at-lt m k) (bit_at-lt n k) (bit_at-lt m (1 + k))) in
+    let inside : (k : ℕ) → k < count → k < 16 = (λ k l. ⊎_elim (λ a. bit_below v m k long bits a) (λ b. bit_below w n k wide others b.0) (parts k l)) in
+    record {
+      bound = ⊎_elim (λ h. absurd (let in_it = inside 16 h in omega arith)) (λ h. h) (cases_lt 16 count);
+      each = λ p q hp hq k l.
+          or_before (p k) (q k) (p (k + 1))
+          (⊎_elim
+          (λ a. inl (set_flag (p k) (rw (hp.each k (inside k l)) at ((bits k).0 a))))
+          (λ b.
+          let next : 1 + k ≡ k + 1 = omega arith in
+          let within = bit_below v m (1 + k) long bits b.1 in
+          inr (set_flag (q k) (rw (hq.each k (inside k l)) at ((others k).0 b.0)), set_flag (p (k + 1)) (rw (next, hp.each (k + 1) (omega arith)) at ((bits (1 + k)).0 b.1))))
+          (parts k l));
+    }
+
+or_assoc : (p q r : Bool) → (p || q) || r ≡ p || (q || r)
+or_assoc true q r = refl
+or_assoc false q r = refl
+
+-- one more byte
+or_more : (d m z : Bool) (last : Bool) → d || m ≡ z → d || (m || last) ≡ z || last
+or_more d m z last h = sym (or_assoc d m last) ∙ ap (λ b. b || last) h
+
+mark_range : (x : ℕ) → (leb 48 x && leb x 57) || (eqb x 47 || eqb x 46 || eqb x 58) ≡ leb 46 x && leb x 58
+mark_range x = grind arith
+
+-- the digits and the marks, of which some are one range
+pub digits_and_marks : (x : ℕ) → (leb 46 x && leb x 58) || eqb x 44 || eqb x 39 || eqb x 63 || eqb x 43 || eqb x 61 ≡ is_digit x || is_other_mark x
+unfolding is_digit is_other_mark
+digits_and_marks x =
+    sym (or_more _ _ _ (eqb x 61) (or_more _ _ _ (eqb x 43) (or_more _ _ _ (eqb x 63) (or_more _ _ _ (eqb x 39) (or_more _ _ _ (eqb x 44) (mark_range x))))))
+
+pub letters_are : (x : ℕ) → (leb 65 x && leb x 90) ≡ is_letter x
+unfolding is_letter
+letters_are x = refl
+
+pub digits_are : (x : ℕ) → (leb 48 x && leb x 57) ≡ is_digit x
+unfolding is_digit
+digits_are x = refl
+
+pub letters_and_others : (x : ℕ) → (leb 65 x && leb x 90) || (is_digit x || is_other_mark x) ≡ is_plain x
+unfolding is_plain is_letter
+letters_and_others x = sym (or_assoc (leb 65 x && leb x 90) (is_digit x) (is_other_mark x))
+
+pub blanks_are : (x : ℕ) → eqb x 32 || eqb x 13 || eqb x 10 ≡ is_blank x
+unfolding is_blank
+blanks_are x = refl

@@ -1,0 +1,13 @@
+use Rattle.std.proofs.Common.{◌≤◌, ◌-◌, length}
+use Rattle.fpl_text.specs.Passes.{IsPass, IsInside}
+use Rattle.fpl_text.proofs.pass.pass_easy.Given as goal
+
+abbrev pub invariant-easy : goal.invariant-easy
+invariant-easy l = record {
+  pass : IsPass l.text l.out l.pass;
+  inside : IsInside l.pass;
+  further : l.fn.from.place ≤ l.pass.place;
+}
+
+abbrev pub decreases-easy : goal.decreases-easy
+decreases-easy l = length l.text - l.pass.place

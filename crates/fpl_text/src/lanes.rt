@@ -1,0 +1,169 @@
+//! Sixteen bytes at once.
+
+ghost use Rattle.std.specs.Prelude.{◌≡◌, ◌≤◌, ◌<◌, ◌+◌, ◌↔◌, ◌==◌, ◌&&◌, ◌||◌, if◌then◌else◌, nat_le, not, ℕ, Bool, true, false, length, slice_index};
+ghost use Rattle.std.specs.Int.{bit_at};
+ghost use Rattle.fpl_text.specs.Bytes.{is_blank, is_letter, is_digit, is_letter_or_digit, is_other_mark, is_plain};
+ghost use Rattle.fpl_text.specs.Lanes.{HasLanes, HasFlags};
+
+use std::simd::prelude::*;
+
+/// The bytes from a place on.
+#[inline(always)]
+pub(crate) fn load(text: &[u8], at: usize) -> u8x16
+    requires { at + 16 ≤ length text.now }
+    ensures { HasLanes result (λ k. slice_index text.now (at + k)) }
+{
+    u8x16::from_slice(&text[at..])
+}
+
+/// Which lanes hold this byte.
+#[inline(always)]
+fn equal_to(v: u8x16, byte: u8) -> u8x16
+    ensures { HasFlags result (λ k. slice_index v k == byte) }
+{
+    v.simd_eq(u8x16::splat(byte))
+        .select(u8x16::splat(255), u8x16::splat(0))
+}
+
+/// Which lanes hold this byte or a greater one.
+#[inline(always)]
+fn at_least(v: u8x16, low: u8) -> u8x16
+    ensures { HasFlags result (λ k. nat_le low (slice_index v k)) }
+{
+    u8x16::splat(low)
+        .simd_le(v)
+        .select(u8x16::splat(255), u8x16::splat(0))
+}
+
+/// Which lanes hold this byte or a lower one.
+#[inline(always)]
+fn at_most(v: u8x16, high: u8) -> u8x16
+    ensures { HasFlags result (λ k. nat_le (slice_index v k) high) }
+{
+    v.simd_le(u8x16::splat(high))
+        .select(u8x16::splat(255), u8x16::splat(0))
+}
+
+/// Where both are set.
+#[inline(always)]
+fn both(a: u8x16, b: u8x16) -> u8x16
+    ensures { (p q : ℕ → Bool) → HasFlags a p → HasFlags b q → HasFlags result (λ k. p k && q k) }
+{
+    a & b
+}
+
+/// Where one of them is set.
+#[inline(always)]
+fn either(a: u8x16, b: u8x16) -> u8x16
+    ensures { (p q : ℕ → Bool) → HasFlags a p → HasFlags b q → HasFlags result (λ k. p k || q k) }
+{
+    a | b
+}
+
+/// A space where the flag is set, and elsewhere the lane.
+#[inline(always)]
+pub(crate) fn spaces_or(flags: u8x16, v: u8x16) -> u8x16
+    ensures { (p : ℕ → Bool) → HasFlags flags p → HasLanes result (λ k. if p k then 32 else slice_index v k) }
+{
+    flags
+        .simd_eq(u8x16::splat(255))
+        .select(u8x16::splat(b' '), v)
+}
+
+/// Which lanes hold a byte of this range.
+#[inline(always)]
+fn between(v: u8x16, low: u8, high: u8) -> u8x16
+    ensures { HasFlags result (λ k. nat_le low (slice_index v k) && nat_le (slice_index v k) high) }
+{
+    both(at_least(v, low), at_most(v, high))
+}
+
+/// Which flags are set, or stand at lanes that hold this byte.
+#[inline(always)]
+fn or_equal_to(flags: u8x16, v: u8x16, byte: u8) -> u8x16
+    ensures { (p : ℕ → Bool) → HasFlags flags p → HasFlags result (λ k. p k || (slice_index v k == byte)) }
+{
+    either(flags, equal_to(v, byte))
+}
+
+/// Which lanes hold a blank.
+#[inline(always)]
+pub(crate) fn blank_lanes(v: u8x16) -> u8x16
+    ensures { HasFlags result (λ k. is_blank (slice_index v k)) }
+{
+    or_equal_to(or_equal_to(equal_to(v, b' '), v, b'\r'), v, b'\n')
+}
+
+/// Which lanes hold a digit or a mark that is no border. Full stop, stroke, digits and colon are one range.
+#[inline(always)]
+fn digit_or_mark_lanes(v: u8x16) -> u8x16
+    ensures { HasFlags result (λ k. is_digit (slice_index v k) || is_other_mark (slice_index v k)) }
+{
+    let range = between(v, b'.', b':');
+    let two = or_equal_to(or_equal_to(range, v, b','), v, b'\'');
+    let four = or_equal_to(or_equal_to(two, v, b'?'), v, b'+');
+    or_equal_to(four, v, b'=')
+}
+
+/// Which lanes hold a letter.
+#[inline(always)]
+pub(crate) fn letter_lanes(v: u8x16) -> u8x16
+    ensures { HasFlags result (λ k. is_letter (slice_index v k)) }
+{
+    between(v, b'A', b'Z')
+}
+
+/// Which lanes hold a letter or a digit, of which `letters` are the letters.
+#[inline(always)]
+pub(crate) fn letter_or_digit_lanes(letters: u8x16, v: u8x16) -> u8x16
+    requires { HasFlags letters (λ k. is_letter (slice_index v k)) }
+    ensures { HasFlags result (λ k. is_letter_or_digit (slice_index v k)) }
+{
+    either(letters, between(v, b'0', b'9'))
+}
+
+/// Which lanes hold another byte than this.
+#[inline(always)]
+pub(crate) fn other_lanes(v: u8x16, byte: u8) -> u8x16
+    ensures { HasFlags result (λ k. not (slice_index v k == byte)) }
+{
+    v.simd_eq(u8x16::splat(byte))
+        .select(u8x16::splat(0), u8x16::splat(255))
+}
+
+/// Which lanes hold a plain byte.
+#[inline(always)]
+pub(crate) fn plain_lanes(v: u8x16) -> u8x16
+    ensures { HasFlags result (λ k. is_plain (slice_index v k)) }
+{
+    either(between(v, b'A', b'Z'), digit_or_mark_lanes(v))
+}
+
+/// How many of the first lanes are set.
+#[inline(always)]
+pub(crate) fn set_lanes(flags: u8x16) -> usize
+    ensures bound { result ≤ 16 }
+    ensures set { (p : ℕ → Bool) → HasFlags flags p → (k : ℕ) → k < result → p k ≡ true }
+    ensures stops { (p : ℕ → Bool) → HasFlags flags p → result < 16 → p result ≡ false }
+{
+    top_bits(flags).trailing_ones() as usize
+}
+
+/// How many of the first lanes are set, or are among `others` with the lane behind them set.
+#[inline(always)]
+pub(crate) fn set_or_before(flags: u8x16, others: u8x16) -> usize
+    ensures bound { result ≤ 16 }
+    ensures each { (p q : ℕ → Bool) → HasFlags flags p → HasFlags others q → (k : ℕ) → k < result → p k || (q k && p (k + 1)) ≡ true }
+{
+    let set = top_bits(flags);
+    (set | (top_bits(others) & (set >> 1))).trailing_ones() as usize
+}
+
+/// Bit k is the top bit of lane k.
+#[inline(always)]
+fn top_bits(v: u8x16) -> u64
+    ensures bits { (k : ℕ) → (bit_at result k ≡ 1) ↔ (128 ≤ slice_index v k) }
+    ensures small { result < 65536 }
+{
+    v.simd_ge(u8x16::splat(128)).to_bitmask()
+}

@@ -1,0 +1,161 @@
+//! One pass over a text squeezes it.
+
+ghost use Rattle.std.specs.Prelude.{◌≡◌, ◌<◌, ◌≤◌, ◌+◌, ◌&&◌, ◌++◌, ◌∷◌, [], if◌then◌else◌, not, ℕ, true, length, take, slice_index, IfOk, IfErr, MatchOption, Ok, Err};
+ghost use Rattle.fpl_text.specs.Squeezing.{squeezed_or_fault, blanks};
+ghost use Rattle.fpl_text.specs.Lanes.{HasLanes};
+ghost use Rattle.fpl_text.specs.Passes.{IsPass, IsInside, is_easy, as_space};
+ghost use Rattle.fpl_text.specs.declared.fault.TextFault.TheVariants.{Empty, BadByte};
+
+use crate::byte::{is_accepted, is_blank, is_border};
+use crate::lanes::{blank_lanes, load, plain_lanes, set_or_before, spaces_or};
+use std::simd::prelude::*;
+
+/// How far a text is squeezed.
+#[derive(Clone, Copy)]
+pub(crate) struct Pass {
+    /// How many bytes of the text were passed.
+    pub(crate) place: usize,
+    /// How many bytes were kept.
+    pub(crate) made: usize,
+    /// Whether blanks stand behind the last one that was kept.
+    pub(crate) blank: bool,
+    /// Whether that one is a border, as the beginning of a text is.
+    pub(crate) border: bool,
+}
+
+/// Keeps a byte, behind a space or not. Gives how many bytes were kept then.
+#[inline(always)]
+fn put_byte(out: &mut [u8], made: usize, space: bool, byte: u8) -> usize
+    requires { made + blanks space < length out.old }
+    ensures kept { take result out.new ≡ take made out.old ++ ((if space then 32 ∷ [] else []) ++ byte ∷ []) }
+    ensures made { result ≡ made + blanks space + 1 }
+{
+    let mut at = made;
+    if space {
+        out[at] = b' ';
+        at += 1;
+    }
+    out[at] = byte;
+    at + 1
+}
+
+/// Whether a space stands before the next byte that is kept, which is a border or not.
+#[inline(always)]
+fn takes_space(pass: Pass, border: bool) -> bool
+    ensures { result ≡ pass.blank && not pass.border && not border }
+{
+    pass.blank && !pass.border && !border
+}
+
+/// Passes the next byte. None is for one that is not accepted.
+#[inline(always)]
+fn pass_byte(text: &[u8], out: &mut [u8], pass: Pass) -> Option<Pass>
+    requires pass { IsPass text.now out.old pass }
+    requires more { pass.place < length text.now }
+    ensures { MatchOption result (squeezed_or_fault text.now ≡ Err (BadByte pass.place))
+        (λ next. IsPass text.now out.new next × (next.place ≡ pass.place + 1)) }
+{
+    let byte = text[pass.place];
+    let place = pass.place + 1;
+    if is_blank(byte) {
+        return Some(Pass {
+            place,
+            made: pass.made,
+            blank: true,
+            border: pass.border,
+        });
+    }
+    if !is_accepted(byte) {
+        return None;
+    }
+    let border = is_border(byte);
+    let space = takes_space(pass, border);
+    let made = put_byte(out, pass.made, space, byte);
+    Some(Pass {
+        place,
+        made,
+        blank: false,
+        border,
+    })
+}
+
+/// Passes bytes one by one, up to one that is no border and no blank, or to the end. The error is the place of one that is not
+/// accepted.
+fn pass_bytes(text: &[u8], out: &mut [u8], from: Pass) -> Result<Pass, usize>
+    requires { IsPass text.now out.old from }
+    ensures pass { IfOk result (λ to. IsPass text.now out.new to) }
+    ensures inside { IfOk result (λ to. to.place < length text.now → IsInside to) }
+    ensures further { IfOk result (λ to. from.place ≤ to.place) }
+    ensures nearer { IfOk result (λ to. from.place < length text.now → from.place < to.place) }
+    ensures bad { IfErr result (λ place. squeezed_or_fault text.now ≡ Err (BadByte place)) }
+{
+    let mut pass = from;
+    'bytes: while pass.place < text.len() {
+        let Some(next) = pass_byte(text, out, pass) else {
+            return Err(pass.place);
+        };
+        pass = next;
+        if !pass.blank && !pass.border {
+            return Ok(pass);
+        }
+    }
+    Ok(pass)
+}
+
+/// The 16 bytes from a place on, each blank as a space, and how many of the first of them are easy. A blank in the last of them
+/// is left to the next 16.
+#[inline(always)]
+fn easy_front(text: &[u8], at: usize) -> (u8x16, usize)
+    requires { at + 16 ≤ length text.now }
+    ensures bound { result.1 ≤ 16 }
+    ensures easy { (k : ℕ) → k < result.1 → is_easy text.now (at + k) ≡ true }
+    ensures lanes { HasLanes result.0 (λ k. as_space (slice_index text.now (at + k))) }
+{
+    let here = load(text, at);
+    let blanks = blank_lanes(here);
+    let count = set_or_before(plain_lanes(here), blanks);
+    (spaces_or(blanks, here), count)
+}
+
+/// Passes easy bytes, 16 at a time. What is written behind those that are easy is written over later.
+fn pass_easy(text: &[u8], out: &mut [u8], from: Pass) -> Pass
+    requires pass { IsPass text.now out.old from }
+    requires inside { IsInside from }
+    ensures pass { IsPass text.now out.new result }
+    ensures further { from.place ≤ result.place }
+{
+    let mut pass = from;
+    'easy: while text.len() - pass.place >= 16 {
+        let (lanes, count) = easy_front(text, pass.place);
+        lanes.copy_to_slice(&mut out[pass.made..]);
+        pass.place += count;
+        pass.made += count;
+        if count < 15 {
+            return pass;
+        }
+    }
+    pass
+}
+
+/// Squeezes a text into the front of `out`, which is as long. Gives how many bytes it has then, or the place of the first byte
+/// that is not accepted.
+pub(crate) fn squeeze(text: &[u8], out: &mut [u8]) -> Result<usize, usize>
+    requires { length out.old ≡ length text.now }
+    ensures empty { IfOk result (λ made. made ≡ 0 → squeezed_or_fault text.now ≡ Err Empty) }
+    ensures some { IfOk result (λ made. 0 < made → squeezed_or_fault text.now ≡ Ok (take made out.new)) }
+    ensures bad { IfErr result (λ place. squeezed_or_fault text.now ≡ Err (BadByte place)) }
+{
+    let mut pass = Pass {
+        place: 0,
+        made: 0,
+        blank: false,
+        border: true,
+    };
+    'passes: loop {
+        pass = pass_bytes(text, out, pass)?;
+        if pass.place >= text.len() {
+            return Ok(pass.made);
+        }
+        pass = pass_easy(text, out, pass);
+    }
+}
