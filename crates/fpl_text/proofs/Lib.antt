@@ -7,3 +7,4 @@ pub mod WordsLemmas
 pub mod MomentsLemmas
 pub mod ReadBackLemmas
 pub mod MomentYears
+pub mod MomentFronts

@@ -10,3 +10,4 @@ pub mod Craft
 pub mod Places
 pub mod Moments
 pub mod Days
+pub mod Fronts
