@@ -9,3 +9,4 @@ pub mod ReadBackLemmas
 pub mod MomentYears
 pub mod LaneLemmas
 pub mod FirstBytes
+pub mod MomentFronts

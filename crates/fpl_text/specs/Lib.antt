@@ -12,3 +12,4 @@ pub mod Moments
 pub mod Days
 pub mod Lanes
 pub mod Passes
+pub mod Fronts
