@@ -75,7 +75,7 @@ nothing-to-advise taxi now plans (l ∷ ls) f s due gone =
     goes a e h = leaves a (plan_at plans f) due gone (ap (λ j. option_map_or (keeps taxi now (regulation_of l) a.slot) (plan_at plans j) false) (sym e) ∙ h)
 
 -- one more of which it holds
-all-last : {X : Type 0} (P : X → Type 0) (xs : List X) (x : X) → AllByRecursion P xs → P x → AllByRecursion P (xs ++ x ∷ [])
+pub all-last : {X : Type 0} (P : X → Type 0) (xs : List X) (x : X) → AllByRecursion P xs → P x → AllByRecursion P (xs ++ x ∷ [])
 all-last P [] x a h = (h, tt)
 all-last P (y ∷ ys) x a h = (a.0, all-last P ys x a.1 h)
 

@@ -10,6 +10,7 @@ pub mod ForTheDesk
 pub mod Frozen
 pub mod Looked
 pub mod Looks
+pub mod Names
 pub mod Numbers
 pub mod Openings
 pub mod Others
