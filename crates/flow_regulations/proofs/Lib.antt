@@ -5,6 +5,7 @@ pub mod Closings
 pub mod Delays
 pub mod Firsts
 pub mod FixedOnes
+pub mod Fixeds
 pub mod Fixes
 pub mod ForTheDesk
 pub mod Frozen

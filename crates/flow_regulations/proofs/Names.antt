@@ -17,7 +17,7 @@ turned x y e = cases (bytes_eq y x) refl where
   cases true q = absurd (true≢false (sym ((bytes_eq-Decides x y).1 (sym ((bytes_eq-Decides y x).0 q))) ∙ e))
 
 -- where a name stands among names, and among regulations
-none-names : (id : List ℕ) (ls : List Listed) → list_any (is_named id) ls ≡ list_any (λ y. bytes_eq y id) (names_in ls)
+pub none-names : (id : List ℕ) (ls : List Listed) → list_any (is_named id) ls ≡ list_any (λ y. bytes_eq y id) (names_in ls)
 none-names id [] = refl
 none-names id (l ∷ ls) = ap (λ b. bytes_eq l.id id || b) (none-names id ls)
 

@@ -6,6 +6,7 @@ mod closed;
 mod due_queue;
 #[cfg(test)]
 mod due_queue_tests;
+mod fixed_flights;
 pub mod laws;
 mod notice;
 mod places;

@@ -1,5 +1,5 @@
 //! The open regulations.
-ghost use Rattle.std.specs.Prelude.{◌≡◌, ◌<◌, ◌≤◌, ◌+◌, ◌++◌, ℕ, List, [], false, true, ◌∷◌, None, Some, IfSome, IfNone, MatchOption, OnOk, OnErr, length, map, vec_capacity};
+ghost use Rattle.std.specs.Prelude.{◌≡◌, ◌<◌, ◌≤◌, ◌+◌, ◌++◌, ℕ, List, [], false, true, ◌∷◌, None, Some, IfSome, IfNone, IfOk, MatchOption, OnOk, OnErr, length, map, vec_capacity};
 ghost use Rattle.std.specs.List.{All, AllByRecursion, insert, list_any};
 ghost use Rattle.std.specs.List.Sorted.{IsNonDecreasing};
 ghost use Rattle.flow_plans.specs.Plans.{Plan, plan_at};
@@ -7,12 +7,14 @@ ghost use Rattle.flow_slots.specs.Assignment.{is_in};
 ghost use Rattle.flow_regulations.specs.Advice.{advice};
 ghost use Rattle.flow_regulations.specs.Awaiting.{HaveBecomeDue};
 ghost use Rattle.flow_regulations.specs.Listing.{Listed, Walked, without_in, IsLookedAgain, IsListed, AreSettledBut, AreSameBut, AreRenewed, IsFixedWaiting, AreFrozen, IsSettled, IsAdvancing, is_below, is_among, with_fixed_waiting, AreDue, HoldNewlyDue, HaveCapacity, names_in, IsReleased, IsOpened, opened, is_named, without_named, lineup_named, IsNamedAt, MayReopen, pairs_in, regulation_of};
+ghost use Rattle.flow_regulations.specs.Settling.{pairs_of};
 ghost use Rattle.flow_regulations.specs.Notices.{notices_from, told_from};
 ghost use Rattle.flow_regulations.specs.Places.{ArePlaces};
 ghost use Rattle.flow_regulations.specs.Quiet.{AreQuietBut, AllQuiet};
 
 use crate::advice::advice_of;
 use crate::closed::Closed;
+use crate::fixed_flights::fixed_flights;
 use crate::notice::{Notice, Told};
 use crate::places::Place;
 use crate::regulation::{Regulation, is_due};
@@ -101,6 +103,21 @@ impl<A: Allocator + Copy> Regulations<A> {
         ensures { MatchOption result (lineup_named id.now self.now.lists ≡ None) (λ list. lineup_named id.now self.now.lists ≡ Some list.now.lineup) }
     {
         list_named(&self.regulations, id)
+    }
+
+    /// The flights that keep slots in the open regulation of this name, by rising number; none where none of this name is
+    /// open. Of no other flight the regulation makes a difference to the advice. Refused where memory is.
+    pub fn fixed_flights(&self, alloc: A, id: &Text<8>) -> Result<Vec<u32, A>, AllocError>
+        ensures rising { IfOk result (λ v. IsNonDecreasing v.items) }
+        ensures numbers { IfOk result (λ v. (taxi now : ℕ) (plans : List Plan) → IsSettled taxi now plans self.now.lists
+            → All (λ n. (0 < n) × (n ≤ length plans)) v.items) }
+        ensures others { IfOk result (λ v. (f : ℕ) → is_in f v.items ≡ false
+            → AllByRecursion (λ l. is_named id.now l ≡ true → pairs_of f l.lineup.fixed ≡ []) self.now.lists) }
+    {
+        match list_named(&self.regulations, id) {
+            Some(list) => fixed_flights(alloc, list),
+            None => Ok(Vec::new(alloc)),
+        }
     }
 
     /// Closes the regulation of this name, with its slot list, and answers it. The others stay as they are. None where none

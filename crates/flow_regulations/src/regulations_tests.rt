@@ -117,6 +117,8 @@ fn a_closed_regulation_is_opened_again(rt: HostRuntime) -> Result<(), Fail> {
     let shape = Shape::new(at(10, 0), at(12, 0), 20, &[]).expect(&rt, "a shape");
     let mut regulations = Regulations::new(rt.alloc(), 100);
     regulations.open(rt.alloc(), id.copied(), arrivals, shape, &plans, at(6, 0))?;
+    let kept = regulations.fixed_flights(rt.alloc(), &id)?;
+    assert_eq!(rt; kept.as_slice(), [1].as_slice());
     let closed = regulations.shut(&id).expect(&rt, "a regulation");
     assert_eq!(rt; regulations.count(), 0);
     regulations.reopen(closed);
