@@ -3,6 +3,8 @@ use Rattle.std.proofs.Common.{◌≡◌, ℕ, ◌+◌, ◌-◌, ◌<◌, ◌≤�
 use Rattle.std.specs.List.{AllByRecursion, filter, list_any}
 use Rattle.std.specs.List.Sorted.{IsNonDecreasing, IsStrictlyIncreasing}
 use Rattle.std.specs.Option.{option_map, option_map_or}
+use Rattle.std.proofs.lemmas.List.{append-nil}
+use Rattle.std.proofs.lemmas.Slice.Eq.{bytes_eq-Decides}
 use Rattle.std.proofs.lemmas.Map.Keys.{non_decreasing_from_sorted, sorted_from_strictly_increasing}
 use Rattle.std.specs.Str.{bytes_eq}
 use Rattle.std.proofs.lemmas.Bool.{eq-eqb, and_parts, true≢false, false≢true}
@@ -22,7 +24,8 @@ use Rattle.flow_regulations.specs.Quiet.{IsQuiet, IsQuietAt, told_at, AreQuietBu
 use Rattle.flow_regulations.proofs.Advances.{due-later}
 use Rattle.flow_regulations.proofs.FixedOnes.{all-map}
 use Rattle.flow_regulations.proofs.Fixes.{pairs-none, settled-done}
-use Rattle.flow_regulations.proofs.Stays.{advice-same, advice-nowhere, caused-none, quiet-departed, quiet-untouched}
+use Rattle.flow_regulations.proofs.Names.{settled-name}
+use Rattle.flow_regulations.proofs.Stays.{advice-same, advice-other, advice-nowhere, caused-none, quiet-departed, quiet-untouched}
 
 -- a change of regulations that leaves their names, places and periods
 keeps-mapped : (f : ℕ) (g : Regulation → Regulation) → ((r : Regulation) → (r.id ≡ (g r).id) × (r.spot ≡ (g r).spot) × (r.period ≡ (g r).period)) → (old new : List Listed) → map regulation_of new ≡ map g (map regulation_of old) → pairs_in f new ≡ pairs_in f old → KeepsSlots f (map regulation_of old) (map regulation_of new)
@@ -205,3 +208,25 @@ rising-numbers xs h = non_decreasing_from_sorted xs (sorted_from_strictly_increa
 -- the other flights stand as before over one change after another
 pub alone-in-turn : (n : ℕ) (first middle last : List Listed) → map (without_in n) middle ≡ map (without_in n) first → map (without_in n) last ≡ map (without_in n) middle → map (without_in n) last ≡ map (without_in n) first
 alone-in-turn n first middle last a b = b ∙ a
+
+-- a regulation is shut: of the other flights than those that kept slots in it the advice stays
+pub quiet-but-shut : (taxi : ℕ) (id : List ℕ) (ls : List Listed) (plans : List Plan) (told : List (Option Told)) (changed : List ℕ) → ((f : ℕ) → is_in f changed ≡ false → AllByRecursion (λ l. is_named id l ≡ true → pairs_of f l.lineup.fixed ≡ []) ls) → AllQuiet taxi (map regulation_of ls) plans told → AreQuietBut changed taxi (map regulation_of (without_named id ls)) plans told
+quiet-but-shut taxi id ls plans told changed none quiet f positive out =
+    quiet-untouched taxi f (map regulation_of ls) plans told (map regulation_of (without_named id ls)) plans told (refl, refl, λ p _. advice-without taxi f p id ls (none f out)) (quiet f positive)
+
+last-of : {X : Type 0} (P : X → Type 0) (xs : List X) (x : X) → AllByRecursion P (xs ++ x ∷ []) → P x
+last-of P [] x a = a.0
+last-of P (y ∷ ys) x a = last-of P ys x a.1
+
+-- a regulation is opened: of the other flights than those that keep slots in it the advice stays
+pub quiet-but-opened : (taxi max now : ℕ) (plans : List Plan) (r : Regulation) (lists new : List Listed) (told : List (Option Told)) (changed : List ℕ) → IsOpened taxi max now plans r lists new
+    → ((f : ℕ) → is_in f changed ≡ false → AllByRecursion (λ l. is_named r.id l ≡ true → pairs_of f l.lineup.fixed ≡ []) new) → AllQuiet taxi (map regulation_of lists) plans told → AreQuietBut changed taxi (map regulation_of new) plans told
+quiet-but-opened taxi max now plans r lists new told changed o none quiet f positive out =
+    let P : Listed → Type 0 = λ l. is_named r.id l ≡ true → pairs_of f l.lineup.fixed ≡ [] in
+    let A : List Listed → Type 0 = λ ls. AllByRecursion P ls in
+    let id : o.0.id ≡ r.id = ap (λ v. v.id) o.2 ∙ settled-name taxi now plans r in
+    let named : is_named r.id o.0 ≡ true = (bytes_eq-Decides o.0.id r.id).1 id in
+    let pairs : pairs_of f o.0.lineup.fixed ≡ [] = last-of P lists o.0 (subst A o.1 (none f out)) named in
+    let regulations : map regulation_of new ≡ map regulation_of lists ++ regulation_of o.0 ∷ [] = ap (map regulation_of) o.1 ∙ map-last regulation_of lists o.0 in
+    quiet-untouched taxi f (map regulation_of lists) plans told (map regulation_of new) plans told
+    (refl, refl, λ p _. ap (advice taxi f p) regulations ∙ (advice-other taxi f p (regulation_of o.0) (map regulation_of lists) [] pairs ∙ ap (advice taxi f p) (append-nil (map regulation_of lists)))) (quiet f positive)
