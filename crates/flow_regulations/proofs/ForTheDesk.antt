@@ -1,7 +1,11 @@
 -- For the layer above: what a step of the desk does to the slots and to the advice of the flights that it isn't about.
 use Rattle.std.proofs.Common.{◌≡◌, ℕ, ◌+◌, ◌-◌, ◌<◌, ◌≤◌, ◌||◌, ◌&&◌, Bool, true, false, not, cond, eqb, leb, List, [], ◌∷◌, ◌++◌, map, length, Option, Some, None, IfSome, refl, sym, ap, subst, ◌∙◌, arith}
 use Rattle.std.specs.List.{AllByRecursion, filter, list_any}
+use Rattle.std.specs.List.Sorted.{IsNonDecreasing, IsStrictlyIncreasing}
 use Rattle.std.specs.Option.{option_map, option_map_or}
+use Rattle.std.proofs.lemmas.List.{append-nil}
+use Rattle.std.proofs.lemmas.Slice.Eq.{bytes_eq-Decides}
+use Rattle.std.proofs.lemmas.Map.Keys.{non_decreasing_from_sorted, sorted_from_strictly_increasing}
 use Rattle.std.specs.Str.{bytes_eq}
 use Rattle.std.proofs.lemmas.Bool.{eq-eqb, and_parts, true≢false, false≢true}
 use Rattle.flow_plans.specs.Plans.{Plan, plan_at, is_filed, is_departed}
@@ -13,14 +17,15 @@ use Rattle.flow_slots.specs.Lineup.{NoneFixed, assigned}
 use Rattle.flow_regulations.specs.declared.notice.Told.{Told}
 use Rattle.flow_regulations.specs.Regulations.{Regulation, subject_to, has_flight, lineup_of}
 use Rattle.flow_regulations.specs.Settling.{is_due, keeps, stays, insert_all, settled, frozen_at_departure, pairs_of}
-use Rattle.flow_regulations.specs.Listing.{Listed, regulation_of, IsListedIn, IsListed, IsSettledIn, IsSettled, IsOpened, AreSameBut, is_due_flight, is_named, without_named, pairs_in}
+use Rattle.flow_regulations.specs.Listing.{Listed, regulation_of, IsListedIn, IsListed, IsSettledIn, IsSettled, IsOpened, AreSameBut, is_due_flight, is_named, without_named, without_in, pairs_in}
 use Rattle.flow_regulations.specs.Advice.{caused_by, delay_in, worse, worst, advice}
 use Rattle.flow_regulations.specs.Notices.{notices_to}
 use Rattle.flow_regulations.specs.Quiet.{IsQuiet, IsQuietAt, told_at, AreQuietBut, AllQuiet, KeepsSlots}
 use Rattle.flow_regulations.proofs.Advances.{due-later}
 use Rattle.flow_regulations.proofs.FixedOnes.{all-map}
 use Rattle.flow_regulations.proofs.Fixes.{pairs-none, settled-done}
-use Rattle.flow_regulations.proofs.Stays.{advice-same, advice-nowhere, caused-none, quiet-departed, quiet-untouched}
+use Rattle.flow_regulations.proofs.Names.{settled-name}
+use Rattle.flow_regulations.proofs.Stays.{advice-same, advice-other, advice-nowhere, caused-none, quiet-departed, quiet-untouched}
 
 -- a change of regulations that leaves their names, places and periods
 keeps-mapped : (f : ℕ) (g : Regulation → Regulation) → ((r : Regulation) → (r.id ≡ (g r).id) × (r.spot ≡ (g r).spot) × (r.period ≡ (g r).period)) → (old new : List Listed) → map regulation_of new ≡ map g (map regulation_of old) → pairs_in f new ≡ pairs_in f old → KeepsSlots f (map regulation_of old) (map regulation_of new)
@@ -75,7 +80,7 @@ nothing-to-advise taxi now plans (l ∷ ls) f s due gone =
     goes a e h = leaves a (plan_at plans f) due gone (ap (λ j. option_map_or (keeps taxi now (regulation_of l) a.slot) (plan_at plans j) false) (sym e) ∙ h)
 
 -- one more of which it holds
-all-last : {X : Type 0} (P : X → Type 0) (xs : List X) (x : X) → AllByRecursion P xs → P x → AllByRecursion P (xs ++ x ∷ [])
+pub all-last : {X : Type 0} (P : X → Type 0) (xs : List X) (x : X) → AllByRecursion P xs → P x → AllByRecursion P (xs ++ x ∷ [])
 all-last P [] x a h = (h, tt)
 all-last P (y ∷ ys) x a h = (a.0, all-last P ys x a.1 h)
 
@@ -195,3 +200,33 @@ newly-due-unfixed taxi earlier now f plans ls s then_not now_is = nothing-to-adv
   filed : (o : Option Plan) → option_map_or (is_due now) o false ≡ true → option_map_or (λ p. is_departed p.state) o false ≡ false
   filed None e = refl
   filed (Some p) e = apart-states p (and_parts (is_filed p.state) (leb p.off_block (now + 120)) e).0
+
+-- numbers that rise strictly do not fall
+pub rising-numbers : (xs : List ℕ) → IsStrictlyIncreasing xs → IsNonDecreasing xs
+rising-numbers xs h = non_decreasing_from_sorted xs (sorted_from_strictly_increasing xs h)
+
+-- the other flights stand as before over one change after another
+pub alone-in-turn : (n : ℕ) (first middle last : List Listed) → map (without_in n) middle ≡ map (without_in n) first → map (without_in n) last ≡ map (without_in n) middle → map (without_in n) last ≡ map (without_in n) first
+alone-in-turn n first middle last a b = b ∙ a
+
+-- a regulation is shut: of the other flights than those that kept slots in it the advice stays
+pub quiet-but-shut : (taxi : ℕ) (id : List ℕ) (ls : List Listed) (plans : List Plan) (told : List (Option Told)) (changed : List ℕ) → ((f : ℕ) → is_in f changed ≡ false → AllByRecursion (λ l. is_named id l ≡ true → pairs_of f l.lineup.fixed ≡ []) ls) → AllQuiet taxi (map regulation_of ls) plans told → AreQuietBut changed taxi (map regulation_of (without_named id ls)) plans told
+quiet-but-shut taxi id ls plans told changed none quiet f positive out =
+    quiet-untouched taxi f (map regulation_of ls) plans told (map regulation_of (without_named id ls)) plans told (refl, refl, λ p _. advice-without taxi f p id ls (none f out)) (quiet f positive)
+
+last-of : {X : Type 0} (P : X → Type 0) (xs : List X) (x : X) → AllByRecursion P (xs ++ x ∷ []) → P x
+last-of P [] x a = a.0
+last-of P (y ∷ ys) x a = last-of P ys x a.1
+
+-- a regulation is opened: of the other flights than those that keep slots in it the advice stays
+pub quiet-but-opened : (taxi max now : ℕ) (plans : List Plan) (r : Regulation) (lists new : List Listed) (told : List (Option Told)) (changed : List ℕ) → IsOpened taxi max now plans r lists new
+    → ((f : ℕ) → is_in f changed ≡ false → AllByRecursion (λ l. is_named r.id l ≡ true → pairs_of f l.lineup.fixed ≡ []) new) → AllQuiet taxi (map regulation_of lists) plans told → AreQuietBut changed taxi (map regulation_of new) plans told
+quiet-but-opened taxi max now plans r lists new told changed o none quiet f positive out =
+    let P : Listed → Type 0 = λ l. is_named r.id l ≡ true → pairs_of f l.lineup.fixed ≡ [] in
+    let A : List Listed → Type 0 = λ ls. AllByRecursion P ls in
+    let id : o.0.id ≡ r.id = ap (λ v. v.id) o.2 ∙ settled-name taxi now plans r in
+    let named : is_named r.id o.0 ≡ true = (bytes_eq-Decides o.0.id r.id).1 id in
+    let pairs : pairs_of f o.0.lineup.fixed ≡ [] = last-of P lists o.0 (subst A o.1 (none f out)) named in
+    let regulations : map regulation_of new ≡ map regulation_of lists ++ regulation_of o.0 ∷ [] = ap (map regulation_of) o.1 ∙ map-last regulation_of lists o.0 in
+    quiet-untouched taxi f (map regulation_of lists) plans told (map regulation_of new) plans told
+    (refl, refl, λ p _. ap (advice taxi f p) regulations ∙ (advice-other taxi f p (regulation_of o.0) (map regulation_of lists) [] pairs ∙ ap (advice taxi f p) (append-nil (map regulation_of lists)))) (quiet f positive)
