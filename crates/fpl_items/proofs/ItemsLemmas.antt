@@ -1,7 +1,7 @@
 -- Where an item begins, by what stands at the front of its first word.
-use Rattle.std.proofs.Common.{◌≡◌, ℕ, suc, ◌+◌, ◌<◌, ◌≤◌, Bool, true, false, ◌&&◌, eqb, ltb, leb, List, [], ◌∷◌, length, take, get_or, sym, refl, ap, ◌∙◌, arith, ⊎_elim}
+use Rattle.std.proofs.Common.{◌≡◌, ℕ, suc, ◌<◌, ◌≤◌, Bool, true, false, ◌&&◌, eqb, ltb, leb, List, [], ◌∷◌, length, take, get_or, sym, refl, ap, ◌∙◌, arith, ⊎_elim}
 use Rattle.std.specs.List.{list_all, prefix_len}
-use Rattle.std.proofs.lemmas.Bool.{cases_Bool, false≢true, false_from_ne_true, and_parts, eqb-true, eq-eqb, le-leb, ltb-true}
+use Rattle.std.proofs.lemmas.Bool.{cases_Bool, false≢true, false_from_ne_true, and_parts, eqb-true, eq-eqb, ltb-true}
 use Rattle.std.proofs.lemmas.List.{length-take, get_or-take}
 use Rattle.std.proofs.lemmas.List.Folds.{list_all_at}
 use Rattle.std.proofs.lemmas.List.Sums.{prefix_len_is, prefix_len_passes, position_or_len_is, passes_at_first}
@@ -23,11 +23,6 @@ stroke-other : is_letter_or_digit 47 ≡ false
 unfolding is_letter is_digit
 stroke-other = refl
 
-first-letter : (word : List ℕ) → is_letter (get_or word 0 0) ≡ leb 1 (prefix_len is_letter word)
-unfolding is_letter
-first-letter [] = refl
-first-letter (b ∷ word) = ⊎_elim (λ k. rw k (sym (le-leb 1 (1 + prefix_len (λ c. leb 65 c && leb c 90) word) (omega arith)))) (λ k. rw k refl) (cases_Bool (is_letter b))
-
 -- the stroke stands behind the letters and digits
 pub stroke-behind : (word : List ℕ) (n : ℕ) → n ≡ prefix_len is_letter_or_digit word → n < length word → get_or word n 0 ≡ 47 → before_stroke word ≡ n
 stroke-behind word n same h at_stroke =
@@ -36,7 +31,7 @@ stroke-behind word n same h at_stroke =
     (λ _. eq-eqb _ 47 at_stroke)
 
 pub begins_item-is : (word : List ℕ) (n : ℕ) → n ≡ prefix_len is_letter_or_digit word
-    → (ltb n (length word) && eqb (get_or word n 0) 47 && leb 2 n && leb n 9 && leb 1 (prefix_len is_letter word)) ≡ begins_item word
+    → (ltb n (length word) && eqb (get_or word n 0) 47 && leb 2 n && leb n 9 && is_letter (get_or word 0 0)) ≡ begins_item word
 unfolding begins_item
 begins_item-is word n same =
     ⊎_elim stands (λ no. rw no (sym (false_from_ne_true _ (λ yes. absurd (false≢true (sym no ∙ other yes)))))) (cases_Bool (ltb n (length word) && eqb (get_or word n 0) 47))
@@ -46,12 +41,12 @@ begins_item-is word n same =
     and-true false = refl
 
     stands : ltb n (length word) && eqb (get_or word n 0) 47 ≡ true
-        → (ltb n (length word) && eqb (get_or word n 0) 47 && leb 2 n && leb n 9 && leb 1 (prefix_len is_letter word))
+        → (ltb n (length word) && eqb (get_or word n 0) 47 && leb 2 n && leb n 9 && is_letter (get_or word 0 0))
         ≡ (ltb (before_stroke word) (length word) && leb 2 (before_stroke word) && leb (before_stroke word) 9 && is_letter (get_or word 0 0) && list_all is_letter_or_digit (take (before_stroke word) word))
     stands h =
         let parts = and_parts _ _ h in
         let stroke = stroke-behind word n same (ltb-true _ _ parts.0) (eqb-true _ 47 parts.1) in
-        rw (stroke, h, parts.0, first-letter word, list_all-prefix is_letter_or_digit word n (omega arith)) (sym (and-true _))
+        rw (stroke, h, parts.0, list_all-prefix is_letter_or_digit word n (omega arith)) (sym (and-true _))
 
     other : ltb (before_stroke word) (length word) && leb 2 (before_stroke word) && leb (before_stroke word) 9 && is_letter (get_or word 0 0) && list_all is_letter_or_digit (take (before_stroke word) word) ≡ true
         → ltb n (length word) && eqb (get_or word n 0) 47 ≡ true

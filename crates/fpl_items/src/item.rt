@@ -8,27 +8,27 @@ ghost use Rattle.fpl_text.specs.Words.{words_of};
 ghost use Rattle.fpl_items.specs.Kinds.{before_stroke};
 ghost use Rattle.fpl_items.specs.Items.{begins_item, own_words, own_list, words_before, items_of};
 
+use fpl_text::byte::is_letter;
 use fpl_text::{Measured, Words};
 use std::marker::Model;
 
 /// Whether a stroke stands at a place of a word, and what is before it is as long as a name and begins with a letter.
 #[inline(always)]
-fn has_name(stroke: usize, letters: usize, word: &[u8]) -> bool
+fn has_name(stroke: usize, word: &[u8]) -> bool
     ensures { result ≡ (nat_lt stroke (length word.now) && (slice_index word.now stroke == 47) && nat_le 2 stroke
-        && nat_le stroke 9 && nat_le 1 letters) }
+        && nat_le stroke 9 && is_letter (slice_index word.now 0)) }
 {
-    stroke < word.len() && word[stroke] == b'/' && stroke >= 2 && stroke <= 9 && letters >= 1
+    stroke < word.len() && word[stroke] == b'/' && stroke >= 2 && stroke <= 9 && is_letter(word[0])
 }
 
 /// Whether a word begins an item: whether the letters and digits at its front are a name with a stroke behind it.
 #[inline(always)]
 pub(crate) fn begins_item(measured: &Measured<'_>) -> bool
-    requires letters { measured.now.letters ≡ prefix_len is_letter measured.now.word.now }
-    requires letters_or_digits { measured.now.letters_or_digits ≡ prefix_len is_letter_or_digit measured.now.word.now }
+    requires { measured.now.letters_or_digits ≡ prefix_len is_letter_or_digit measured.now.word.now }
     ensures value { result ≡ begins_item measured.now.word.now }
     ensures stroke { result ≡ true → measured.now.letters_or_digits ≡ before_stroke measured.now.word.now }
 {
-    has_name(measured.letters_or_digits, measured.letters, measured.word)
+    has_name(measured.letters_or_digits, measured.word)
 }
 
 /// The words of an item, which end before the next item.
