@@ -135,6 +135,12 @@ fn pass_easy(text: &[u8], out: &mut [u8], from: Pass) -> Pass
     'easy: while text.len() - pass.place >= 16 {
         let (lanes, count) = easy_front(text, pass.place);
         lanes.copy_to_slice(&mut out[pass.made..]);
+        // Where all are easy the processor need not wait for the count before it goes on.
+        if count == 16 {
+            pass.place += 16;
+            pass.made += 16;
+            continue;
+        }
         pass.place += count;
         pass.made += count;
         if count < 15 {
