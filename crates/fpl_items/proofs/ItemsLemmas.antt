@@ -1,13 +1,16 @@
 -- Where an item begins, by what stands at the front of its first word.
-use Rattle.std.proofs.Common.{◌≡◌, ℕ, suc, ◌+◌, ◌<◌, ◌≤◌, Bool, true, false, ◌&&◌, eqb, ltb, leb, List, [], ◌∷◌, length, take, get_or, sym, refl, ap, ◌∙◌, arith, ⊎_elim}
+use Rattle.std.proofs.Common.{◌≡◌, ℕ, length-append, not, ◌++◌, suc, ◌<◌, ◌≤◌, Bool, true, false, ◌&&◌, eqb, ltb, leb, List, [], ◌∷◌, length, take, get_or, sym, refl, ap, ◌∙◌, arith, ⊎_elim}
 use Rattle.std.specs.List.{list_all, prefix_len}
-use Rattle.std.proofs.lemmas.Bool.{cases_Bool, false≢true, false_from_ne_true, and_parts, eqb-true, eq-eqb, le-leb, ltb-true}
+use Rattle.std.proofs.lemmas.Bool.{and_parts, cases_Bool, eq-eqb, eqb-true, false_from_ne_true, false≢true, le-ltb, ltb-true}
 use Rattle.std.proofs.lemmas.List.{length-take, get_or-take}
 use Rattle.std.proofs.lemmas.List.Folds.{list_all_at}
 use Rattle.std.proofs.lemmas.List.Sums.{prefix_len_is, prefix_len_passes, position_or_len_is, passes_at_first}
 use Rattle.fpl_text.specs.Bytes.{is_letter, is_digit, is_letter_or_digit}
 use Rattle.fpl_items.specs.Kinds.{before_stroke}
-use Rattle.fpl_items.specs.Items.{begins_item}
+use Rattle.std.specs.Prelude.{Option, Some, None, MatchOption}
+use Rattle.fpl_text.specs.declared.words.Measured.{Measured}
+use Rattle.fpl_text.specs.Words.{lacks, PassesOver}
+use Rattle.fpl_items.specs.Items.{begins_item, items_of}
 
 pub list_all-prefix : (p : ℕ → Bool) (xs : List ℕ) (n : ℕ) → n ≤ prefix_len p xs → list_all p (take n xs) ≡ true
 list_all-prefix p xs n h =
@@ -23,11 +26,6 @@ stroke-other : is_letter_or_digit 47 ≡ false
 unfolding is_letter is_digit
 stroke-other = refl
 
-first-letter : (word : List ℕ) → is_letter (get_or word 0 0) ≡ leb 1 (prefix_len is_letter word)
-unfolding is_letter
-first-letter [] = refl
-first-letter (b ∷ word) = ⊎_elim (λ k. rw k (sym (le-leb 1 (1 + prefix_len (λ c. leb 65 c && leb c 90) word) (omega arith)))) (λ k. rw k refl) (cases_Bool (is_letter b))
-
 -- the stroke stands behind the letters and digits
 pub stroke-behind : (word : List ℕ) (n : ℕ) → n ≡ prefix_len is_letter_or_digit word → n < length word → get_or word n 0 ≡ 47 → before_stroke word ≡ n
 stroke-behind word n same h at_stroke =
@@ -36,7 +34,7 @@ stroke-behind word n same h at_stroke =
     (λ _. eq-eqb _ 47 at_stroke)
 
 pub begins_item-is : (word : List ℕ) (n : ℕ) → n ≡ prefix_len is_letter_or_digit word
-    → (ltb n (length word) && eqb (get_or word n 0) 47 && leb 2 n && leb n 9 && leb 1 (prefix_len is_letter word)) ≡ begins_item word
+    → (ltb n (length word) && eqb (get_or word n 0) 47 && leb 2 n && leb n 9 && is_letter (get_or word 0 0)) ≡ begins_item word
 unfolding begins_item
 begins_item-is word n same =
     ⊎_elim stands (λ no. rw no (sym (false_from_ne_true _ (λ yes. absurd (false≢true (sym no ∙ other yes)))))) (cases_Bool (ltb n (length word) && eqb (get_or word n 0) 47))
@@ -46,12 +44,12 @@ begins_item-is word n same =
     and-true false = refl
 
     stands : ltb n (length word) && eqb (get_or word n 0) 47 ≡ true
-        → (ltb n (length word) && eqb (get_or word n 0) 47 && leb 2 n && leb n 9 && leb 1 (prefix_len is_letter word))
+        → (ltb n (length word) && eqb (get_or word n 0) 47 && leb 2 n && leb n 9 && is_letter (get_or word 0 0))
         ≡ (ltb (before_stroke word) (length word) && leb 2 (before_stroke word) && leb (before_stroke word) 9 && is_letter (get_or word 0 0) && list_all is_letter_or_digit (take (before_stroke word) word))
     stands h =
         let parts = and_parts _ _ h in
         let stroke = stroke-behind word n same (ltb-true _ _ parts.0) (eqb-true _ 47 parts.1) in
-        rw (stroke, h, parts.0, first-letter word, list_all-prefix is_letter_or_digit word n (omega arith)) (sym (and-true _))
+        rw (stroke, h, parts.0, list_all-prefix is_letter_or_digit word n (omega arith)) (sym (and-true _))
 
     other : ltb (before_stroke word) (length word) && leb 2 (before_stroke word) && leb (before_stroke word) 9 && is_letter (get_or word 0 0) && list_all is_letter_or_digit (take (before_stroke word) word) ≡ true
         → ltb n (length word) && eqb (get_or word n 0) 47 ≡ true
@@ -65,3 +63,32 @@ begins_item-is word n same =
         (λ k l. ⊎_elim (λ y. y) (λ no. absurd (false≢true (sym (list_all_at is_letter_or_digit (take (before_stroke word) word) k 0 (omega (arith, length-take (before_stroke word) word)) (ap is_letter_or_digit (get_or-take (before_stroke word) word k 0 l) ∙ no)) ∙ all.1))) (cases_Bool (is_letter_or_digit (get_or word k 0))))
         (λ _. ap is_letter_or_digit (eqb-true _ 47 stroke) ∙ stroke-other) in
         rw (same, here, stroke, front.0) refl
+
+-- a word without a stroke begins no item
+no-item : (word : List ℕ) → lacks 47 word ≡ true → begins_item word ≡ false
+unfolding begins_item
+no-item word none =
+    let whole : before_stroke word ≡ length word =
+    position_or_len_is (λ b. eqb b 47) word (length word) 0 (omega arith)
+    (λ k l. false_from_ne_true _ (λ is. absurd (false≢true (sym (list_all_at (λ b. not (eqb b 47)) word k 0 l (ap not is)) ∙ none))))
+    (λ l. absurd (omega arith)) in
+    rw (whole, le-ltb (length word) (length word) (omega arith)) refl
+
+-- words without a stroke are passed over
+items-over : (front words : List (List ℕ)) → list_all (lacks 47) front ≡ true → items_of (front ++ words) ≡ items_of words
+items-over [] words none = refl
+items-over (word ∷ front) words none =
+    let parts = and_parts (lacks 47 word) (list_all (lacks 47) front) none in
+    rw (no-item word parts.0) (items-over front words parts.1)
+
+items-passed : (old new : List (List ℕ)) → PassesOver 47 old new → items_of old ≡ items_of new
+items-passed old new over = ap items_of over.whole ∙ items-over over.front new over.none
+
+passed-length : (old new : List (List ℕ)) → PassesOver 47 old new → length new ≤ length old
+passed-length old new over = omega (arith, ap length over.whole, length-append over.front new)
+
+-- the next word behind those that are passed over
+pub next-passed : (old mid new : List (List ℕ)) (found : Option Measured) → PassesOver 47 old mid → MatchOption found ((mid ≡ []) × (new ≡ [])) (λ m. mid ≡ m.word.now ∷ new)
+    → MatchOption found ((items_of old ≡ []) × (new ≡ [])) (λ m. (items_of old ≡ items_of (m.word.now ∷ new)) × (length new < length old))
+next-passed old mid new None over h = (items-passed old mid over ∙ ap items_of h.0, h.1)
+next-passed old mid new (Some m) over h = (items-passed old mid over ∙ ap items_of h, omega (arith, passed-length old mid over, ap length h))

@@ -1,6 +1,6 @@
 //! The items of field 18.
 
-ghost use Rattle.std.specs.Prelude.{◌≡◌, ◌==◌, ◌&&◌, ◌∷◌, ◌++◌, [], nat_le, nat_lt, List, ℕ, true, IsTrue, length, take, slice_index, MatchOption};
+ghost use Rattle.std.specs.Prelude.{◌≡◌, ◌<◌, ◌==◌, ◌&&◌, ◌∷◌, ◌++◌, [], nat_le, nat_lt, List, ℕ, true, IsTrue, length, take, slice_index, MatchOption, IfSome};
 ghost use Rattle.std.specs.Iterator.{YieldsFirst, YieldsFirstRef, item_count};
 ghost use Rattle.std.specs.List.{prefix_len};
 ghost use Rattle.fpl_text.specs.Bytes.{is_letter, is_letter_or_digit};
@@ -8,27 +8,27 @@ ghost use Rattle.fpl_text.specs.Words.{words_of};
 ghost use Rattle.fpl_items.specs.Kinds.{before_stroke};
 ghost use Rattle.fpl_items.specs.Items.{begins_item, own_words, own_list, words_before, items_of};
 
+use fpl_text::byte::is_letter;
 use fpl_text::{Measured, Words};
 use std::marker::Model;
 
 /// Whether a stroke stands at a place of a word, and what is before it is as long as a name and begins with a letter.
 #[inline(always)]
-fn has_name(stroke: usize, letters: usize, word: &[u8]) -> bool
+fn has_name(stroke: usize, word: &[u8]) -> bool
     ensures { result ≡ (nat_lt stroke (length word.now) && (slice_index word.now stroke == 47) && nat_le 2 stroke
-        && nat_le stroke 9 && nat_le 1 letters) }
+        && nat_le stroke 9 && is_letter (slice_index word.now 0)) }
 {
-    stroke < word.len() && word[stroke] == b'/' && stroke >= 2 && stroke <= 9 && letters >= 1
+    stroke < word.len() && word[stroke] == b'/' && stroke >= 2 && stroke <= 9 && is_letter(word[0])
 }
 
 /// Whether a word begins an item: whether the letters and digits at its front are a name with a stroke behind it.
 #[inline(always)]
 pub(crate) fn begins_item(measured: &Measured<'_>) -> bool
-    requires letters { measured.now.letters ≡ prefix_len is_letter measured.now.word.now }
-    requires letters_or_digits { measured.now.letters_or_digits ≡ prefix_len is_letter_or_digit measured.now.word.now }
+    requires { measured.now.letters_or_digits ≡ prefix_len is_letter_or_digit measured.now.word.now }
     ensures value { result ≡ begins_item measured.now.word.now }
     ensures stroke { result ≡ true → measured.now.letters_or_digits ≡ before_stroke measured.now.word.now }
 {
-    has_name(measured.letters_or_digits, measured.letters, measured.word)
+    has_name(measured.letters_or_digits, measured.word)
 }
 
 /// The words of an item, which end before the next item.
@@ -110,12 +110,23 @@ impl<'a> Item<'a> {
     }
 }
 
+/// Takes the next word that has a stroke, and passes over those before it, which begin no item.
+#[inline(always)]
+fn next_with_stroke<'a>(words: &mut Words<'a>) -> Option<Measured<'a>>
+    ensures next { MatchOption result ((items_of words.old ≡ []) × (words.new ≡ []))
+        (λ m. (items_of words.old ≡ items_of (m.word.now ∷ words.new)) × (length words.new < length words.old)) }
+    ensures measured { IfSome result (λ m. m.letters_or_digits ≡ prefix_len is_letter_or_digit m.word.now) }
+{
+    words.skip_to(b'/');
+    words.next_measured()
+}
+
 /// Takes the next item off the words, and passes over those before it.
 fn next_item<'a>(words: &mut Words<'a>) -> Option<Item<'a>>
     ensures { MatchOption result ((items_of words.old ≡ []) × (words.new ≡ []))
         (λ item. items_of words.old ≡ item ∷ items_of words.new) }
 {
-    'words: while let Some(measured) = words.next_measured() {
+    'words: while let Some(measured) = next_with_stroke(words) {
         if begins_item(&measured) {
             return Some(Item {
                 first: measured.word,

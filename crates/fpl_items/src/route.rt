@@ -1,6 +1,6 @@
 //! Field 15: the route.
 
-ghost use Rattle.std.specs.Prelude.{◌≡◌, ◌≤◌, ◌<◌, ◌+◌, ◌==◌, Some, length, count_by, IfOk, IfErr};
+ghost use Rattle.std.specs.Prelude.{◌≡◌, ◌≤◌, ◌<◌, ◌+◌, Some, length, IfOk, IfErr};
 ghost use Rattle.std.specs.List.{list_all, prefix_len};
 ghost use Rattle.fpl_text.specs.Bytes.{is_letter, is_letter_or_digit};
 ghost use Rattle.std.specs.Option.{ok_or};
@@ -12,6 +12,7 @@ use crate::speed::{is_height, is_speed, is_speed_and_level, speed_and_level, spe
 use fpl_text::byte::{
     all_digits, all_letters, all_letters_or_digits, is_letter_or_digit, leading_letters,
 };
+use fpl_text::words::space_count;
 use fpl_text::{Measured, Text, Words};
 use std::alloc::{Allocator, Global};
 use std::marker::Model;
@@ -261,14 +262,6 @@ fn kind_of(measured: &Measured<'_>) -> Option<Kind>
         return Some(kind_with_digit(measured.word));
     }
     kind_with_other(measured.word)
-}
-
-/// How many spaces a text has.
-fn space_count(text: &[u8]) -> usize
-    ensures value { result ≡ count_by (λ b. b == 32) text.now }
-    ensures bound { result ≤ length text.now }
-{
-    text.iter().filter(|byte| **byte == b' ').count()
 }
 
 /// The element of that kind at that place, where the place can be held.

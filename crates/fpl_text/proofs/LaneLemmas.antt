@@ -1,8 +1,10 @@
 -- What the operations on vectors of 16 bytes hold at each lane.
 use Rattle.std.proofs.Common.{◌+◌, ◌≡◌, ◌↔◌, ℕ, ◌%◌, ◌^◌, ◌<◌, ◌≤◌, List, [], ◌∷◌, Bool, true, false, cond, not, leb, eqb, ◌&&◌, ◌||◌, length, get_or, map, replicate, refl, sym, ap, ◌∙◌, arith, w8, w64, bit_and, bit_or, ⊎_elim, inl, inr, shr-shr, ◌/◌}
 use Rattle.std.specs.Int.{bit_at, trailing_ones}
+use Rattle.std.specs.Int.RustNames.{count_ones}
+use Rattle.std.specs.List.{count_by}
 use Rattle.std.specs.Simd.Lanes.{zip2, sel_l, mask_l, top}
-use Rattle.std.proofs.lemmas.Simd.{length-zip2, get_or-zip2, get_or-replicate, length-sel_l, get_or-sel_l, bit_mask_l, tops_compared, mask_l-mod, mask_l-lt}
+use Rattle.std.proofs.lemmas.Simd.{bitmask_splat, ones-mask_l, length-zip2, get_or-zip2, get_or-replicate, length-sel_l, get_or-sel_l, bit_mask_l, tops_compared, mask_l-mod, mask_l-lt}
 use Rattle.std.proofs.lemmas.Nat.Bits.{bit_at-trailing_ones, bit_at_or, bit_at_and, bit_at-lt}
 use Rattle.std.proofs.lemmas.Nat.{and_le_l}
 use lib.Bits.{or_add_and}
@@ -200,6 +202,11 @@ front-before v w m n long wide bits small others few =
           inr (set_flag (q k) (rw (hq.each k (inside k l)) at ((others k).0 b.0)), set_flag (p (k + 1)) (rw (next, hp.each (k + 1) (omega arith)) at ((bits (1 + k)).0 b.1))))
           (parts k l));
     }
+
+-- how many lanes hold a byte
+pub lanes-count : (v : List ℕ) (byte : ℕ) → length v ≡ 16
+    → count_ones (mask_l (map (top 7) (zip2 (λ a b. cond (eqb a b) 255 0) v (replicate 16 byte))) % 2 ^ 64) ≡ count_by (λ b. eqb b byte) v
+lanes-count v byte long = ap count_ones (bitmask_splat w8 eqb v 16 byte long (omega arith)) ∙ ones-mask_l (λ b. eqb b byte) v
 
 or_assoc : (p q r : Bool) → (p || q) || r ≡ p || (q || r)
 or_assoc true q r = refl

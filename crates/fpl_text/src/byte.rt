@@ -2,7 +2,7 @@
 
 ghost use Rattle.std.specs.Prelude.{◌≡◌, ◌≤◌, length};
 ghost use Rattle.std.specs.List.{list_all, prefix_len};
-ghost use Rattle.fpl_text.specs.Bytes.{is_letter, is_digit, is_letter_or_digit, is_blank, is_accepted, is_border, is_other_mark};
+ghost use Rattle.fpl_text.specs.Bytes.{is_letter, is_digit, is_letter_or_digit, is_blank, is_border, is_other_mark, is_plain};
 
 /// A letter, A to Z.
 #[tactic(auto, unfolding(crate::specs::Bytes::is_letter))]
@@ -51,12 +51,12 @@ pub(crate) fn is_other_mark(byte: u8) -> bool
     matches!(byte, b'/' | b'.' | b':' | b',' | b'\'' | b'?' | b'+' | b'=')
 }
 
-/// A byte that a text may have.
-#[tactic(auto, unfolding(crate::specs::Bytes::is_accepted))]
-pub(crate) fn is_accepted(byte: u8) -> bool
-    ensures { result ≡ is_accepted byte }
+/// A letter, a digit or a mark that is no border.
+#[tactic(auto, unfolding(crate::specs::Bytes::is_plain))]
+pub(crate) fn is_plain(byte: u8) -> bool
+    ensures { result ≡ is_plain byte }
 {
-    is_letter_or_digit(byte) || is_blank(byte) || is_border(byte) || is_other_mark(byte)
+    is_letter_or_digit(byte) || is_other_mark(byte)
 }
 
 /// Whether a text has digits alone.

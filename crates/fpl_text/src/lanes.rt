@@ -1,6 +1,6 @@
 //! Sixteen bytes at once.
 
-ghost use Rattle.std.specs.Prelude.{◌≡◌, ◌≤◌, ◌<◌, ◌+◌, ◌↔◌, ◌==◌, ◌&&◌, ◌||◌, if◌then◌else◌, nat_le, not, ℕ, Bool, true, false, length, slice_index};
+ghost use Rattle.std.specs.Prelude.{◌≡◌, ◌≤◌, ◌<◌, ◌+◌, ◌↔◌, ◌==◌, ◌&&◌, ◌||◌, if◌then◌else◌, nat_le, not, ℕ, Bool, true, false, length, slice_index, take, drop, count_by};
 ghost use Rattle.std.specs.Int.{bit_at};
 ghost use Rattle.fpl_text.specs.Bytes.{is_blank, is_letter, is_digit, is_letter_or_digit, is_other_mark, is_plain};
 ghost use Rattle.fpl_text.specs.Lanes.{HasLanes, HasFlags};
@@ -11,7 +11,8 @@ use std::simd::prelude::*;
 #[inline(always)]
 pub(crate) fn load(text: &[u8], at: usize) -> u8x16
     requires { at + 16 ≤ length text.now }
-    ensures { HasLanes result (λ k. slice_index text.now (at + k)) }
+    ensures lanes { HasLanes result (λ k. slice_index text.now (at + k)) }
+    ensures chunk { result ≡ take 16 (drop at text.now) }
 {
     u8x16::from_slice(&text[at..])
 }
@@ -157,6 +158,15 @@ pub(crate) fn set_or_before(flags: u8x16, others: u8x16) -> usize
 {
     let set = top_bits(flags);
     (set | (top_bits(others) & (set >> 1))).trailing_ones() as usize
+}
+
+/// How many lanes hold this byte.
+#[inline(always)]
+pub(crate) fn count_in(v: u8x16, byte: u8) -> usize
+    ensures value { result ≡ count_by (λ b. b == byte) v }
+    ensures bound { result ≤ 16 }
+{
+    v.simd_eq(u8x16::splat(byte)).to_bitmask().count_ones() as usize
 }
 
 /// Bit k is the top bit of lane k.

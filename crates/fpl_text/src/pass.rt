@@ -6,7 +6,7 @@ ghost use Rattle.fpl_text.specs.Lanes.{HasLanes};
 ghost use Rattle.fpl_text.specs.Passes.{IsPass, IsInside, is_easy, as_space};
 ghost use Rattle.fpl_text.specs.declared.fault.TextFault.TheVariants.{Empty, BadByte};
 
-use crate::byte::{is_accepted, is_blank, is_border};
+use crate::byte::{is_blank, is_border, is_plain};
 use crate::lanes::{blank_lanes, load, plain_lanes, set_or_before, spaces_or};
 use std::simd::prelude::*;
 
@@ -39,12 +39,12 @@ fn put_byte(out: &mut [u8], made: usize, space: bool, byte: u8) -> usize
     at + 1
 }
 
-/// Whether a space stands before the next byte that is kept, which is a border or not.
+/// Whether a space stands before the next byte that is kept, where that is no border.
 #[inline(always)]
-fn takes_space(pass: Pass, border: bool) -> bool
-    ensures { result ≡ pass.blank && not pass.border && not border }
+fn takes_space(pass: Pass) -> bool
+    ensures { result ≡ pass.blank && not pass.border }
 {
-    pass.blank && !pass.border && !border
+    pass.blank && !pass.border
 }
 
 /// Passes the next byte. None is for one that is not accepted.
@@ -57,6 +57,15 @@ fn pass_byte(text: &[u8], out: &mut [u8], pass: Pass) -> Option<Pass>
 {
     let byte = text[pass.place];
     let place = pass.place + 1;
+    if is_plain(byte) {
+        let made = put_byte(out, pass.made, takes_space(pass), byte);
+        return Some(Pass {
+            place,
+            made,
+            blank: false,
+            border: false,
+        });
+    }
     if is_blank(byte) {
         return Some(Pass {
             place,
@@ -65,21 +74,19 @@ fn pass_byte(text: &[u8], out: &mut [u8], pass: Pass) -> Option<Pass>
             border: pass.border,
         });
     }
-    if !is_accepted(byte) {
+    if !is_border(byte) {
         return None;
     }
-    let border = is_border(byte);
-    let space = takes_space(pass, border);
-    let made = put_byte(out, pass.made, space, byte);
+    let made = put_byte(out, pass.made, false, byte);
     Some(Pass {
         place,
         made,
         blank: false,
-        border,
+        border: true,
     })
 }
 
-/// Passes bytes one by one, up to one that is no border and no blank, or to the end. The error is the place of one that is not
+/// Passes bytes one by one, up to a plain one with 16 more behind it, or to the end. The error is the place of one that is not
 /// accepted.
 fn pass_bytes(text: &[u8], out: &mut [u8], from: Pass) -> Result<Pass, usize>
     requires { IsPass text.now out.old from }
@@ -95,7 +102,7 @@ fn pass_bytes(text: &[u8], out: &mut [u8], from: Pass) -> Result<Pass, usize>
             return Err(pass.place);
         };
         pass = next;
-        if !pass.blank && !pass.border {
+        if !pass.blank && !pass.border && text.len() - pass.place >= 16 {
             return Ok(pass);
         }
     }
@@ -128,6 +135,12 @@ fn pass_easy(text: &[u8], out: &mut [u8], from: Pass) -> Pass
     'easy: while text.len() - pass.place >= 16 {
         let (lanes, count) = easy_front(text, pass.place);
         lanes.copy_to_slice(&mut out[pass.made..]);
+        // Where all are easy the processor need not wait for the count before it goes on.
+        if count == 16 {
+            pass.place += 16;
+            pass.made += 16;
+            continue;
+        }
         pass.place += count;
         pass.made += count;
         if count < 15 {

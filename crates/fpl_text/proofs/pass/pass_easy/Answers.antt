@@ -15,3 +15,14 @@ easy-preserved c = record {
   inside = record { no_blank = c.easy.invariant.inside.no_blank; no_border = c.easy.invariant.inside.no_border };
   further = omega (arith, c.easy.invariant.further);
 }
+
+pub easy-preserved-then-count-eq16 : goal.easy-preserved-then-count-eq16
+easy-preserved-then-count-eq16 c =
+    let next =
+    pass-easy c.args.text.now c.easy.out c.easy_front-count.result.0 c.easy.pass c.easy_front-count.result.1 c.easy.invariant.pass c.easy.invariant.inside
+    (omega arith) c.easy_front-count.ensures.bound c.easy_front-count.ensures.lanes c.easy_front-count.ensures.easy in
+    record {
+      pass = rw c.if-count-eq16.true at next;
+      inside = record { no_blank = c.easy.invariant.inside.no_blank; no_border = c.easy.invariant.inside.no_border };
+      further = omega (arith, c.easy.invariant.further);
+    }
