@@ -5,3 +5,5 @@ pub mod Walks
 pub mod Keepings
 pub mod Distincts
 pub mod RunLemmas
+pub mod Notes
+pub mod Amendments

@@ -6,6 +6,7 @@ pub mod Searching
 pub mod Chains
 pub mod Changes
 pub mod Entries
+pub mod Estimates
 pub mod Stores
 pub mod Undoing
 pub mod Distinct

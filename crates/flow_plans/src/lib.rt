@@ -3,6 +3,8 @@
 
 mod amending;
 mod chains;
+mod estimate;
+mod estimates;
 mod fault;
 pub mod laws;
 mod matching;

@@ -1,7 +1,6 @@
 //! One flight plan.
 ghost use Rattle.std.specs.Prelude.{◌≡◌, ◌≤◌, ◌<◌, IfOk, IfSome, None, option_copied};
-ghost use Rattle.fpl_text.specs.Words.{words_of};
-ghost use Rattle.fpl_items.specs.Items.{items_of, estimate_for, elapsed_to, day_of_items};
+ghost use Rattle.fpl_items.specs.Items.{day_of_items};
 ghost use Rattle.flow_plans.specs.Entries.{take_off, elapsed_at, entry_at, subject};
 ghost use Rattle.flow_plans.specs.Plans.{is_held, is_visual, same_key, is_held_as, text_of, with_state, with_off_block};
 ghost use Rattle.flow_plans.specs.Matching.{agrees, is_candidate, is_gone};
@@ -10,9 +9,9 @@ ghost use Rattle.std.specs.Option.{option_map_or};
 
 use crate::amending::{alternates_after, elapsed_after, exempt_after, rules_after};
 use crate::texts::Texts;
-use fpl_items::{ItemWords, Items, Other18};
+use fpl_items::Other18;
 use fpl_message::{Chg, Fpl, Parts, Spot};
-use fpl_text::{Alternates, Day, FlightRules, Minute, Text, read_elapsed};
+use fpl_text::{Alternates, Day, FlightRules, Minute, Text};
 use std::alloc::{AllocError, Allocator, Global};
 use std::marker::Model;
 
@@ -294,7 +293,7 @@ impl<A: Allocator + Copy> Plan<A> {
         ensures value { result ≡ elapsed_at place.now self.now }
         ensures bound { IfSome result (λ minutes. minutes < 6000) }
     {
-        elapsed_to(self.texts.field18(), place)
+        self.texts.elapsed(place)
     }
 
     /// The moment of take-off, at most 120 minutes after the off-block moment.
@@ -384,35 +383,6 @@ impl<A: Allocator + Copy> Plan<A> {
     {
         self.exempt
     }
-}
-
-/// The elapsed time, in minutes, of the first of these estimates that is for a place.
-fn estimate_for(words: ItemWords<'_>, place: &[u8]) -> Option<u32>
-    ensures value { result ≡ estimate_for place.now words.entry }
-    ensures bound { IfSome result (λ minutes. minutes < 6000) }
-{
-    for word in words {
-        let (before, time) = word.split_at(word.len().saturating_sub(4));
-        if before == place {
-            return read_elapsed(time);
-        }
-    }
-    None
-}
-
-/// The elapsed time, in minutes, of the first estimate for a place in a field 18.
-fn elapsed_to(field: &[u8], place: &[u8]) -> Option<u32>
-    ensures value { result ≡ elapsed_to place.now (items_of (words_of field.now)) }
-    ensures bound { IfSome result (λ minutes. minutes < 6000) }
-{
-    for item in Items::new(field) {
-        if item.name() == b"EET".as_slice() {
-            if let Some(minutes) = estimate_for(item.words(), place) {
-                return Some(minutes);
-            }
-        }
-    }
-    None
 }
 
 /// The key of the plan that a flight plan message files.

@@ -1,8 +1,11 @@
 //! The field texts that a plan holds.
-ghost use Rattle.std.specs.Prelude.{◌≡◌, ◌≤◌, ◌+◌, ◌++◌, length, IfOk};
+ghost use Rattle.std.specs.Prelude.{◌≡◌, ◌≤◌, ◌<◌, ◌+◌, ◌++◌, length, IfOk, IfSome};
+ghost use Rattle.fpl_text.specs.Words.{words_of};
+ghost use Rattle.fpl_items.specs.Items.{items_of, elapsed_to};
 ghost use Rattle.flow_plans.specs.Changes.{texts_after};
 
 use crate::amending::text_after;
+use crate::estimates::Estimates;
 use fpl_message::Chg;
 use std::alloc::{AllocError, Allocator, Global};
 use std::marker::Model;
@@ -15,11 +18,14 @@ pub(crate) struct Texts<A: Allocator + Copy = Global> {
     end9: usize,
     end10: usize,
     end15: usize,
+    /// What the EET items of field 18 say.
+    estimates: Estimates<A>,
 }
 
 impl<A: Allocator + Copy> Model for Texts<A> {
     ghost use Rattle.std.specs.Prelude.{◌≤◌, length, slice_range, drop};
     ghost use Rattle.flow_plans.specs.Plans.{Texts as Held};
+    ghost use Rattle.flow_plans.specs.Estimates.{AreNotesOf};
 
     ghost Value = { Held };
 
@@ -31,7 +37,8 @@ impl<A: Allocator + Copy> Model for Texts<A> {
       field18 = slice_range t.bytes.items t.end15 (length t.bytes.items);
     } };
 
-    ghost invariant = { λ t. (t.end8 ≤ t.end9) × (t.end9 ≤ t.end10) × (t.end10 ≤ t.end15) × (t.end15 ≤ length t.bytes.items) };
+    ghost invariant = { λ t. (t.end8 ≤ t.end9) × (t.end9 ≤ t.end10) × (t.end10 ≤ t.end15) × (t.end15 ≤ length t.bytes.items)
+        × AreNotesOf (slice_range t.bytes.items t.end15 (length t.bytes.items)) t.estimates.whole t.estimates.notes.items };
 }
 
 /// Appends a text, and answers where it ends.
@@ -55,6 +62,7 @@ impl<A: Allocator + Copy> Texts<A> {
     ) -> Result<Self, AllocError>
         ensures { IfOk result (λ t. t ≡ record { field8 = field8.now; field9 = field9.now; field10 = field10.now; field15 = field15.now; field18 = field18.now }) }
     {
+        let estimates = Estimates::read(alloc, field18)?;
         let small = field8
             .len()
             .saturating_add(field9.len())
@@ -74,6 +82,7 @@ impl<A: Allocator + Copy> Texts<A> {
             end9,
             end10,
             end15,
+            estimates,
         })
     }
 
@@ -120,5 +129,13 @@ impl<A: Allocator + Copy> Texts<A> {
         ensures { result.now ≡ self.now.field18 }
     {
         &self.bytes[self.end15..]
+    }
+
+    /// The minutes from take-off to a place of the way, by the first estimate for it in the EET items of field 18.
+    pub(crate) fn elapsed(&self, place: &[u8]) -> Option<u32>
+        ensures value { result ≡ elapsed_to place.now (items_of (words_of self.now.field18)) }
+        ensures bound { IfSome result (λ minutes. minutes < 6000) }
+    {
+        self.estimates.elapsed(self.field18(), place)
     }
 }

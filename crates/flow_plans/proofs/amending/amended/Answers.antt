@@ -1,0 +1,16 @@
+use Rattle.std.proofs.Common.{◌≡◌, Ok, false}
+use Rattle.std.specs.List.{list_any}
+use Rattle.flow_plans.specs.Plans.{is_held_as}
+use Rattle.flow_plans.specs.Matching.{matching}
+use Rattle.flow_plans.specs.Changes.{changes_key, key_after, moved_to, others}
+use Rattle.flow_plans.proofs.Amendments.{all-steps}
+use Rattle.flow_plans.proofs.amending.amended.Goals as goal
+
+pub returns-in-Ok-clause-ok : goal.returns-in-Ok-clause-ok
+returns-in-Ok-clause-ok g c =
+    let found : matching c.args.plans.now c.args.message.now.parts ≡ Ok c.in_ok-number.number = rw c.parts.ensures at c.in_ok-number.ensures.answer in
+    let same : changes_key c.args.message.now c.index-plans-number.result.key ≡ false = cc (c.is_changed_by.ensures, c.key.ensures, c.if-is_changed_by.false) in
+    let moved : moved_to c.args.now c.index-plans-number.result.off_block c.args.message.now.departure ≡ Ok c.in_ok-off_block.off_block = rw (c.departure.ensures, c.off_block.ensures.value) at c.in_ok-off_block.ensures.answer in
+    let free : list_any (is_held_as (key_after c.index-plans-number.result.key c.args.message.now)) (others c.in_ok-number.number c.args.plans.now) ≡ false = cc (c.others_hold_key.ensures, c.amended-key.ensures, c.key-2.ensures, c.if-others_hold_key.false) in
+    all-steps c.args.now c.args.plans.now c.args.message.now c.in_ok-number.number c.in_ok-off_block.off_block c.index-plans-number.result c.in-Ok.plan
+    found c.in_ok-number.ensures.within.0 c.in_ok-number.ensures.within.1 c.index-plans-number.is same moved free c.in-Ok.ensures

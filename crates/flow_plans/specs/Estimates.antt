@@ -1,0 +1,34 @@
+-- What a plan notes of the EET items of its field 18 (ICAO Doc 4444, appendix 3, field type 18), so that the field is read once.
+use Rattle.std.specs.Prelude.{◌≡◌, ℕ, ◌-◌, Bool, true, ◌&&◌, nat_le, if◌then◌else◌, List, [], ◌∷◌, length, take, drop, slice_range, Option, Some, None}
+use Rattle.std.specs.Option.{option_or}
+use Rattle.fpl_text.specs.Times.{elapsed_time}
+use Rattle.fpl_text.specs.Words.{words_of}
+use Rattle.fpl_items.specs.Kinds.{is_text}
+use Rattle.fpl_items.specs.Items.{items_of, estimate_for, elapsed_to}
+use Rattle.flow_plans.specs.declared.estimate.Estimate.{Estimate}
+
+-- whether a note is for a place: the place stands where the note says
+unfoldable pub is_for : List ℕ → List ℕ → Estimate → Bool
+is_for field place e =
+    nat_le e.start e.end && nat_le e.end (length field) && is_text place (slice_range field e.start e.end)
+
+-- the minutes of the first of these notes that is for a place
+abbrev pub first_for : List ℕ → List ℕ → List Estimate → Option ℕ
+first_for field place [] = None
+first_for field place (e ∷ es) = if is_for field place e then Some e.minutes else first_for field place es
+
+-- a note of a word: of the place and the elapsed time that it is
+abbrev pub IsNoteOf : List ℕ → List ℕ → Estimate → Type 0
+IsNoteOf field word e =
+    ((place : List ℕ) → is_for field place e ≡ is_text place (take (length word - 4) word))
+    × (elapsed_time (drop (length word - 4) word) ≡ Some e.minutes)
+
+-- notes that say, after those before, what these words of an item say
+abbrev pub AddsWords : List ℕ → List Estimate → List Estimate → List (List ℕ) → Type 0
+AddsWords field before after words =
+    (place : List ℕ) → first_for field place after ≡ option_or (first_for field place before) (estimate_for place words)
+
+-- notes that say of every place what a field says, where they are whole
+abbrev pub AreNotesOf : List ℕ → Bool → List Estimate → Type 0
+AreNotesOf field whole notes =
+    whole ≡ true → ((place : List ℕ) → first_for field place notes ≡ elapsed_to place (items_of (words_of field)))
