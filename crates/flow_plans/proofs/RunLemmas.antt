@@ -1,12 +1,11 @@
 -- Plans over whole runs of changes.
-use Rattle.std.proofs.Common.{◌≡◌, ℕ, ◌+◌, ◌<◌, ◌≤◌, List, [], ◌∷◌, ◌++◌, length, Option, Some, None, Result, Ok, Err, refl, sym, ap, subst, ◌∙◌, arith}
+use Rattle.std.proofs.Common.{◌≡◌, ℕ, ◌<◌, ◌≤◌, List, [], ◌∷◌, ◌++◌, length, Option, Some, None, Result, Ok, Err, refl, sym, ap, subst, ◌∙◌, arith}
 use Rattle.fpl_message.specs.declared.refusal.Refusal.{Refusal}
 use Rattle.fpl_message.specs.Messages.{Fpl}
 use Rattle.fpl_message.specs.Refusals.{◌>>=◌}
-use Rattle.flow_plans.specs.declared.plan.Key.{Key}
 use Rattle.flow_plans.specs.Plans.{Plan}
 use Rattle.flow_plans.specs.Changes.{Changed, filed, delayed, cancelled, departed, amended}
-use Rattle.flow_plans.specs.Distinct.{AreDistinct, KeepKeys, KeepFlights, key_at}
+use Rattle.flow_plans.specs.Distinct.{AreDistinct, KeepKeys, KeepFlights}
 use Rattle.flow_plans.specs.Runs.{Change, file, delay, amend, cancel, depart, change_of, or_same, changed_all, Turn, changes, takes_back, Held, held_after, held_before, after_turn, after_turns, nothing_held}
 use Rattle.flow_plans.proofs.Distincts.{filed-distinct, filed-keys, filed-count, delayed-distinct, delayed-keys, delayed-count, cancelled-distinct, cancelled-keys, cancelled-count, departed-distinct, departed-keys, departed-count, amended-distinct, amended-keys, amended-count}
 

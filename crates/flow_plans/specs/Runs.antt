@@ -7,7 +7,7 @@ use Rattle.fpl_message.specs.declared.short_message.Dep.{Dep}
 use Rattle.fpl_message.specs.Messages.{Fpl, Chg}
 use Rattle.fpl_message.specs.Refusals.{◌>>=◌}
 use Rattle.flow_plans.specs.Plans.{Plan}
-use Rattle.flow_plans.specs.Changes.{Changed, filed, delayed, cancelled, departed, amended}
+use Rattle.flow_plans.specs.Changes.{filed, delayed, cancelled, departed, amended}
 
 -- a message, with the desk's time at which it comes and how many plans are accepted, where these matter
 pub data Change : Type 0 where
