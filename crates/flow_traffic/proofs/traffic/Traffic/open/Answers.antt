@@ -36,7 +36,10 @@ returns-then-count-ge-MAX_REGULATIONS-clause-answers g c =
     rw (sym c.self.view_is) (refused (ord (open_reg c.args.order.now)) t _ (full-refused t c.args.order.now c.in-Ok.ensures.ok.0 c.in-Ok.ensures.ok.1 other (le-leb 64 _ many)))
 
 pub open-opened-requires : goal.open-opened-requires
-open-opened-requires g c = omega (arith, c.self.invariant.room, c.self.invariant.limit)
+open-opened-requires g c = record {
+      plans = omega (arith, c.self.invariant.room, c.self.invariant.limit);
+      name = rw c.copied.ensures (sym c.is_open.ensures ∙ c.if-is_open.false);
+    }
 
 pub tell-requires-clause-quiet : goal.tell-requires-clause-quiet
 tell-requires-clause-quiet g c =

@@ -1,0 +1,105 @@
+#!/usr/bin/env python3
+"""Loads for measuring slotdesk, written to standard output.
+
+    bench/load.py NAME [SIZE] > FILE
+
+NAME is one of
+  day      SIZE flights of a European day at 64 regulations, with delays, modifications, cancellations and departures,
+           and the desk's time set every minute
+  chains   SIZE flights at one regulation at departure, filed from the last entry to the first, so that each displaces all
+  text     SIZE long flight plans, of which the first 20,000 are accepted
+  journal  SIZE short filings: times, refused orders and messages, delays
+The same name and size always give the same bytes. Run the program with --start 2409010000 --plans 20000.
+"""
+import datetime
+import random
+import sys
+
+SIZES = {"day": 20_000, "chains": 20_000, "text": 200_000, "journal": 1_000_000}
+MIDNIGHT = datetime.datetime(2024, 9, 1)
+AERODROMES = "EGLL LFPG EHAM EDDF LEMD EDDM LEBL LIRF EGKK LSZH EKCH LOWW ENGM ESSA EIDW EBBR LIMC EDDL EFHK LPPT".split()
+SECTORS = "EGTT EISN LFFF LFEE LFMM LFBB EBUR EHAA EDGG EDMM EDWW EDUU EDYY EKDK ESAA LKAA LOVV LSAS LIMM LIRR".split()
+POINTS = "ABESI DODOX ODINA KORED LIMRI RAPOR ERIKO SULUS TOPTA BEGAR MOROK DINKU GONUT UNKUL KELIP LABIL".split()
+AIRWAYS = "UL9 UN857 UM164 UL607 UZ738 Y163 T281 Q237".split()
+
+
+def stamp(minute):
+    return (MIDNIGHT + datetime.timedelta(minutes=minute)).strftime("%y%m%d%H%M")
+
+
+def clock(minute):
+    return "%02d%02d" % (minute % 1440 // 60, minute % 60)
+
+
+def flight_plan(rng, number, off_block, words):
+    start, end = rng.sample(AERODROMES, 2)
+    elapsed = rng.randrange(45, 240)
+    route = " ".join(rng.choice(POINTS) + " " + rng.choice(AIRWAYS) for _ in range(words))
+    crossed = sorted((rng.randrange(5, elapsed), name) for name in rng.sample(SECTORS, rng.randrange(1, 8)))
+    estimates = " ".join("%s%s" % (name, clock(at)) for at, name in crossed)
+    ident = "TST%d%s" % (number % 1000, "ABCDEFGHJKLMNPRSTUVWXYZ"[number // 1000 % 23])
+    text = "(FPL-%s-IS-A320/M-SDE2FGIRWY/LB1-%s%s-N0450F350 %s %s-%s%s-PBN/B1D1 EET/%s DOF/240901 RMK/TCAS)" % (
+        ident, start, clock(off_block), route, rng.choice(POINTS), end, clock(elapsed), estimates)
+    return ident, start, end, text
+
+
+def day(size):
+    rng = random.Random(1)
+    events = []
+    for number in range(size):
+        off_block = rng.randrange(60, 1380)
+        ident, start, end, text = flight_plan(rng, number, off_block, 8)
+        filed = max(0, off_block - rng.randrange(60, 900))
+        events.append((filed, 1, text))
+        head = "%s-%s%s-%s" % (ident, start, clock(off_block), end)
+        lot = rng.random()
+        if lot < 0.05:
+            events.append((rng.randrange(filed, off_block), 2, "(CNL-%s-DOF/240901)" % head))
+        elif lot < 0.2:
+            later = "%s-%s%s-%s" % (ident, start, clock(off_block + rng.randrange(1, 40)), end)
+            events.append((rng.randrange(filed, off_block), 2, "(DLA-%s-DOF/240901)" % later))
+        elif lot < 0.7:
+            left = "%s-%s%s-%s" % (ident, start, clock(off_block + rng.randrange(5, 25)), end)
+            events.append((off_block, 3, "(DEP-%s-DOF/240901)" % left))
+    for number in range(64):
+        opened = rng.randrange(0, 900)
+        place = "VIA " + rng.choice(SECTORS) if number % 2 else "ARR " + rng.choice(AERODROMES)
+        name = "R%d" % number
+        events.append((opened, 0, "OPEN %s %s %s %s %d" % (name, place, stamp(opened + 120), stamp(opened + 360), rng.randrange(24, 120))))
+        events.append((opened + 400, 4, "SHUT " + name))
+    events += [(minute, 5, "TIME " + stamp(minute)) for minute in range(1440)]
+    events.sort(key=lambda event: event[:2])
+    return (text for _, _, text in events)
+
+
+def chains(size):
+    yield "OPEN RCHAIN DEP LIML %s %s 240" % (stamp(130), stamp(130 + 1440))
+    for number in reversed(range(size)):
+        off_block = 121 + number * 1440 // size
+        day = 1 + off_block // 1440
+        yield "(FPL-C%d-IS-A320/M-S/L-LIML%s-N0450F350 DCT-EDDF0100-DOF/2409%02d)" % (number, clock(off_block), day)
+
+
+def text(size):
+    rng = random.Random(2)
+    return (flight_plan(rng, number, rng.randrange(0, 1440), 90)[3] for number in range(size))
+
+
+def journal(size):
+    rng = random.Random(3)
+    yield "(FPL-AAA1-IS-A320/M-S/L-LIML0800-N0450F350 DCT-EDDF0150-0)"
+    for number in range(size - 1):
+        yield rng.choice([
+            "TIME " + stamp(number // 4000), "SHUT R%d" % (number % 1000), "TIME 2408010000",
+            "(CNL-AAA2-LIML0800-EDDF)", "(CNL-AAA12345-LIML0800-EDDF)", "(DLA-AAA1-LIML0800-EDDF)",
+        ])
+
+
+def main():
+    name = sys.argv[1]
+    size = int(sys.argv[2]) if len(sys.argv) > 2 else SIZES[name]
+    for filing in {"day": day, "chains": chains, "text": text, "journal": journal}[name](size):
+        sys.stdout.write(filing + "\n")
+
+
+main()

@@ -1,0 +1,60 @@
+#!/usr/bin/env python3
+"""Measures slotdesk, beside another program of the same input and output where one is given.
+
+    bench/measure.py PROGRAM [PEER] [--loads day,chains,text,journal] [--runs N]
+
+The programs run in turn; of the runs of each the shortest counts. Prints for each load and program the wall and user
+seconds and the peak memory in MiB, and whether the outputs are the same.
+"""
+import argparse
+import hashlib
+import os
+import pathlib
+import subprocess
+import sys
+import tempfile
+import time
+
+HERE = pathlib.Path(__file__).resolve().parent
+WORDS = ["--start", "2409010000", "--plans", "20000"]
+
+
+def run(program, load, out):
+    with open(load, "rb") as source, open(out, "wb") as sink:
+        begin = time.monotonic()
+        child = subprocess.Popen([program, *WORDS], stdin=source, stdout=sink)
+        _, status, usage = os.wait4(child.pid, 0)
+        wall = time.monotonic() - begin
+    if status != 0:
+        sys.exit("%s ended with %d" % (program, status))
+    return wall, usage.ru_utime, usage.ru_maxrss / 1024
+
+
+def main():
+    parser = argparse.ArgumentParser()
+    parser.add_argument("program")
+    parser.add_argument("peer", nargs="?")
+    parser.add_argument("--loads", default="day,chains,text,journal")
+    parser.add_argument("--runs", type=int, default=3)
+    args = parser.parse_args()
+    programs = [program for program in (args.program, args.peer) if program]
+    print("| load | program | wall s | user s | peak MiB |\n|---|---|---:|---:|---:|")
+    with tempfile.TemporaryDirectory() as folder:
+        for name in args.loads.split(","):
+            load = os.path.join(folder, name)
+            with open(load, "wb") as sink:
+                subprocess.run([sys.executable, str(HERE / "load.py"), name], stdout=sink, check=True)
+            best = {}
+            digests = set()
+            for _ in range(args.runs):
+                for program in programs:
+                    out = os.path.join(folder, "out")
+                    best[program] = min(best.get(program, (1e9, 1e9, 1e9)), run(program, load, out))
+                    digests.add(hashlib.sha256(pathlib.Path(out).read_bytes()).hexdigest())
+            for program in programs:
+                print("| %s | %s | %.3f | %.3f | %.1f |" % (name, os.path.basename(program), *best[program]))
+            if len(digests) > 1:
+                print("outputs differ on", name)
+
+
+main()
