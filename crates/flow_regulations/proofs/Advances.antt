@@ -215,7 +215,7 @@ among-more j n flights within at f =
         or-or true b c = refl
         or-or false b c = refl
 
-all_fixed-last : (ns : List ℕ) (n : ℕ) (l : Lineup) → all_fixed_waiting (ns ++ n ∷ []) l ≡ fixed_waiting n (all_fixed_waiting ns l)
+pub all_fixed-last : (ns : List ℕ) (n : ℕ) (l : Lineup) → all_fixed_waiting (ns ++ n ∷ []) l ≡ fixed_waiting n (all_fixed_waiting ns l)
 all_fixed-last [] n l = refl
 all_fixed-last (m ∷ ns) n l = all_fixed-last ns n (fixed_waiting m l)
 
@@ -249,7 +249,7 @@ capacity-advanced max flights [] h = tt
 capacity-advanced max flights (l ∷ ls) h = (capacity-fixed flights l.lineup ∙ h.0, capacity-advanced max flights ls h.1)
 
 -- the slots of the other flights
-pairs-advanced : (f : ℕ) (ns : List ℕ) (l : Lineup) → is_in f ns ≡ false → pairs_of f (all_fixed_waiting ns l).fixed ≡ pairs_of f l.fixed
+pub pairs-advanced : (f : ℕ) (ns : List ℕ) (l : Lineup) → is_in f ns ≡ false → pairs_of f (all_fixed_waiting ns l).fixed ≡ pairs_of f l.fixed
 pairs-advanced f [] l out = refl
 pairs-advanced f (n ∷ ns) l out =
     let parts = or_parts (eqb n f) (is_in f ns) out in

@@ -16,6 +16,7 @@ pub mod Others
 pub mod Placing
 pub mod PutBack
 pub mod Queues
+pub mod Released
 pub mod Renewed
 pub mod Saying
 pub mod Served

@@ -130,7 +130,7 @@ held-more plans j numbers heap new held kept here k p within at = ⊎_elim earli
       let C : ℕ → Type 0 = λ i. Contains new (record { 0 = record { off_block = p.off_block; number = get_or numbers i 0 } }) in
       subst C (sym e) (here p (sym (ap (λ i. plan_at plans (get_or numbers i 0)) e) ∙ at))
 
-in-at : (numbers : List ℕ) (n : ℕ) → is_in n numbers ≡ true → (k : ℕ) × (k < length numbers) × (get_or numbers k 0 ≡ n)
+pub in-at : (numbers : List ℕ) (n : ℕ) → is_in n numbers ≡ true → (k : ℕ) × (k < length numbers) × (get_or numbers k 0 ≡ n)
 in-at [] n e = absurd (true≢false (sym e))
 in-at (x ∷ xs) n e = cases (eqb x n) refl (λ h. in-at xs n h) e where
   cases : (b : Bool) → eqb x n ≡ b → (is_in n xs ≡ true → (k : ℕ) × (k < length xs) × (get_or xs k 0 ≡ n)) → (b || is_in n xs) ≡ true → (k : ℕ) × (k < length (x ∷ xs)) × (get_or (x ∷ xs) k 0 ≡ n)

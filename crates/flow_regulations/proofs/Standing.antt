@@ -33,7 +33,7 @@ without_fixed-twice f (x ∷ xs) = cases (without_fixed-twice f xs) (eqb x.fligh
   cases again true e = again
   cases again false e = ap (λ b. cond (not b) (x ∷ without_fixed f (without_fixed f xs)) (without_fixed f (without_fixed f xs))) e ∙ ap (λ u. x ∷ u) again
 
-without_fixed-comes : (a : Placed) (xs : List Placed) → without_fixed a.flight (insert_fixed a xs) ≡ without_fixed a.flight xs
+pub without_fixed-comes : (a : Placed) (xs : List Placed) → without_fixed a.flight (insert_fixed a xs) ≡ without_fixed a.flight xs
 without_fixed-comes a [] = ap (λ b. cond (not b) (a ∷ []) []) (eq-eqb a.flight a.flight refl)
 without_fixed-comes a (x ∷ xs) = cases (without_fixed-comes a xs) (ltb x.slot a.slot) where
   cases : without_fixed a.flight (insert_fixed a xs) ≡ without_fixed a.flight xs → (b : Bool) → without_fixed a.flight (cond b (x ∷ insert_fixed a xs) (a ∷ x ∷ xs)) ≡ without_fixed a.flight (x ∷ xs)

@@ -1,13 +1,14 @@
 -- The flights that aren't due yet, by off-block moment (ATFCM Users Manual, slot issue).
 use Rattle.std.specs.Prelude.{◌≡◌, ℕ, ◌+◌, ◌<◌, Bool, true, false, ◌&&◌, ◌==◌, nat_lt, List, Some, slice_index_or as get_or}
-use Rattle.std.specs.List.{Contains}
+use Rattle.std.specs.List.{All, Contains}
+use Rattle.std.specs.List.Sorted.{IsStrictlyIncreasing}
 use Rattle.std.specs.Option.{option_map_or}
 use Rattle.std.specs.Ordering.{nat_cmp, ordering_then}
 use Rattle.std.specs.declared.cmp.Ordering.{Ordering}
 use Rattle.std.specs.declared.cmp.Reverse.{Reverse}
 use Rattle.flow_plans.specs.Plans.{Plan, plan_at, is_filed}
 use Rattle.flow_regulations.specs.declared.due_queue.Awaited.{Awaited}
-use Rattle.flow_regulations.specs.Listing.{is_due_flight}
+use Rattle.flow_regulations.specs.Listing.{Listed, is_due_flight, IsListed, IsSettled}
 
 -- flights with the off-block moments that their plans had when they were noted, in any order, and for how many there is room
 pub record Awaiting : Type 0 where
@@ -39,3 +40,10 @@ abbrev pub AreHeld : List Plan → ℕ → List ℕ → List (Reverse Awaited) �
 AreHeld plans count numbers heap =
     (k : ℕ) (p : Plan) → k < count → plan_at plans (get_or numbers k 0) ≡ Some p
     → Contains heap (record { 0 = record { off_block = p.off_block; number = get_or numbers k 0 } })
+
+-- regulations that were settled earlier, in which these flights have become due since then, none twice
+pub record HaveBecomeDue (taxi max earlier now : ℕ) (plans : List Plan) (flights : List ℕ) (lists : List Listed) : Type 0 where
+  pub rising : IsStrictlyIncreasing flights
+  pub became : All (BecameDue earlier now plans) flights
+  pub listed : IsListed taxi max plans lists
+  pub settled_in : IsSettled taxi earlier plans lists

@@ -171,6 +171,20 @@ all_fixed_waiting (n ∷ ns) l = all_fixed_waiting ns (fixed_waiting n l)
 abbrev pub with_fixed_waiting : List ℕ → Listed → Listed
 with_fixed_waiting flights l = with_lineup (all_fixed_waiting flights l.lineup) l
 
+-- a fixed flight waits again, if it has an entry
+abbrev pub released : Option ℕ → ℕ → Lineup → Lineup
+released None flight l = l
+released (Some entry) flight l =
+    if is_some (fixed_slot l flight) then with_waiting (record { entry = entry; flight = flight }) (without_flight flight l) else l
+
+abbrev pub released_in : ℕ → Plan → ℕ → Listed → Listed
+released_in taxi p flight l = with_lineup (released (subject_to taxi (regulation_of l) p) flight l.lineup) l
+
+-- what letting a flight wait again does to an open regulation
+pub record IsReleased (flight taxi : ℕ) (plans : List Plan) (l m : Listed) : Type 0 where
+  pub same : (p : Plan) → plan_at plans flight ≡ Some p → m ≡ released_in taxi p flight l
+  pub capacity : m.lineup.capacity ≡ l.lineup.capacity
+
 -- each of these flights is due
 abbrev pub AreDue : ℕ → List Plan → List ℕ → Type 0
 AreDue now plans flights = All (λ n. (0 < n) × (is_due_flight now plans n ≡ true)) flights

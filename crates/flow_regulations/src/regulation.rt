@@ -6,7 +6,7 @@ ghost use Rattle.flow_slots.specs.Period.{IsWithin, IsRegular};
 ghost use Rattle.flow_regulations.specs.Places.{IsPlaceOf, MayStand, stood};
 ghost use Rattle.flow_regulations.specs.Regulations.{subject_to};
 ghost use Rattle.flow_regulations.specs.Settling.{is_due, pairs_of};
-ghost use Rattle.flow_regulations.specs.Listing.{Listed, regulation_of, with_lineup, without_in, keeps_slot, placed, with_no_flights, let_in, is_named, fixed_waiting, IsListedIn, IsSettledBut, AreSameBut, IsRenewed};
+ghost use Rattle.flow_regulations.specs.Listing.{Listed, regulation_of, with_lineup, without_in, released_in, keeps_slot, placed, with_no_flights, let_in, is_named, fixed_waiting, IsListedIn, IsSettledBut, AreSameBut, IsRenewed};
 
 use crate::places::Place;
 use flow_plans::{Plan, PlanState, PlanStore};
@@ -245,6 +245,22 @@ impl<A: Allocator + Copy> Regulation<A> {
         }
         if self.list.slot_of(number).is_some() {
             self.list.fix(number);
+        }
+    }
+
+    /// Lets a flight that keeps a slot wait again with the entry of its plan, where the regulation applies to it.
+    pub(crate) fn release(&mut self, plans: &PlanStore<A>, number: u32)
+        requires some { 0 < number }
+        requires within { number ≤ length plans.now.plans }
+        ensures released { (p : Held) → plan_at plans.now.plans number ≡ Some p
+            → self.new ≡ released_in plans.now.taxi p number self.old }
+        ensures capacity { self.new.lineup.capacity ≡ self.old.lineup.capacity }
+    {
+        if !self.list.is_fixed(number) {
+            return;
+        }
+        if let Some(entry) = self.subject(plans, number) {
+            self.list.release(number, entry);
         }
     }
 

@@ -5,7 +5,8 @@ ghost use Rattle.std.specs.List.Sorted.{IsNonDecreasing};
 ghost use Rattle.flow_plans.specs.Plans.{Plan, plan_at};
 ghost use Rattle.flow_slots.specs.Assignment.{is_in};
 ghost use Rattle.flow_regulations.specs.Advice.{advice};
-ghost use Rattle.flow_regulations.specs.Listing.{Listed, Walked, without_in, IsLookedAgain, IsListed, AreSettledBut, AreSameBut, AreRenewed, IsFixedWaiting, AreFrozen, IsSettled, IsAdvancing, is_below, is_among, with_fixed_waiting, AreDue, HoldNewlyDue, IsOpened, opened, is_named, without_named, lineup_named, pairs_in, regulation_of};
+ghost use Rattle.flow_regulations.specs.Awaiting.{HaveBecomeDue};
+ghost use Rattle.flow_regulations.specs.Listing.{Listed, Walked, without_in, IsLookedAgain, IsListed, AreSettledBut, AreSameBut, AreRenewed, IsFixedWaiting, AreFrozen, IsSettled, IsAdvancing, is_below, is_among, with_fixed_waiting, AreDue, HoldNewlyDue, HaveCapacity, IsReleased, IsOpened, opened, is_named, without_named, lineup_named, pairs_in, regulation_of};
 ghost use Rattle.flow_regulations.specs.Notices.{notices_from, told_from};
 ghost use Rattle.flow_regulations.specs.Places.{ArePlaces};
 ghost use Rattle.flow_regulations.specs.Quiet.{AreQuietBut, AllQuiet};
@@ -140,6 +141,18 @@ impl<A: Allocator + Copy> Regulations<A> {
             → AreRenewed taxi self.old.max_plans now plans self.old.lists self.new.lists }
     {
         advance_in(&mut self.regulations, due);
+    }
+
+    /// Lets flights wait again that were fixed when they became due, each with the entry of its plan: the regulations are
+    /// those before `advance_due`. It takes no memory.
+    pub fn release_all(&mut self, plans: &PlanStore<A>, due: &[u32])
+        requires { All (λ n. (0 < n) × (n ≤ length plans.now.plans)) due.now }
+        ensures limit { self.new.max_plans ≡ self.old.max_plans }
+        ensures lists { (max earlier now : ℕ) (before : List Listed)
+            → HaveBecomeDue plans.now.taxi max earlier now plans.now.plans due.now before
+            → self.old.lists ≡ map (with_fixed_waiting due.now) before → self.new.lists ≡ before }
+    {
+        release_all_in(&mut self.regulations, plans, due);
     }
 
     /// Freezes the slots that a departing flight holds, frozen before or not: it is fixed where it waits, and nobody
@@ -289,6 +302,40 @@ fn advance_in<A: Allocator + Copy>(regulations: &mut [Regulation<A>], due: &[u32
 {
     for number in due {
         fix_waiting_in(regulations, *number);
+    }
+}
+
+/// Each regulation lets these flights wait again, the last one first.
+fn release_all_in<A: Allocator + Copy>(
+    regulations: &mut [Regulation<A>],
+    plans: &PlanStore<A>,
+    due: &[u32],
+)
+    requires { All (λ n. (0 < n) × (n ≤ length plans.now.plans)) due.now }
+    ensures capacity { (max : ℕ) → HaveCapacity max regulations.old → HaveCapacity max regulations.new }
+    ensures lists { (max earlier now : ℕ) (before : List Listed)
+        → HaveBecomeDue plans.now.taxi max earlier now plans.now.plans due.now before
+        → regulations.old ≡ map (with_fixed_waiting due.now) before → regulations.new ≡ before }
+{
+    let mut left = due.len();
+    while left > 0 {
+        left -= 1;
+        release_in(regulations, plans, due[left]);
+    }
+}
+
+/// Each regulation lets one flight wait again.
+fn release_in<A: Allocator + Copy>(
+    regulations: &mut [Regulation<A>],
+    plans: &PlanStore<A>,
+    number: u32,
+)
+    requires some { 0 < number }
+    requires within { number ≤ length plans.now.plans }
+    ensures { Walked (IsReleased number plans.now.taxi plans.now.plans) (length regulations.new) regulations.old regulations.new }
+{
+    for regulation in regulations.iter_mut() {
+        regulation.release(plans, number);
     }
 }
 

@@ -80,6 +80,8 @@ fn a_flight_is_frozen_once_it_is_due(rt: HostRuntime) -> Result<(), Fail> {
         regulations.advice(&plans, 1),
         Some(told(at(8, 12), b"RMZ01"))
     );
+    regulations.release_all(&plans, &[1]);
+    assert_eq!(rt; regulations.advice(&plans, 1), None);
     Ok(())
 }
 
