@@ -1,9 +1,10 @@
 -- What a desk allocates, beside its journal.
-use Rattle.std.specs.Prelude.{ℕ, ◌-◌, List, [], slice_get, Option, None}
+use Rattle.std.specs.Prelude.{ℕ, ◌-◌, List, [], map, slice_get, Option, None}
 use Rattle.std.specs.Option.{option_map_or}
 use Rattle.flow_plans.specs.Settings.{Settings}
 use Rattle.flow_plans.specs.Plans.{Plan}
 use Rattle.flow_regulations.specs.Regulations.{Regulation}
+use Rattle.flow_regulations.specs.Listing.{Listed, regulation_of}
 use Rattle.flow_regulations.specs.declared.notice.Told.{Told}
 use Rattle.flow_regulations.specs.declared.notice.Notice.{Notice}
 
@@ -26,6 +27,16 @@ pub record Traffic : Type 0 where
 -- of a desk at which nothing was filed
 abbrev pub no_traffic : Settings → Traffic
 no_traffic setup = record { taxi = setup.taxi; max_plans = setup.max_plans; now = setup.start; plans = []; regulations = []; told = []; notices = [] }
+
+-- with these slot lists
+abbrev pub traffic_of : (taxi max now : ℕ) → List Plan → List Listed → List (Option Told) → List Notice → Traffic
+traffic_of taxi max now plans lists told notices =
+    record { taxi = taxi; max_plans = max; now = now; plans = plans; regulations = map regulation_of lists; told = told; notices = notices }
+
+-- the traffic, and the one before the last reading, where that can be taken back
+pub record Undoable : Type 0 where
+  pub traffic : Traffic
+  pub before : Option Traffic
 
 -- what the plan of this number was last told
 abbrev pub told_of : List (Option Told) → ℕ → Option Told
