@@ -3,7 +3,7 @@ use Rattle.std.proofs.Common.{◌≡◌, ℕ, ◌<◌, ◌≤◌, List, [], ◌�
 use Rattle.std.specs.List.{AllByRecursion}
 use Rattle.flow_plans.specs.Plans.{Plan}
 use Rattle.flow_regulations.specs.Settling.{settled, frozen_at_departure, pairs_of}
-use Rattle.flow_regulations.specs.Listing.{Listed, regulation_of, IsListedIn, IsListed, IsSettledIn, IsSettledBut, AreSettledBut, AreSameBut, Walked, IsLookedAgain, AreRenewed, HaveCapacity, IsFixedWaiting, AreFrozen, with_lineup, without_in, pairs_in}
+use Rattle.flow_regulations.specs.Listing.{Listed, regulation_of, IsListedIn, IsListed, IsSettledIn, IsSettledBut, AreSettledBut, AreSameBut, Walked, IsLookedAgain, AreRenewed, HaveCapacity, IsFixedWaiting, AreFrozen, with_lineup, without_in, names_in, IsReleased, pairs_in}
 use Rattle.flow_regulations.proofs.Fixes.{is_frozen}
 use Rattle.flow_regulations.proofs.Others.{pairs-fixed}
 use Rattle.flow_regulations.proofs.FixedOnes.{all-map, all-both}
@@ -61,3 +61,13 @@ alone-looked n taxi now i plans os ns e w = walked-map (IsLookedAgain n taxi now
 pub alone-fixed : (n i : ℕ) (os ns : List Listed) → i ≡ length ns → Walked (IsFixedWaiting n) i os ns → map (without_in n) ns ≡ map (without_in n) os
 alone-fixed n i os ns e w =
     walked-map (IsFixedWaiting n) (λ _. Unit {0}) (without_in n) (without_in n) (λ o m h r. ap (without_in n) r.same ∙ ap (λ v. with_lineup v o) (alone-fixed_waiting n o.lineup)) i os ns e w (units os)
+
+-- and so do the names
+pub names-looked : (n taxi now i : ℕ) (plans : List Plan) (os ns : List Listed) → i ≡ length ns → Walked (IsLookedAgain n taxi now plans) i os ns → names_in ns ≡ names_in os
+names-looked n taxi now i plans os ns e w = walked-map (IsLookedAgain n taxi now plans) (λ _. Unit {0}) (λ l. l.id) (λ l. l.id) (λ o m h r. ap (λ v. v.id) r.same) i os ns e w (units os)
+
+pub names-fixed : (n i : ℕ) (os ns : List Listed) → i ≡ length ns → Walked (IsFixedWaiting n) i os ns → names_in ns ≡ names_in os
+names-fixed n i os ns e w = walked-map (IsFixedWaiting n) (λ _. Unit {0}) (λ l. l.id) (λ l. l.id) (λ o m h r. ap (λ v. v.id) r.same) i os ns e w (units os)
+
+pub names-released : (n taxi i : ℕ) (plans : List Plan) (os ns : List Listed) → i ≡ length ns → Walked (IsReleased n taxi plans) i os ns → names_in ns ≡ names_in os
+names-released n taxi i plans os ns e w = walked-map (IsReleased n taxi plans) (λ _. Unit {0}) (λ l. l.id) (λ l. l.id) (λ o m h r. r.id) i os ns e w (units os)

@@ -1,7 +1,9 @@
 -- For the layer above: what a step of the desk does to the slots and to the advice of the flights that it isn't about.
 use Rattle.std.proofs.Common.{◌≡◌, ℕ, ◌+◌, ◌-◌, ◌<◌, ◌≤◌, ◌||◌, ◌&&◌, Bool, true, false, not, cond, eqb, leb, List, [], ◌∷◌, ◌++◌, map, length, Option, Some, None, IfSome, refl, sym, ap, subst, ◌∙◌, arith}
 use Rattle.std.specs.List.{AllByRecursion, filter, list_any}
+use Rattle.std.specs.List.Sorted.{IsNonDecreasing, IsStrictlyIncreasing}
 use Rattle.std.specs.Option.{option_map, option_map_or}
+use Rattle.std.proofs.lemmas.Map.Keys.{non_decreasing_from_sorted, sorted_from_strictly_increasing}
 use Rattle.std.specs.Str.{bytes_eq}
 use Rattle.std.proofs.lemmas.Bool.{eq-eqb, and_parts, true≢false, false≢true}
 use Rattle.flow_plans.specs.Plans.{Plan, plan_at, is_filed, is_departed}
@@ -13,7 +15,7 @@ use Rattle.flow_slots.specs.Lineup.{NoneFixed, assigned}
 use Rattle.flow_regulations.specs.declared.notice.Told.{Told}
 use Rattle.flow_regulations.specs.Regulations.{Regulation, subject_to, has_flight, lineup_of}
 use Rattle.flow_regulations.specs.Settling.{is_due, keeps, stays, insert_all, settled, frozen_at_departure, pairs_of}
-use Rattle.flow_regulations.specs.Listing.{Listed, regulation_of, IsListedIn, IsListed, IsSettledIn, IsSettled, IsOpened, AreSameBut, is_due_flight, is_named, without_named, pairs_in}
+use Rattle.flow_regulations.specs.Listing.{Listed, regulation_of, IsListedIn, IsListed, IsSettledIn, IsSettled, IsOpened, AreSameBut, is_due_flight, is_named, without_named, without_in, pairs_in}
 use Rattle.flow_regulations.specs.Advice.{caused_by, delay_in, worse, worst, advice}
 use Rattle.flow_regulations.specs.Notices.{notices_to}
 use Rattle.flow_regulations.specs.Quiet.{IsQuiet, IsQuietAt, told_at, AreQuietBut, AllQuiet, KeepsSlots}
@@ -75,7 +77,7 @@ nothing-to-advise taxi now plans (l ∷ ls) f s due gone =
     goes a e h = leaves a (plan_at plans f) due gone (ap (λ j. option_map_or (keeps taxi now (regulation_of l) a.slot) (plan_at plans j) false) (sym e) ∙ h)
 
 -- one more of which it holds
-all-last : {X : Type 0} (P : X → Type 0) (xs : List X) (x : X) → AllByRecursion P xs → P x → AllByRecursion P (xs ++ x ∷ [])
+pub all-last : {X : Type 0} (P : X → Type 0) (xs : List X) (x : X) → AllByRecursion P xs → P x → AllByRecursion P (xs ++ x ∷ [])
 all-last P [] x a h = (h, tt)
 all-last P (y ∷ ys) x a h = (a.0, all-last P ys x a.1 h)
 
@@ -195,3 +197,11 @@ newly-due-unfixed taxi earlier now f plans ls s then_not now_is = nothing-to-adv
   filed : (o : Option Plan) → option_map_or (is_due now) o false ≡ true → option_map_or (λ p. is_departed p.state) o false ≡ false
   filed None e = refl
   filed (Some p) e = apart-states p (and_parts (is_filed p.state) (leb p.off_block (now + 120)) e).0
+
+-- numbers that rise strictly do not fall
+pub rising-numbers : (xs : List ℕ) → IsStrictlyIncreasing xs → IsNonDecreasing xs
+rising-numbers xs h = non_decreasing_from_sorted xs (sorted_from_strictly_increasing xs h)
+
+-- the other flights stand as before over one change after another
+pub alone-in-turn : (n : ℕ) (first middle last : List Listed) → map (without_in n) middle ≡ map (without_in n) first → map (without_in n) last ≡ map (without_in n) middle → map (without_in n) last ≡ map (without_in n) first
+alone-in-turn n first middle last a b = b ∙ a

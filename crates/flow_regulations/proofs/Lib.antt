@@ -5,11 +5,13 @@ pub mod Closings
 pub mod Delays
 pub mod Firsts
 pub mod FixedOnes
+pub mod Fixeds
 pub mod Fixes
 pub mod ForTheDesk
 pub mod Frozen
 pub mod Looked
 pub mod Looks
+pub mod Names
 pub mod Numbers
 pub mod Openings
 pub mod Others

@@ -201,7 +201,7 @@ covers-none now flights number p some at filed late = absurd cc
 pub became-due : (earlier now : ℕ) (plans : List Plan) (due : List ℕ) → All (BecameDue earlier now plans) due → AreDue now plans due
 became-due earlier now plans due all k d h = (let r = all k d h in (r.0, r.1))
 
-at-within : (plans : List Plan) (i : ℕ) (p : Plan) → slice_get plans i ≡ Some p → i < length plans
+pub at-within : (plans : List Plan) (i : ℕ) (p : Plan) → slice_get plans i ≡ Some p → i < length plans
 at-within [] i p e = absurd cc
 at-within (q ∷ ps) zero p e = omega arith
 at-within (q ∷ ps) (suc i) p e = (let r = at-within ps i p e in omega (arith, r))
@@ -212,3 +212,16 @@ became-within earlier now plans due all k d h =
     let p = due-there now (get_or due k d) plans r.1 in
     let w = at-within plans (get_or due k d - 1) p.0 p.1 in
     (r.0, omega (arith, w, r.0)))
+
+-- a plan that was filed before and didn't move is held already
+pub covers-unmoved : (now n : ℕ) (before plans : List Plan) (flights : List Awaited) → AreSameBut n before plans
+    → ((p : Plan) → plan_at plans n ≡ Some p → (q : Plan) × (plan_at before n ≡ Some q) × (is_filed q.state ≡ true) × (q.off_block ≡ p.off_block)) → Covers now before flights → Covers now plans flights
+covers-unmoved now n before plans flights same unmoved covers number p some at filed late = ⊎_elim own other (cases_eq number n) where
+  own : number ≡ n → Contains flights (record { off_block = p.off_block; number = number })
+  own e =
+      let q = unmoved p (ap (plan_at plans) (sym e) ∙ at) in
+      let C : ℕ → Type 0 = λ b. Contains flights (record { off_block = b; number = number }) in
+      subst C q.3 (covers number q.0 some (ap (plan_at before) e ∙ q.1) q.2 (omega (arith, q.3, late)))
+
+  other : (number ≡ n → ⊥) → Contains flights (record { off_block = p.off_block; number = number })
+  other ne = covers number p some (sym (same number some ne) ∙ at) filed late

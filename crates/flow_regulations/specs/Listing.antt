@@ -1,6 +1,6 @@
 -- Open regulations with their slot lists, and what those keep of the plans.
-use Rattle.std.specs.Prelude.{◌⊎◌, ◌≡◌, ℕ, zero, suc, ◌<◌, Bool, true, false, nat_lt, if◌then◌else◌, List, [], ◌∷◌, ◌++◌, map, filter, not, Option, Some, None}
-use Rattle.std.specs.List.{All, AllByRecursion}
+use Rattle.std.specs.Prelude.{◌⊎◌, ◌≡◌, ℕ, zero, suc, ◌<◌, ◌≤◌, Bool, true, false, nat_lt, if◌then◌else◌, List, [], ◌∷◌, ◌++◌, map, filter, not, length, Option, Some, None, slice_index_or as get_or}
+use Rattle.std.specs.List.{All, AllByRecursion, list_any}
 use Rattle.std.specs.Option.{option_map_or, is_some}
 use Rattle.std.specs.Str.{bytes_eq}
 use Rattle.fpl_message.specs.declared.order.Spot.{Spot}
@@ -21,10 +21,11 @@ pub record Listed : Type 0 where
 abbrev pub regulation_of : Listed → Regulation
 regulation_of l = record { id = l.id; spot = l.spot; period = l.lineup.period; fixed = l.lineup.fixed }
 
--- the open regulations in order of opening, and the greatest flight number
+-- the open regulations in order of opening, for how many there is room, and the greatest flight number
 pub record Listing : Type 0 where
   pub max_plans : ℕ
   pub lists : List Listed
+  pub room : ℕ
 
 -- each slot list is that of its regulation and these plans
 abbrev pub IsListedIn : ℕ → ℕ → List Plan → Listed → Type 0
@@ -182,6 +183,7 @@ released_in taxi p flight l = with_lineup (released (subject_to taxi (regulation
 
 -- what letting a flight wait again does to an open regulation
 pub record IsReleased (flight taxi : ℕ) (plans : List Plan) (l m : Listed) : Type 0 where
+  pub id : m.id ≡ l.id
   pub same : (p : Plan) → plan_at plans flight ≡ Some p → m ≡ released_in taxi p flight l
   pub capacity : m.lineup.capacity ≡ l.lineup.capacity
 
@@ -219,6 +221,30 @@ is_named id l = bytes_eq l.id id
 
 abbrev pub without_named : List ℕ → List Listed → List Listed
 without_named id lists = filter (λ l. not (is_named id l)) lists
+
+-- the names of open regulations, of which no two are the same
+abbrev pub names_in : List Listed → List (List ℕ)
+names_in lists = map (λ l. l.id) lists
+
+abbrev pub AreApart : List (List ℕ) → Type 0
+AreApart [] = Unit {0}
+AreApart (x ∷ xs) = (list_any (λ y. bytes_eq y x) xs ≡ false) × AreApart xs
+
+-- a closed regulation, with its place in the order of opening
+pub record Closing : Type 0 where
+  pub index : ℕ
+  pub listed : Listed
+
+-- it may be opened again there
+pub record MayReopen (closing : Closing) (listing : Listing) : Type 0 where
+  pub index : closing.index ≤ length listing.lists
+  pub capacity : closing.listed.lineup.capacity ≡ listing.max_plans
+  pub name : list_any (is_named closing.listed.id) listing.lists ≡ false
+  pub room : length listing.lists < listing.room
+
+-- the regulation at this place has this name
+abbrev pub IsNamedAt : List ℕ → ℕ → List Listed → Type 0
+IsNamedAt id index lists = (index < length lists) × ((l : Listed) → is_named id (get_or lists index l) ≡ true)
 
 -- the slot list of the first regulation of this name
 abbrev pub lineup_named : List ℕ → List Listed → Option Lineup

@@ -96,6 +96,7 @@ impl<A: Allocator + Copy> DueQueue<A> {
         ensures each { Covers earlier plans.now.plans self.old.flights → HoldNewlyDue earlier now plans.now.plans due.new.items }
         ensures covers { earlier ≤ now → Covers earlier plans.now.plans self.old.flights → Covers now plans.now.plans self.new.flights }
         ensures left { length self.new.flights + length due.new.items ≤ length self.old.flights }
+        ensures fits { length self.new.flights + length due.new.items ≤ self.new.room }
         ensures room { self.new.room ≡ self.old.room }
         ensures capacity { vec_capacity due.new ≡ vec_capacity due.old }
     {

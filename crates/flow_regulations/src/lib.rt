@@ -2,9 +2,11 @@
 #![tactic(auto)]
 
 mod advice;
+mod closed;
 mod due_queue;
 #[cfg(test)]
 mod due_queue_tests;
+mod fixed_flights;
 pub mod laws;
 mod notice;
 mod places;
@@ -17,6 +19,7 @@ mod telling;
 mod telling_tests;
 mod window;
 
+pub use closed::Closed;
 pub use due_queue::{Awaited, DueQueue};
 pub use notice::{Notice, Said, Told, Window};
 pub use places::Place;

@@ -254,6 +254,7 @@ impl<A: Allocator + Copy> Regulation<A> {
         requires within { number ≤ length plans.now.plans }
         ensures released { (p : Held) → plan_at plans.now.plans number ≡ Some p
             → self.new ≡ released_in plans.now.taxi p number self.old }
+        ensures id { self.new.id ≡ self.old.id }
         ensures capacity { self.new.lineup.capacity ≡ self.old.lineup.capacity }
     {
         if !self.list.is_fixed(number) {

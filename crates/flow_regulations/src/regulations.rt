@@ -1,17 +1,20 @@
 //! The open regulations.
-ghost use Rattle.std.specs.Prelude.{◌≡◌, ◌<◌, ◌≤◌, ◌+◌, ◌++◌, ℕ, List, [], false, None, Some, IfSome, MatchOption, OnOk, OnErr, length, map, vec_capacity};
-ghost use Rattle.std.specs.List.{All, AllByRecursion, list_any};
+ghost use Rattle.std.specs.Prelude.{◌≡◌, ◌<◌, ◌≤◌, ◌+◌, ◌++◌, ℕ, List, [], false, true, ◌∷◌, None, Some, IfSome, IfNone, IfOk, MatchOption, OnOk, OnErr, length, map, vec_capacity};
+ghost use Rattle.std.specs.List.{All, AllByRecursion, insert, list_any};
 ghost use Rattle.std.specs.List.Sorted.{IsNonDecreasing};
 ghost use Rattle.flow_plans.specs.Plans.{Plan, plan_at};
 ghost use Rattle.flow_slots.specs.Assignment.{is_in};
 ghost use Rattle.flow_regulations.specs.Advice.{advice};
 ghost use Rattle.flow_regulations.specs.Awaiting.{HaveBecomeDue};
-ghost use Rattle.flow_regulations.specs.Listing.{Listed, Walked, without_in, IsLookedAgain, IsListed, AreSettledBut, AreSameBut, AreRenewed, IsFixedWaiting, AreFrozen, IsSettled, IsAdvancing, is_below, is_among, with_fixed_waiting, AreDue, HoldNewlyDue, HaveCapacity, IsReleased, IsOpened, opened, is_named, without_named, lineup_named, pairs_in, regulation_of};
+ghost use Rattle.flow_regulations.specs.Listing.{Listed, Walked, without_in, IsLookedAgain, IsListed, AreSettledBut, AreSameBut, AreRenewed, IsFixedWaiting, AreFrozen, IsSettled, IsAdvancing, is_below, is_among, with_fixed_waiting, AreDue, HoldNewlyDue, HaveCapacity, names_in, IsReleased, IsOpened, opened, is_named, without_named, lineup_named, IsNamedAt, MayReopen, pairs_in, regulation_of};
+ghost use Rattle.flow_regulations.specs.Settling.{pairs_of};
 ghost use Rattle.flow_regulations.specs.Notices.{notices_from, told_from};
 ghost use Rattle.flow_regulations.specs.Places.{ArePlaces};
 ghost use Rattle.flow_regulations.specs.Quiet.{AreQuietBut, AllQuiet};
 
 use crate::advice::advice_of;
+use crate::closed::Closed;
+use crate::fixed_flights::fixed_flights;
 use crate::notice::{Notice, Told};
 use crate::places::Place;
 use crate::regulation::{Regulation, is_due};
@@ -31,14 +34,15 @@ pub struct Regulations<A: Allocator + Copy = Global> {
 }
 
 impl<A: Allocator + Copy> Model for Regulations<A> {
-    ghost use Rattle.std.specs.Prelude.{◌<◌, ◌≤◌};
-    ghost use Rattle.flow_regulations.specs.Listing.{Listing, HaveCapacity};
+    ghost use Rattle.std.specs.Prelude.{◌<◌, ◌≤◌, vec_capacity};
+    ghost use Rattle.flow_regulations.specs.Listing.{Listing, HaveCapacity, AreApart, names_in};
 
     ghost Value = { Listing };
 
-    ghost view = { λ r. record { max_plans = r.max_plans; lists = r.regulations.items } };
+    ghost view = { λ r. record { max_plans = r.max_plans; lists = r.regulations.items; room = vec_capacity r.regulations } };
 
-    ghost invariant = { λ r. (0 < r.max_plans) × (r.max_plans ≤ 20_000) × HaveCapacity r.max_plans r.regulations.items };
+    ghost invariant = { λ r. (0 < r.max_plans) × (r.max_plans ≤ 20_000) × HaveCapacity r.max_plans r.regulations.items
+        × AreApart (names_in r.regulations.items) };
 }
 
 impl<A: Allocator + Copy> Regulations<A> {
@@ -62,8 +66,8 @@ impl<A: Allocator + Copy> Regulations<A> {
         self.regulations.len()
     }
 
-    /// Opens one more regulation, the last in order: the flights that it applies to wait in it, and those that are due are
-    /// fixed. Refused where memory is; then nothing has changed.
+    /// Opens one more regulation, the last in order, of a name that isn't open: the flights that it applies to wait in it,
+    /// and those that are due are fixed. Refused where memory is; then nothing has changed.
     pub fn open(
         &mut self,
         alloc: A,
@@ -73,7 +77,8 @@ impl<A: Allocator + Copy> Regulations<A> {
         plans: &PlanStore<A>,
         now: Minute,
     ) -> Result<(), AllocError>
-        requires { length plans.now.plans ≤ self.old.max_plans }
+        requires plans { length plans.now.plans ≤ self.old.max_plans }
+        requires name { list_any (is_named id) self.old.lists ≡ false }
         ensures limit { self.new.max_plans ≡ self.old.max_plans }
         ensures opened { OnOk result (IsOpened plans.now.taxi self.old.max_plans now plans.now.plans (record { id = id; spot = spot; period = shape; fixed = [] }) self.old.lists self.new.lists) }
         ensures err { OnErr result (self.new.lists ≡ self.old.lists) }
@@ -100,12 +105,52 @@ impl<A: Allocator + Copy> Regulations<A> {
         list_named(&self.regulations, id)
     }
 
-    /// Closes the regulation of this name, with its slot list. The others stay as they are.
-    pub fn shut(&mut self, id: &Text<8>)
+    /// The flights that keep slots in the open regulation of this name, by rising number; none where none of this name is
+    /// open. Of no other flight the regulation makes a difference to the advice. Refused where memory is.
+    pub fn fixed_flights(&self, alloc: A, id: &Text<8>) -> Result<Vec<u32, A>, AllocError>
+        ensures rising { IfOk result (λ v. IsNonDecreasing v.items) }
+        ensures numbers { IfOk result (λ v. (taxi now : ℕ) (plans : List Plan) → IsSettled taxi now plans self.now.lists
+            → All (λ n. (0 < n) × (n ≤ length plans)) v.items) }
+        ensures others { IfOk result (λ v. (f : ℕ) → is_in f v.items ≡ false
+            → AllByRecursion (λ l. is_named id.now l ≡ true → pairs_of f l.lineup.fixed ≡ []) self.now.lists) }
+    {
+        match list_named(&self.regulations, id) {
+            Some(list) => fixed_flights(alloc, list),
+            None => Ok(Vec::new(alloc)),
+        }
+    }
+
+    /// Closes the regulation of this name, with its slot list, and answers it. The others stay as they are. None where none
+    /// of this name is open. It takes no memory.
+    pub fn shut(&mut self, id: &Text<8>) -> Option<Closed<A>>
         ensures limit { self.new.max_plans ≡ self.old.max_plans }
         ensures lists { self.new.lists ≡ without_named id.now self.old.lists }
+        ensures none { IfNone result (list_any (is_named id.now) self.old.lists ≡ false) }
+        ensures named { IfSome result (λ c. is_named id.now c.listed ≡ true) }
+        ensures closed { IfSome result (λ c. self.old.lists ≡ insert self.new.lists c.index c.listed) }
+        ensures may { IfSome result (λ c. MayReopen c self.new) }
     {
-        close_named(&mut self.regulations, id);
+        let index = index_named(&self.regulations, id)?;
+        let regulation = self.regulations.remove(index);
+        Some(Closed { index, regulation })
+    }
+
+    /// Opens a closed regulation again in its place, as it was. It takes no memory: the room that it left is there.
+    pub fn reopen(&mut self, closed: Closed<A>)
+        requires { MayReopen closed self.old }
+        ensures limit { self.new.max_plans ≡ self.old.max_plans }
+        ensures lists { self.new.lists ≡ insert self.old.lists closed.index closed.listed }
+    {
+        let Closed { index, regulation } = closed;
+        self.regulations.insert(index, regulation).unwrap();
+    }
+
+    /// Takes the regulation that was opened last out again.
+    pub fn take_last(&mut self)
+        ensures limit { self.new.max_plans ≡ self.old.max_plans }
+        ensures lists { (before : List Listed) (l : Listed) → self.old.lists ≡ before ++ l ∷ [] → self.new.lists ≡ before }
+    {
+        let _last = self.regulations.pop();
     }
 
     /// Settles the regulations after a message about the plan of this number, which changed it or added it as the last.
@@ -313,6 +358,7 @@ fn release_all_in<A: Allocator + Copy>(
 )
     requires { All (λ n. (0 < n) × (n ≤ length plans.now.plans)) due.now }
     ensures capacity { (max : ℕ) → HaveCapacity max regulations.old → HaveCapacity max regulations.new }
+    ensures names { names_in regulations.new ≡ names_in regulations.old }
     ensures lists { (max earlier now : ℕ) (before : List Listed)
         → HaveBecomeDue plans.now.taxi max earlier now plans.now.plans due.now before
         → regulations.old ≡ map (with_fixed_waiting due.now) before → regulations.new ≡ before }
@@ -383,9 +429,15 @@ fn list_named<'a, A: Allocator + Copy>(
     None
 }
 
-/// Closes the regulations of this name.
-fn close_named<A: Allocator + Copy>(regulations: &mut Vec<Regulation<A>, A>, id: &Text<8>)
-    ensures { regulations.new.items ≡ without_named id.now regulations.old.items }
+/// The place of the first regulation of this name.
+fn index_named<A: Allocator + Copy>(regulations: &[Regulation<A>], id: &Text<8>) -> Option<usize>
+    ensures found { IfSome result (λ index. IsNamedAt id.now index regulations.now) }
+    ensures none { IfNone result (list_any (is_named id.now) regulations.now ≡ false) }
 {
-    regulations.retain(|regulation| !regulation.is_named(id));
+    for (index, regulation) in regulations.iter().enumerate() {
+        if regulation.is_named(id) {
+            return Some(index);
+        }
+    }
+    None
 }

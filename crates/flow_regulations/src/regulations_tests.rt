@@ -55,7 +55,7 @@ fn a_due_flight_is_told_its_slot_at_the_opening(rt: HostRuntime) -> Result<(), F
     last.push(None)?;
     let mut notices = Vec::new(rt.alloc());
     tell_one(&rt, &regulations, &plans, &mut last, &mut notices)?;
-    regulations.shut(&id);
+    assert!(rt; regulations.shut(&id).is_some());
     assert_eq!(rt; regulations.count(), 0);
     tell_one(&rt, &regulations, &plans, &mut last, &mut notices)?;
     assert_eq!(rt; notices.len(), 2);
@@ -105,6 +105,26 @@ fn a_frozen_flight_is_put_back_where_it_waited(rt: HostRuntime) -> Result<(), Fa
     assert!(rt; is_fixed(&rt, &regulations, &id));
     regulations.put_back(1, &places);
     assert!(rt; !is_fixed(&rt, &regulations, &id));
+    Ok(())
+}
+
+#[test]
+fn a_closed_regulation_is_opened_again(rt: HostRuntime) -> Result<(), Fail> {
+    let plans = one_plan(&rt, rt.alloc())?;
+    assert!(rt; plans.count() == 1);
+    let id: Text<8> = Text::new(b"RMZ01");
+    let arrivals = Spot::Arr(Text::new(b"EDDF"));
+    let shape = Shape::new(at(10, 0), at(12, 0), 20, &[]).expect(&rt, "a shape");
+    let mut regulations = Regulations::new(rt.alloc(), 100);
+    regulations.open(rt.alloc(), id.copied(), arrivals, shape, &plans, at(6, 0))?;
+    let kept = regulations.fixed_flights(rt.alloc(), &id)?;
+    assert_eq!(rt; kept.as_slice(), [1].as_slice());
+    let closed = regulations.shut(&id).expect(&rt, "a regulation");
+    assert_eq!(rt; regulations.count(), 0);
+    regulations.reopen(closed);
+    assert!(rt; is_fixed(&rt, &regulations, &id));
+    regulations.take_last();
+    assert_eq!(rt; regulations.count(), 0);
     Ok(())
 }
 

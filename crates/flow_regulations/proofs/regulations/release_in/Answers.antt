@@ -10,4 +10,4 @@ loop-regulation-preserved g c =
     let e = c.release.ensures in
     let i : ℕ = s.regulation-index in
     let within : i < length ys = omega (arith, c.loop-regulation-test.true) in
-    walked-step (IsReleased c.args.number c.args.plans.now.taxi c.args.plans.now.plans) i c.args.regulations.now ys c.regulation-item.result c.release.new.self within (record { same = e.released; capacity = e.capacity }) s.invariant
+    walked-step (IsReleased c.args.number c.args.plans.now.taxi c.args.plans.now.plans) i c.args.regulations.now ys c.regulation-item.result c.release.new.self within (record { id = e.id; same = e.released; capacity = e.capacity }) s.invariant

@@ -1,6 +1,7 @@
 use Rattle.std.proofs.Common.{◌≡◌, List, length, map, sym, refl, ap, subst, ◌∙◌, arith}
-use Rattle.flow_regulations.specs.Listing.{Listed, Walked, IsAdvancing, AreRenewed, HaveCapacity, is_among, with_fixed_waiting, pairs_in}
+use Rattle.flow_regulations.specs.Listing.{Listed, Walked, IsAdvancing, AreRenewed, HaveCapacity, AreApart, names_in, is_among, with_fixed_waiting, pairs_in}
 use Rattle.flow_regulations.proofs.Advances.{capacity-advanced, all-advanced, others-advanced}
+use Rattle.flow_regulations.proofs.Names.{apart-as, names-advanced}
 use Rattle.flow_regulations.proofs.Walks.{written-back}
 use Rattle.flow_regulations.proofs.regulations.Regulations.advance_due.Goals as goal
 
@@ -11,7 +12,12 @@ invariant_of-self g c =
     let len : s.regulations.len ≡ length ns = omega (arith, c.advance_in.auto.regulations, c.deref_mut.ensures.len) in
     let H : List Listed → Type 0 = HaveCapacity s.max_plans in
     let is : ns ≡ map (with_fixed_waiting c.args.due.now) s.regulations.items = c.advance_in.ensures.lists ∙ ap (map (with_fixed_waiting c.args.due.now)) c.deref_mut.ensures.value in
-    (c.self.invariant.0, c.self.invariant.1, subst H (sym (written-back s.regulations.len ns _ len ∙ is)) (capacity-advanced s.max_plans c.args.due.now s.regulations.items c.self.invariant.2))
+    let A : List Listed → Type 0 = λ ls. AreApart (names_in ls) in (
+      c.self.invariant.0,
+      c.self.invariant.1,
+      subst H (sym (written-back s.regulations.len ns _ len ∙ is)) (capacity-advanced s.max_plans c.args.due.now s.regulations.items c.self.invariant.2),
+      subst A (sym (written-back s.regulations.len ns _ len ∙ is)) (apart-as s.regulations.items (map (with_fixed_waiting c.args.due.now) s.regulations.items) (names-advanced c.args.due.now s.regulations.items) c.self.invariant.3),
+    )
 
 pub returns-clause-lists : goal.returns-clause-lists
 returns-clause-lists g c =

@@ -1,6 +1,7 @@
 use Rattle.std.proofs.Common.{◌≡◌, List, length, map, sym, refl, ap, subst, ◌∙◌, arith}
-use Rattle.flow_regulations.specs.Listing.{Listed, Walked, IsFixedWaiting, AreFrozen, HaveCapacity, without_in, pairs_in}
-use Rattle.flow_regulations.proofs.Alls.{capacity-fixed, all-frozen, others-fixed, alone-fixed}
+use Rattle.flow_regulations.specs.Listing.{Listed, Walked, IsFixedWaiting, AreFrozen, HaveCapacity, AreApart, names_in, without_in, pairs_in}
+use Rattle.flow_regulations.proofs.Alls.{capacity-fixed, all-frozen, others-fixed, alone-fixed, names-fixed}
+use Rattle.flow_regulations.proofs.Names.{apart-as}
 use Rattle.flow_regulations.proofs.Walks.{written-back}
 use Rattle.flow_regulations.proofs.regulations.Regulations.freeze_departing.Goals as goal
 
@@ -11,7 +12,12 @@ invariant_of-self g c =
     let len : s.regulations.len ≡ length ns = omega (arith, c.fix_waiting_in.auto.regulations, c.deref_mut.ensures.len) in
     let H : List Listed → Type 0 = HaveCapacity s.max_plans in
     let W : List Listed → Type 0 = λ os. Walked (IsFixedWaiting c.args.number) (length ns) os ns in
-    (c.self.invariant.0, c.self.invariant.1, subst H (sym (written-back s.regulations.len ns _ len)) (capacity-fixed c.args.number s.max_plans (length ns) s.regulations.items ns refl (subst W c.deref_mut.ensures.value c.fix_waiting_in.ensures) c.self.invariant.2))
+    let A : List Listed → Type 0 = λ ls. AreApart (names_in ls) in (
+      c.self.invariant.0,
+      c.self.invariant.1,
+      subst H (sym (written-back s.regulations.len ns _ len)) (capacity-fixed c.args.number s.max_plans (length ns) s.regulations.items ns refl (subst W c.deref_mut.ensures.value c.fix_waiting_in.ensures) c.self.invariant.2),
+      subst A (sym (written-back s.regulations.len ns _ len)) (apart-as s.regulations.items ns (names-fixed c.args.number (length ns) s.regulations.items ns refl (subst W c.deref_mut.ensures.value c.fix_waiting_in.ensures)) c.self.invariant.3),
+    )
 
 pub returns-clause-frozen : goal.returns-clause-frozen
 returns-clause-frozen g c = λ taxi before listed.

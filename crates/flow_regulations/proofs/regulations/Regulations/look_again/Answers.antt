@@ -1,6 +1,7 @@
 use Rattle.std.proofs.Common.{◌≡◌, List, length, map, sym, refl, ap, subst, ◌∙◌, arith}
-use Rattle.flow_regulations.specs.Listing.{Listed, Walked, IsLookedAgain, AreRenewed, HaveCapacity, without_in, pairs_in}
-use Rattle.flow_regulations.proofs.Alls.{capacity-looked, all-looked, others-looked, alone-looked}
+use Rattle.flow_regulations.specs.Listing.{Listed, Walked, IsLookedAgain, AreRenewed, HaveCapacity, AreApart, names_in, without_in, pairs_in}
+use Rattle.flow_regulations.proofs.Alls.{capacity-looked, all-looked, others-looked, alone-looked, names-looked}
+use Rattle.flow_regulations.proofs.Names.{apart-as}
 use Rattle.flow_regulations.proofs.Walks.{written-back}
 use Rattle.flow_regulations.proofs.regulations.Regulations.look_again.Goals as goal
 
@@ -11,7 +12,12 @@ invariant_of-self g c =
     let len : s.regulations.len ≡ length ns = omega (arith, c.look_again_in.auto.regulations, c.deref_mut.ensures.len) in
     let H : List Listed → Type 0 = HaveCapacity s.max_plans in
     let W : List Listed → Type 0 = λ os. Walked (IsLookedAgain c.args.number c.args.plans.now.taxi c.args.now c.args.plans.now.plans) (length ns) os ns in
-    (c.self.invariant.0, c.self.invariant.1, subst H (sym (written-back s.regulations.len ns _ len)) (capacity-looked c.args.number c.args.plans.now.taxi c.args.now s.max_plans (length ns) c.args.plans.now.plans s.regulations.items ns refl (subst W c.deref_mut.ensures.value c.look_again_in.ensures) c.self.invariant.2))
+    let A : List Listed → Type 0 = λ ls. AreApart (names_in ls) in (
+      c.self.invariant.0,
+      c.self.invariant.1,
+      subst H (sym (written-back s.regulations.len ns _ len)) (capacity-looked c.args.number c.args.plans.now.taxi c.args.now s.max_plans (length ns) c.args.plans.now.plans s.regulations.items ns refl (subst W c.deref_mut.ensures.value c.look_again_in.ensures) c.self.invariant.2),
+      subst A (sym (written-back s.regulations.len ns _ len)) (apart-as s.regulations.items ns (names-looked c.args.number c.args.plans.now.taxi c.args.now (length ns) c.args.plans.now.plans s.regulations.items ns refl (subst W c.deref_mut.ensures.value c.look_again_in.ensures)) c.self.invariant.3),
+    )
 
 pub returns-clause-renewed : goal.returns-clause-renewed
 returns-clause-renewed g c = λ before listed settled_but same.

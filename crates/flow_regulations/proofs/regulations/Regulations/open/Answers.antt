@@ -1,5 +1,8 @@
-use Rattle.std.proofs.Common.{◌≡◌, ◌++◌, ◌∷◌, [], ap, ◌∙◌}
-use Rattle.flow_regulations.specs.Listing.{Listed, opened, with_no_flights}
+use Rattle.std.proofs.Common.{◌≡◌, false, List, ◌++◌, ◌∷◌, [], sym, ap, subst, ◌∙◌}
+use Rattle.std.specs.List.{list_any}
+use Rattle.flow_regulations.specs.Listing.{Listed, opened, with_no_flights, HaveCapacity, AreApart, names_in, is_named}
+use Rattle.flow_regulations.proofs.ForTheDesk.{all-last}
+use Rattle.flow_regulations.proofs.Names.{apart-last, settled-name}
 use Rattle.flow_regulations.proofs.Openings.{opened-settled}
 use Rattle.flow_regulations.proofs.regulations.Regulations.open.Goals as goal
 
@@ -14,3 +17,20 @@ returns-clause-opened g c =
     c.let_all_in.ensures ∙ (ap (λ v. opened taxi plans v) c.in_ok-regulation.ensures.empty ∙ ap (λ m. opened taxi plans (with_no_flights c.args.id c.args.spot c.args.shape m)) max) in
     let all = opened-settled taxi c.args.self.now.max_plans c.args.now plans c.args.id c.args.spot c.args.shape o x empty (record { capacity = c.settle.ensures.capacity; advanced = c.settle.ensures.advanced }) in
     (x, c.push_reserved.ensures.items ∙ ap (λ xs. xs ++ x ∷ []) (c.in_ok-reserve.ensures.items ∙ ap (λ v. v.lists) c.self.view_is), all.0, all.1, all.2)
+
+pub invariant_of-self-2 : goal.invariant_of-self-2
+invariant_of-self-2 g c =
+    let s = c.self.inside in
+    let taxi = c.args.plans.now.taxi in
+    let plans = c.args.plans.now.plans in
+    let x : Listed = c.settle.new.regulation in
+    let o : Listed = c.let_all_in.new.regulation in
+    let empty : o ≡ opened taxi plans (with_no_flights c.args.id c.args.spot c.args.shape s.max_plans) = c.let_all_in.ensures ∙ ap (λ v. opened taxi plans v) c.in_ok-regulation.ensures.empty in
+    let all = opened-settled taxi s.max_plans c.args.now plans c.args.id c.args.spot c.args.shape o x empty (record { capacity = c.settle.ensures.capacity; advanced = c.settle.ensures.advanced }) in
+    let name : x.id ≡ c.args.id = ap (λ r. r.id) all.0 ∙ settled-name taxi c.args.now plans (record { id = c.args.id; spot = c.args.spot; period = c.args.shape; fixed = [] }) in
+    let capacity : x.lineup.capacity ≡ s.max_plans = c.settle.ensures.capacity ∙ ap (λ v. v.lineup.capacity) empty in
+    let is = c.push_reserved.ensures.items ∙ ap (λ xs. xs ++ x ∷ []) c.in_ok-reserve.ensures.items in
+    let H : List Listed → Type 0 = HaveCapacity s.max_plans in
+    let A : List Listed → Type 0 = λ ls. AreApart (names_in ls) in
+    let new_name : list_any (is_named x.id) s.regulations.items ≡ false = ap (λ id. list_any (is_named id) s.regulations.items) name ∙ (ap (λ v. list_any (is_named c.args.id) v.lists) c.self.view_is ∙ c.requires.name) in
+    (c.self.invariant.0, c.self.invariant.1, subst H (sym is) (all-last (λ l. l.lineup.capacity ≡ s.max_plans) s.regulations.items x c.self.invariant.2 capacity), subst A (sym is) (apart-last x s.regulations.items c.self.invariant.3 new_name))

@@ -1,7 +1,8 @@
 use Rattle.std.proofs.Common.{◌≡◌, List, length, map, sym, refl, ap, subst, ◌∙◌, arith}
-use Rattle.flow_regulations.specs.Listing.{Listed, HaveCapacity, without_in}
+use Rattle.flow_regulations.specs.Listing.{Listed, HaveCapacity, AreApart, names_in, without_in}
 use Rattle.flow_regulations.specs.Places.{ArePlaces}
 use Rattle.flow_regulations.proofs.PutBack.{capacity-back}
+use Rattle.flow_regulations.proofs.Names.{apart-as, names-back}
 use Rattle.flow_regulations.proofs.Walks.{written-back}
 use Rattle.flow_regulations.proofs.regulations.Regulations.put_back.Goals as goal
 
@@ -16,7 +17,12 @@ invariant_of-self g c =
     let M : List Listed → Type 0 = λ ls. map (without_in n) ls ≡ map (without_in n) b.0 in
     let lists = ap (λ v. v.lists) c.self.view_is in
     let back : ns ≡ b.0 = c.put_back_in.ensures b.0 b.1 (subst M (sym (c.deref_mut.ensures.value ∙ lists)) b.2) in
-    (c.self.invariant.0, c.self.invariant.1, subst H (sym (written-back s.regulations.len ns _ len ∙ back)) (capacity-back n s.max_plans s.regulations.items b.0 (subst M (sym lists) b.2) c.self.invariant.2))
+    let A : List Listed → Type 0 = λ ls. AreApart (names_in ls) in (
+      c.self.invariant.0,
+      c.self.invariant.1,
+      subst H (sym (written-back s.regulations.len ns _ len ∙ back)) (capacity-back n s.max_plans s.regulations.items b.0 (subst M (sym lists) b.2) c.self.invariant.2),
+      subst A (sym (written-back s.regulations.len ns _ len ∙ back)) (apart-as s.regulations.items b.0 (names-back n s.regulations.items b.0 (subst M (sym lists) b.2)) c.self.invariant.3),
+    )
 
 pub returns-clause-lists : goal.returns-clause-lists
 returns-clause-lists g c = λ before are same.
