@@ -1,7 +1,8 @@
 -- What was before the last reading, as it is undone.
-use Rattle.std.proofs.Common.{◌≡◌, ◌∙◌, ◌+◌, ◌<◌, ◌≤◌, ℕ, zero, suc, List, [], ◌∷◌, ◌++◌, length, map, take, drop, get_or, refl, sym, ap, subst, arith, Bool, true, false, cond, Option, Some, None}
-use Rattle.std.specs.List.{All}
+use Rattle.std.proofs.Common.{◌≡◌, ◌∙◌, ◌+◌, ◌-◌, ◌<◌, ◌≤◌, ℕ, zero, suc, List, [], ◌∷◌, ◌++◌, length, length-append, map, take, drop, get_or, refl, sym, ap, subst, arith, Bool, true, false, cond, Option, Some, None, IfSome, IfNone}
+use Rattle.std.specs.List.{All, insert, list_any}
 use Rattle.std.specs.Option.{option_map_or, is_some}
+use Rattle.std.proofs.lemmas.Bool.{true≢false}
 use Rattle.std.proofs.lemmas.List.{take_more}
 use Rattle.std.proofs.lemmas.List.Elements.{All-nil, All-push}
 use Rattle.std.proofs.Math.Seq.{take-length, take-append_seam}
@@ -12,9 +13,9 @@ use Rattle.flow_regulations.specs.declared.notice.Told.{Told}
 use Rattle.flow_regulations.specs.declared.notice.Notice.{Notice}
 use Rattle.flow_regulations.specs.declared.places.Place.{Place}
 use Rattle.flow_regulations.specs.declared.due_queue.Awaited.{Awaited}
-use Rattle.flow_regulations.specs.Regulations.{subject_to}
+use Rattle.flow_regulations.specs.Regulations.{Regulation, subject_to}
 use Rattle.flow_regulations.specs.Awaiting.{Awaiting, Covers, HaveBecomeDue}
-use Rattle.flow_regulations.specs.Listing.{Listed, Listing, regulation_of, with_lineup, without_in, with_fixed_waiting, released, released_in, IsReleased, Walked, HoldNewlyDue}
+use Rattle.flow_regulations.specs.Listing.{Closing, IsOpened, is_named, Listed, Listing, regulation_of, with_lineup, without_in, with_fixed_waiting, released, released_in, IsReleased, Walked, HoldNewlyDue}
 use Rattle.flow_regulations.specs.Places.{stood, ArePlaces}
 use Rattle.flow_regulations.proofs.PutBack.{stood-there}
 use Rattle.flow_regulations.proofs.Queues.{due-there}
@@ -23,8 +24,9 @@ use Rattle.flow_traffic.specs.declared.undo.Last as last
 use Rattle.flow_traffic.specs.declared.undo.Last.TheVariants as reading
 use Rattle.flow_traffic.specs.Traffic.{traffic_of}
 use Rattle.flow_traffic.specs.Kept.{IsKept}
+use Rattle.flow_traffic.specs.Reopening.{open_again}
 use Rattle.flow_traffic.specs.Telling.{told_again}
-use Rattle.flow_traffic.specs.Undoing.{Past, told_past, traffic_past, stood_again, waiting_again, all_waiting_again, CanUndo, WasKept, IsKeptWith}
+use Rattle.flow_traffic.specs.Undoing.{Past, told_past, traffic_past, stood_again, waiting_again, all_waiting_again, CanUndo, WasKept, before_last, IsKeptWith}
 use Rattle.flow_traffic.specs.Answers.{told_to}
 use Rattle.flow_traffic.proofs.Both.{some-same}
 use Rattle.flow_traffic.proofs.ToldAgain.{told_to-undone}
@@ -61,6 +63,7 @@ released-walk taxi n plans p [] at = refl
 released-walk taxi n plans p (l ∷ ls) at = (
   record {
     same = λ q there. ap (λ (r : Plan). released_in taxi r n l) (some-same (plan_at plans n) p q at there);
+    id = refl;
     capacity = keeps-capacity (subject_to taxi (regulation_of l) p) n l.lineup;
   },
   released-walk taxi n plans p ls at,
@@ -104,10 +107,10 @@ waits-again taxi max earlier now plans due before lists h is =
 pub plans-before : (store : Store) (plans : List Plan) → store.before ≡ Some plans → option_map_or (λ ps. ps) store.before [] ≡ plans
 plans-before store plans e = ap (λ (o : Option (List Plan)). option_map_or (λ ps. ps) o []) e
 
-pub can-forget : (n time : ℕ) (store : Store) (listing : Listing) (queue : Awaiting) (places : List Place) (changed : List ℕ) (plans : List Plan) (lists : List Listed)
+pub can-forget : (n time : ℕ) (store : Store) (listing : Listing) (queue : Awaiting) (places : List Place) (changed : List ℕ) (closed : Option Closing) (plans : List Plan) (lists : List Listed)
     → 0 < n → n ≤ listing.max_plans → store.before ≡ Some plans → ArePlaces n places lists → map (without_in n) listing.lists ≡ map (without_in n) lists → Covers time plans queue.flights
-    → CanUndo (reading.Message n) time store listing queue places changed
-can-forget n time store listing queue places changed plans lists some room before stand alone covers =
+    → CanUndo (reading.Message n) time store listing queue places changed closed
+can-forget n time store listing queue places changed closed plans lists some room before stand alone covers =
     let stood = sym (stands-again n places listing.lists lists stand alone) in
     let ended = sym (plans-before store plans before) in
     record {
@@ -119,11 +122,11 @@ can-forget n time store listing queue places changed plans lists some room befor
       covers = (let P : List Plan → Type 0 = λ ps. Covers time ps queue.flights in subst P ended covers);
     }
 
-pub can-go-back : (earlier time : ℕ) (store : Store) (listing : Listing) (queue : Awaiting) (places : List Place) (changed : List ℕ) (lists : List Listed)
+pub can-go-back : (earlier time : ℕ) (store : Store) (listing : Listing) (queue : Awaiting) (places : List Place) (changed : List ℕ) (closed : Option Closing) (lists : List Listed)
     → HaveBecomeDue store.taxi listing.max_plans earlier time store.plans changed lists → listing.lists ≡ map (with_fixed_waiting changed) lists
     → All (λ n. (0 < n) × (n ≤ length store.plans)) changed → HoldNewlyDue earlier time store.plans changed → Covers time store.plans queue.flights → length queue.flights + length changed ≤ queue.room
-    → CanUndo (reading.Time earlier) time store listing queue places changed
-can-go-back earlier time store listing queue places changed lists due fixed within hold covers room =
+    → CanUndo (reading.Time earlier) time store listing queue places changed closed
+can-go-back earlier time store listing queue places changed closed lists due fixed within hold covers room =
     let was = sym (waits-again store.taxi listing.max_plans earlier time store.plans changed lists listing.lists due fixed) in
     record {
       due = (let P : List Listed → Type 0 = λ ls. HaveBecomeDue store.taxi listing.max_plans earlier time store.plans changed ls in subst P was due);
@@ -133,6 +136,25 @@ can-go-back earlier time store listing queue places changed lists due fixed with
       covers = covers;
       room = room;
     }
+
+before-last : (lists new : List Listed) (l : Listed) → new ≡ lists ++ l ∷ [] → before_last new ≡ lists
+before-last lists new l e =
+    let count : length (lists ++ l ∷ []) - 1 ≡ length lists = omega (arith, length-append lists (l ∷ [])) in
+    ap before_last e ∙ ap (λ k. take k (lists ++ l ∷ [])) count ∙ take-append_seam lists (l ∷ [])
+
+pub was-opened : (taxi max now : ℕ) (plans : List Plan) (r : Regulation) (lists new : List Listed) → IsOpened taxi max now plans r lists new → before_last new ≡ lists
+was-opened taxi max now plans r lists new h = before-last lists new h.0 h.1
+
+pub can-unopen : (taxi max now : ℕ) (plans : List Plan) (r : Regulation) (lists new : List Listed) → IsOpened taxi max now plans r lists new → (l : Listed) × (new ≡ before_last new ++ l ∷ [])
+can-unopen taxi max now plans r lists new h = (h.0, h.1 ∙ ap (λ ls. ls ++ h.0 ∷ []) (sym (before-last lists new h.0 h.1)))
+
+pub opened-count : (taxi max now : ℕ) (plans : List Plan) (r : Regulation) (lists new : List Listed) → IsOpened taxi max now plans r lists new → length new ≡ length lists + 1
+opened-count taxi max now plans r lists new h = ap length h.1 ∙ length-append lists (h.0 ∷ [])
+
+pub was-shut : (id : List ℕ) (lists : List Listed) (new : Listing) (closed : Option Closing) → list_any (is_named id) lists ≡ true
+    → IfNone closed (list_any (is_named id) lists ≡ false) → IfSome closed (λ c. lists ≡ insert new.lists c.index c.listed) → open_again closed new.lists ≡ lists
+was-shut id lists new None is none was = absurd (true≢false (sym is ∙ none))
+was-shut id lists new (Some c) is none was = sym was
 
 -- what was kept before
 pub was-kept : (p : Past) (store : Store) (listing : Listing) (changed : List ℕ) (noted told : List (Option Told)) (time : ℕ) (old_store : Store) (old_listing : Listing) (flights : List Awaited) (old_told : List (Option Told))
@@ -186,9 +208,9 @@ one-within n count changed e some within =
 
 -- ---- undoing
 
-pub by-reading : (l m : last.Last) (time : ℕ) (store : Store) (listing : Listing) (queue : Awaiting) (told : List (Option Told)) (places : List Place) (changed : List ℕ) (noted : List (Option Told))
-    → l ≡ m → IsKeptWith l time store listing queue told places changed noted → IsKeptWith m time store listing queue told places changed noted
-by-reading l m time store listing queue told places changed noted e h = let P : last.Last → Type 0 = λ k. IsKeptWith k time store listing queue told places changed noted in subst P e h
+pub by-reading : (l m : last.Last) (time : ℕ) (store : Store) (listing : Listing) (queue : Awaiting) (told : List (Option Told)) (places : List Place) (changed : List ℕ) (closed : Option Closing) (noted : List (Option Told))
+    → l ≡ m → IsKeptWith l time store listing queue told places changed closed noted → IsKeptWith m time store listing queue told places changed closed noted
+by-reading l m time store listing queue told places changed closed noted e h = let P : last.Last → Type 0 = λ k. IsKeptWith k time store listing queue told places changed closed noted in subst P e h
 
 pub kept-again : (time : ℕ) (p : Past) (store new_store : Store) (listing new : Listing) (flights : List Awaited) (told new_told : List (Option Told))
     → IsKept p.time (record store { plans = p.plans }) (record listing { lists = p.lists }) flights told

@@ -1,5 +1,5 @@
 -- What undoes the last reading.
-use Rattle.std.specs.Prelude.{◌≡◌, ◌≤◌, ◌<◌, ◌+◌, ℕ, List, [], ◌∷◌, length, map, take, Option, None, Some}
+use Rattle.std.specs.Prelude.{◌≡◌, ◌≤◌, ◌<◌, ◌+◌, ◌-◌, ◌++◌, ℕ, List, [], ◌∷◌, length, map, take, Option, None, Some, IfSome}
 use Rattle.std.specs.List.{All}
 use Rattle.std.specs.Option.{option_map_or}
 use Rattle.flow_plans.specs.Plans.{Plan, plan_at}
@@ -9,12 +9,13 @@ use Rattle.flow_regulations.specs.declared.notice.Told.{Told}
 use Rattle.flow_regulations.specs.declared.notice.Notice.{Notice}
 use Rattle.flow_regulations.specs.declared.places.Place.{Place}
 use Rattle.flow_regulations.specs.Awaiting.{Awaiting, Covers, HaveBecomeDue}
-use Rattle.flow_regulations.specs.Listing.{Listed, Listing, with_lineup, without_in, with_fixed_waiting, released_in, HoldNewlyDue}
+use Rattle.flow_regulations.specs.Listing.{Listed, Listing, Closing, MayReopen, with_lineup, without_in, with_fixed_waiting, released_in, HoldNewlyDue}
 use Rattle.flow_regulations.specs.Places.{stood, ArePlaces}
 use Rattle.flow_traffic.specs.declared.undo.Last as last
 use Rattle.flow_traffic.specs.declared.undo.Last.TheVariants as reading
 use Rattle.flow_traffic.specs.Traffic.{Traffic, traffic_of}
 use Rattle.flow_traffic.specs.Telling.{told_again}
+use Rattle.flow_traffic.specs.Reopening.{open_again}
 use Rattle.flow_traffic.specs.Kept.{IsKept}
 
 -- a flight stands in its places again
@@ -32,19 +33,25 @@ abbrev pub all_waiting_again : ℕ → List Plan → List ℕ → List Listed �
 all_waiting_again taxi plans [] lists = lists
 all_waiting_again taxi plans (n ∷ ns) lists = waiting_again taxi plans n (all_waiting_again taxi plans ns lists)
 
+-- without the regulation that was opened last
+abbrev pub before_last : List Listed → List Listed
+before_last lists = take (length lists - 1) lists
+
 -- what was before the last reading
 pub record Past : Type 0 where
   pub time : ℕ
   pub plans : List Plan
   pub lists : List Listed
 
-abbrev pub past : last.Last → ℕ → Store → List Listed → List Place → List ℕ → Past
-past reading.Nothing time store lists places changed = record { time = time; plans = store.plans; lists = lists }
-past reading.Refused time store lists places changed = record { time = time; plans = store.plans; lists = lists }
-past (reading.Message number) time store lists places changed =
+abbrev pub past : last.Last → ℕ → Store → List Listed → List Place → List ℕ → Option Closing → Past
+past reading.Nothing time store lists places changed closed = record { time = time; plans = store.plans; lists = lists }
+past reading.Refused time store lists places changed closed = record { time = time; plans = store.plans; lists = lists }
+past (reading.Message number) time store lists places changed closed =
     record { time = time; plans = option_map_or (λ ps. ps) store.before []; lists = stood_again number places lists }
-past (reading.Time earlier) time store lists places changed =
+past (reading.Time earlier) time store lists places changed closed =
     record { time = earlier; plans = store.plans; lists = all_waiting_again store.taxi store.plans changed lists }
+past reading.Open time store lists places changed closed = record { time = time; plans = store.plans; lists = before_last lists }
+past reading.Shut time store lists places changed closed = record { time = time; plans = store.plans; lists = open_again closed lists }
 
 abbrev pub told_past : Past → List ℕ → List (Option Told) → List (Option Told) → List (Option Told)
 told_past p changed noted told = take (length p.plans) (told_again changed noted told)
@@ -53,14 +60,18 @@ abbrev pub traffic_past : Store → Past → List ℕ → List (Option Told) →
 traffic_past store p changed noted told notices = traffic_of store.taxi store.max_plans p.time p.plans p.lists (told_past p changed noted told) notices
 
 -- the traffic before the last reading, where that can be taken back
-abbrev pub undone : last.Last → ℕ → Store → List Listed → List Place → List ℕ → List (Option Told) → List (Option Told) → List Notice → ℕ → Option Traffic
-undone reading.Nothing time store lists places changed noted told notices issued = None
-undone reading.Refused time store lists places changed noted told notices issued =
+abbrev pub undone : last.Last → ℕ → Store → List Listed → List Place → List ℕ → Option Closing → List (Option Told) → List (Option Told) → List Notice → ℕ → Option Traffic
+undone reading.Nothing time store lists places changed closed noted told notices issued = None
+undone reading.Refused time store lists places changed closed noted told notices issued =
     Some (traffic_of store.taxi store.max_plans time store.plans lists told notices)
-undone (reading.Message number) time store lists places changed noted told notices issued =
-    Some (traffic_past store (past (reading.Message number) time store lists places changed) changed noted told (take issued notices))
-undone (reading.Time earlier) time store lists places changed noted told notices issued =
-    Some (traffic_past store (past (reading.Time earlier) time store lists places changed) changed noted told (take issued notices))
+undone (reading.Message number) time store lists places changed closed noted told notices issued =
+    Some (traffic_past store (past (reading.Message number) time store lists places changed closed) changed noted told (take issued notices))
+undone (reading.Time earlier) time store lists places changed closed noted told notices issued =
+    Some (traffic_past store (past (reading.Time earlier) time store lists places changed closed) changed noted told (take issued notices))
+undone reading.Open time store lists places changed closed noted told notices issued =
+    Some (traffic_past store (past reading.Open time store lists places changed closed) changed noted told (take issued notices))
+undone reading.Shut time store lists places changed closed noted told notices issued =
+    Some (traffic_past store (past reading.Shut time store lists places changed closed) changed noted told (take issued notices))
 
 -- a message about the plan of this number can be taken back
 pub record CanForget (number time : ℕ) (store : Store) (listing : Listing) (queue : Awaiting) (places : List Place) (p : Past) : Type 0 where
@@ -80,13 +91,15 @@ pub record CanGoBack (earlier time : ℕ) (store : Store) (listing : Listing) (q
   pub covers : Covers time store.plans queue.flights
   pub room : length queue.flights + length changed ≤ queue.room
 
-abbrev pub CanUndo : last.Last → ℕ → Store → Listing → Awaiting → List Place → List ℕ → Type 0
-CanUndo reading.Nothing time store listing queue places changed = Unit {0}
-CanUndo reading.Refused time store listing queue places changed = Unit {0}
-CanUndo (reading.Message number) time store listing queue places changed =
-    CanForget number time store listing queue places (past (reading.Message number) time store listing.lists places changed)
-CanUndo (reading.Time earlier) time store listing queue places changed =
-    CanGoBack earlier time store listing queue changed (past (reading.Time earlier) time store listing.lists places changed)
+abbrev pub CanUndo : last.Last → ℕ → Store → Listing → Awaiting → List Place → List ℕ → Option Closing → Type 0
+CanUndo reading.Nothing time store listing queue places changed closed = Unit {0}
+CanUndo reading.Refused time store listing queue places changed closed = Unit {0}
+CanUndo (reading.Message number) time store listing queue places changed closed =
+    CanForget number time store listing queue places (past (reading.Message number) time store listing.lists places changed closed)
+CanUndo (reading.Time earlier) time store listing queue places changed closed =
+    CanGoBack earlier time store listing queue changed (past (reading.Time earlier) time store listing.lists places changed closed)
+CanUndo reading.Open time store listing queue places changed closed = (l : Listed) × (listing.lists ≡ before_last listing.lists ++ l ∷ [])
+CanUndo reading.Shut time store listing queue places changed closed = IfSome closed (λ c. MayReopen c listing)
 
 -- what plans were told can be put back, and then the traffic is kept as before
 pub record WasKept (store : Store) (listing : Listing) (changed : List ℕ) (noted told : List (Option Told)) (p : Past) : Type 0 where
@@ -95,16 +108,20 @@ pub record WasKept (store : Store) (listing : Listing) (changed : List ℕ) (not
   pub kept : (flights : Awaiting) → Covers p.time p.plans flights.flights
       → IsKept p.time (record store { plans = p.plans }) (record listing { lists = p.lists }) flights.flights (told_past p changed noted told)
 
-abbrev pub WasKeptBy : last.Last → ℕ → Store → Listing → List Place → List ℕ → List (Option Told) → List (Option Told) → Type 0
-WasKeptBy reading.Nothing time store listing places changed noted told = Unit {0}
-WasKeptBy reading.Refused time store listing places changed noted told = Unit {0}
-WasKeptBy (reading.Message number) time store listing places changed noted told =
-    WasKept store listing changed noted told (past (reading.Message number) time store listing.lists places changed)
-WasKeptBy (reading.Time earlier) time store listing places changed noted told =
-    WasKept store listing changed noted told (past (reading.Time earlier) time store listing.lists places changed)
+abbrev pub WasKeptBy : last.Last → ℕ → Store → Listing → List Place → List ℕ → Option Closing → List (Option Told) → List (Option Told) → Type 0
+WasKeptBy reading.Nothing time store listing places changed closed noted told = Unit {0}
+WasKeptBy reading.Refused time store listing places changed closed noted told = Unit {0}
+WasKeptBy (reading.Message number) time store listing places changed closed noted told =
+    WasKept store listing changed noted told (past (reading.Message number) time store listing.lists places changed closed)
+WasKeptBy (reading.Time earlier) time store listing places changed closed noted told =
+    WasKept store listing changed noted told (past (reading.Time earlier) time store listing.lists places changed closed)
+WasKeptBy reading.Open time store listing places changed closed noted told =
+    WasKept store listing changed noted told (past reading.Open time store listing.lists places changed closed)
+WasKeptBy reading.Shut time store listing places changed closed noted told =
+    WasKept store listing changed noted told (past reading.Shut time store listing.lists places changed closed)
 
 -- how the traffic is kept, with what undoes the last reading
-pub record IsKeptWith (l : last.Last) (time : ℕ) (store : Store) (listing : Listing) (queue : Awaiting) (told : List (Option Told)) (places : List Place) (changed : List ℕ) (noted : List (Option Told)) : Type 0 where
+pub record IsKeptWith (l : last.Last) (time : ℕ) (store : Store) (listing : Listing) (queue : Awaiting) (told : List (Option Told)) (places : List Place) (changed : List ℕ) (closed : Option Closing) (noted : List (Option Told)) : Type 0 where
   pub kept : IsKept time store listing queue.flights told
-  pub can : CanUndo l time store listing queue places changed
-  pub was : WasKeptBy l time store listing places changed noted told
+  pub can : CanUndo l time store listing queue places changed closed
+  pub was : WasKeptBy l time store listing places changed closed noted told

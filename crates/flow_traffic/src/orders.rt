@@ -25,6 +25,7 @@ impl<A: Allocator + Copy> Traffic<A> {
         requires from { IsDeskTime order.now.from }
         requires to { IsDeskTime order.now.to }
         ensures answers { IfSome result (Answers (ord (open_reg order.now)) self.old.traffic self.new.traffic) }
+        ensures before { OnSome result (self.new.before ≡ Some self.old.traffic) }
         ensures none { IfNone result (self.new ≡ record { traffic = self.old.traffic; before = None }) }
         ensures grow { length self.old.traffic.notices ≤ length self.new.traffic.notices }
         ensures few { length self.new.traffic.notices ≤ length self.old.traffic.notices + 20_000 }
@@ -48,9 +49,11 @@ impl<A: Allocator + Copy> Traffic<A> {
         let Ok(()) = note_due(&self.plans, self.time, &mut self.changed) else {
             return None;
         };
-        let Ok(()) = self.notices.reserve(self.changed.len()) else {
+        let count = self.changed.len();
+        let Ok(()) = make_room_to_tell(count, &mut self.noted, &mut self.notices) else {
             return None;
         };
+        self.issued = self.notices.len();
         let opened = self.regulations.open(
             self.alloc,
             order.id.copied(),
@@ -62,6 +65,8 @@ impl<A: Allocator + Copy> Traffic<A> {
         let Ok(()) = opened else {
             return None;
         };
+        note_told(&self.changed, &self.told, &mut self.noted);
+        self.last = Last::Open;
         self.regulations.tell(
             &self.plans,
             &self.changed,
@@ -77,6 +82,7 @@ impl<A: Allocator + Copy> Traffic<A> {
     /// Closes a regulation, and answers the verdict on it.
     pub(crate) fn shut(&mut self, id: &Text<8>) -> Option<Verdict>
         ensures answers { IfSome result (Answers (ord (shut_reg id.now)) self.old.traffic self.new.traffic) }
+        ensures before { OnSome result (self.new.before ≡ Some self.old.traffic) }
         ensures none { IfNone result (self.new ≡ record { traffic = self.old.traffic; before = None }) }
         ensures grow { length self.old.traffic.notices ≤ length self.new.traffic.notices }
         ensures few { length self.new.traffic.notices ≤ length self.old.traffic.notices + 20_000 }
@@ -89,10 +95,14 @@ impl<A: Allocator + Copy> Traffic<A> {
         let Ok(()) = note_due(&self.plans, self.time, &mut self.changed) else {
             return None;
         };
-        let Ok(()) = self.notices.reserve(self.changed.len()) else {
+        let count = self.changed.len();
+        let Ok(()) = make_room_to_tell(count, &mut self.noted, &mut self.notices) else {
             return None;
         };
-        self.regulations.shut(id);
+        self.issued = self.notices.len();
+        self.closed = self.regulations.shut(id);
+        note_told(&self.changed, &self.told, &mut self.noted);
+        self.last = Last::Shut;
         self.regulations.tell(
             &self.plans,
             &self.changed,

@@ -1,14 +1,14 @@
 //! The traffic of a desk: plans, open regulations, and what each plan was told.
-ghost use Rattle.std.specs.Prelude.{◌≡◌, ◌≤◌, ◌<◌, ◌+◌, ◌-◌, IfSome, IfNone, IsSome, Some, None, IsTrue, ◌↔◌, MatchOption, length, slice_get, option_copied};
+ghost use Rattle.std.specs.Prelude.{◌≡◌, ◌≤◌, ◌<◌, ◌+◌, ◌-◌, IfSome, IfNone, IsSome, OnSome, Some, None, IsTrue, ◌↔◌, MatchOption, length, slice_get, option_copied};
 ghost use Rattle.fpl_message.specs.Said.{said};
 ghost use Rattle.flow_plans.specs.Settings.{IsDeskTime};
 ghost use Rattle.flow_traffic.specs.Traffic.{no_traffic};
 ghost use Rattle.flow_traffic.specs.Answers.{Answers, HasDeskMoments};
 
-use crate::undo::{Last, untell};
+use crate::undo::{Last, reopen, untell};
 use crate::verdict::Verdict;
 use flow_plans::{Plan, PlanStore, Setup};
-use flow_regulations::{DueQueue, Notice, Place, Regulations, Told};
+use flow_regulations::{Closed, DueQueue, Notice, Place, Regulations, Told};
 use fpl_message::{Order, Reading};
 use fpl_text::Minute;
 use std::alloc::{Allocator, Global};
@@ -32,6 +32,8 @@ pub struct Traffic<A: Allocator + Copy = Global> {
     pub(crate) noted: Vec<Option<Told>, A>,
     /// Where the flight of the last message stood before, in each regulation.
     pub(crate) places: Vec<Place, A>,
+    /// The regulation that was closed last, until it is opened again.
+    pub(crate) closed: Option<Closed<A>>,
     /// How many notices there were before the last reading.
     pub(crate) issued: usize,
     pub(crate) last: Last,
@@ -45,10 +47,10 @@ impl<A: Allocator + Copy> Model for Traffic<A> {
 
     ghost view = { λ t. record {
       traffic = traffic_of t.plans.taxi t.plans.max_plans t.time t.plans.plans t.regulations.lists t.told.items t.notices.items;
-      before = undone t.last t.time t.plans t.regulations.lists t.places.items t.changed.items t.noted.items t.told.items t.notices.items t.issued;
+      before = undone t.last t.time t.plans t.regulations.lists t.places.items t.changed.items t.closed t.noted.items t.told.items t.notices.items t.issued;
     } };
 
-    ghost invariant = { λ t. IsKeptWith t.last t.time t.plans t.regulations t.queue t.told.items t.places.items t.changed.items t.noted.items };
+    ghost invariant = { λ t. IsKeptWith t.last t.time t.plans t.regulations t.queue t.told.items t.places.items t.changed.items t.closed t.noted.items };
 }
 
 impl<A: Allocator + Copy> Traffic<A> {
@@ -69,6 +71,7 @@ impl<A: Allocator + Copy> Traffic<A> {
             changed: Vec::new(alloc),
             noted: Vec::new(alloc),
             places: Vec::new(alloc),
+            closed: None,
             issued: 0,
             last: Last::Nothing,
         }
@@ -111,6 +114,7 @@ impl<A: Allocator + Copy> Traffic<A> {
     pub fn answer(&mut self, reading: &Reading<A>) -> Option<Verdict>
         requires { HasDeskMoments (said reading.now) }
         ensures answers { IfSome result (Answers (said reading.now) self.old.traffic self.new.traffic) }
+        ensures before { OnSome result (self.new.before ≡ Some self.old.traffic) }
         ensures none { IfNone result (self.new ≡ record { traffic = self.old.traffic; before = None }) }
         ensures grow { length self.old.traffic.notices ≤ length self.new.traffic.notices }
         ensures few { length self.new.traffic.notices ≤ length self.old.traffic.notices + 20_000 }
@@ -164,6 +168,28 @@ impl<A: Allocator + Copy> Traffic<A> {
                 self.queue.put_back(&self.plans, &self.changed);
                 self.regulations.release_all(&self.plans, &self.changed);
                 self.time = earlier;
+                untell(
+                    &self.changed,
+                    &self.noted,
+                    self.plans.count(),
+                    self.issued,
+                    &mut self.told,
+                    &mut self.notices,
+                );
+            }
+            Last::Open => {
+                self.regulations.take_last();
+                untell(
+                    &self.changed,
+                    &self.noted,
+                    self.plans.count(),
+                    self.issued,
+                    &mut self.told,
+                    &mut self.notices,
+                );
+            }
+            Last::Shut => {
+                reopen(&mut self.closed, &mut self.regulations);
                 untell(
                     &self.changed,
                     &self.noted,

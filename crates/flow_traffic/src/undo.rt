@@ -1,9 +1,11 @@
 //! What undoes the last reading.
-ghost use Rattle.std.specs.Prelude.{◌≡◌, ◌≤◌, ◌<◌, ◌+◌, ◌∷◌, [], OnOk, length, take, vec_capacity};
+ghost use Rattle.std.specs.Prelude.{◌≡◌, ◌≤◌, ◌<◌, ◌+◌, ◌∷◌, [], OnOk, IfSome, length, take, vec_capacity};
 ghost use Rattle.std.specs.List.{All};
+ghost use Rattle.flow_regulations.specs.Listing.{MayReopen};
+ghost use Rattle.flow_traffic.specs.Reopening.{open_again};
 ghost use Rattle.flow_traffic.specs.Telling.{AreTold, told_again};
 
-use flow_regulations::{Notice, Place, Told};
+use flow_regulations::{Closed, Notice, Place, Regulations, Told};
 use fpl_text::Minute;
 use std::alloc::{AllocError, Allocator};
 
@@ -18,6 +20,10 @@ pub(crate) enum Last {
     Message { number: u32 },
     /// It was TIME, and this was the desk's time before.
     Time { earlier: Minute },
+    /// It was OPEN.
+    Open,
+    /// It was SHUT.
+    Shut,
 }
 
 /// Makes room for the places of a flight, for the one number of a message, and for what its plan was told.
@@ -122,4 +128,18 @@ pub(crate) fn untell<A: Allocator + Copy>(
     tell_again(changed, noted, told);
     told.truncate(plans as usize);
     notices.truncate(issued);
+}
+
+/// Opens a closed regulation again in its place.
+pub(crate) fn reopen<A: Allocator + Copy>(
+    closed: &mut Option<Closed<A>>,
+    regulations: &mut Regulations<A>,
+)
+    requires { IfSome closed.old (λ c. MayReopen c regulations.old) }
+    ensures limit { regulations.new.max_plans ≡ regulations.old.max_plans }
+    ensures lists { regulations.new.lists ≡ open_again closed.old regulations.old.lists }
+{
+    if let Some(closed) = closed.take() {
+        regulations.reopen(closed);
+    }
 }

@@ -66,7 +66,7 @@ invariant_of-self-2 g c =
     let changed : List ℕ = c.note_one.new.changed.items in
     let noted : List (Option Told) = c.note_told.new.noted.items in
     let mid : List (Option Told) = c.make_place.new.told.items in
-    let p : Past = past (reading.Message n) c.self.inside.time store new.lists places changed in
+    let p : Past = past (reading.Message n) c.self.inside.time store new.lists places changed c.self.inside.closed in
     let alone = c.settle_for.ensures.alone in
     let plans_were : p.plans ≡ old_store.plans = plans-before store old_store.plans c.in-Ok-change_plans.ensures.before in
     let lists_were : p.lists ≡ lists = stands-again n places new.lists lists c.note_places.ensures.places alone in
@@ -105,7 +105,7 @@ invariant_of-self-2 g c =
         covers = c.note_flight.ensures.covers c.self.inside.plans.plans c.in-Ok-change_plans.ensures.same (rw (sym c.reserve.ensures.flights) at c.self.invariant.kept.covers);
         quiet = c.tell.ensures.quiet;
       };
-      can = can-forget n c.self.inside.time store new c.note_flight.new.queue places changed old_store.plans lists c.in-Ok-change_plans.ensures.some within c.in-Ok-change_plans.ensures.before c.note_places.ensures.places alone covers_old;
+      can = can-forget n c.self.inside.time store new c.note_flight.new.queue places changed c.self.inside.closed old_store.plans lists c.in-Ok-change_plans.ensures.some within c.in-Ok-change_plans.ensures.before c.note_places.ensures.places alone covers_old;
       was = was-kept p store new changed noted c.tell.new.told.items c.self.inside.time old_store c.self.inside.regulations c.self.inside.queue.flights c.self.inside.told.items
           refl plans_were lists_were told_were c.change_plans.ensures.taxi c.change_plans.ensures.limit c.settle_for.ensures.limit c.self.invariant.kept noted_each
           (one-within n (length c.tell.new.told.items) changed c.note_one.ensures c.in-Ok-change_plans.ensures.some (omega (arith, c.in-Ok-change_plans.ensures.within, c.tell.ensures.each)));
@@ -127,7 +127,7 @@ returns-clause-before g c =
     let changed : List ℕ = c.note_one.new.changed.items in
     let noted : List (Option Told) = c.note_told.new.noted.items in
     let mid : List (Option Told) = c.make_place.new.told.items in
-    let p : Past = past (reading.Message n) c.self.inside.time store new.lists places changed in
+    let p : Past = past (reading.Message n) c.self.inside.time store new.lists places changed c.self.inside.closed in
     let alone = c.settle_for.ensures.alone in
     let plans_were : p.plans ≡ old_store.plans = plans-before store old_store.plans c.in-Ok-change_plans.ensures.before in
     let lists_were : p.lists ≡ lists = stands-again n places new.lists lists c.note_places.ensures.places alone in

@@ -63,7 +63,7 @@ invariant_of-self-2 g c =
     let changed : List ℕ = c.take_due.new.due.items in
     let noted : List (Option Told) = c.note_told.new.noted.items in
     let told : List (Option Told) = c.tell.new.told.items in
-    let p : Past = past (reading.Time c.self.inside.time) c.args.at store new.lists c.self.inside.places.items changed in
+    let p : Past = past (reading.Time c.self.inside.time) c.args.at store new.lists c.self.inside.places.items changed c.self.inside.closed in
     let quiet_but : AreQuietBut changed taxi (map regulation_of new.lists) plans c.self.inside.told.items = (quiet-but-due taxi c.take_due.new.due.items (map regulation_of c.self.inside.regulations.lists) (map regulation_of c.advance_due.new.self.lists) plans c.self.inside.told.items
     (λ f apart. kept-slots-settled f taxi c.args.at plans c.self.inside.regulations.lists c.advance_due.new.self.lists renewed.regulations (others f apart))
     c.self.invariant.kept.quiet) in
@@ -95,7 +95,7 @@ invariant_of-self-2 g c =
         covers = c.take_due.ensures.covers later c.self.invariant.kept.covers;
         quiet = c.tell.ensures.quiet;
       };
-      can = can-go-back c.self.inside.time c.args.at store new c.take_due.new.self c.self.inside.places.items changed lists due fixed within hold (c.take_due.ensures.covers later c.self.invariant.kept.covers)
+      can = can-go-back c.self.inside.time c.args.at store new c.take_due.new.self c.self.inside.places.items changed c.self.inside.closed lists due fixed within hold (c.take_due.ensures.covers later c.self.invariant.kept.covers)
           (omega (arith, c.take_due.ensures.left, c.take_due.ensures.room, c.count.ensures.value, c.count.ensures.fits));
       was = was-kept p store new changed noted told c.self.inside.time store c.self.inside.regulations c.self.inside.queue.flights c.self.inside.told.items
           refl refl lists_were told_were refl refl c.advance_due.ensures.limit c.self.invariant.kept noted_each (rw (c.tell.ensures.each) within);
@@ -116,7 +116,7 @@ returns-clause-before g c =
     let changed : List ℕ = c.take_due.new.due.items in
     let noted : List (Option Told) = c.note_told.new.noted.items in
     let told : List (Option Told) = c.tell.new.told.items in
-    let p : Past = past (reading.Time c.self.inside.time) c.args.at store new.lists c.self.inside.places.items changed in
+    let p : Past = past (reading.Time c.self.inside.time) c.args.at store new.lists c.self.inside.places.items changed c.self.inside.closed in
     let quiet_but : AreQuietBut changed taxi (map regulation_of new.lists) plans c.self.inside.told.items = (quiet-but-due taxi c.take_due.new.due.items (map regulation_of c.self.inside.regulations.lists) (map regulation_of c.advance_due.new.self.lists) plans c.self.inside.told.items
     (λ f apart. kept-slots-settled f taxi c.args.at plans c.self.inside.regulations.lists c.advance_due.new.self.lists renewed.regulations (others f apart))
     c.self.invariant.kept.quiet) in

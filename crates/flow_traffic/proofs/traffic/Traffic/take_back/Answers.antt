@@ -14,8 +14,8 @@ invariant_of-self-in-Time g c =
     let store : Store = s.plans in
     let changed : List ℕ = s.changed.items in
     let noted : List (Option Told) = s.noted.items in
-    let p : Past = past (reading.Time c.in-Time.earlier) s.time store s.regulations.lists s.places.items changed in
-    let whole = by-reading s.last (reading.Time c.in-Time.earlier) s.time store s.regulations s.queue s.told.items s.places.items changed noted c.in-Time.is c.self.invariant in
+    let p : Past = past (reading.Time c.in-Time.earlier) s.time store s.regulations.lists s.places.items changed s.closed in
+    let whole = by-reading s.last (reading.Time c.in-Time.earlier) s.time store s.regulations s.queue s.told.items s.places.items changed s.closed noted c.in-Time.is c.self.invariant in
     let can : CanGoBack c.in-Time.earlier s.time store s.regulations s.queue changed p = whole.can in
     let was : WasKept store s.regulations changed noted s.told.items p = whole.was in
     let release = rw c.deref-in-Time-2.ensures.value at c.release_all.ensures.lists in
@@ -37,8 +37,8 @@ returns-in-Time-clause-traffic g c =
     let store : Store = s.plans in
     let changed : List ℕ = s.changed.items in
     let noted : List (Option Told) = s.noted.items in
-    let p : Past = past (reading.Time c.in-Time.earlier) s.time store s.regulations.lists s.places.items changed in
-    let whole = by-reading s.last (reading.Time c.in-Time.earlier) s.time store s.regulations s.queue s.told.items s.places.items changed noted c.in-Time.is c.self.invariant in
+    let p : Past = past (reading.Time c.in-Time.earlier) s.time store s.regulations.lists s.places.items changed s.closed in
+    let whole = by-reading s.last (reading.Time c.in-Time.earlier) s.time store s.regulations s.queue s.told.items s.places.items changed s.closed noted c.in-Time.is c.self.invariant in
     let can : CanGoBack c.in-Time.earlier s.time store s.regulations s.queue changed p = whole.can in
     let was : WasKept store s.regulations changed noted s.told.items p = whole.was in
     let release = rw c.deref-in-Time-2.ensures.value at c.release_all.ensures.lists in
@@ -46,6 +46,6 @@ returns-in-Time-clause-traffic g c =
     let told_are : c.untell-in-Time.new.told.items ≡ told_past p changed noted s.told.items =
     rw (c.deref-in-Time-3.ensures.value, c.deref-in-Time-4.ensures.value, c.count-in-Time.ensures.count) at c.untell-in-Time.ensures.told in
     sym (ap (λ (v : Undoable). v.before) c.self.view_is)
-    ∙ ap (λ (l : last.Last). undone l s.time store s.regulations.lists s.places.items changed noted s.told.items s.notices.items s.issued) c.in-Time.is
+    ∙ ap (λ (l : last.Last). undone l s.time store s.regulations.lists s.places.items changed s.closed noted s.told.items s.notices.items s.issued) c.in-Time.is
     ∙ ap Some (traffic-before p store changed noted s.told.items (take s.issued s.notices.items) c.in-Time.earlier store c.release_all.new.self.lists c.untell-in-Time.new.told.items c.untell-in-Time.new.notices.items
     refl refl (sym lists_are) (sym told_are) refl refl (sym c.untell-in-Time.ensures.notices))
