@@ -1,30 +1,26 @@
 -- The traffic after an accepted reading, from what the calls left.
-use Rattle.std.proofs.Common.{◌≡◌, ℕ, ◌<◌, ◌≤◌, ◌+◌, ◌-◌, List, [], ◌∷◌, ◌++◌, map, length, Bool, true, false, not, nat_lt, nat_le, if◌then◌else◌, filter, refl, sym, ap, ◌∙◌, subst, arith, Option, Some, None, Result, Ok, Err, MatchResult, MatchOption, IfSome, IfNone, slice_get, ◌⊎◌, inl, inr}
+use Rattle.std.proofs.Common.{◌≡◌, ℕ, ◌≤◌, List, [], ◌∷◌, ◌++◌, map, length, Bool, true, false, not, nat_lt, nat_le, if◌then◌else◌, filter, refl, sym, ap, ◌∙◌, subst, arith, Option, Some, None, Result, Ok, Err, MatchResult, MatchOption, IfSome, IfNone, ◌⊎◌, inl, inr}
 use Rattle.std.specs.List.{list_any}
-use Rattle.std.specs.Str.{bytes_eq}
-use Rattle.std.proofs.lemmas.List.{append-nil}
 use Rattle.fpl_message.specs.declared.refusal.Refusal.{Refusal}
 use Rattle.fpl_message.specs.declared.refusal.Refusal.TheVariants as refusal
 use Rattle.fpl_message.specs.declared.order.OpenReg.{OpenReg}
 use Rattle.fpl_message.specs.Messages.{Message, Order, open_reg, shut_reg, set_time}
 use Rattle.fpl_message.specs.Reads.{Reading, msg, ord}
-use Rattle.fpl_message.specs.Refusals.{◌>>=◌}
-use Rattle.flow_plans.specs.Plans.{Plan, plan_at}
-use Rattle.flow_plans.specs.Times.{unless}
+use Rattle.flow_plans.specs.Plans.{Plan}
 use Rattle.flow_plans.specs.declared.fault.PlanFault.{PlanFault}
 use Rattle.flow_plans.specs.Changes.{Changed, refusal_of, IsRefusal, Refuses}
 use Rattle.flow_regulations.specs.Regulations.{Regulation}
 use Rattle.flow_regulations.specs.Settling.{settled}
-use Rattle.flow_regulations.specs.Listing.{Listed, regulation_of, IsListed, IsSettled, IsOpened, AreRenewed, AreSameBut, is_named, without_named}
+use Rattle.flow_regulations.specs.Listing.{Listed, regulation_of, IsListed, IsSettled, IsOpened, AreRenewed, is_named, without_named}
 use Rattle.flow_regulations.specs.Notices.{notices_from, told_from}
 use Rattle.flow_regulations.specs.declared.notice.Told.{Told}
 use Rattle.flow_regulations.specs.declared.notice.Notice.{Notice}
-use Rattle.flow_regulations.proofs.ForTheDesk.{already-settled, opened-regulations, shut-regulations, named-regulations, count-regulations}
+use Rattle.flow_regulations.proofs.ForTheDesk.{already-settled, opened-regulations, count-regulations}
 use Rattle.flow_traffic.specs.declared.verdict.Verdict.{Verdict}
 use Rattle.flow_traffic.specs.declared.verdict.Kind.{Kind}
 use Rattle.flow_traffic.specs.declared.verdict.Kind.TheVariants as kind
 use Rattle.flow_traffic.specs.declared.verdict.Verdict.TheVariants.{Accepted, Refused}
-use Rattle.flow_traffic.specs.Traffic.{Traffic}
+use Rattle.flow_traffic.specs.Traffic.{Traffic, traffic_of}
 use Rattle.flow_traffic.specs.Opening.{is_period, rates_fit, regulation_by}
 use Rattle.flow_traffic.specs.Asked.{Asked, asked, changed_by, verdict_on, is_departure, departing, asked_by_message, asked_to_open, asked_to_shut, asked_at, is_called, ordered, max_regulations}
 use Rattle.flow_traffic.specs.Answers.{settle, told_to, Answers}
@@ -115,10 +111,6 @@ opened-map taxi max now plans r lists new h listed settled_in =
 
 -- ---- after the calls
 
-abbrev pub traffic_of : (taxi max now : ℕ) → List Plan → List Listed → List (Option Told) → List Notice → Traffic
-traffic_of taxi max now plans lists told notices =
-    record { taxi = taxi; max_plans = max; now = now; plans = plans; regulations = map regulation_of lists; told = told; notices = notices }
-
 -- after an accepted message
 pub message-answers : (taxi max now : ℕ) (plans plans2 : List Plan) (lists lists2 : List Listed) (told told1 told2 : List (Option Told)) (notices notices2 : List Notice) (m : Message) (n : ℕ) (v : Verdict) (taxi2 max2 limit : ℕ) (departs : Bool)
     → taxi2 ≡ taxi → max2 ≡ max → limit ≡ max → departs ≡ is_departure m
@@ -180,6 +172,11 @@ fault-answers t new m fault v same h e = by (refusal_of fault) h e where
   by : (o : Option Refusal) → MatchOption o (v ≡ None) (λ r. v ≡ Some (Refused r)) → Refuses o (changed_by t.max_plans t.now t.plans m) → IfSome v (Answers (msg m) t new)
   by None h e = rw h tt
   by (Some r) h e = rw (h, same) (refused (msg m) t r (message-refused t m r e))
+
+pub fault-some : (t new : Traffic) (m : Message) (fault : PlanFault) (o : Option Verdict) (v : Verdict) → new ≡ t → o ≡ Some v
+    → MatchOption (refusal_of fault) (o ≡ None) (λ r. o ≡ Some (Refused r)) → IsRefusal fault (changed_by t.max_plans t.now t.plans m)
+    → Answers (msg m) t new v
+fault-some t new m fault o v same is h e = let P : Option Verdict → Type 0 = λ w. IfSome w (Answers (msg m) t new) in subst P is (fault-answers t new m fault o same h e)
 
 pub fault-none : (fault : PlanFault) (v : Option Verdict) {P : Type 0} → P → IfNone v P
 fault-none fault None p = p

@@ -4,5 +4,7 @@ pub mod Periods
 pub mod Noting
 pub mod Settles
 pub mod Answered
+pub mod ToldAgain
+pub mod TakenBack
 pub mod Both
 pub mod Slots

@@ -5,6 +5,7 @@ mod messages;
 mod opening;
 mod orders;
 mod traffic;
+mod undo;
 mod verdict;
 
 pub use traffic::Traffic;

@@ -1,5 +1,5 @@
 //! What messages do to the traffic.
-ghost use Rattle.std.specs.Prelude.{◌≡◌, ◌≤◌, ◌<◌, ◌+◌, List, Ok, IfOk, IfSome, IfNone, OnOk, OnErr, IfErr, MatchOption, length, slice_get, option_copied, vec_len, vec_capacity, ◌-◌, ◌&&◌, nat_lt};
+ghost use Rattle.std.specs.Prelude.{◌≡◌, ◌≤◌, ◌<◌, ◌+◌, List, Ok, Some, None, OnSome, IfOk, IfSome, IfNone, OnOk, OnErr, IfErr, MatchOption, length, map, slice_get, option_copied, vec_len, vec_capacity, ◌-◌, ◌&&◌, nat_lt};
 ghost use Rattle.fpl_message.specs.Said.{said_message};
 ghost use Rattle.fpl_message.specs.Reads.{msg};
 ghost use Rattle.flow_plans.specs.Settings.{IsDeskTime};
@@ -9,13 +9,14 @@ ghost use Rattle.flow_plans.specs.Changes.{refusal_of, IsRefusal};
 ghost use Rattle.flow_regulations.specs.Notices.{window_of};
 ghost use Rattle.flow_regulations.specs.Awaiting.{Covers};
 ghost use Rattle.flow_regulations.specs.declared.due_queue.Awaited.{Awaited};
-ghost use Rattle.flow_regulations.specs.Listing.{IsListed, IsSettled, AreSameBut};
+ghost use Rattle.flow_regulations.specs.Listing.{IsListed, IsSettled, AreSameBut, without_in};
 ghost use Rattle.flow_traffic.specs.Traffic.{told_of};
 ghost use Rattle.flow_traffic.specs.Asked.{changed_by, verdict_on, is_departure};
 ghost use Rattle.flow_traffic.specs.Answers.{Answers, told_to};
 ghost use Rattle.flow_traffic.specs.Kept.{IsSettledFor};
 
 use crate::traffic::Traffic;
+use crate::undo::{Last, make_room_to_undo, note_one, note_told};
 use crate::verdict::{Kind, Verdict};
 use flow_plans::{Plan, PlanFault, PlanState, PlanStore};
 use flow_regulations::{DueQueue, Notice, Regulations, Told, Window, window_of};
@@ -26,23 +27,41 @@ use std::alloc::{AllocError, Allocator};
 impl<A: Allocator + Copy> Traffic<A> {
     /// Takes in a message, and answers the verdict on it.
     pub(crate) fn answer_message(&mut self, message: &Message<A>) -> Option<Verdict>
-        ensures answers { IfSome result (Answers (msg (said_message message.now)) self.old self.new) }
-        ensures none { IfNone result (self.new ≡ self.old) }
-        ensures grow { length self.old.notices ≤ length self.new.notices }
-        ensures few { length self.new.notices ≤ length self.old.notices + 20_000 }
+        ensures answers { IfSome result (Answers (msg (said_message message.now)) self.old.traffic self.new.traffic) }
+        ensures before { OnSome result (self.new.before ≡ Some self.old.traffic) }
+        ensures none { IfNone result (self.new ≡ record { traffic = self.old.traffic; before = None }) }
+        ensures grow { length self.old.traffic.notices ≤ length self.new.traffic.notices }
+        ensures few { length self.new.traffic.notices ≤ length self.old.traffic.notices + 20_000 }
     {
+        self.last = Last::Nothing;
         let Ok(()) = make_room(&mut self.told, &mut self.notices) else {
             return None;
         };
         let Ok(()) = self.queue.reserve() else {
             return None;
         };
+        let regulations = self.regulations.count();
+        let Ok(()) = make_room_to_undo(
+            regulations,
+            &mut self.places,
+            &mut self.changed,
+            &mut self.noted,
+        ) else {
+            return None;
+        };
         let number = match change_plans(&mut self.plans, self.time, message) {
             Ok(number) => number,
-            Err(fault) => return refused(fault),
+            Err(fault) => {
+                let Some(verdict) = refused(fault) else {
+                    return None;
+                };
+                self.last = Last::Refused;
+                return Some(verdict);
+            }
         };
         let count = self.plans.count();
         let verdict = verdict_on(&self.told, message, number);
+        self.regulations.note_places(number, &mut self.places);
         settle_for(
             &mut self.regulations,
             &self.plans,
@@ -52,8 +71,16 @@ impl<A: Allocator + Copy> Traffic<A> {
         );
         note_flight(&mut self.queue, &self.plans, number, self.time);
         make_place(count, &mut self.told);
-        self.regulations
-            .tell(&self.plans, &[number], &mut self.told, &mut self.notices);
+        self.issued = self.notices.len();
+        note_one(number, &mut self.changed);
+        note_told(&self.changed, &self.told, &mut self.noted);
+        self.regulations.tell(
+            &self.plans,
+            &self.changed,
+            &mut self.told,
+            &mut self.notices,
+        );
+        self.last = Last::Message { number };
         Some(verdict)
     }
 }
@@ -87,6 +114,7 @@ fn change_plans<A: Allocator + Copy>(
     ensures one { length plans.old.plans ≤ length plans.new.plans }
     ensures more { length plans.new.plans ≤ length plans.old.plans + 1 }
     ensures last { IfOk result (λ n. length plans.old.plans < length plans.new.plans → n ≡ length plans.new.plans) }
+    ensures before { OnOk result (plans.new.before ≡ Some plans.old.plans) }
     ensures refused { IfErr result (λ e. IsRefusal e (changed_by plans.old.max_plans now plans.old.plans (said_message message.now))) }
     ensures err { OnErr result (plans.new.plans ≡ plans.old.plans) }
     ensures limit { plans.new.max_plans ≡ plans.old.max_plans }
@@ -166,6 +194,7 @@ fn settle_for<A: Allocator + Copy>(
     requires within { number ≤ length plans.now.plans }
     requires room { number ≤ regulations.old.max_plans }
     ensures limit { regulations.new.max_plans ≡ regulations.old.max_plans }
+    ensures alone { map (without_in number) regulations.new.lists ≡ map (without_in number) regulations.old.lists }
     ensures settled { (before : List Held)
         → IsListed plans.now.taxi regulations.old.max_plans before regulations.old.lists
         → IsSettled plans.now.taxi now before regulations.old.lists

@@ -1,5 +1,5 @@
 //! What orders do to the traffic.
-ghost use Rattle.std.specs.Prelude.{◌≡◌, ◌≤◌, ◌+◌, IfSome, IfNone, OnOk, length};
+ghost use Rattle.std.specs.Prelude.{◌≡◌, ◌≤◌, ◌+◌, Some, None, IfSome, IfNone, OnOk, OnSome, length};
 ghost use Rattle.fpl_message.specs.Messages.{open_reg, shut_reg, set_time};
 ghost use Rattle.fpl_message.specs.Reads.{ord};
 ghost use Rattle.flow_plans.specs.Settings.{IsDeskTime};
@@ -8,6 +8,7 @@ ghost use Rattle.flow_traffic.specs.Kept.{AreNoted};
 
 use crate::opening::shape_of;
 use crate::traffic::Traffic;
+use crate::undo::{Last, make_room_to_tell, note_told};
 use crate::verdict::{Kind, Verdict};
 use flow_plans::PlanStore;
 use flow_regulations::is_due;
@@ -23,27 +24,36 @@ impl<A: Allocator + Copy> Traffic<A> {
     pub(crate) fn open(&mut self, order: &OpenReg) -> Option<Verdict>
         requires from { IsDeskTime order.now.from }
         requires to { IsDeskTime order.now.to }
-        ensures answers { IfSome result (Answers (ord (open_reg order.now)) self.old self.new) }
-        ensures none { IfNone result (self.new ≡ self.old) }
-        ensures grow { length self.old.notices ≤ length self.new.notices }
-        ensures few { length self.new.notices ≤ length self.old.notices + 20_000 }
+        ensures answers { IfSome result (Answers (ord (open_reg order.now)) self.old.traffic self.new.traffic) }
+        ensures before { OnSome result (self.new.before ≡ Some self.old.traffic) }
+        ensures none { IfNone result (self.new ≡ record { traffic = self.old.traffic; before = None }) }
+        ensures grow { length self.old.traffic.notices ≤ length self.new.traffic.notices }
+        ensures few { length self.new.traffic.notices ≤ length self.old.traffic.notices + 20_000 }
     {
+        self.last = Last::Nothing;
         let shape = match shape_of(order) {
             Ok(shape) => shape,
-            Err(refusal) => return Some(Verdict::Refused(refusal)),
+            Err(refusal) => {
+                self.last = Last::Refused;
+                return Some(Verdict::Refused(refusal));
+            }
         };
         if self.regulations.is_open(&order.id) {
+            self.last = Last::Refused;
             return Some(Verdict::Refused(Refusal::RegulationHeld));
         }
         if self.regulations.count() >= MAX_REGULATIONS {
+            self.last = Last::Refused;
             return Some(Verdict::Refused(Refusal::RegulationsFull));
         }
         let Ok(()) = note_due(&self.plans, self.time, &mut self.changed) else {
             return None;
         };
-        let Ok(()) = self.notices.reserve(self.changed.len()) else {
+        let count = self.changed.len();
+        let Ok(()) = make_room_to_tell(count, &mut self.noted, &mut self.notices) else {
             return None;
         };
+        self.issued = self.notices.len();
         let opened = self.regulations.open(
             self.alloc,
             order.id.copied(),
@@ -55,6 +65,8 @@ impl<A: Allocator + Copy> Traffic<A> {
         let Ok(()) = opened else {
             return None;
         };
+        note_told(&self.changed, &self.told, &mut self.noted);
+        self.last = Last::Open;
         self.regulations.tell(
             &self.plans,
             &self.changed,
@@ -69,21 +81,28 @@ impl<A: Allocator + Copy> Traffic<A> {
 
     /// Closes a regulation, and answers the verdict on it.
     pub(crate) fn shut(&mut self, id: &Text<8>) -> Option<Verdict>
-        ensures answers { IfSome result (Answers (ord (shut_reg id.now)) self.old self.new) }
-        ensures none { IfNone result (self.new ≡ self.old) }
-        ensures grow { length self.old.notices ≤ length self.new.notices }
-        ensures few { length self.new.notices ≤ length self.old.notices + 20_000 }
+        ensures answers { IfSome result (Answers (ord (shut_reg id.now)) self.old.traffic self.new.traffic) }
+        ensures before { OnSome result (self.new.before ≡ Some self.old.traffic) }
+        ensures none { IfNone result (self.new ≡ record { traffic = self.old.traffic; before = None }) }
+        ensures grow { length self.old.traffic.notices ≤ length self.new.traffic.notices }
+        ensures few { length self.new.traffic.notices ≤ length self.old.traffic.notices + 20_000 }
     {
+        self.last = Last::Nothing;
         if !self.regulations.is_open(id) {
+            self.last = Last::Refused;
             return Some(Verdict::Refused(Refusal::NoRegulation));
         }
         let Ok(()) = note_due(&self.plans, self.time, &mut self.changed) else {
             return None;
         };
-        let Ok(()) = self.notices.reserve(self.changed.len()) else {
+        let count = self.changed.len();
+        let Ok(()) = make_room_to_tell(count, &mut self.noted, &mut self.notices) else {
             return None;
         };
-        self.regulations.shut(id);
+        self.issued = self.notices.len();
+        self.closed = self.regulations.shut(id);
+        note_told(&self.changed, &self.told, &mut self.noted);
+        self.last = Last::Shut;
         self.regulations.tell(
             &self.plans,
             &self.changed,
@@ -99,12 +118,15 @@ impl<A: Allocator + Copy> Traffic<A> {
     /// Sets the desk's time, and answers the verdict on it.
     pub(crate) fn set_time(&mut self, at: Minute) -> Option<Verdict>
         requires { IsDeskTime at }
-        ensures answers { IfSome result (Answers (ord (set_time at)) self.old self.new) }
-        ensures none { IfNone result (self.new ≡ self.old) }
-        ensures grow { length self.old.notices ≤ length self.new.notices }
-        ensures few { length self.new.notices ≤ length self.old.notices + 20_000 }
+        ensures answers { IfSome result (Answers (ord (set_time at)) self.old.traffic self.new.traffic) }
+        ensures before { OnSome result (self.new.before ≡ Some self.old.traffic) }
+        ensures none { IfNone result (self.new ≡ record { traffic = self.old.traffic; before = None }) }
+        ensures grow { length self.old.traffic.notices ≤ length self.new.traffic.notices }
+        ensures few { length self.new.traffic.notices ≤ length self.old.traffic.notices + 20_000 }
     {
+        self.last = Last::Nothing;
         if at.minutes() < self.time.minutes() {
+            self.last = Last::Refused;
             return Some(Verdict::Refused(Refusal::TimeBack));
         }
         self.changed.clear();
@@ -113,11 +135,15 @@ impl<A: Allocator + Copy> Traffic<A> {
         };
         self.queue
             .take_due(&self.plans, self.time, at, &mut self.changed);
-        let Ok(()) = self.notices.reserve(self.changed.len()) else {
+        let count = self.changed.len();
+        let Ok(()) = make_room_to_tell(count, &mut self.noted, &mut self.notices) else {
             self.queue.put_back(&self.plans, &self.changed);
             return None;
         };
+        self.issued = self.notices.len();
         self.regulations.advance_due(&self.changed);
+        note_told(&self.changed, &self.told, &mut self.noted);
+        self.last = Last::Time { earlier: self.time };
         self.time = at;
         self.regulations.tell(
             &self.plans,

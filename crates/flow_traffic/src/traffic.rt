@@ -1,13 +1,14 @@
 //! The traffic of a desk: plans, open regulations, and what each plan was told.
-ghost use Rattle.std.specs.Prelude.{◌≡◌, ◌≤◌, ◌<◌, ◌+◌, ◌-◌, IfSome, IfNone, MatchOption, Some, None, length, slice_get, option_copied};
+ghost use Rattle.std.specs.Prelude.{◌≡◌, ◌≤◌, ◌<◌, ◌+◌, ◌-◌, IfSome, IfNone, IsSome, OnSome, Some, None, IsTrue, ◌↔◌, MatchOption, length, slice_get, option_copied};
 ghost use Rattle.fpl_message.specs.Said.{said};
 ghost use Rattle.flow_plans.specs.Settings.{IsDeskTime};
 ghost use Rattle.flow_traffic.specs.Traffic.{no_traffic, slots_of};
 ghost use Rattle.flow_traffic.specs.Answers.{Answers, HasDeskMoments};
 
+use crate::undo::{Last, reopen, untell};
 use crate::verdict::Verdict;
 use flow_plans::{Plan, PlanStore, Setup};
-use flow_regulations::{DueQueue, Notice, Regulations, Told};
+use flow_regulations::{Closed, DueQueue, Notice, Place, Regulations, Told};
 use flow_slots::SlotList;
 use fpl_message::{Order, Reading};
 use fpl_text::{Minute, Text};
@@ -15,6 +16,7 @@ use std::alloc::{Allocator, Global};
 use std::marker::Model;
 
 /// The desk's time, plans, open regulations with their slot lists, what each plan was last told, and the notices issued.
+/// Contracts see them, and what they were before the last reading, where that can be taken back.
 #[derive(Drop)]
 pub struct Traffic<A: Allocator + Copy = Global> {
     pub(crate) alloc: A,
@@ -25,35 +27,38 @@ pub struct Traffic<A: Allocator + Copy = Global> {
     pub(crate) queue: DueQueue<A>,
     pub(crate) told: Vec<Option<Told>, A>,
     pub(crate) notices: Vec<Notice, A>,
-    /// Room to note plans whose slots may have changed.
+    /// The plans whose slots the last reading may have changed, or room to note them.
     pub(crate) changed: Vec<u32, A>,
+    /// What those were told before.
+    pub(crate) noted: Vec<Option<Told>, A>,
+    /// Where the flight of the last message stood before, in each regulation.
+    pub(crate) places: Vec<Place, A>,
+    /// The regulation that was closed last, until it is opened again.
+    pub(crate) closed: Option<Closed<A>>,
+    /// How many notices there were before the last reading.
+    pub(crate) issued: usize,
+    pub(crate) last: Last,
 }
 
 impl<A: Allocator + Copy> Model for Traffic<A> {
-    ghost use Rattle.std.specs.Prelude.{map};
-    ghost use Rattle.flow_regulations.specs.Listing.{regulation_of};
-    ghost use Rattle.flow_traffic.specs.Traffic.{Traffic};
-    ghost use Rattle.flow_traffic.specs.Kept.{IsKept};
+    ghost use Rattle.flow_traffic.specs.Traffic.{Undoable, traffic_of};
+    ghost use Rattle.flow_traffic.specs.Undoing.{undone, IsKeptWith};
 
-    ghost Value = { Traffic };
+    ghost Value = { Undoable };
 
     ghost view = { λ t. record {
-      taxi = t.plans.taxi;
-      max_plans = t.plans.max_plans;
-      now = t.time;
-      plans = t.plans.plans;
-      regulations = map regulation_of t.regulations.lists;
-      told = t.told.items;
-      notices = t.notices.items;
+      traffic = traffic_of t.plans.taxi t.plans.max_plans t.time t.plans.plans t.regulations.lists t.told.items t.notices.items;
+      before = undone t.last t.time t.plans t.regulations.lists t.places.items t.changed.items t.closed t.noted.items t.told.items t.notices.items t.issued;
     } };
 
-    ghost invariant = { λ t. IsKept t.time t.plans t.regulations t.queue.flights t.told.items };
+    ghost invariant = { λ t. IsKeptWith t.last t.time t.plans t.regulations t.queue t.told.items t.places.items t.changed.items t.closed t.noted.items };
 }
 
 impl<A: Allocator + Copy> Traffic<A> {
     /// No traffic, at the time of the setup. It takes no memory.
     pub fn new(alloc: A, setup: &Setup) -> Self
-        ensures { result ≡ no_traffic setup.now }
+        ensures traffic { result.traffic ≡ no_traffic setup.now }
+        ensures before { result.before ≡ None }
     {
         let max_plans = setup.max_plans();
         Traffic {
@@ -65,12 +70,17 @@ impl<A: Allocator + Copy> Traffic<A> {
             told: Vec::new(alloc),
             notices: Vec::new(alloc),
             changed: Vec::new(alloc),
+            noted: Vec::new(alloc),
+            places: Vec::new(alloc),
+            closed: None,
+            issued: 0,
+            last: Last::Nothing,
         }
     }
 
     /// The desk's time.
     pub fn now(&self) -> Minute
-        ensures value { result ≡ self.now.now }
+        ensures value { result ≡ self.now.traffic.now }
         ensures years { IsDeskTime result }
     {
         self.time
@@ -79,7 +89,7 @@ impl<A: Allocator + Copy> Traffic<A> {
     /// The plan of this number, from 1.
     pub fn plan(&self, number: u32) -> Option<&Plan<A>>
         requires { 0 < number }
-        ensures { option_copied result ≡ slice_get self.now.plans (number - 1) }
+        ensures { option_copied result ≡ slice_get self.now.traffic.plans (number - 1) }
     {
         self.plans.plan(number)
     }
@@ -87,41 +97,116 @@ impl<A: Allocator + Copy> Traffic<A> {
     /// What the plan of this number, from 1, was last told. None where there is no such plan.
     pub fn told(&self, number: u32) -> Option<&Option<Told>>
         requires { 0 < number }
-        ensures value { option_copied result ≡ slice_get self.now.told (number - 1) }
-        ensures each { length self.now.told ≡ length self.now.plans }
+        ensures value { option_copied result ≡ slice_get self.now.traffic.told (number - 1) }
+        ensures each { length self.now.traffic.told ≡ length self.now.traffic.plans }
     {
         self.told.get((number - 1) as usize)
     }
 
     /// The notices issued.
     pub fn notices(&self) -> &[Notice]
-        ensures { result.now ≡ self.now.notices }
+        ensures { result.now ≡ self.now.traffic.notices }
     {
         self.notices.as_slice()
     }
 
     /// The slot list of the open regulation of this name. None where none is open.
     pub fn slots(&self, id: &Text<8>) -> Option<&SlotList<A>>
-        ensures { MatchOption result (slots_of self.now id.now ≡ None) (λ list. slots_of self.now id.now ≡ Some list.now.lineup) }
+        ensures { MatchOption result (slots_of self.now.traffic id.now ≡ None) (λ list. slots_of self.now.traffic id.now ≡ Some list.now.lineup) }
     {
         self.regulations.slots(id)
     }
 
     /// Takes in a reading, and answers the verdict on it. A refused one changes nothing. Only want of memory answers
-    /// nothing, and then nothing has changed.
+    /// nothing, and then nothing has changed, but that no reading can be taken back.
     pub fn answer(&mut self, reading: &Reading<A>) -> Option<Verdict>
         requires { HasDeskMoments (said reading.now) }
-        ensures answers { IfSome result (Answers (said reading.now) self.old self.new) }
-        ensures none { IfNone result (self.new ≡ self.old) }
-        ensures grow { length self.old.notices ≤ length self.new.notices }
-        ensures few { length self.new.notices ≤ length self.old.notices + 20_000 }
+        ensures answers { IfSome result (Answers (said reading.now) self.old.traffic self.new.traffic) }
+        ensures before { OnSome result (self.new.before ≡ Some self.old.traffic) }
+        ensures none { IfNone result (self.new ≡ record { traffic = self.old.traffic; before = None }) }
+        ensures grow { length self.old.traffic.notices ≤ length self.new.traffic.notices }
+        ensures few { length self.new.traffic.notices ≤ length self.old.traffic.notices + 20_000 }
     {
         match reading {
             Reading::Msg(message) => self.answer_message(message),
             Reading::Ord(Order::OpenReg(order)) => self.open(order),
             Reading::Ord(Order::ShutReg { id }) => self.shut(id),
             Reading::Ord(Order::SetTime { at }) => self.set_time(*at),
-            Reading::Bad(refusal) => Some(Verdict::Refused(*refusal)),
+            Reading::Bad(refusal) => {
+                self.last = Last::Refused;
+                Some(Verdict::Refused(*refusal))
+            }
+        }
+    }
+
+    /// Whether the last reading can be taken back: from an answer until the next reading or until it is taken back.
+    pub fn can_take_back(&self) -> bool
+        ensures { IsTrue result ↔ IsSome self.now.before }
+    {
+        match self.last {
+            Last::Nothing => false,
+            _ => true,
+        }
+    }
+
+    /// Takes the last reading back: the traffic is as it was before it. It takes no memory.
+    pub fn take_back(&mut self)
+        requires { IsSome self.old.before }
+        ensures traffic { self.old.before ≡ Some self.new.traffic }
+        ensures before { self.new.before ≡ None }
+    {
+        let last = self.last;
+        self.last = Last::Nothing;
+        match last {
+            Last::Nothing => {}
+            Last::Refused => {}
+            Last::Message { number } => {
+                self.plans.take_back();
+                self.regulations.put_back(number, &self.places);
+                untell(
+                    &self.changed,
+                    &self.noted,
+                    self.plans.count(),
+                    self.issued,
+                    &mut self.told,
+                    &mut self.notices,
+                );
+            }
+            Last::Time { earlier } => {
+                self.queue.put_back(&self.plans, &self.changed);
+                self.regulations.release_all(&self.plans, &self.changed);
+                self.time = earlier;
+                untell(
+                    &self.changed,
+                    &self.noted,
+                    self.plans.count(),
+                    self.issued,
+                    &mut self.told,
+                    &mut self.notices,
+                );
+            }
+            Last::Open => {
+                self.regulations.take_last();
+                untell(
+                    &self.changed,
+                    &self.noted,
+                    self.plans.count(),
+                    self.issued,
+                    &mut self.told,
+                    &mut self.notices,
+                );
+            }
+            Last::Shut => {
+                reopen(&mut self.closed, &mut self.regulations);
+                untell(
+                    &self.changed,
+                    &self.noted,
+                    self.plans.count(),
+                    self.issued,
+                    &mut self.told,
+                    &mut self.notices,
+                );
+            }
         }
     }
 }

@@ -1,86 +1,170 @@
-use Rattle.std.proofs.Common.{◌≡◌, ◌≤◌, ◌<◌, ◌+◌, ◌∙◌, ℕ, List, [], ◌∷◌, map, length, refl, sym, ap, subst, arith, Bool, true, false, nat_lt, nat_le, Option, Some, None, Ok, Err}
-use Rattle.std.proofs.lemmas.Bool.{lt-ltb, le-ltb, le-leb, lt-leb, ltb-false}
-use Rattle.flow_plans.specs.Plans.{Plan}
-use Rattle.flow_regulations.specs.Regulations.{Regulation}
-use Rattle.flow_regulations.specs.Listing.{Listed, regulation_of, IsListed, IsSettled}
+use Rattle.std.proofs.Common.{◌≡◌, ◌≤◌, ◌<◌, ◌+◌, ◌∙◌, ℕ, List, map, take, length, refl, sym, ap, arith, Option, Some}
+use Rattle.flow_regulations.specs.Listing.{Listed, regulation_of}
 use Rattle.flow_regulations.specs.declared.notice.Told.{Told}
-use Rattle.flow_regulations.specs.declared.notice.Notice.{Notice}
-use Rattle.fpl_message.specs.Messages.{Message, open_reg, shut_reg, set_time}
-use Rattle.fpl_message.specs.Reads.{msg, ord}
-use Rattle.flow_traffic.specs.declared.verdict.Verdict.{Verdict}
-use Rattle.flow_traffic.specs.declared.verdict.Kind.TheVariants as kind
-use Rattle.flow_traffic.specs.Traffic.{Traffic}
-use Rattle.flow_traffic.specs.Asked.{is_called, ordered}
-use Rattle.flow_traffic.specs.Opening.{regulation_by}
-use Rattle.flow_traffic.specs.Answers.{Answers, told_to}
-use Rattle.flow_traffic.specs.Kept.{IsKept, IsSettledFor, AreNoted}
+use Rattle.flow_traffic.specs.Traffic.{Traffic, Undoable, traffic_of}
 use Rattle.fpl_message.specs.Said.{said_message}
 use Rattle.flow_regulations.proofs.ForTheDesk.{quiet-but-one}
 use Rattle.flow_traffic.proofs.Telling.{told-others}
-use Rattle.flow_traffic.proofs.Answered.{message-answers, fault-answers, settled-count, traffic_of}
+use Rattle.std.specs.List.{AllByRecursion}
+use Rattle.flow_plans.specs.Stores.{Store}
+use Rattle.flow_regulations.specs.declared.places.Place.{Place}
+use Rattle.flow_regulations.specs.Awaiting.{Covers}
+use Rattle.flow_regulations.specs.Listing.{Listing}
+use Rattle.flow_regulations.specs.Quiet.{AreQuietBut}
+use Rattle.flow_regulations.proofs.Queues.{covers-more}
+use Rattle.flow_traffic.specs.declared.undo.Last.TheVariants as reading
+use Rattle.flow_traffic.specs.Undoing.{Past, past, told_past}
+use Rattle.flow_traffic.proofs.ToldAgain.{told-undone}
+use Rattle.flow_traffic.proofs.TakenBack.{stands-again, plans-before, told-before, can-forget, was-kept, traffic-before, notices-before, one-within}
+use Rattle.flow_traffic.proofs.Answered.{message-answers, fault-some, settled-count}
 use Rattle.flow_traffic.proofs.traffic.Traffic.answer_message.Goals as goal
 
 pub returns-in-Err-clause-answers : goal.returns-in-Err-clause-answers
 returns-in-Err-clause-answers g c =
     let t : Traffic = traffic_of c.self.inside.plans.taxi c.self.inside.plans.max_plans c.self.inside.time c.self.inside.plans.plans c.self.inside.regulations.lists c.self.inside.told.items c.self.inside.notices.items in
-    rw (sym c.self.view_is)
-    (fault-answers t _ (said_message c.args.message.now) c.in-Err.fault c.refused.result
+    rw (sym (ap (λ (v : Undoable). v.traffic) c.self.view_is))
+    (fault-some t _ (said_message c.args.message.now) c.in-Err.fault c.refused.result c.in-Some.verdict
     (rw (c.change_plans.ensures.taxi, c.change_plans.ensures.limit, c.in-Err.ensures.err, c.make_room.ensures.told, c.make_room.ensures.notices) refl)
-    c.refused.ensures c.in-Err.ensures.refused)
+    c.in-Some.is c.refused.ensures c.in-Err.ensures.refused)
 
 pub settle_for-requires-clause-room : goal.settle_for-requires-clause-room
 settle_for-requires-clause-room g c =
-    omega (arith, c.in-Ok-change_plans.ensures.within, c.count-count.ensures.count, c.count-count.ensures.limit, c.change_plans.ensures.limit, c.self.invariant.limit)
+    omega (arith, c.in-Ok-change_plans.ensures.within, c.count-count.ensures.count, c.count-count.ensures.limit, c.change_plans.ensures.limit, c.self.invariant.kept.limit)
 
 pub tell-requires-clause-quiet : goal.tell-requires-clause-quiet
 tell-requires-clause-quiet g c =
     let same_taxi = sym c.change_plans.ensures.taxi in
-    let listed = rw same_taxi at c.self.invariant.listed in
-    let settled_in = rw same_taxi at c.self.invariant.settled_in in
-    let quiet = rw same_taxi at c.self.invariant.quiet in
+    let listed = rw same_taxi at c.self.invariant.kept.listed in
+    let settled_in = rw same_taxi at c.self.invariant.kept.settled_in in
+    let quiet = rw same_taxi at c.self.invariant.kept.quiet in
     let s = c.settle_for.ensures.settled c.self.inside.plans.plans listed settled_in c.in-Ok-change_plans.ensures.same in
     let place = rw c.make_room.ensures.told at (c.make_place.ensures.told c.change_plans.new.plans.plans (sym c.count-count.ensures.count)) in
-    let each : length c.self.inside.told.items ≡ length c.self.inside.plans.plans = c.self.invariant.each in
+    let each : length c.self.inside.told.items ≡ length c.self.inside.plans.plans = c.self.invariant.kept.each in
     let one : length c.self.inside.told.items ≤ length c.change_plans.new.plans.plans = omega (arith, each, c.change_plans.ensures.one) in
     let more : length c.change_plans.new.plans.plans ≤ length c.self.inside.told.items + 1 = omega (arith, each, c.change_plans.ensures.more) in
     let last : length c.self.inside.told.items < length c.change_plans.new.plans.plans → c.in-Ok-change_plans.number ≡ length c.change_plans.new.plans.plans = λ h. c.in-Ok-change_plans.ensures.last (omega (arith, each, h)) in
-    quiet-but-one c.in-Ok-change_plans.number c.change_plans.new.plans.taxi (map regulation_of c.self.inside.regulations.lists) (map regulation_of c.settle_for.new.regulations.lists)
+    rw (c.deref-4.ensures.value, c.note_one.ensures)
+    (quiet-but-one c.in-Ok-change_plans.number c.change_plans.new.plans.taxi (map regulation_of c.self.inside.regulations.lists) (map regulation_of c.settle_for.new.regulations.lists)
     c.self.inside.plans.plans c.change_plans.new.plans.plans c.self.inside.told.items c.make_place.new.told.items c.in-Ok-change_plans.ensures.same
     (λ f some ne. told-others c.change_plans.new.plans.plans c.self.inside.told.items c.make_place.new.told.items c.in-Ok-change_plans.number f place one more last some ne)
     (λ f some ne. s.others f ne)
-    quiet
+    quiet)
 
 pub invariant_of-self-2 : goal.invariant_of-self-2
 invariant_of-self-2 g c =
     let same_taxi = sym c.change_plans.ensures.taxi in
-    let listed = rw same_taxi at c.self.invariant.listed in
-    let settled_in = rw same_taxi at c.self.invariant.settled_in in
+    let listed = rw same_taxi at c.self.invariant.kept.listed in
+    let settled_in = rw same_taxi at c.self.invariant.kept.settled_in in
     let s = c.settle_for.ensures.settled c.self.inside.plans.plans listed settled_in c.in-Ok-change_plans.ensures.same in
+    let place = rw c.make_room.ensures.told at (c.make_place.ensures.told c.change_plans.new.plans.plans (sym c.count-count.ensures.count)) in
+    let n : ℕ = c.in-Ok-change_plans.number in
+    let store : Store = c.change_plans.new.plans in
+    let old_store : Store = c.self.inside.plans in
+    let lists : List Listed = c.self.inside.regulations.lists in
+    let new : Listing = c.settle_for.new.regulations in
+    let places : List Place = c.note_places.new.places.items in
+    let changed : List ℕ = c.note_one.new.changed.items in
+    let noted : List (Option Told) = c.note_told.new.noted.items in
+    let mid : List (Option Told) = c.make_place.new.told.items in
+    let p : Past = past (reading.Message n) c.self.inside.time store new.lists places changed c.self.inside.closed in
+    let alone = c.settle_for.ensures.alone in
+    let plans_were : p.plans ≡ old_store.plans = plans-before store old_store.plans c.in-Ok-change_plans.ensures.before in
+    let lists_were : p.lists ≡ lists = stands-again n places new.lists lists c.note_places.ensures.places alone in
+    let told_is = rw (c.deref-2.ensures.value, c.deref-3.ensures.value) at c.note_told.ensures.noted in
+    let noted_each : length noted ≡ length changed = rw c.deref-2.ensures.value at c.note_told.ensures.each in
+    let all_some : AllByRecursion (λ m. 0 < m) changed = rw c.note_one.ensures (c.in-Ok-change_plans.ensures.some, tt) in
+    let quiet = rw same_taxi at c.self.invariant.kept.quiet in
+    let each : length c.self.inside.told.items ≡ length c.self.inside.plans.plans = c.self.invariant.kept.each in
+    let one : length c.self.inside.told.items ≤ length c.change_plans.new.plans.plans = omega (arith, each, c.change_plans.ensures.one) in
+    let more : length c.change_plans.new.plans.plans ≤ length c.self.inside.told.items + 1 = omega (arith, each, c.change_plans.ensures.more) in
+    let last : length c.self.inside.told.items < length c.change_plans.new.plans.plans → c.in-Ok-change_plans.number ≡ length c.change_plans.new.plans.plans = λ h. c.in-Ok-change_plans.ensures.last (omega (arith, each, h)) in
+    let quiet_but : AreQuietBut changed store.taxi (map regulation_of new.lists) store.plans mid = rw c.note_one.ensures
+    (quiet-but-one c.in-Ok-change_plans.number c.change_plans.new.plans.taxi (map regulation_of c.self.inside.regulations.lists) (map regulation_of c.settle_for.new.regulations.lists)
+    c.self.inside.plans.plans c.change_plans.new.plans.plans c.self.inside.told.items c.make_place.new.told.items c.in-Ok-change_plans.ensures.same
+    (λ f some ne. told-others c.change_plans.new.plans.plans c.self.inside.told.items c.make_place.new.told.items c.in-Ok-change_plans.number f place one more last some ne)
+    (λ f some ne. s.others f ne)
+    quiet) in
+    let each_mid : length mid ≡ length store.plans = c.make_place.ensures.each ∙ c.count-count.ensures.count in
+    let again = told-undone store.taxi (map regulation_of new.lists) store.plans mid c.tell.new.told.items changed noted c.tell.ensures.told each_mid c.tell.ensures.each quiet_but told_is all_some in
+    let told_were : told_past p changed noted c.tell.new.told.items ≡ c.self.inside.told.items =
+    told-before p changed noted c.tell.new.told.items mid c.self.inside.told.items store.plans old_store.plans plans_were again place c.self.invariant.kept.each c.change_plans.ensures.one c.change_plans.ensures.more in
     let count = settled-count _ _ _ _ _ _ _ _ _ s in
+    let within : n ≤ new.max_plans = omega (arith, c.in-Ok-change_plans.ensures.within, c.count-count.ensures.count, c.count-count.ensures.limit, c.change_plans.ensures.limit, c.self.invariant.kept.limit, c.settle_for.ensures.limit) in
+    let covers_old : Covers c.self.inside.time old_store.plans c.note_flight.new.queue.flights =
+    covers-more c.self.inside.time old_store.plans c.reserve.new.self.flights c.note_flight.new.queue.flights c.note_flight.ensures.kept (rw (sym c.reserve.ensures.flights) at c.self.invariant.kept.covers) in
     record {
-      desk_time = c.self.invariant.desk_time;
-      limit = c.settle_for.ensures.limit ∙ c.self.invariant.limit ∙ sym c.change_plans.ensures.limit;
-      few = omega (arith, c.self.invariant.few, count);
-      room = omega (arith, c.count-count.ensures.count, c.count-count.ensures.limit);
-      most = omega (arith, c.self.invariant.most, c.change_plans.ensures.limit);
-      each = c.tell.ensures.each;
-      listed = rw (sym c.settle_for.ensures.limit) at s.listed;
-      settled_in = s.settled_in;
-      covers = c.note_flight.ensures.covers c.self.inside.plans.plans c.in-Ok-change_plans.ensures.same (rw (sym c.reserve.ensures.flights) at c.self.invariant.covers);
-      quiet = c.tell.ensures.quiet;
+      kept = record {
+        desk_time = c.self.invariant.kept.desk_time;
+        limit = c.settle_for.ensures.limit ∙ c.self.invariant.kept.limit ∙ sym c.change_plans.ensures.limit;
+        few = omega (arith, c.self.invariant.kept.few, count);
+        room = omega (arith, c.count-count.ensures.count, c.count-count.ensures.limit);
+        most = omega (arith, c.self.invariant.kept.most, c.change_plans.ensures.limit);
+        each = c.tell.ensures.each;
+        listed = rw (sym c.settle_for.ensures.limit) at s.listed;
+        settled_in = s.settled_in;
+        covers = c.note_flight.ensures.covers c.self.inside.plans.plans c.in-Ok-change_plans.ensures.same (rw (sym c.reserve.ensures.flights) at c.self.invariant.kept.covers);
+        quiet = c.tell.ensures.quiet;
+      };
+      can = can-forget n c.self.inside.time store new c.note_flight.new.queue places changed c.self.inside.closed old_store.plans lists c.in-Ok-change_plans.ensures.some within c.in-Ok-change_plans.ensures.before c.note_places.ensures.places alone covers_old;
+      was = was-kept p store new changed noted c.tell.new.told.items c.self.inside.time old_store c.self.inside.regulations c.self.inside.queue.flights c.self.inside.told.items
+          refl plans_were lists_were told_were c.change_plans.ensures.taxi c.change_plans.ensures.limit c.settle_for.ensures.limit c.self.invariant.kept noted_each
+          (one-within n (length c.tell.new.told.items) changed c.note_one.ensures c.in-Ok-change_plans.ensures.some (omega (arith, c.in-Ok-change_plans.ensures.within, c.tell.ensures.each)));
     }
+
+pub returns-clause-before : goal.returns-clause-before
+returns-clause-before g c =
+    let same_taxi = sym c.change_plans.ensures.taxi in
+    let listed = rw same_taxi at c.self.invariant.kept.listed in
+    let settled_in = rw same_taxi at c.self.invariant.kept.settled_in in
+    let s = c.settle_for.ensures.settled c.self.inside.plans.plans listed settled_in c.in-Ok-change_plans.ensures.same in
+    let place = rw c.make_room.ensures.told at (c.make_place.ensures.told c.change_plans.new.plans.plans (sym c.count-count.ensures.count)) in
+    let n : ℕ = c.in-Ok-change_plans.number in
+    let store : Store = c.change_plans.new.plans in
+    let old_store : Store = c.self.inside.plans in
+    let lists : List Listed = c.self.inside.regulations.lists in
+    let new : Listing = c.settle_for.new.regulations in
+    let places : List Place = c.note_places.new.places.items in
+    let changed : List ℕ = c.note_one.new.changed.items in
+    let noted : List (Option Told) = c.note_told.new.noted.items in
+    let mid : List (Option Told) = c.make_place.new.told.items in
+    let p : Past = past (reading.Message n) c.self.inside.time store new.lists places changed c.self.inside.closed in
+    let alone = c.settle_for.ensures.alone in
+    let plans_were : p.plans ≡ old_store.plans = plans-before store old_store.plans c.in-Ok-change_plans.ensures.before in
+    let lists_were : p.lists ≡ lists = stands-again n places new.lists lists c.note_places.ensures.places alone in
+    let told_is = rw (c.deref-2.ensures.value, c.deref-3.ensures.value) at c.note_told.ensures.noted in
+    let noted_each : length noted ≡ length changed = rw c.deref-2.ensures.value at c.note_told.ensures.each in
+    let all_some : AllByRecursion (λ m. 0 < m) changed = rw c.note_one.ensures (c.in-Ok-change_plans.ensures.some, tt) in
+    let quiet = rw same_taxi at c.self.invariant.kept.quiet in
+    let each : length c.self.inside.told.items ≡ length c.self.inside.plans.plans = c.self.invariant.kept.each in
+    let one : length c.self.inside.told.items ≤ length c.change_plans.new.plans.plans = omega (arith, each, c.change_plans.ensures.one) in
+    let more : length c.change_plans.new.plans.plans ≤ length c.self.inside.told.items + 1 = omega (arith, each, c.change_plans.ensures.more) in
+    let last : length c.self.inside.told.items < length c.change_plans.new.plans.plans → c.in-Ok-change_plans.number ≡ length c.change_plans.new.plans.plans = λ h. c.in-Ok-change_plans.ensures.last (omega (arith, each, h)) in
+    let quiet_but : AreQuietBut changed store.taxi (map regulation_of new.lists) store.plans mid = rw c.note_one.ensures
+    (quiet-but-one c.in-Ok-change_plans.number c.change_plans.new.plans.taxi (map regulation_of c.self.inside.regulations.lists) (map regulation_of c.settle_for.new.regulations.lists)
+    c.self.inside.plans.plans c.change_plans.new.plans.plans c.self.inside.told.items c.make_place.new.told.items c.in-Ok-change_plans.ensures.same
+    (λ f some ne. told-others c.change_plans.new.plans.plans c.self.inside.told.items c.make_place.new.told.items c.in-Ok-change_plans.number f place one more last some ne)
+    (λ f some ne. s.others f ne)
+    quiet) in
+    let each_mid : length mid ≡ length store.plans = c.make_place.ensures.each ∙ c.count-count.ensures.count in
+    let again = told-undone store.taxi (map regulation_of new.lists) store.plans mid c.tell.new.told.items changed noted c.tell.ensures.told each_mid c.tell.ensures.each quiet_but told_is all_some in
+    let told_were : told_past p changed noted c.tell.new.told.items ≡ c.self.inside.told.items =
+    told-before p changed noted c.tell.new.told.items mid c.self.inside.told.items store.plans old_store.plans plans_were again place c.self.invariant.kept.each c.change_plans.ensures.one c.change_plans.ensures.more in
+    ap Some (traffic-before p store changed noted c.tell.new.told.items (take c.len-self-inside.result c.tell.new.notices.items) c.self.inside.time old_store lists c.self.inside.told.items c.self.inside.notices.items
+    refl plans_were lists_were told_were c.change_plans.ensures.taxi c.change_plans.ensures.limit
+    (notices-before c.self.inside.notices.items c.tell.new.notices.items _ c.len-self-inside.result (rw c.make_room.ensures.notices at c.tell.ensures.notices) (omega (arith, c.len-self-inside.ensures, c.make_room.new.notices.ok.0, ap length c.make_room.ensures.notices)))
+    ∙ ap (λ (v : Undoable). v.traffic) c.self.view_is)
 
 pub returns-clause-answers : goal.returns-clause-answers
 returns-clause-answers g c =
     let same_taxi = sym c.change_plans.ensures.taxi in
-    let listed = rw same_taxi at c.self.invariant.listed in
-    let settled_in = rw same_taxi at c.self.invariant.settled_in in
+    let listed = rw same_taxi at c.self.invariant.kept.listed in
+    let settled_in = rw same_taxi at c.self.invariant.kept.settled_in in
     let s = c.settle_for.ensures.settled c.self.inside.plans.plans listed settled_in c.in-Ok-change_plans.ensures.same in
     let place = rw c.make_room.ensures.told at (c.make_place.ensures.told c.change_plans.new.plans.plans (sym c.count-count.ensures.count)) in
-    rw (sym c.self.view_is)
+    rw (sym (ap (λ (v : Undoable). v.traffic) c.self.view_is))
     (message-answers c.self.inside.plans.taxi c.self.inside.plans.max_plans c.self.inside.time c.self.inside.plans.plans c.change_plans.new.plans.plans c.self.inside.regulations.lists c.settle_for.new.regulations.lists
     c.self.inside.told.items c.make_place.new.told.items c.tell.new.told.items c.self.inside.notices.items c.tell.new.notices.items (said_message c.args.message.now) c.in-Ok-change_plans.number c.verdict_on-verdict.result
     c.change_plans.new.plans.taxi c.change_plans.new.plans.max_plans c.self.inside.regulations.max_plans c.is_departure.result
-    c.change_plans.ensures.taxi c.change_plans.ensures.limit c.self.invariant.limit c.is_departure.ensures
+    c.change_plans.ensures.taxi c.change_plans.ensures.limit c.self.invariant.kept.limit c.is_departure.ensures
     c.in-Ok-change_plans.ensures.ok (rw (c.deref.ensures.value, c.make_room.ensures.told) at c.verdict_on-verdict.ensures) s place
     c.tell.ensures.told (rw c.make_room.ensures.notices at c.tell.ensures.notices))

@@ -1,12 +1,12 @@
 use Rattle.std.proofs.Common.{◌≡◌, ◌∙◌, sym, ap, Option, None, Some}
 use Rattle.std.specs.Option.{MatchOption}
 use Rattle.flow_slots.specs.Lineup.{Lineup}
-use Rattle.flow_traffic.specs.Traffic.{Traffic, slots_of}
+use Rattle.flow_traffic.specs.Traffic.{Traffic, Undoable, slots_of}
 use Rattle.flow_traffic.proofs.Slots.{slots-named}
 use Rattle.flow_traffic.proofs.traffic.Traffic.slots.Goals as goal
 
 pub returns : goal.returns
 returns g c =
-    let named = slots-named c.self.inside.plans.taxi c.self.inside.regulations.max_plans c.self.inside.plans.plans c.args.id.now c.self.inside.regulations.lists c.self.invariant.listed in
-    let same = rw c.self.invariant.limit at named in
-    rw (sym c.self.view_is) (rw same at c.slots.ensures)
+    let named = slots-named c.self.inside.plans.taxi c.self.inside.regulations.max_plans c.self.inside.plans.plans c.args.id.now c.self.inside.regulations.lists c.self.invariant.kept.listed in
+    let same = rw c.self.invariant.kept.limit at named in
+    rw (sym (ap (λ (v : Undoable). v.traffic) c.self.view_is)) (rw same at c.slots.ensures)
