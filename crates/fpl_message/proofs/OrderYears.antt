@@ -1,5 +1,5 @@
 -- The moments that orders name lie in the years 2000 to 2098.
-use Rattle.std.proofs.Common.{◌≡◌, ℕ, zero, suc, ◌+◌, ◌<◌, ◌≤◌, refl, arith, Bool, true, false, cond, List, [], ◌∷◌, length, codes, sym, ◌∙◌, ap, subst}
+use Rattle.std.proofs.Common.{◌≡◌, ℕ, ◌<◌, ◌≤◌, refl, Bool, true, false, cond, List, [], ◌∷◌, length, codes, ◌∙◌, ap, subst}
 use Rattle.std.specs.Prelude.{Option, Some, None, Result, Ok, Err, nat_le, ◌==◌}
 use Rattle.std.specs.Option.{option_map, ok_or}
 use Rattle.std.specs.List.{All}
@@ -20,7 +20,7 @@ use Rattle.fpl_message.specs.Filings.{FilingText}
 use Rattle.fpl_message.specs.Messages.{Order, open_reg, shut_reg, set_time, Message}
 use Rattle.fpl_message.specs.Refusals.{◌>>=◌, by_text}
 use Rattle.fpl_message.specs.Orders.{◌>>?◌, order_of, time_of, shut_of, open_of, regulation_of, spot_of, rate_of, more_of, parts_of, part_of}
-use Rattle.fpl_message.specs.Reads.{Reading, msg, ord, bad, begins_message, titled_message, message_of, reading_of_squeezed, reading_of, or_bad}
+use Rattle.fpl_message.specs.Reads.{msg, ord, begins_message, titled_message, message_of, reading_of_squeezed, reading_of, or_bad}
 
 -- a moment of those years
 abbrev pub IsOfYears : ℕ → Type 0
