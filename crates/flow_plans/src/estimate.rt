@@ -16,8 +16,7 @@ pub(crate) struct Estimate {
 impl Estimate {
     ghost use Rattle.flow_plans.specs.Estimates.{is_for};
 
-    /// An estimate for the place that begins there in the field and has that length. None where a number is too large for a
-    /// note.
+    /// An estimate for the place that begins and ends there in the field. None where a number is too large for a note.
     pub(crate) fn new(start: usize, end: usize, minutes: u32) -> Option<Estimate>
         requires { minutes < 6000 }
         ensures { IfSome result (λ e. (e.start ≡ start) × (e.end ≡ end) × (e.minutes ≡ minutes)) }

@@ -11,7 +11,8 @@ use std::alloc::{AllocError, Allocator, Global};
 
 /// What the EET items of a field 18 say, in order. A field without them takes no memory.
 ///
-/// Notes that are not whole say nothing: a word of an EET item is no place with an elapsed time, which a message does not have.
+/// Where a word of an EET item is no place with an elapsed time, which no message that was read has, the notes are not whole, and
+/// the field is read instead.
 #[derive(Drop)]
 pub(crate) struct Estimates<A: Allocator + Copy = Global> {
     whole: bool,
@@ -42,7 +43,7 @@ impl<A: Allocator + Copy> Estimates<A> {
     }
 }
 
-/// How many words the EET items of a field have.
+/// How many words the EET items of a field have, so that their notes take no more room than they need.
 fn estimate_count(field: &[u8]) -> usize {
     let mut count: usize = 0;
     for item in Items::new(field) {
