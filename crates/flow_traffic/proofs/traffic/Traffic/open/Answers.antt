@@ -37,9 +37,9 @@ returns-then-count-ge-MAX_REGULATIONS-clause-answers g c =
 
 pub open-opened-requires : goal.open-opened-requires
 open-opened-requires g c = record {
-      plans = omega (arith, c.self.invariant.room, c.self.invariant.limit);
-      name = rw c.copied.ensures (sym c.is_open.ensures ∙ c.if-is_open.false);
-    }
+  plans = omega (arith, c.self.invariant.room, c.self.invariant.limit);
+  name = rw c.copied.ensures (sym c.is_open.ensures ∙ c.if-is_open.false);
+}
 
 pub tell-requires-clause-quiet : goal.tell-requires-clause-quiet
 tell-requires-clause-quiet g c =
