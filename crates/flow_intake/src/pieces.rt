@@ -32,9 +32,7 @@ pub(crate) enum Until {
 fn text_in(bytes: &[u8]) -> Option<usize>
     ensures { result ≡ position is_text bytes.now }
 {
-    bytes
-        .iter()
-        .position(|byte| !(*byte == b' ' || *byte == b'\r' || *byte == b'\n'))
+    bytes.iter().position(|byte| !(*byte == b' ' || *byte == b'\r' || *byte == b'\n'))
 }
 
 /// Where the first byte stands that stops the run.
