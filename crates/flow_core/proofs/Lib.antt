@@ -10,3 +10,4 @@ pub mod JournalTaken
 pub mod JournalBack
 pub mod JournalShown
 pub mod JournalHeld
+pub mod Backs

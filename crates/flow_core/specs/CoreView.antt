@@ -1,6 +1,8 @@
 -- How a core keeps the state.
-use Rattle.std.specs.Prelude.{◌≡◌, ◌≤◌, ◌<◌, ◌+◌, List, map, length}
+use Rattle.std.specs.Prelude.{◌≡◌, ◌≤◌, ◌<◌, ◌+◌, ◌-◌, Bool, true, List, map, length, take, Option, Some}
 use Rattle.std.specs.List.{AllByRecursion}
+use Rattle.flow_plans.specs.Settings.{Settings}
+use Rattle.flow_traffic.specs.Traffic.{Traffic, Undoable}
 use Rattle.flow_core.specs.State.{State, Input, Record}
 use Rattle.flow_core.specs.Steps.{run}
 
@@ -14,3 +16,19 @@ pub record IsRun (s : State) : Type 0 where
   pub within : AllByRecursion (λ e. e.receipt.first_notice + e.receipt.notices ≤ length s.traffic.notices) s.journal
   pub room : length s.journal ≤ s.setup.max_entries
   pub limit : s.setup.max_entries ≤ 1_000_000
+
+-- without the last entry
+abbrev pub without_last : {X : Type 0} → List X → List X
+without_last xs = take (length xs - 1) xs
+
+-- the last filing can be taken back, and what is then kept is the run without it
+pub record MayTakeBack (setup : Settings) (traffic : Undoable) (journal : List Record) : Type 0 where
+  pub before : Traffic
+  pub is : traffic.before ≡ Some before
+  pub some : 0 < length journal
+  pub run_then : IsRun (record { setup = setup; traffic = before; journal = without_last journal })
+
+-- the state kept in these fields is that of the run, and so is what can be taken back
+pub record IsRunWith (setup : Settings) (traffic : Undoable) (journal : List Record) (undoable : Bool) : Type 0 where
+  pub run_now : IsRun (record { setup = setup; traffic = traffic.traffic; journal = journal })
+  pub back : undoable ≡ true → MayTakeBack setup traffic journal

@@ -14,6 +14,8 @@ mod receipt;
 mod row;
 mod serving;
 #[cfg(test)]
+mod take_back_tests;
+#[cfg(test)]
 mod tests;
 
 pub use desk::{Core, StepFault};
