@@ -11,3 +11,6 @@ pub mod JournalBack
 pub mod JournalShown
 pub mod JournalHeld
 pub mod Backs
+pub mod FrozenPairs
+pub mod Comparing
+pub mod ChangedRows

@@ -1,7 +1,8 @@
 -- The row of one plan.
-use Rattle.std.proofs.Common.{◌≡◌, ℕ, zero, suc, List, [], ◌∷◌, length, ap, sym, ◌∙◌, refl, arith, Option, Some, None, slice_get}
+use Rattle.std.proofs.Common.{◌≡◌, ℕ, zero, suc, List, [], ◌∷◌, length, refl, ap, ◌∙◌, arith, Option, Some, None, slice_get}
 use Rattle.flow_plans.specs.Plans.{Plan}
 use Rattle.flow_regulations.specs.declared.notice.Told.{Told}
+use Rattle.flow_traffic.specs.Same.{Standing, standing_of, standings}
 use Rattle.flow_core.specs.declared.row.Row.{Row}
 use Rattle.flow_core.specs.State.{row_of, rows_of}
 
@@ -24,3 +25,18 @@ told-there [] ts i p e a b = cc
 told-there (q ∷ ps) [] i p e a b = absurd (omega (arith, e))
 told-there (q ∷ ps) (u ∷ ts) zero p e a b = cc
 told-there (q ∷ ps) (u ∷ ts) (suc i) p e a b = told-there ps ts i p (omega (arith, e)) a b
+
+-- the row of a plan that stands so
+abbrev told_to : Standing → Option Told → Row
+told_to s told = record { state = s.state; off_block = s.off_block; told = told }
+
+-- plans that stand alike, and were last told the same, have the same rows
+pub rows-alike : (ps qs : List Plan) (ts : List (Option Told)) → standings ps ≡ standings qs → rows_of ps ts ≡ rows_of qs ts
+rows-alike [] [] ts e = refl
+rows-alike [] (q ∷ qs) ts e = cc
+rows-alike (p ∷ ps) [] ts e = cc
+rows-alike (p ∷ ps) (q ∷ qs) [] e = refl
+rows-alike (p ∷ ps) (q ∷ qs) (t ∷ ts) e =
+    let same : standing_of p ≡ standing_of q = cc in
+    let others : standings ps ≡ standings qs = cc in
+    ap (λ s. told_to s t ∷ rows_of ps ts) same ∙ ap (λ rs. row_of q t ∷ rs) (rows-alike ps qs ts others)

@@ -1,7 +1,9 @@
 pub mod State
 pub mod Steps
 pub mod History
+pub mod Changes
 pub mod CoreView
+pub mod Comparing
 pub mod Output
 pub mod Served
 pub mod Serving

@@ -47,7 +47,7 @@ refusal_text r = codes " NO " ++ decimal (number_of r) ++ codes " " ++ name_of r
 
 abbrev pub verdict_text : Verdict → List ℕ
 verdict_text (Accepted kind plan) = codes " OK " ++ kind_text kind ++ plan_text plan
-verdict_text (Departed plan window) = codes " OK DEP " ++ decimal plan ++ codes " " ++ window_text window
+verdict_text (Departed window plan) = codes " OK DEP " ++ decimal plan ++ codes " " ++ window_text window
 verdict_text (Refused r) = refusal_text r
 
 -- the answer line of a receipt

@@ -1,5 +1,5 @@
 //! Answer lines and slot notices as text.
-ghost use Rattle.std.specs.Prelude.{◌≡◌, ◌≤◌, ◌+◌, ◌++◌, ◌-◌, ◌^◌, min, OnOk, OnErr, length, decimal, ℕ, ◌/◌, ◌%◌};
+ghost use Rattle.std.specs.Prelude.{◌≡◌, ◌≤◌, ◌+◌, ◌++◌, ◌-◌, ◌^◌, min, OnOk, OnErr, length, codes, decimal, ℕ, ◌/◌, ◌%◌};
 ghost use Rattle.std.specs.List.{flat_map};
 ghost use Rattle.std.specs.Io.KnownBytes.{Appends};
 ghost use Rattle.flow_intake.specs.Writes.{AppendsFront};
@@ -15,18 +15,19 @@ use flow_traffic::{Kind, Verdict};
 use fpl_message::Refusal;
 use std::io::Write;
 
-fn kind_name(kind: Kind) -> &'static [u8]
-    ensures name { result.now ≡ kind_text kind }
-    ensures short { length result.now ≤ 4 }
+/// What an answer says of an accepted filing before the plan.
+fn accepted_text(kind: Kind) -> &'static [u8]
+    ensures text { result.now ≡ codes " OK " ++ kind_text kind }
+    ensures short { length result.now ≤ 8 }
 {
     match kind {
-        Kind::Fpl => b"FPL",
-        Kind::Dla => b"DLA",
-        Kind::Chg => b"CHG",
-        Kind::Cnl => b"CNL",
-        Kind::Open => b"OPEN",
-        Kind::Shut => b"SHUT",
-        Kind::Time => b"TIME",
+        Kind::Fpl => b" OK FPL",
+        Kind::Dla => b" OK DLA",
+        Kind::Chg => b" OK CHG",
+        Kind::Cnl => b" OK CNL",
+        Kind::Open => b" OK OPEN",
+        Kind::Shut => b" OK SHUT",
+        Kind::Time => b" OK TIME",
     }
 }
 
@@ -78,8 +79,7 @@ fn put_verdict(line: &mut Line, verdict: Verdict)
 {
     match verdict {
         Verdict::Accepted { kind, plan } => {
-            put(line, b" OK ");
-            put(line, kind_name(kind));
+            put(line, accepted_text(kind));
             put_plan(line, plan);
         }
         Verdict::Departed { plan, window } => {

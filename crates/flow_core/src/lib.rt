@@ -2,7 +2,9 @@
 #![tactic(auto)]
 
 mod answer;
+mod change;
 mod desk;
+mod entry;
 mod journal;
 pub mod journal_laws;
 mod journal_reading;
@@ -18,11 +20,13 @@ mod take_back_tests;
 #[cfg(test)]
 mod tests;
 
+pub use change::Change;
 pub use desk::{Core, StepFault};
+pub use entry::Entry;
 pub use flow_intake::{Counted, Frame, Intake, IntakeFault, MAX_INPUT, WriteFault};
 pub use flow_regulations::{Notice, Said, Told, Window};
 pub use flow_traffic::{Kind, Verdict};
 pub use journal_reading::{JournalFault, read_journal};
-pub use receipt::{Entry, Receipt};
+pub use receipt::Receipt;
 pub use row::Row;
 pub use serving::{ServeFault, serve};

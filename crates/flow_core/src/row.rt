@@ -1,9 +1,10 @@
 //! What a reader of the desk sees of a plan.
-ghost use Rattle.std.specs.Prelude.{◌≡◌};
-ghost use Rattle.flow_core.specs.State.{row_of};
+ghost use Rattle.std.specs.Prelude.{◌≡◌, ◌<◌, ◌-◌, slice_get};
+ghost use Rattle.flow_core.specs.State.{row_of, rows_of};
 
 use flow_plans::{Plan, PlanState};
 use flow_regulations::Told;
+use flow_traffic::Traffic;
 use fpl_text::Minute;
 use std::alloc::Allocator;
 
@@ -16,7 +17,7 @@ pub struct Row {
 }
 
 /// The row of a plan that was last told this.
-pub(crate) fn row_of<A: Allocator + Copy>(plan: &Plan<A>, told: &Option<Told>) -> Row
+fn row_of<A: Allocator + Copy>(plan: &Plan<A>, told: &Option<Told>) -> Row
     ensures { result ≡ row_of plan.now told.now }
 {
     let told = match told {
@@ -28,4 +29,18 @@ pub(crate) fn row_of<A: Allocator + Copy>(plan: &Plan<A>, told: &Option<Told>) -
         off_block: plan.off_block(),
         told,
     }
+}
+
+/// The row of the plan of this number.
+pub(crate) fn row_at<A: Allocator + Copy>(traffic: &Traffic<A>, number: u32) -> Option<Row>
+    requires { 0 < number }
+    ensures { result ≡ slice_get (rows_of traffic.now.traffic.plans traffic.now.traffic.told) (number - 1) }
+{
+    let Some(plan) = traffic.plan(number) else {
+        return None;
+    };
+    let Some(told) = traffic.told(number) else {
+        return None;
+    };
+    Some(row_of(plan, told))
 }

@@ -134,8 +134,8 @@ fn receipts_say_what_became_of_each_filing(rt: HostRuntime) -> Result<(), Fail> 
         let filing = Filing::new(rt.alloc(), text).ok().ok_or("a filing")?;
         assert!(&rt; core.step(filing, 3).is_ok());
     }
-    assert!(&rt; core.entry(3).map(|entry| entry.receipt.verdict) == verdicts[0]);
-    assert!(&rt; core.entry(4).map(|entry| entry.receipt.verdict) == verdicts[1]);
+    assert!(&rt; core.entry(3).map(|entry| entry.receipt().verdict) == verdicts[0]);
+    assert!(&rt; core.entry(4).map(|entry| entry.receipt().verdict) == verdicts[1]);
     assert!(&rt; core.row(1).map(|row| row.state) == Some(PlanState::Departed));
     assert!(&rt; core.row(2).is_none());
     Ok(())

@@ -5,5 +5,7 @@ pub mod Walks
 pub mod Keepings
 pub mod Distincts
 pub mod RunLemmas
+pub mod PlaceLemmas
 pub mod Notes
 pub mod Amendments
+pub mod Previous

@@ -1,12 +1,15 @@
 -- Notes of estimates, one after the other.
-use Rattle.std.proofs.Common.{◌≡◌, ℕ, ◌+◌, ◌-◌, ◌≤◌, arith, ◌&&◌, nat_le, slice_range, Bool, true, false, if◌then◌else◌, List, [], ◌∷◌, ◌++◌, length, take, drop, refl, Option, Some, None, ◌∙◌}
+use Rattle.std.proofs.Common.{◌≡◌, ℕ, ◌+◌, ◌-◌, ◌≤◌, arith, ◌&&◌, nat_le, slice_range, Bool, true, false, if◌then◌else◌, List, [], ◌∷◌, ◌++◌, length, take, drop, refl, Option, Some, None, sym, ap, ◌∙◌}
+use Rattle.std.proofs.lemmas.Bool.{false≢true, false_from_ne_true}
 use Rattle.std.proofs.lemmas.Bool.Decides.{nat_tests}
+use lib.Pointwise.{bytes_decides}
 use Rattle.std.specs.Option.{option_or}
 use Rattle.fpl_items.specs.Kinds.{is_text}
 use Rattle.fpl_text.specs.Times.{elapsed_time}
 use Rattle.fpl_items.specs.Items.{estimate_for}
 use Rattle.flow_plans.specs.declared.estimate.Estimate.{Estimate}
-use Rattle.flow_plans.specs.Estimates.{is_for, first_for, IsNoteOf}
+use Rattle.flow_plans.specs.Places.{may_have}
+use Rattle.flow_plans.specs.Estimates.{is_for, first_for, IsNoteOf, HasPlacesOf}
 
 -- either way of a test, the two sides agree
 note-is-word : (b c : Bool) (time : Option ℕ) (minutes : ℕ) (rest : Option ℕ) → b ≡ c → time ≡ Some minutes → option_or (if b then Some minutes else None) rest ≡ (if c then time else rest)
@@ -46,3 +49,25 @@ pub word-noted : (field place : List ℕ) (before after : List Estimate) (note :
 word-noted field place before after note word left rest all taken pushed noted kept =
     let same : option_or (first_for field place before) (estimate_for place (word ∷ rest)) ≡ all = rw taken at kept in
     rw pushed (one-more field place before note word rest noted ∙ same)
+
+-- the notes of the words so far and the set of their places
+pub record Noted (field : List ℕ) (places : ℕ) (before notes : List Estimate) (left all : List (List ℕ)) : Type 0 where
+  pub added : (place : List ℕ) → option_or (first_for field place notes) (estimate_for place left) ≡ option_or (first_for field place before) (estimate_for place all)
+  pub placed : HasPlacesOf field places notes
+
+-- where no note is for a place, one more is not either
+none-more : (field place : List ℕ) (notes : List Estimate) (note : Estimate) → is_for field place note ≡ false → first_for field place notes ≡ None → first_for field place (notes ++ note ∷ []) ≡ None
+none-more field place [] note other none = rw other refl
+none-more field place (n ∷ ns) note other none = none-after (is_for field place n) n.minutes _ _ (none-more field place ns note other) none
+  where
+    none-after : (b : Bool) (minutes : ℕ) (x y : Option ℕ) → (x ≡ None → y ≡ None) → (if b then Some minutes else x) ≡ None → (if b then Some minutes else y) ≡ None
+    none-after true minutes x y step h = h
+    none-after false minutes x y step h = step h
+
+-- the place of one note more, with the places from before
+pub place-noted : (field own : List ℕ) (places more cut : ℕ) (before after : List Estimate) (note : Estimate) (word : List ℕ) → cut ≡ length word - 4 → own ≡ take cut word → after ≡ before ++ note ∷ [] → IsNoteOf field word note → may_have more own ≡ true → ((other : List ℕ) → may_have places other ≡ true → may_have more other ≡ true) → HasPlacesOf field places before → HasPlacesOf field more after
+place-noted field own places more cut before after note word cutting front pushed noted added kept had place without =
+    let first : own ≡ take (length word - 4) word = cc in
+    let before_without : may_have places place ≡ false = false_from_ne_true _ (λ is. absurd (false≢true (sym without ∙ kept place is))) in
+    let other : is_for field place note ≡ false = noted.0 place ∙ false_from_ne_true _ (λ is. absurd (false≢true (sym without ∙ ap (may_have more) (sym ((bytes_decides _ _).0 is) ∙ sym first) ∙ added))) in
+    rw pushed (none-more field place before note other (had place before_without))

@@ -1,11 +1,12 @@
 -- What a plan notes of the EET items of its field 18 (ICAO Doc 4444, appendix 3, field type 18), so that the field is read once.
-use Rattle.std.specs.Prelude.{◌≡◌, ℕ, ◌-◌, Bool, true, ◌&&◌, nat_le, if◌then◌else◌, List, [], ◌∷◌, length, take, drop, slice_range, Option, Some, None}
+use Rattle.std.specs.Prelude.{◌≡◌, ℕ, ◌-◌, Bool, true, false, ◌&&◌, nat_le, if◌then◌else◌, List, [], ◌∷◌, length, take, drop, slice_range, Option, Some, None}
 use Rattle.std.specs.Option.{option_or}
 use Rattle.fpl_text.specs.Times.{elapsed_time}
 use Rattle.fpl_text.specs.Words.{words_of}
 use Rattle.fpl_items.specs.Kinds.{is_text}
 use Rattle.fpl_items.specs.Items.{items_of, estimate_for, elapsed_to}
 use Rattle.flow_plans.specs.declared.estimate.Estimate.{Estimate}
+use Rattle.flow_plans.specs.Places.{may_have}
 
 -- whether a note is for a place: the place stands where the note says
 unfoldable pub is_for : List ℕ → List ℕ → Estimate → Bool
@@ -32,3 +33,13 @@ AddsWords field before after words =
 abbrev pub AreNotesOf : List ℕ → Bool → List Estimate → Type 0
 AreNotesOf field whole notes =
     whole ≡ true → ((place : List ℕ) → first_for field place notes ≡ elapsed_to place (items_of (words_of field)))
+
+-- a set of places that has the place of each note
+abbrev pub HasPlacesOf : List ℕ → ℕ → List Estimate → Type 0
+HasPlacesOf field places notes =
+    (place : List ℕ) → may_have places place ≡ false → first_for field place notes ≡ None
+
+-- what is kept of a field's estimates: their notes, whole or not, and the set of the notes' places
+pub record AreEstimatesOf (field : List ℕ) (whole : Bool) (places : ℕ) (notes : List Estimate) : Type 0 where
+  pub say_the_same : AreNotesOf field whole notes
+  pub have_places : HasPlacesOf field places notes

@@ -7,6 +7,7 @@ pub mod Chains
 pub mod Changes
 pub mod Entries
 pub mod Estimates
+pub mod Places
 pub mod Stores
 pub mod Undoing
 pub mod Distinct

@@ -1,12 +1,13 @@
 -- Flight plans as the desk holds them.
 use Rattle.std.specs.Prelude.{ℕ, ◌-◌, Bool, true, false, ◌&&◌, ◌==◌, if◌then◌else◌, List, slice_get, slice_set, Option, Some, None}
-use Rattle.std.specs.Option.{option_map_or}
+use Rattle.std.specs.Option.{option_map, option_map_or}
 use Rattle.std.specs.Str.{bytes_eq}
 use Rattle.fpl_text.specs.declared.craft.FlightRules.{FlightRules}
 use Rattle.fpl_text.specs.declared.craft.FlightRules.TheVariants as rules
 use Rattle.flow_plans.specs.declared.plan.Key.{Key}
 use Rattle.flow_plans.specs.declared.plan.PlanState.{PlanState}
 use Rattle.flow_plans.specs.declared.plan.PlanState.TheVariants as state
+use Rattle.flow_plans.specs.declared.plan.Status.{Status}
 
 -- the squeezed texts that a plan holds, of the fields of these numbers
 pub record Texts : Type 0 where
@@ -70,6 +71,14 @@ text_of field texts =
 -- the plan of this number, where plan n is the n-th
 abbrev pub plan_at : List Plan → ℕ → Option Plan
 plan_at plans number = slice_get plans (number - 1)
+
+-- where a plan stands, and its off-block moment
+abbrev pub status_of : Plan → Status
+status_of plan = record { state = plan.state; off_block = plan.off_block }
+
+-- of the plan of this number, where it is one of these
+abbrev pub status_at : List Plan → ℕ → Option Status
+status_at plans number = option_map status_of (plan_at plans number)
 
 -- the plans with another in the place of that number
 abbrev pub with_plan : List Plan → ℕ → Plan → List Plan

@@ -33,7 +33,8 @@ impl Estimate {
 
     /// Where the place ends in the field.
     pub(crate) fn end(&self) -> usize
-        ensures { result ≡ self.now.end }
+        ensures value { result ≡ self.now.end }
+        ensures bound { result < 65_536 }
     {
         usize::from(self.end)
     }

@@ -2,9 +2,10 @@
 ghost use Rattle.std.specs.Prelude.{◌≡◌, ◌≤◌, ◌<◌, ◌+◌, [], true, length, slice_range, IfOk, IfSome};
 ghost use Rattle.fpl_text.specs.Words.{words_of};
 ghost use Rattle.fpl_items.specs.Items.{items_of, estimate_for, elapsed_to};
-ghost use Rattle.flow_plans.specs.Estimates.{first_for, IsNoteOf, AddsWords, AreNotesOf};
+ghost use Rattle.flow_plans.specs.Estimates.{first_for, IsNoteOf, AddsWords, AreNotesOf, HasPlacesOf, AreEstimatesOf};
 
 use crate::estimate::Estimate;
+use crate::places::{may_have, with_place};
 use fpl_items::{ItemWords, Items};
 use fpl_text::read_elapsed;
 use std::alloc::{AllocError, Allocator, Global};
@@ -16,44 +17,55 @@ use std::alloc::{AllocError, Allocator, Global};
 #[derive(Drop)]
 pub(crate) struct Estimates<A: Allocator + Copy = Global> {
     whole: bool,
+    /// The places of the notes, so that few other places are looked for.
+    places: u64,
     notes: Vec<Estimate, A>,
 }
 
 impl<A: Allocator + Copy> Estimates<A> {
     /// The estimates of a field.
     pub(crate) fn read(alloc: A, field: &[u8]) -> Result<Self, AllocError>
-        ensures { IfOk result (λ estimates. AreNotesOf field.now estimates.whole estimates.notes.items) }
+        ensures { IfOk result (λ e. AreEstimatesOf field.now e.whole e.places e.notes.items) }
     {
-        let mut notes = Vec::with_capacity(alloc, estimate_count(field))?;
-        let whole = note_items(&mut notes, field)?;
-        Ok(Estimates { whole, notes })
+        let mut places = 0;
+        let mut notes = Vec::new(alloc);
+        let whole = note_items(&mut notes, &mut places, field)?;
+        Ok(Estimates {
+            whole,
+            places,
+            notes,
+        })
     }
 
     /// The elapsed time, in minutes, of the first estimate for a place in the field that they are of.
+    #[inline]
     pub(crate) fn elapsed(&self, field: &[u8], place: &[u8]) -> Option<u32>
-        requires { AreNotesOf field.now self.now.whole self.now.notes.items }
+        requires { AreEstimatesOf field.now self.now.whole self.now.places self.now.notes.items }
         ensures value { result ≡ elapsed_to place.now (items_of (words_of field.now)) }
         ensures bound { IfSome result (λ minutes. minutes < 6000) }
     {
-        if self.whole {
-            first_for(&self.notes, field, place)
-        } else {
-            elapsed_to(field, place)
+        if !self.whole {
+            return elapsed_to(field, place);
         }
+        if !may_have(self.places, place) {
+            return None;
+        }
+        first_for(&self.notes, field, place)
     }
 }
 
-/// How many words the EET items of a field have, so that their notes take no more room than they need.
-fn estimate_count(field: &[u8]) -> usize {
+/// Makes room for the notes of these words, and for no more.
+fn reserve_notes<A: Allocator + Copy>(
+    notes: &mut Vec<Estimate, A>,
+    words: ItemWords<'_>,
+) -> Result<(), AllocError>
+    ensures { notes.new.items ≡ notes.old.items }
+{
     let mut count: usize = 0;
-    for item in Items::new(field) {
-        if item.name() == b"EET".as_slice() {
-            for _word in item.words() {
-                count = count.saturating_add(1);
-            }
-        }
+    for _word in words {
+        count = count.saturating_add(1);
     }
-    count
+    notes.reserve_exact(count)
 }
 
 /// Where a place stands in a field, from there on.
@@ -61,11 +73,11 @@ fn place_in(field: &[u8], place: &[u8], from: usize) -> Option<usize>
     ensures bound { IfSome result (λ start. start + length place.now ≤ length field.now) }
     ensures value { IfSome result (λ start. slice_range field.now start (start + length place.now) ≡ place.now) }
 {
-    if place.len() > field.len() {
+    if place.is_empty() || place.len() > field.len() {
         return None;
     }
     for start in from..field.len() - place.len() + 1 {
-        if &field[start..start + place.len()] == place {
+        if field[start] == place[0] && &field[start..start + place.len()] == place {
             return Some(start);
         }
     }
@@ -83,20 +95,31 @@ fn note_of(field: &[u8], word: &[u8], from: usize) -> Option<Estimate>
     Some(note)
 }
 
+/// Where the next note's place stands at the earliest: behind the elapsed time of the last note, and the space after it.
+fn next_start(notes: &[Estimate]) -> usize {
+    match notes.last() {
+        Some(note) => note.end() + 5,
+        None => 0,
+    }
+}
+
 /// Notes the words of an EET item, and answers whether each is an estimate.
 fn note_words<A: Allocator + Copy>(
     notes: &mut Vec<Estimate, A>,
+    places: &mut u64,
     field: &[u8],
     words: ItemWords<'_>,
 ) -> Result<bool, AllocError>
-    ensures { IfOk result (λ whole. whole ≡ true → AddsWords field.now notes.old.items notes.new.items words.entry) }
+    requires { HasPlacesOf field.now places.old notes.old.items }
+    ensures notes { IfOk result (λ whole. whole ≡ true → AddsWords field.now notes.old.items notes.new.items words.entry) }
+    ensures places { IfOk result (λ whole. HasPlacesOf field.now places.new notes.new.items) }
 {
     for word in words {
-        let from = notes.last().map_or(0, |note| note.end());
-        let Some(note) = note_of(field, word, from) else {
+        let Some(note) = note_of(field, word, next_start(notes)) else {
             return Ok(false);
         };
         notes.push(note)?;
+        *places = with_place(*places, &word[..word.len().saturating_sub(4)]);
     }
     Ok(true)
 }
@@ -104,14 +127,17 @@ fn note_words<A: Allocator + Copy>(
 /// Notes the EET items of a field, and answers whether each of their words is an estimate.
 fn note_items<A: Allocator + Copy>(
     notes: &mut Vec<Estimate, A>,
+    places: &mut u64,
     field: &[u8],
 ) -> Result<bool, AllocError>
     requires { notes.old.items ≡ [] }
-    ensures { IfOk result (λ whole. AreNotesOf field.now whole notes.new.items) }
+    ensures notes { IfOk result (λ whole. AreNotesOf field.now whole notes.new.items) }
+    ensures places { IfOk result (λ whole. HasPlacesOf field.now places.new notes.new.items) }
 {
     for item in Items::new(field) {
         if item.name() == b"EET".as_slice() {
-            let whole = note_words(notes, field, item.words())?;
+            reserve_notes(notes, item.words())?;
+            let whole = note_words(notes, places, field, item.words())?;
             if !whole {
                 return Ok(false);
             }

@@ -8,6 +8,7 @@ mod estimates;
 mod fault;
 pub mod laws;
 mod matching;
+mod places;
 mod plan;
 mod setup;
 mod store;
@@ -18,6 +19,6 @@ mod undo;
 
 pub use fault::PlanFault;
 pub use fpl_message::Parts;
-pub use plan::{Key, Plan, PlanState};
+pub use plan::{Key, Plan, PlanState, Status};
 pub use setup::{MAX_ENTRIES, MAX_PLANS, MAX_TAXI, Setup, is_desk_time};
 pub use store::PlanStore;

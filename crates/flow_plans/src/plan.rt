@@ -2,10 +2,11 @@
 ghost use Rattle.std.specs.Prelude.{◌≡◌, ◌≤◌, ◌<◌, IfOk, IfSome, None, option_copied};
 ghost use Rattle.fpl_items.specs.Items.{day_of_items};
 ghost use Rattle.flow_plans.specs.Entries.{take_off, elapsed_at, entry_at, subject};
-ghost use Rattle.flow_plans.specs.Plans.{is_held, is_visual, same_key, is_held_as, text_of, with_state, with_off_block};
+ghost use Rattle.flow_plans.specs.Plans.{is_held, is_visual, same_key, is_held_as, text_of, status_of, with_state, with_off_block};
 ghost use Rattle.flow_plans.specs.Matching.{agrees, is_candidate, is_gone};
 ghost use Rattle.flow_plans.specs.Changes.{plan_of, key_of, changes_key, key_after, amended_plan};
 ghost use Rattle.std.specs.Option.{option_map_or};
+ghost use Rattle.std.specs.Str.{bytes_eq};
 
 use crate::amending::{alternates_after, elapsed_after, exempt_after, rules_after};
 use crate::texts::Texts;
@@ -21,6 +22,13 @@ pub enum PlanState {
     Filed,
     Departed,
     Cancelled,
+}
+
+/// Where a plan stands, and its off-block moment.
+#[derive(Clone, Copy, Debug, PartialEq, Eq)]
+pub struct Status {
+    pub state: PlanState,
+    pub off_block: Minute,
 }
 
 /// What names a plan: two held plans never have the same key.
@@ -104,6 +112,17 @@ fn day_of<A: Allocator + Copy>(amended: Option<&Other18<A>>) -> Option<Day>
         Some(other) => other.day(),
         None => None,
     }
+}
+
+/// Whether an aerodrome is that place. Most that are not differ in the fourth letter.
+#[inline]
+fn is_place(aerodrome: &[u8], place: &[u8]) -> bool
+    ensures { result ≡ bytes_eq aerodrome.now place.now }
+{
+    if aerodrome.len() == 4 && place.len() == 4 && aerodrome[3] != place[3] {
+        return false;
+    }
+    aerodrome == place
 }
 
 /// A flight plan as the desk holds it.
@@ -216,6 +235,16 @@ impl<A: Allocator + Copy> Plan<A> {
         self.state
     }
 
+    /// Where the plan stands, and its off-block moment.
+    pub fn status(&self) -> Status
+        ensures { result ≡ status_of self.now }
+    {
+        Status {
+            state: self.state,
+            off_block: self.off_block,
+        }
+    }
+
     /// What names the plan.
     pub fn key(&self) -> &Key
         ensures { result.now ≡ self.now.key }
@@ -289,6 +318,7 @@ impl<A: Allocator + Copy> Plan<A> {
     }
 
     /// The minutes from take-off to a place of the way, by the first estimate for it in the EET items of field 18.
+    #[inline]
     pub fn elapsed(&self, place: &[u8]) -> Option<u32>
         ensures value { result ≡ elapsed_at place.now self.now }
         ensures bound { IfSome result (λ minutes. minutes < 6000) }
@@ -297,6 +327,7 @@ impl<A: Allocator + Copy> Plan<A> {
     }
 
     /// The moment of take-off, at most 120 minutes after the off-block moment.
+    #[inline]
     #[tactic(auto, unfolding(fpl_text::specs::Moments::moment_within))]
     pub(crate) fn take_off(&self, taxi: u32) -> Minute
         requires { taxi ≤ 120 }
@@ -306,35 +337,36 @@ impl<A: Allocator + Copy> Plan<A> {
     }
 
     /// The moment of entry at a place.
+    #[inline]
     #[tactic(auto, unfolding(crate::specs::Entries::entry_at))]
     pub(crate) fn entry_at(&self, taxi: u32, spot: &Spot) -> Option<Minute>
         requires { taxi ≤ 120 }
         ensures { result ≡ entry_at taxi spot.now self.now }
     {
-        let take_off = self.take_off(taxi);
         match spot {
             Spot::Dep(place) => {
-                if self.key.dep.as_bytes() == place.as_bytes() {
-                    Some(take_off)
+                if is_place(self.key.dep.as_bytes(), place.as_bytes()) {
+                    Some(self.take_off(taxi))
                 } else {
                     None
                 }
             }
             Spot::Arr(place) => {
-                if self.key.dest.as_bytes() == place.as_bytes() {
-                    take_off.plus(self.elapsed)
+                if is_place(self.key.dest.as_bytes(), place.as_bytes()) {
+                    self.take_off(taxi).plus(self.elapsed)
                 } else {
                     None
                 }
             }
             Spot::Via(place) => {
                 let minutes = self.elapsed(place.as_bytes())?;
-                take_off.plus(minutes)
+                self.take_off(taxi).plus(minutes)
             }
         }
     }
 
     /// The entry at the place of a regulation that applies to the flight.
+    #[inline]
     #[tactic(auto, unfolding(crate::specs::Entries::subject))]
     pub(crate) fn subject(
         &self,
@@ -352,15 +384,14 @@ impl<A: Allocator + Copy> Plan<A> {
         if self.rules == FlightRules::Visual {
             return None;
         }
+        let moment = self.entry_at(taxi, spot)?;
+        if moment < start || end <= moment {
+            return None;
+        }
         if self.key.dep.as_bytes() == b"AFIL".as_slice() {
             return None;
         }
-        let moment = self.entry_at(taxi, spot)?;
-        if start <= moment && moment < end {
-            Some(moment)
-        } else {
-            None
-        }
+        Some(moment)
     }
 
     /// The total elapsed time, in minutes.

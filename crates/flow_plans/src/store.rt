@@ -5,7 +5,7 @@ ghost use Rattle.flow_plans.specs.Settings.{IsDeskTime};
 ghost use Rattle.flow_plans.specs.Entries.{take_off, entry_at, subject};
 ghost use Rattle.flow_plans.specs.Undoing.{undone, IsOf};
 ghost use Rattle.flow_plans.specs.Chains.{flight_of_key, IsNamed, AreNamed, StaysNamed};
-ghost use Rattle.flow_plans.specs.Plans.{is_held_as, plan_at, with_plan, changed_at, with_state, with_off_block};
+ghost use Rattle.flow_plans.specs.Plans.{is_held_as, plan_at, status_at, with_plan, changed_at, with_state, with_off_block};
 ghost use Rattle.flow_plans.specs.Matching.{matching};
 ghost use Rattle.flow_plans.specs.Times.{first_from, delayed_to};
 ghost use Rattle.flow_plans.specs.Changes.{plan_of, moment_of, filed, cancelled, departed, delayed, amended, IsRefusal, IsJustRefusal, Answers};
@@ -14,7 +14,7 @@ use crate::amending::amended;
 use crate::chains::{Chains, FlightName};
 use crate::fault::PlanFault;
 use crate::matching::{holds_key, matching};
-use crate::plan::{Plan, PlanState, key_of};
+use crate::plan::{Plan, PlanState, Status, key_of};
 use crate::setup::Setup;
 use crate::undo::LastChange;
 use fpl_message::{Chg, Cnl, Dep, Dla, Fpl, Parts, Spot};
@@ -234,6 +234,16 @@ impl<A: Allocator + Copy> PlanStore<A> {
         }
     }
 
+    /// Where the plan of this number stood before the last change, and its off-block moment then. None where it wasn't filed
+    /// yet.
+    pub fn previous(&self, number: u32) -> Option<Status>
+        requires some { 0 < number }
+        requires change { IsSome self.now.before }
+        ensures { IfSome self.now.before (λ plans. result ≡ status_at plans number) }
+    {
+        previous(self.plans.as_slice(), &self.last, number)
+    }
+
     /// Takes the last change back: the plans are as they were before it. It takes no memory.
     pub fn take_back(&mut self)
         requires { IsSome self.old.before }
@@ -380,6 +390,71 @@ fn undo<A: Allocator + Copy>(plans: &mut Vec<Plan<A>, A>, last: LastChange<A>)
             plan.set_state(PlanState::Filed);
         }
         LastChange::Amended { number, plan } => plans[(number - 1) as usize] = plan,
+    }
+}
+
+/// Where the plan of this number stands.
+fn status_at<A: Allocator + Copy>(plans: &[Plan<A>], number: u32) -> Option<Status>
+    requires { 0 < number }
+    ensures { result ≡ status_at plans.now number }
+{
+    match plans.get((number - 1) as usize) {
+        Some(plan) => Some(plan.status()),
+        None => None,
+    }
+}
+
+/// Where the plan of this number stood before the last change of these plans.
+fn previous<A: Allocator + Copy>(
+    plans: &[Plan<A>],
+    last: &LastChange<A>,
+    number: u32,
+) -> Option<Status>
+    requires some { 0 < number }
+    requires within { IsOf last.now plans.now }
+    ensures { IfSome (undone plans.now last.now) (λ before. result ≡ status_at before number) }
+{
+    let status = status_at(plans, number);
+    let place = (number - 1) as usize;
+    match last {
+        LastChange::Nothing => None,
+        LastChange::Filed => {
+            if place + 1 < plans.len() {
+                status
+            } else {
+                None
+            }
+        }
+        LastChange::Delayed {
+            number: delayed,
+            off_block,
+        } => {
+            if number != *delayed {
+                return status;
+            }
+            Some(Status {
+                state: plans[place].state(),
+                off_block: *off_block,
+            })
+        }
+        LastChange::Ended { number: ended } => {
+            if number != *ended {
+                return status;
+            }
+            Some(Status {
+                state: PlanState::Filed,
+                off_block: plans[place].off_block(),
+            })
+        }
+        LastChange::Amended {
+            number: amended,
+            plan,
+        } => {
+            if number != *amended {
+                return status;
+            }
+            Some(plan.status())
+        }
     }
 }
 

@@ -25,7 +25,7 @@ pub(crate) struct Texts<A: Allocator + Copy = Global> {
 impl<A: Allocator + Copy> Model for Texts<A> {
     ghost use Rattle.std.specs.Prelude.{◌≤◌, length, slice_range, drop};
     ghost use Rattle.flow_plans.specs.Plans.{Texts as Held};
-    ghost use Rattle.flow_plans.specs.Estimates.{AreNotesOf};
+    ghost use Rattle.flow_plans.specs.Estimates.{AreEstimatesOf};
 
     ghost Value = { Held };
 
@@ -38,7 +38,7 @@ impl<A: Allocator + Copy> Model for Texts<A> {
     } };
 
     ghost invariant = { λ t. (t.end8 ≤ t.end9) × (t.end9 ≤ t.end10) × (t.end10 ≤ t.end15) × (t.end15 ≤ length t.bytes.items)
-        × AreNotesOf (slice_range t.bytes.items t.end15 (length t.bytes.items)) t.estimates.whole t.estimates.notes.items };
+        × AreEstimatesOf (slice_range t.bytes.items t.end15 (length t.bytes.items)) t.estimates.whole t.estimates.places t.estimates.notes.items };
 }
 
 /// Appends a text, and answers where it ends.
@@ -132,6 +132,7 @@ impl<A: Allocator + Copy> Texts<A> {
     }
 
     /// The minutes from take-off to a place of the way, by the first estimate for it in the EET items of field 18.
+    #[inline]
     pub(crate) fn elapsed(&self, place: &[u8]) -> Option<u32>
         ensures value { result ≡ elapsed_to place.now (items_of (words_of self.now.field18)) }
         ensures bound { IfSome result (λ minutes. minutes < 6000) }

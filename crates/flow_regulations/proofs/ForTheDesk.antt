@@ -1,5 +1,5 @@
 -- For the layer above: what a step of the desk does to the slots and to the advice of the flights that it isn't about.
-use Rattle.std.proofs.Common.{◌≡◌, ℕ, ◌+◌, ◌-◌, ◌<◌, ◌≤◌, ◌||◌, ◌&&◌, Bool, true, false, not, cond, eqb, leb, List, [], ◌∷◌, ◌++◌, map, length, Option, Some, None, IfSome, refl, sym, ap, subst, ◌∙◌, arith}
+use Rattle.std.proofs.Common.{◌≡◌, ℕ, ◌+◌, ◌<◌, ◌||◌, ◌&&◌, Bool, true, false, not, cond, leb, List, [], ◌∷◌, ◌++◌, map, length, Option, Some, None, refl, sym, ap, subst, ◌∙◌, arith}
 use Rattle.std.specs.List.{AllByRecursion, filter, list_any}
 use Rattle.std.specs.List.Sorted.{IsNonDecreasing, IsStrictlyIncreasing}
 use Rattle.std.specs.Option.{option_map, option_map_or}
@@ -13,19 +13,17 @@ use Rattle.flow_plans.specs.declared.plan.PlanState.{PlanState}
 use Rattle.flow_plans.specs.declared.plan.PlanState.TheVariants as state
 use Rattle.flow_slots.specs.Period.{slot_time}
 use Rattle.flow_slots.specs.Assignment.{Placed, is_in}
-use Rattle.flow_slots.specs.Lineup.{NoneFixed, assigned}
+use Rattle.flow_slots.specs.Lineup.{assigned}
 use Rattle.flow_regulations.specs.declared.notice.Told.{Told}
 use Rattle.flow_regulations.specs.Regulations.{Regulation, subject_to, has_flight, lineup_of}
 use Rattle.flow_regulations.specs.Settling.{is_due, keeps, stays, insert_all, settled, frozen_at_departure, pairs_of}
 use Rattle.flow_regulations.specs.Listing.{Listed, regulation_of, IsListedIn, IsListed, IsSettledIn, IsSettled, IsOpened, AreSameBut, is_due_flight, is_named, without_named, without_in, pairs_in}
 use Rattle.flow_regulations.specs.Advice.{caused_by, delay_in, worse, worst, advice}
-use Rattle.flow_regulations.specs.Notices.{notices_to}
-use Rattle.flow_regulations.specs.Quiet.{IsQuiet, IsQuietAt, told_at, AreQuietBut, AllQuiet, KeepsSlots}
-use Rattle.flow_regulations.proofs.Advances.{due-later}
+use Rattle.flow_regulations.specs.Quiet.{told_at, AreQuietBut, AllQuiet, KeepsSlots}
 use Rattle.flow_regulations.proofs.FixedOnes.{all-map}
 use Rattle.flow_regulations.proofs.Fixes.{pairs-none, settled-done}
 use Rattle.flow_regulations.proofs.Names.{settled-name}
-use Rattle.flow_regulations.proofs.Stays.{advice-same, advice-other, advice-nowhere, caused-none, quiet-departed, quiet-untouched}
+use Rattle.flow_regulations.proofs.Stays.{advice-same, advice-other, caused-none, quiet-untouched}
 
 -- a change of regulations that leaves their names, places and periods
 keeps-mapped : (f : ℕ) (g : Regulation → Regulation) → ((r : Regulation) → (r.id ≡ (g r).id) × (r.spot ≡ (g r).spot) × (r.period ≡ (g r).period)) → (old new : List Listed) → map regulation_of new ≡ map g (map regulation_of old) → pairs_in f new ≡ pairs_in f old → KeepsSlots f (map regulation_of old) (map regulation_of new)
@@ -143,44 +141,6 @@ quiet-but-one n taxi before after plans plans_after told told_after same told_sa
     let ne = apart f n out in
     quiet-untouched taxi f before plans told after plans_after told_after
     (same f positive ne, told_same f positive ne, λ p _. advice-same taxi f p before after (keep f positive ne)) (quiet f positive)
-
--- a flight that isn't due was not due earlier
-undue-then : (earlier now f : ℕ) (plans : List Plan) → earlier ≤ now → is_due_flight now plans f ≡ false → is_due_flight earlier plans f ≡ false
-undue-then earlier now f plans late e = cases (plan_at plans f) e where
-  flip : (b c : Bool) → (b ≡ true → c ≡ true) → c ≡ false → b ≡ false
-  flip true c h e = absurd (true≢false (sym (h refl) ∙ e))
-  flip false c h e = refl
-
-  cases : (o : Option Plan) → option_map_or (is_due now) o false ≡ false → option_map_or (is_due earlier) o false ≡ false
-  cases None e = refl
-  cases (Some p) e = flip (is_due earlier p) (is_due now p) (λ h. due-later earlier now p late h) e
-
--- time advances: to a flight that isn't due nothing is said, before and after
-pub quiet-by-due : (taxi now : ℕ) (plans : List Plan) (told : List (Option Told)) (old new : List Listed) (changed : List ℕ) (earlier : ℕ) → earlier ≤ now → IsSettled taxi earlier plans old → IsSettled taxi now plans new → ((f : ℕ) → 0 < f → is_due_flight now plans f ≡ true → is_in f changed ≡ true) → AllQuiet taxi (map regulation_of old) plans told → AreQuietBut changed taxi (map regulation_of new) plans told
-quiet-by-due taxi now plans told old new changed earlier late was is holds quiet f positive out =
-    at (plan_at plans f) refl (quiet f positive)
-  where
-    undue : is_due_flight now plans f ≡ false
-    undue = cases (is_due_flight now plans f) refl where
-      cases : (b : Bool) → is_due_flight now plans f ≡ b → is_due_flight now plans f ≡ false
-      cases true e = absurd (true≢false (sym (holds f positive e) ∙ out))
-      cases false e = e
-
-    told-at : (p : Plan) → plan_at plans f ≡ Some p → (b : Bool) → is_departed p.state ≡ b → (t : Option Told) → IsQuiet taxi f (map regulation_of old) p t → IsQuiet taxi f (map regulation_of new) p t
-    told-at p e true gone t q = quiet-departed taxi f (map regulation_of new) p t gone
-    told-at p e false here t q =
-        let not_gone : option_map_or (λ p. is_departed p.state) (plan_at plans f) false ≡ false = ap (λ o. option_map_or (λ p. is_departed p.state) o false) e ∙ here in
-        let before = advice-nowhere taxi f p (map regulation_of old) (nothing-to-advise taxi earlier plans old f was (undue-then earlier now f plans late undue) not_gone) in
-        let after = advice-nowhere taxi f p (map regulation_of new) (nothing-to-advise taxi now plans new f is undue not_gone) in
-        ap (λ a. notices_to p t a) (after ∙ sym before) ∙ q
-
-    told-there : (p : Plan) → plan_at plans f ≡ Some p → (v : Option (Option Told)) → IfSome v (λ t. IsQuiet taxi f (map regulation_of old) p t) → IfSome v (λ t. IsQuiet taxi f (map regulation_of new) p t)
-    told-there p e None q = tt
-    told-there p e (Some t) q = told-at p e (is_departed p.state) refl t q
-
-    at : (o : Option Plan) → plan_at plans f ≡ o → IfSome o (λ p. IfSome (told_at told f) (λ t. IsQuiet taxi f (map regulation_of old) p t)) → IfSome o (λ p. IfSome (told_at told f) (λ t. IsQuiet taxi f (map regulation_of new) p t))
-    at None e q = tt
-    at (Some p) e q = told-there p e (told_at told f) q
 
 -- flights that became due were fixed, and the slots of all others stayed
 pub quiet-but-due : (taxi : ℕ) (changed : List ℕ) (before after : List Regulation) (plans : List Plan) (told : List (Option Told)) → ((f : ℕ) → is_in f changed ≡ false → KeepsSlots f before after) → AllQuiet taxi before plans told → AreQuietBut changed taxi after plans told

@@ -4,6 +4,7 @@ pub mod Alls
 pub mod Closings
 pub mod Delays
 pub mod Firsts
+pub mod FixedNoted
 pub mod FixedOnes
 pub mod Fixeds
 pub mod Fixes

@@ -251,6 +251,10 @@ abbrev pub lineup_named : List ℕ → List Listed → Option Lineup
 lineup_named id [] = None
 lineup_named id (l ∷ ls) = if is_named id l then Some l.lineup else lineup_named id ls
 
+-- whether a flight keeps a slot in the first regulation of this name
+abbrev pub keeps_slot_in : List ℕ → List Listed → ℕ → Bool
+keeps_slot_in id lists flight = option_map_or (λ l. is_some (fixed_slot l flight)) (lineup_named id lists) false
+
 -- the pairs of a flight, regulation by regulation
 abbrev pub pairs_in : ℕ → List Listed → List (List Placed)
 pairs_in flight lists = map (λ l. pairs_of flight l.lineup.fixed) lists

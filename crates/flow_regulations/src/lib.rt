@@ -23,6 +23,5 @@ pub use closed::Closed;
 pub use due_queue::{Awaited, DueQueue};
 pub use notice::{Notice, Said, Told, Window};
 pub use places::Place;
-pub use regulation::is_due;
 pub use regulations::Regulations;
 pub use window::window_of;

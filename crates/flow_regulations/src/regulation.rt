@@ -1,5 +1,5 @@
 //! An open regulation.
-ghost use Rattle.std.specs.Prelude.{◌≡◌, ◌<◌, ◌≤◌, ℕ, List, None, Some, true, IfSome, IfOk, OnOk, length};
+ghost use Rattle.std.specs.Prelude.{◌≡◌, ◌<◌, ◌≤◌, ℕ, List, None, Some, true, IfSome, IfOk, OnOk, IsTrue, ◌↔◌, length};
 ghost use Rattle.flow_plans.specs.Plans.{Plan as Held, plan_at, is_departed, is_filed};
 ghost use Rattle.flow_slots.specs.Lineup.{held_slot, fixed_slot, without_flight, waiting_entry, len_of, IsLineup};
 ghost use Rattle.flow_slots.specs.Period.{IsWithin, IsRegular};
@@ -62,6 +62,13 @@ impl<A: Allocator + Copy> Regulation<A> {
         self.id.as_bytes() == id.as_bytes()
     }
 
+    /// Whether it is this regulation: of the same name and place, with the same slot list.
+    pub(crate) fn is(&self, other: &Regulation<A>) -> bool
+        ensures { IsTrue result ↔ (self.now ≡ other.now) }
+    {
+        self.is_named(&other.id) && self.spot == other.spot && self.list.same(&other.list)
+    }
+
     /// Its slot list.
     pub(crate) fn list(&self) -> &SlotList<A>
         ensures { result.now.lineup ≡ self.now.lineup }
@@ -103,6 +110,7 @@ impl<A: Allocator + Copy> Regulation<A> {
     }
 
     /// The slot that a flight keeps, None where it keeps none.
+    #[inline(always)]
     fn fixed_slot(&self, number: u32) -> Option<u32>
         ensures slot { result ≡ fixed_slot self.now.lineup number }
         ensures below { IfSome result (λ k. k < len_of self.now.lineup) }
@@ -117,6 +125,7 @@ impl<A: Allocator + Copy> Regulation<A> {
 
     /// Whether a fixed flight keeps its slot: it has departed, or it is subject and due and its slot is not before its
     /// entry.
+    #[inline(always)]
     fn keeps(&self, plans: &PlanStore<A>, number: u32, now: Minute) -> bool
         requires some { 0 < number }
         requires within { number ≤ length plans.now.plans }
@@ -136,6 +145,7 @@ impl<A: Allocator + Copy> Regulation<A> {
     }
 
     /// Takes a flight out, where it is held.
+    #[inline(always)]
     fn take_out(&mut self, number: u32)
         ensures { self.new ≡ with_lineup (without_flight number self.old.lineup) self.old }
     {
@@ -292,7 +302,7 @@ impl<A: Allocator + Copy> Regulation<A> {
 }
 
 /// Whether the flight of this number is due: filed, and at most two hours before its off-block moment.
-pub fn is_due<A: Allocator + Copy>(plans: &PlanStore<A>, number: u32, now: Minute) -> bool
+pub(crate) fn is_due<A: Allocator + Copy>(plans: &PlanStore<A>, number: u32, now: Minute) -> bool
     requires { 0 < number }
     ensures { (p : Held) → plan_at plans.now.plans number ≡ Some p → result ≡ is_due now p }
 {

@@ -1,12 +1,12 @@
 //! The open regulations.
-ghost use Rattle.std.specs.Prelude.{◌≡◌, ◌<◌, ◌≤◌, ◌+◌, ◌++◌, ℕ, List, [], false, true, ◌∷◌, None, Some, IfSome, IfNone, IfOk, MatchOption, OnOk, OnErr, length, map, vec_capacity};
+ghost use Rattle.std.specs.Prelude.{◌≡◌, ◌<◌, ◌≤◌, ◌+◌, ◌++◌, ℕ, List, [], false, true, ◌∷◌, None, Some, IfSome, IfNone, IfOk, IsTrue, ◌↔◌, MatchOption, OnOk, OnErr, length, map, vec_capacity};
 ghost use Rattle.std.specs.List.{All, AllByRecursion, insert, list_any};
-ghost use Rattle.std.specs.List.Sorted.{IsNonDecreasing};
+ghost use Rattle.std.specs.List.Sorted.{IsNonDecreasing, IsStrictlyIncreasing};
 ghost use Rattle.flow_plans.specs.Plans.{Plan, plan_at};
 ghost use Rattle.flow_slots.specs.Assignment.{is_in};
 ghost use Rattle.flow_regulations.specs.Advice.{advice};
 ghost use Rattle.flow_regulations.specs.Awaiting.{HaveBecomeDue};
-ghost use Rattle.flow_regulations.specs.Listing.{Listed, Walked, without_in, IsLookedAgain, IsListed, AreSettledBut, AreSameBut, AreRenewed, IsFixedWaiting, AreFrozen, IsSettled, IsAdvancing, is_below, is_among, with_fixed_waiting, AreDue, HoldNewlyDue, HaveCapacity, names_in, IsReleased, IsOpened, opened, is_named, without_named, lineup_named, IsNamedAt, MayReopen, pairs_in, regulation_of};
+ghost use Rattle.flow_regulations.specs.Listing.{Listed, Walked, without_in, IsLookedAgain, IsListed, AreSettledBut, AreSameBut, AreRenewed, IsFixedWaiting, AreFrozen, IsSettled, IsAdvancing, is_below, is_among, with_fixed_waiting, AreDue, HoldNewlyDue, HaveCapacity, names_in, IsReleased, IsOpened, opened, is_named, without_named, lineup_named, keeps_slot_in, IsNamedAt, MayReopen, pairs_in, regulation_of};
 ghost use Rattle.flow_regulations.specs.Settling.{pairs_of};
 ghost use Rattle.flow_regulations.specs.Notices.{notices_from, told_from};
 ghost use Rattle.flow_regulations.specs.Places.{ArePlaces};
@@ -14,7 +14,7 @@ ghost use Rattle.flow_regulations.specs.Quiet.{AreQuietBut, AllQuiet};
 
 use crate::advice::advice_of;
 use crate::closed::Closed;
-use crate::fixed_flights::fixed_flights;
+use crate::fixed_flights::note_fixed;
 use crate::notice::{Notice, Told};
 use crate::places::Place;
 use crate::regulation::{Regulation, is_due};
@@ -66,6 +66,14 @@ impl<A: Allocator + Copy> Regulations<A> {
         self.regulations.len()
     }
 
+    /// Whether the same regulations are open, of the same names and places and with the same slot lists, in the same order.
+    /// It takes no memory.
+    pub fn same(&self, other: &Regulations<A>) -> bool
+        ensures { IsTrue result ↔ (self.now.lists ≡ other.now.lists) }
+    {
+        are_same(&self.regulations, &other.regulations)
+    }
+
     /// Opens one more regulation, the last in order, of a name that isn't open: the flights that it applies to wait in it,
     /// and those that are due are fixed. Refused where memory is; then nothing has changed.
     pub fn open(
@@ -105,18 +113,22 @@ impl<A: Allocator + Copy> Regulations<A> {
         list_named(&self.regulations, id)
     }
 
-    /// The flights that keep slots in the open regulation of this name, by rising number; none where none of this name is
-    /// open. Of no other flight the regulation makes a difference to the advice. Refused where memory is.
-    pub fn fixed_flights(&self, alloc: A, id: &Text<8>) -> Result<Vec<u32, A>, AllocError>
-        ensures rising { IfOk result (λ v. IsNonDecreasing v.items) }
-        ensures numbers { IfOk result (λ v. (taxi now : ℕ) (plans : List Plan) → IsSettled taxi now plans self.now.lists
-            → All (λ n. (0 < n) × (n ≤ length plans)) v.items) }
-        ensures others { IfOk result (λ v. (f : ℕ) → is_in f v.items ≡ false
+    /// Notes the flights that keep slots in the open regulation of this name, by rising number; none where none of this name
+    /// is open. To the advice of no other flight does the regulation make a difference. Refused where memory is.
+    pub fn note_fixed(&self, id: &Text<8>, flights: &mut Vec<u32, A>) -> Result<(), AllocError>
+        ensures rising { OnOk result (IsStrictlyIncreasing flights.new.items) }
+        ensures each { OnOk result (All (λ n. keeps_slot_in id.now self.now.lists n ≡ true) flights.new.items) }
+        ensures numbers { OnOk result ((taxi now : ℕ) (plans : List Plan) → IsSettled taxi now plans self.now.lists
+            → All (λ n. (0 < n) × (n ≤ length plans)) flights.new.items) }
+        ensures others { OnOk result ((f : ℕ) → is_in f flights.new.items ≡ false
             → AllByRecursion (λ l. is_named id.now l ≡ true → pairs_of f l.lineup.fixed ≡ []) self.now.lists) }
     {
         match list_named(&self.regulations, id) {
-            Some(list) => fixed_flights(alloc, list),
-            None => Ok(Vec::new(alloc)),
+            Some(list) => note_fixed(list, flights),
+            None => {
+                flights.clear();
+                Ok(())
+            }
         }
     }
 
@@ -278,6 +290,21 @@ impl<A: Allocator + Copy> Regulations<A> {
     {
         tell(&self.regulations, plans, changed, told, notices);
     }
+}
+
+/// Whether these are the same regulations, in the same order.
+fn are_same<A: Allocator + Copy>(regulations: &[Regulation<A>], others: &[Regulation<A>]) -> bool
+    ensures { IsTrue result ↔ (regulations.now ≡ others.now) }
+{
+    if regulations.len() != others.len() {
+        return false;
+    }
+    for (index, regulation) in regulations.iter().enumerate() {
+        if !regulation.is(&others[index]) {
+            return false;
+        }
+    }
+    true
 }
 
 /// Each regulation looks again at one flight.

@@ -1,6 +1,8 @@
 //! A worked example of 2024-09-01: arrivals regulated from 10:00 to 12:00, twenty an hour, with one flight that enters at
 //! 10:04 and leaves its stand at 08:00.
 
+ghost use Rattle.std.specs.Prelude.{◌≡◌, ◌<◌, ◌≤◌, length};
+
 use crate::notice::{Notice, Said, Told};
 use crate::places::Place;
 use crate::regulations::Regulations;
@@ -10,7 +12,7 @@ use flow_slots::Shape;
 use fpl_message::Spot;
 use fpl_text::Text;
 use linked_list_allocator::LocalHeap;
-use std::alloc::AllocError;
+use std::alloc::{AllocError, Global};
 use std::process::Abort;
 use std::test::Fail;
 
@@ -117,7 +119,8 @@ fn a_closed_regulation_is_opened_again(rt: HostRuntime) -> Result<(), Fail> {
     let shape = Shape::new(at(10, 0), at(12, 0), 20, &[]).expect(&rt, "a shape");
     let mut regulations = Regulations::new(rt.alloc(), 100);
     regulations.open(rt.alloc(), id.copied(), arrivals, shape, &plans, at(6, 0))?;
-    let kept = regulations.fixed_flights(rt.alloc(), &id)?;
+    let mut kept = Vec::new(rt.alloc());
+    regulations.note_fixed(&id, &mut kept)?;
     assert_eq!(rt; kept.as_slice(), [1].as_slice());
     let closed = regulations.shut(&id).expect(&rt, "a regulation");
     assert_eq!(rt; regulations.count(), 0);
@@ -131,6 +134,66 @@ fn a_closed_regulation_is_opened_again(rt: HostRuntime) -> Result<(), Fail> {
 /// Whether flight 1 keeps a slot.
 fn is_fixed(rt: &impl Abort, regulations: &Regulations, id: &Text<8>) -> bool {
     regulations.slots(id).expect(rt, "a slot list").is_fixed(1)
+}
+
+/// Opens a regulation of arrivals at EDDF from 10:00 to 12:00.
+fn open_arrivals(
+    rt: &impl Abort,
+    alloc: Global,
+    regulations: &mut Regulations,
+    plans: &PlanStore,
+    id: Text<8>,
+) -> Result<(), AllocError>
+    requires { 0 < regulations.old.max_plans }
+    ensures { regulations.new.max_plans ≡ regulations.old.max_plans }
+{
+    assert!(rt; plans.count() == 1);
+    assert!(rt; !regulations.is_open(&id));
+    let shape = Shape::new(at(10, 0), at(12, 0), 20, &[]).expect(rt, "a shape");
+    let arrivals = Spot::Arr(Text::new(b"EDDF"));
+    regulations.open(alloc, id, arrivals, shape, plans, at(6, 0))
+}
+
+/// Two regulations of arrivals, opened in this order.
+fn two(
+    rt: &impl Abort,
+    alloc: Global,
+    plans: &PlanStore,
+    first: &[u8],
+    second: &[u8],
+) -> Result<Regulations, AllocError>
+    requires first { length first.now ≤ 8 }
+    requires second { length second.now ≤ 8 }
+{
+    let mut regulations = Regulations::new(alloc, 100);
+    open_arrivals(rt, alloc, &mut regulations, plans, Text::new(first))?;
+    open_arrivals(rt, alloc, &mut regulations, plans, Text::new(second))?;
+    Ok(regulations)
+}
+
+#[test]
+fn the_same_regulations_are_open(rt: HostRuntime) -> Result<(), Fail> {
+    let plans = one_plan(&rt, rt.alloc())?;
+    assert!(rt; plans.count() == 1);
+    let regulations = two(&rt, rt.alloc(), &plans, b"RMZ01", b"RMZ02")?;
+    let mut others = two(&rt, rt.alloc(), &plans, b"RMZ01", b"RMZ02")?;
+    assert!(rt; regulations.same(&others));
+    others.release_all(&plans, &[1]);
+    assert!(rt; !regulations.same(&others), "a flight that waits");
+    others.advance_due(&[1]);
+    assert!(rt; regulations.same(&others));
+    others.take_last();
+    assert!(rt; !regulations.same(&others), "one regulation more");
+    Ok(())
+}
+
+#[test]
+fn regulations_opened_in_another_order_differ(rt: HostRuntime) -> Result<(), Fail> {
+    let plans = one_plan(&rt, rt.alloc())?;
+    let regulations = two(&rt, rt.alloc(), &plans, b"RMZ01", b"RMZ02")?;
+    let others = two(&rt, rt.alloc(), &plans, b"RMZ02", b"RMZ01")?;
+    assert!(rt; !regulations.same(&others));
+    Ok(())
 }
 
 /// Whether a regulation is opened over a heap. Where it is refused for want of memory, none is open.

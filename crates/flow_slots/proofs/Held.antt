@@ -37,7 +37,7 @@ slot_in-here f x xs e = ap (λ b. cond b (Some x.slot) (slot_in f xs)) (eq-eqb x
 flight_in-other : (k : ℕ) (x : Placed) (xs : List Placed) → (x.slot ≡ k → ⊥) → flight_in k (x ∷ xs) ≡ flight_in k xs
 flight_in-other k x xs ne = ap (λ b. cond b (Some x.flight) (flight_in k xs)) (ne_eqb x.slot k ne)
 
-flight_in-here : (k : ℕ) (x : Placed) (xs : List Placed) → x.slot ≡ k → flight_in k (x ∷ xs) ≡ Some x.flight
+pub flight_in-here : (k : ℕ) (x : Placed) (xs : List Placed) → x.slot ≡ k → flight_in k (x ∷ xs) ≡ Some x.flight
 flight_in-here k x xs e = ap (λ b. cond b (Some x.flight) (flight_in k xs)) (eq-eqb x.slot k e)
 
 -- a flight that stands in no cell
@@ -96,14 +96,14 @@ slot_found-is f o (suc k) i (Waiting w ∷ cs) q e a =
     ap (first_of (slot_in f (fixed_of (o + 1) cs))) (slot_in-other f (record { flight = w.flight; slot = o }) (placed_of (o + 1) cs) (λ s. StandsOnlyAt-first f k (Waiting w) cs a (ap Some s))) ∙ slot_found-is f (o + 1) k i cs (omega arith) e (StandsOnlyAt-tail f k (Waiting w) cs a)
 
 -- the flights of the cells from slot `o` on stand at `o` or later
-fixed_of-later : (k o : ℕ) (cs : List Cell) → k < o → flight_in k (fixed_of o cs) ≡ None
+pub fixed_of-later : (k o : ℕ) (cs : List Cell) → k < o → flight_in k (fixed_of o cs) ≡ None
 fixed_of-later k o [] h = refl
 fixed_of-later k o (Empty ∷ cs) h = fixed_of-later k (o + 1) cs (omega arith)
 fixed_of-later k o (Waiting w ∷ cs) h = fixed_of-later k (o + 1) cs (omega arith)
 fixed_of-later k o (Fixed f ∷ cs) h =
     flight_in-other k (record { flight = f; slot = o }) _ (λ e. omega arith) ∙ fixed_of-later k (o + 1) cs (omega arith)
 
-placed_of-later : (k o : ℕ) (cs : List Cell) → k < o → flight_in k (placed_of o cs) ≡ None
+pub placed_of-later : (k o : ℕ) (cs : List Cell) → k < o → flight_in k (placed_of o cs) ≡ None
 placed_of-later k o [] h = refl
 placed_of-later k o (Empty ∷ cs) h = placed_of-later k (o + 1) cs (omega arith)
 placed_of-later k o (Fixed f ∷ cs) h = placed_of-later k (o + 1) cs (omega arith)

@@ -16,6 +16,7 @@ pub mod Optimal
 pub mod Orderly
 pub mod Periods
 pub mod Room
+pub mod Same
 pub mod Steps
 pub mod TakenBack
 pub mod Tied

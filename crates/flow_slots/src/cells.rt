@@ -1,4 +1,4 @@
-ghost use Rattle.std.specs.Prelude.{◌≡◌, ℕ, ◌<◌, ◌^◌, IfOk, length, replicate};
+ghost use Rattle.std.specs.Prelude.{◌≡◌, ℕ, ◌<◌, ◌^◌, ◌↔◌, IfOk, IsTrue, length, replicate};
 ghost use Rattle.flow_slots.specs.CellRow.{CellRow, written};
 ghost use Rattle.flow_slots.specs.Row.{cell_at, flight_at};
 ghost use Rattle.flow_slots.specs.declared.cell.Cell.TheVariants.{Empty};
@@ -65,6 +65,13 @@ impl<A: Allocator + Copy> Cells<A> {
             Cell::Waiting(planned) => Some(planned.flight),
             Cell::Fixed(flight) => Some(flight),
         }
+    }
+
+    /// Whether the same stands in each cell, however often it was written.
+    pub(crate) fn same(&self, other: &Cells<A>) -> bool
+        ensures { IsTrue result ↔ (self.now.row ≡ other.now.row) }
+    {
+        self.row.as_slice() == other.row.as_slice()
     }
 
     /// How often a cell was written, to 2^64 - 1, where the count stays.

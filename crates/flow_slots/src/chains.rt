@@ -7,6 +7,7 @@ ghost use Rattle.flow_slots.specs.Walk.{displace, has_empty, next_up, close, Fol
 use crate::cell::{Cell, Planned};
 use crate::cells::Cells;
 use crate::first_slots::FirstSlots;
+use crate::held_slot::HeldSlot;
 use std::alloc::Allocator;
 
 /// The first slot from `from` on that is empty or held by a flight that waits and doesn't stand
@@ -34,7 +35,7 @@ pub(crate) fn first_later<A: Allocator + Copy>(cells: &Cells<A>, from: u32, flig
 /// it: each flight takes the slot of the next one that waits, the last one the empty slot.
 pub(crate) fn displace<A: Allocator + Copy>(
     cells: Cells<A>,
-    places: &mut [Option<u32>],
+    places: &mut [HeldSlot],
     from: u32,
     flight: Planned,
 ) -> Cells<A>
@@ -54,13 +55,13 @@ pub(crate) fn displace<A: Allocator + Copy>(
         match row.cell(k) {
             Cell::Empty => {
                 row.write(k, Cell::Waiting(coming));
-                places[coming.flight as usize] = Some(k);
+                places[coming.flight as usize] = HeldSlot::of(k);
                 return row;
             }
             Cell::Fixed(_) => {}
             Cell::Waiting(held) => {
                 row.write(k, Cell::Waiting(coming));
-                places[coming.flight as usize] = Some(k);
+                places[coming.flight as usize] = HeldSlot::of(k);
                 coming = held;
             }
         }
@@ -100,7 +101,7 @@ fn next_up<A: Allocator + Copy>(
 /// Takes `flight` out of slot `k`: flights move up into the hole that it leaves.
 pub(crate) fn vacate<A: Allocator + Copy>(
     cells: Cells<A>,
-    places: &mut [Option<u32>],
+    places: &mut [HeldSlot],
     shape: &FirstSlots<A>,
     flight: u32,
     k: u32,
@@ -115,10 +116,10 @@ pub(crate) fn vacate<A: Allocator + Copy>(
 {
     let mut row = cells;
     let mut hole = k;
-    places[flight as usize] = None;
+    places[flight as usize] = HeldSlot::none();
     while let Some((next, held)) = next_up(&row, shape, hole) {
         row.write(hole, Cell::Waiting(held));
-        places[held.flight as usize] = Some(hole);
+        places[held.flight as usize] = HeldSlot::of(hole);
         hole = next;
     }
     row.write(hole, Cell::Empty);

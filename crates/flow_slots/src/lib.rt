@@ -6,6 +6,7 @@ mod cells;
 mod chains;
 mod change_list;
 mod first_slots;
+mod held_slot;
 pub mod laws;
 mod row;
 mod shape;

@@ -10,13 +10,14 @@ use crate::cell::{Cell, Planned};
 use crate::cells::Cells;
 use crate::chains::{displace, first_later, vacate};
 use crate::first_slots::FirstSlots;
+use crate::held_slot::HeldSlot;
 use std::alloc::{AllocError, Allocator};
 
 /// The row of slots, and for each flight, by its number, the slot in which it stands.
 #[derive(Drop)]
 pub(crate) struct Row<A: Allocator + Copy> {
     pub(crate) cells: Cells<A>,
-    pub(crate) places: Vec<Option<u32>, A>,
+    pub(crate) places: Vec<HeldSlot, A>,
 }
 
 impl<A: Allocator + Copy> Row<A> {
@@ -29,16 +30,17 @@ impl<A: Allocator + Copy> Row<A> {
     {
         Ok(Row {
             cells: Cells::new(alloc, len)?,
-            places: vec![in alloc; None; last as usize + 1]?,
+            places: vec![in alloc; HeldSlot::none(); last as usize + 1]?,
         })
     }
 
     /// The slot in which `flight` stands.
+    #[inline(always)]
     pub(crate) fn place(&self, flight: u32) -> Option<u32>
         ensures { result ≡ place_at self.now.places.items flight }
     {
         if (flight as usize) < self.places.len() {
-            self.places[flight as usize]
+            self.places[flight as usize].get()
         } else {
             None
         }
@@ -103,9 +105,9 @@ impl<A: Allocator + Copy> Row<A> {
     {
         let cell = self.cells.cell(k);
         self.cells.write(k, Cell::Fixed(flight));
-        self.places[flight as usize] = Some(k);
+        self.places[flight as usize] = HeldSlot::of(k);
         if let Cell::Waiting(held) = cell {
-            self.places[held.flight as usize] = None;
+            self.places[held.flight as usize] = HeldSlot::none();
             let cells = self.cells.take();
             self.cells = displace(cells, self.places.as_mut_slice(), k + 1, held);
         }

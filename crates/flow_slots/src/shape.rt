@@ -193,6 +193,16 @@ impl Shape {
         )
     }
 
+    /// Whether it is this shape: the same period, rates and sub-periods.
+    pub(crate) fn is(&self, other: &Shape) -> bool
+        ensures { IsTrue result ↔ (self.now ≡ other.now) }
+    {
+        self.start == other.start
+            && self.end == other.end
+            && self.rate == other.rate
+            && self.parts[..self.count] == other.parts[..other.count]
+    }
+
     /// The minute of the start.
     #[inline(always)]
     pub(crate) fn start_minutes(&self) -> u32

@@ -1,4 +1,4 @@
-ghost use Rattle.std.specs.Prelude.{◌≡◌, ℕ, ◌+◌, ◌<◌, ◌≤◌, length, [], None, ◌↔◌, IfOk, IfSome, IsSome, IsTrue};
+ghost use Rattle.std.specs.Prelude.{◌≡◌, ℕ, ◌+◌, ◌<◌, ◌≤◌, length, [], None, Some, ◌↔◌, IfOk, IfSome, IsSome, IsTrue};
 ghost use Rattle.flow_slots.specs.Period.{IsWithin};
 ghost use Rattle.flow_slots.specs.Changed.{moved_flights};
 ghost use Rattle.flow_slots.specs.Delay.{HasLeastDelay, Rise, waiting_slots};
@@ -69,10 +69,11 @@ impl<A: Allocator + Copy> SlotList<A> {
         })
     }
 
-    /// The greatest flight number.
+    /// The greatest flight number: each flight that is held has one from 1 to it.
     pub fn max_plans(&self) -> u32
         ensures value { result ≡ self.now.lineup.capacity }
         ensures most { result ≤ 20000 }
+        ensures held { (flight k : ℕ) → held_slot self.now.lineup flight ≡ Some k → (0 < flight) × (flight ≤ result) }
     {
         self.capacity
     }
@@ -109,6 +110,7 @@ impl<A: Allocator + Copy> SlotList<A> {
     }
 
     /// The slot of a flight, None where it isn't held.
+    #[inline(always)]
     pub fn slot_of(&self, flight: u32) -> Option<u32>
         ensures slot { result ≡ held_slot self.now.lineup flight }
         ensures within { IfSome result (λ k. k < len_of self.now.lineup) }
@@ -117,6 +119,7 @@ impl<A: Allocator + Copy> SlotList<A> {
     }
 
     /// The entry of a flight that waits, None where it doesn't.
+    #[inline(always)]
     pub fn entry_of(&self, flight: u32) -> Option<Minute>
         ensures entry { result ≡ waiting_entry self.now.lineup flight }
         ensures within { IfSome result (λ e. IsWithin self.now.lineup.period e) }
@@ -136,6 +139,17 @@ impl<A: Allocator + Copy> SlotList<A> {
         } else {
             None
         }
+    }
+
+    /// Whether both stand for the same lineup: the same period and rates, room for as many flights, and
+    /// in each slot the same flight, which waits from the same entry or keeps the slot in both. How often
+    /// their cells were written makes no difference.
+    pub fn same(&self, other: &SlotList<A>) -> bool
+        ensures { IsTrue result ↔ (self.now.lineup ≡ other.now.lineup) }
+    {
+        self.max_plans() == other.max_plans()
+            && self.shape().is(other.shape())
+            && self.row.cells.same(&other.row.cells)
     }
 
     /// Takes a flight in, to wait in the order of its entry, ties by the lower number; later flights
@@ -169,6 +183,7 @@ impl<A: Allocator + Copy> SlotList<A> {
     }
 
     /// Whether a flight keeps its slot.
+    #[inline(always)]
     pub fn is_fixed(&self, flight: u32) -> bool
         ensures { IsTrue result ↔ IsSome (fixed_slot self.now.lineup flight) }
     {

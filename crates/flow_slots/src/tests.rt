@@ -217,3 +217,65 @@ fn a_refused_growth_gives_no_list(rt: HostRuntime) -> Result<(), AllocError> {
     assert!(rt; 0 < refused && 0 < made);
     Ok(())
 }
+
+/// Three flights, the third one fixed where it waits.
+fn three(rt: &impl Abort, list: &mut SlotList) {
+    take_in(rt, list, 1, at(0));
+    take_in(rt, list, 2, at(4));
+    take_in(rt, list, 3, at(0));
+    fix(rt, list, 3);
+}
+
+#[test]
+fn lists_made_in_other_ways_are_the_same(rt: HostRuntime) -> Result<(), AllocError> {
+    let mut list = SlotList::new(rt.alloc(), two_hours(&rt, 20, &later_rates()), 1000)?;
+    let mut other = SlotList::new(rt.alloc(), two_hours(&rt, 20, &later_rates()), 1000)?;
+    assert!(rt; list.same(&other), "two empty lists");
+    three(&rt, &mut list);
+    assert!(rt;
+        !list.same(&other) && !other.same(&list),
+        "three flights and none"
+    );
+    take_in(&rt, &mut other, 4, at(0));
+    put_fixed(&rt, &mut other, 3, 1);
+    take_in(&rt, &mut other, 2, at(4));
+    take_out(&rt, &mut other, 4);
+    take_in(&rt, &mut other, 1, at(0));
+    assert!(rt; list.cells().writes() < other.cells().writes());
+    assert!(rt;
+        list.same(&other) && other.same(&list),
+        "after other changes"
+    );
+    Ok(())
+}
+
+#[test]
+fn what_sets_lists_apart(rt: HostRuntime) -> Result<(), AllocError> {
+    let mut list = SlotList::new(rt.alloc(), two_hours(&rt, 20, &[]), 1000)?;
+    let mut other = SlotList::new(rt.alloc(), two_hours(&rt, 20, &[]), 1000)?;
+    three(&rt, &mut list);
+    three(&rt, &mut other);
+    assert!(rt; list.same(&other));
+    release(&rt, &mut other, 3, at(0));
+    assert_eq!(rt; slots(&list), slots(&other));
+    assert!(rt; !list.same(&other), "a flight that waits in one of them");
+    fix(&rt, &mut other, 3);
+    assert!(rt; list.same(&other));
+    take_out(&rt, &mut other, 2);
+    take_in(&rt, &mut other, 2, at(5));
+    assert_eq!(rt; slots(&list), slots(&other));
+    assert!(rt; !list.same(&other), "another entry");
+    Ok(())
+}
+
+#[test]
+fn empty_lists_of_other_shapes_differ(rt: HostRuntime) -> Result<(), AllocError> {
+    let list = SlotList::new(rt.alloc(), two_hours(&rt, 20, &later_rates()), 1000)?;
+    let other = SlotList::new(rt.alloc(), two_hours(&rt, 20, &later_rates()), 999)?;
+    assert!(rt; !list.same(&other), "the number of flights");
+    let other = SlotList::new(rt.alloc(), two_hours(&rt, 21, &later_rates()), 1000)?;
+    assert!(rt; !list.same(&other), "the first rate");
+    let other = SlotList::new(rt.alloc(), two_hours(&rt, 20, &[]), 1000)?;
+    assert!(rt; !list.same(&other), "the sub-periods");
+    Ok(())
+}

@@ -1,10 +1,13 @@
 pub mod Changing
 pub mod Telling
 pub mod Periods
-pub mod Noting
+pub mod Rising
+pub mod Alike
 pub mod Settles
 pub mod Answered
 pub mod ToldAgain
+pub mod Noted
 pub mod TakenBack
 pub mod Both
 pub mod Slots
+pub mod FrozenStay

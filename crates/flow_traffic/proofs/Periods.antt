@@ -1,5 +1,5 @@
 -- The limits of a regulation, as its shape has them.
-use Rattle.std.proofs.Common.{◌≡◌, ℕ, ◌-◌, ◌≤◌, ◌<◌, List, [], ◌∷◌, Bool, true, false, ◌&&◌, nat_lt, nat_le, length, refl, arith}
+use Rattle.std.proofs.Common.{◌≡◌, ℕ, ◌-◌, ◌≤◌, List, [], ◌∷◌, true, nat_lt, nat_le, length}
 use Rattle.std.proofs.lemmas.Bool.{ltb-true, leb-true, and_parts}
 use Rattle.fpl_text.specs.declared.part.Part.{Part}
 use Rattle.fpl_message.specs.declared.order.OpenReg.{OpenReg}

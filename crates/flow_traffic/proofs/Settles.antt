@@ -1,8 +1,7 @@
 -- The regulations after a message about one flight.
-use Rattle.std.proofs.Common.{◌≡◌, ℕ, ◌<◌, List, map, Bool, true, false}
+use Rattle.std.proofs.Common.{◌≡◌, ℕ, List, map, true, false}
 use Rattle.flow_plans.specs.Plans.{Plan}
-use Rattle.flow_regulations.specs.Listing.{Listed, regulation_of, IsListed, IsSettled, AreSettledBut, AreSameBut, AreRenewed, AreFrozen, pairs_in}
-use Rattle.flow_regulations.proofs.Steps.{settled-but}
+use Rattle.flow_regulations.specs.Listing.{Listed, regulation_of, AreRenewed, AreFrozen, pairs_in}
 use Rattle.flow_regulations.proofs.Stays.{keeps-trans}
 use Rattle.flow_regulations.proofs.ForTheDesk.{kept-slots-settled, kept-slots-frozen}
 use Rattle.flow_traffic.specs.Kept.{IsSettledFor}

@@ -1,9 +1,9 @@
 -- The slot list of an open regulation.
-use Rattle.std.proofs.Common.{◌≡◌, ◌∙◌, ℕ, List, [], ◌∷◌, map, refl, ap, Bool, true, false, if◌then◌else◌, Option, Some, None}
+use Rattle.std.proofs.Common.{◌≡◌, ℕ, List, [], ◌∷◌, map, refl, ap, Bool, true, false, if◌then◌else◌, Some}
 use Rattle.std.specs.Option.{option_map}
 use Rattle.flow_plans.specs.Plans.{Plan}
 use Rattle.flow_slots.specs.Lineup.{Lineup}
-use Rattle.flow_regulations.specs.Regulations.{Regulation, lineup_of}
+use Rattle.flow_regulations.specs.Regulations.{lineup_of}
 use Rattle.flow_regulations.specs.Listing.{Listed, regulation_of, IsListed, is_named, lineup_named}
 use Rattle.flow_traffic.specs.Traffic.{regulation_named}
 

@@ -6,7 +6,8 @@ use Rattle.std.proofs.lemmas.Bool.{true≢false}
 use Rattle.std.proofs.lemmas.List.{take_more}
 use Rattle.std.proofs.lemmas.List.Elements.{All-nil, All-push}
 use Rattle.std.proofs.Math.Seq.{take-length, take-append_seam}
-use Rattle.flow_plans.specs.Plans.{Plan, plan_at}
+use Rattle.flow_plans.specs.declared.plan.Status.{Status}
+use Rattle.flow_plans.specs.Plans.{Plan, plan_at, status_at}
 use Rattle.flow_plans.specs.Stores.{Store}
 use Rattle.flow_slots.specs.Lineup.{Lineup, fixed_slot, with_waiting, without_flight}
 use Rattle.flow_regulations.specs.declared.notice.Told.{Told}
@@ -26,7 +27,7 @@ use Rattle.flow_traffic.specs.Traffic.{traffic_of}
 use Rattle.flow_traffic.specs.Kept.{IsKept}
 use Rattle.flow_traffic.specs.Reopening.{open_again}
 use Rattle.flow_traffic.specs.Telling.{told_again}
-use Rattle.flow_traffic.specs.Undoing.{Past, told_past, traffic_past, stood_again, waiting_again, all_waiting_again, CanUndo, WasKept, before_last, IsKeptWith}
+use Rattle.flow_traffic.specs.Undoing.{Past, told_past, traffic_past, stood_again, waiting_again, all_waiting_again, CanUndo, AreNoted, WasKept, before_last, IsKeptWith, past, undone, WasKeptBy}
 use Rattle.flow_traffic.specs.Answers.{told_to}
 use Rattle.flow_traffic.proofs.Both.{some-same}
 use Rattle.flow_traffic.proofs.ToldAgain.{told_to-undone}
@@ -162,10 +163,12 @@ pub was-kept : (p : Past) (store : Store) (listing : Listing) (changed : List �
     → store.taxi ≡ old_store.taxi → store.max_plans ≡ old_store.max_plans → listing.max_plans ≡ old_listing.max_plans
     → IsKept time old_store old_listing flights old_told
     → length noted ≡ length changed → All (λ n. (0 < n) × (n ≤ length told)) changed
+    → AreNoted store.plans old_store.plans old_told changed noted
     → WasKept store listing changed noted told p
-was-kept p store listing changed noted told time old_store old_listing flights old_told e1 e2 e3 e4 e5 e6 e7 k each numbers = record {
+was-kept p store listing changed noted told time old_store old_listing flights old_told e1 e2 e3 e4 e5 e6 e7 k each numbers changes = record {
   each = each;
   numbers = numbers;
+  changes = rw (e4, e2) changes;
   kept = λ queue covers. record {
     desk_time = rw e1 k.desk_time;
     limit = e7 ∙ k.limit ∙ sym e6;
@@ -199,6 +202,14 @@ told-before p changed noted told mid old_told plans old_plans e again place each
     ∙ ap (λ (ts : List (Option Told)). take (length old_plans) ts) (again ∙ place)
     ∙ told_to-undone plans old_told (length old_plans) each one more
 
+-- and where the plans are the same
+pub told-back : (p : Past) (changed : List ℕ) (noted told old_told : List (Option Told)) (plans : List Plan)
+    → p.plans ≡ plans → told_again changed noted told ≡ old_told → length old_told ≡ length plans → told_past p changed noted told ≡ old_told
+told-back p changed noted told old_told plans e again each =
+    ap (λ (ps : List Plan). take (length ps) (told_again changed noted told)) e
+    ∙ ap (λ (ts : List (Option Told)). take (length plans) ts) again
+    ∙ ap (λ k. take k old_told) (sym each) ∙ take-length old_told
+
 -- one number
 pub one-within : (n count : ℕ) (changed : List ℕ) → changed ≡ n ∷ [] → 0 < n → n ≤ count → All (λ m. (0 < m) × (m ≤ count)) changed
 one-within n count changed e some within =
@@ -228,3 +239,40 @@ kept-again time p store new_store listing new flights told new_told k e1 e2 e3 e
   covers = rw (e1, e4) k.covers;
   quiet = rw (e7, e2, e4, e6) k.quiet;
 }
+
+-- a reading that changed something
+pub undone-was : (l : last.Last) (time : ℕ) (store : Store) (lists : List Listed) (places : List Place) (changed : List ℕ) (closed : Option Closing) (noted told : List (Option Told)) (notices : List Notice) (issued : ℕ)
+    → (l ≡ reading.Nothing → ⊥) → (l ≡ reading.Refused → ⊥)
+    → undone l time store lists places changed closed noted told notices issued ≡ Some (traffic_past store (past l time store lists places changed closed) changed noted told (take issued notices))
+undone-was reading.Nothing time store lists places changed closed noted told notices issued a b = absurd (a refl)
+undone-was reading.Refused time store lists places changed closed noted told notices issued a b = absurd (b refl)
+undone-was (reading.Message number) time store lists places changed closed noted told notices issued a b = refl
+undone-was (reading.Time earlier) time store lists places changed closed noted told notices issued a b = refl
+undone-was reading.Open time store lists places changed closed noted told notices issued a b = refl
+undone-was reading.Shut time store lists places changed closed noted told notices issued a b = refl
+
+pub was-kept-by : (l : last.Last) (time : ℕ) (store : Store) (listing : Listing) (places : List Place) (changed : List ℕ) (closed : Option Closing) (noted told : List (Option Told))
+    → (l ≡ reading.Nothing → ⊥) → (l ≡ reading.Refused → ⊥)
+    → WasKeptBy l time store listing places changed closed noted told → WasKept store listing changed noted told (past l time store listing.lists places changed closed)
+was-kept-by reading.Nothing time store listing places changed closed noted told a b h = absurd (a refl)
+was-kept-by reading.Refused time store listing places changed closed noted told a b h = absurd (b refl)
+was-kept-by (reading.Message number) time store listing places changed closed noted told a b h = h
+was-kept-by (reading.Time earlier) time store listing places changed closed noted told a b h = h
+was-kept-by reading.Open time store listing places changed closed noted told a b h = h
+was-kept-by reading.Shut time store listing places changed closed noted told a b h = h
+
+-- what a plan was, where the plans before are known
+pub status-was : (o : Option (List Plan)) (ps : List Plan) (r : Option Status) (number : ℕ) → o ≡ Some ps → IfSome o (λ plans. r ≡ status_at plans number) → r ≡ status_at (option_map_or (λ qs. qs) o []) number
+status-was None ps r number e h = absurd (cc)
+status-was (Some qs) ps r number e h = h
+
+-- only a message changes plans
+pub status-stays : (l : last.Last) (time : ℕ) (store : Store) (lists : List Listed) (places : List Place) (changed : List ℕ) (closed : Option Closing) (noted told : List (Option Told)) (notices : List Notice) (issued : ℕ)
+    → ((n : ℕ) → l ≡ reading.Message n → ⊥) → (r : Option Status) (number : ℕ) → r ≡ status_at store.plans number
+    → IfSome (undone l time store lists places changed closed noted told notices issued) (λ before. r ≡ status_at before.plans number)
+status-stays reading.Nothing time store lists places changed closed noted told notices issued ne r number h = tt
+status-stays reading.Refused time store lists places changed closed noted told notices issued ne r number h = h
+status-stays (reading.Message n) time store lists places changed closed noted told notices issued ne r number h = absurd (ne n refl)
+status-stays (reading.Time earlier) time store lists places changed closed noted told notices issued ne r number h = h
+status-stays reading.Open time store lists places changed closed noted told notices issued ne r number h = h
+status-stays reading.Shut time store lists places changed closed noted told notices issued ne r number h = h

@@ -36,7 +36,8 @@ length-again [] os ts = refl
 length-again (n ∷ ns) [] ts = refl
 length-again (n ∷ ns) (o ∷ os) ts = length-again ns os (slice_set ts (n - 1) o) ∙ length-set ts (n - 1) o
 
-set-other : (ts : List (Option Told)) (j i : ℕ) (o : Option Told) → (i ≡ j → ⊥) → slice_get (slice_set ts j o) i ≡ slice_get ts i
+-- the others stay
+pub set-other : (ts : List (Option Told)) (j i : ℕ) (o : Option Told) → (i ≡ j → ⊥) → slice_get (slice_set ts j o) i ≡ slice_get ts i
 set-other [] j i o ne = refl
 set-other (t ∷ ts) zero zero o ne = absurd (ne refl)
 set-other (t ∷ ts) zero (suc i) o ne = refl

@@ -1,5 +1,5 @@
 -- What a reading asks of plans, regulations and time, or why it is refused.
-use Rattle.std.specs.Prelude.{ℕ, Bool, true, false, not, nat_lt, nat_le, if◌then◌else◌, List, [], ◌∷◌, ◌++◌, length, map, filter, Option, Result, Ok, Err}
+use Rattle.std.specs.Prelude.{ℕ, Bool, true, false, not, nat_lt, nat_le, List, [], ◌∷◌, ◌++◌, length, map, filter, Option, Result, Ok, Err}
 use Rattle.std.specs.List.{list_any}
 use Rattle.std.specs.Str.{bytes_eq}
 use Rattle.fpl_message.specs.declared.refusal.Refusal.{Refusal}
@@ -45,7 +45,7 @@ verdict_on told (fpl m) number = Accepted kind.Fpl number
 verdict_on told (dla m) number = Accepted kind.Dla number
 verdict_on told (chg m) number = Accepted kind.Chg number
 verdict_on told (cnl m) number = Accepted kind.Cnl number
-verdict_on told (dep m) number = Departed number (window_of (told_of told number) m.time)
+verdict_on told (dep m) number = Departed (window_of (told_of told number) m.time) number
 
 unfoldable pub is_departure : Message → Bool
 is_departure (fpl m) = false

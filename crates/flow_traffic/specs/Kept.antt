@@ -1,17 +1,17 @@
 -- How the traffic is kept: the slot lists are those of the plans, all regulations are settled, the queue holds each filed
 -- flight that isn't due, and no plan is left to which anything is to be said.
-use Rattle.std.specs.Prelude.{◌≡◌, ◌≤◌, ◌<◌, ℕ, Bool, true, List, length, map, Option}
-use Rattle.std.specs.List.{All}
-use Rattle.std.specs.List.Sorted.{IsNonDecreasing}
+use Rattle.std.specs.Prelude.{◌≡◌, ◌≤◌, ◌<◌, ℕ, Bool, true, false, List, [], length, map, Option}
+use Rattle.std.specs.List.{All, AllByRecursion}
+use Rattle.std.specs.List.Sorted.{IsStrictlyIncreasing}
 use Rattle.flow_plans.specs.Settings.{IsDeskTime}
 use Rattle.flow_plans.specs.Stores.{Store}
 use Rattle.flow_plans.specs.Plans.{Plan}
 use Rattle.flow_regulations.specs.declared.notice.Told.{Told}
 use Rattle.flow_regulations.specs.declared.due_queue.Awaited.{Awaited}
 use Rattle.flow_regulations.specs.Awaiting.{Covers}
-use Rattle.flow_regulations.specs.Settling.{settled}
+use Rattle.flow_regulations.specs.Settling.{settled, pairs_of}
 use Rattle.flow_slots.specs.Assignment.{is_in}
-use Rattle.flow_regulations.specs.Listing.{Listed, Listing, regulation_of, IsListed, IsSettled, is_due_flight, AreDue}
+use Rattle.flow_regulations.specs.Listing.{Listed, Listing, regulation_of, IsListed, IsSettled, is_named}
 use Rattle.flow_regulations.specs.Quiet.{AllQuiet, KeepsSlots}
 use Rattle.flow_traffic.specs.Asked.{departing, max_regulations}
 
@@ -34,10 +34,8 @@ pub record IsSettledFor (departs : Bool) (number taxi max now : ℕ) (before pla
   pub settled_in : IsSettled taxi now plans new
   pub others : (f : ℕ) → (f ≡ number → ⊥) → KeepsSlots f (map regulation_of lists) (map regulation_of new)
 
--- of the plans with numbers up to this one, all that are due are among these, by number
-pub record AreNoted (now : ℕ) (plans : List Plan) (last : ℕ) (due : List ℕ) : Type 0 where
-  pub rising : IsNonDecreasing due
-  pub numbers : All (λ n. (0 < n) × (n ≤ last)) due
-  pub all : (flight : ℕ) → 0 < flight → flight ≤ last → is_due_flight now plans flight ≡ true → is_in flight due ≡ true
-  pub are_due : AreDue now plans due
-  pub few : length due ≤ last
+-- the flights that keep slots in the open regulation of this name, by number: it makes a difference to the advice of no other
+pub record AreFixedIn (id : List ℕ) (lists : List Listed) (flights : List ℕ) : Type 0 where
+  pub rising : IsStrictlyIncreasing flights
+  pub numbers : (taxi now : ℕ) (plans : List Plan) → IsSettled taxi now plans lists → All (λ n. (0 < n) × (n ≤ length plans)) flights
+  pub others : (f : ℕ) → is_in f flights ≡ false → AllByRecursion (λ l. is_named id l ≡ true → pairs_of f l.lineup.fixed ≡ []) lists

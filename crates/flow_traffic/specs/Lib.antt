@@ -1,8 +1,11 @@
 pub mod Traffic
+pub mod Same
 pub mod Opening
 pub mod Telling
 pub mod Reopening
 pub mod Asked
 pub mod Answers
+pub mod Frozen
 pub mod Kept
 pub mod Undoing
+pub mod Changes

@@ -1,9 +1,11 @@
 -- What undoes the last reading.
-use Rattle.std.specs.Prelude.{◌≡◌, ◌≤◌, ◌<◌, ◌+◌, ◌-◌, ◌++◌, ℕ, List, [], ◌∷◌, length, map, take, Option, None, Some, IfSome}
+use Rattle.std.specs.Prelude.{◌≡◌, ◌≤◌, ◌<◌, ◌+◌, ◌-◌, ◌++◌, ℕ, false, List, [], ◌∷◌, length, map, take, Option, None, Some, IfSome}
 use Rattle.std.specs.List.{All}
+use Rattle.std.specs.List.Sorted.{IsStrictlyIncreasing}
 use Rattle.std.specs.Option.{option_map_or}
 use Rattle.flow_plans.specs.Plans.{Plan, plan_at}
 use Rattle.flow_plans.specs.Stores.{Store}
+use Rattle.flow_slots.specs.Assignment.{is_in}
 use Rattle.flow_slots.specs.Lineup.{without_flight}
 use Rattle.flow_regulations.specs.declared.notice.Told.{Told}
 use Rattle.flow_regulations.specs.declared.notice.Notice.{Notice}
@@ -13,7 +15,7 @@ use Rattle.flow_regulations.specs.Listing.{Listed, Listing, Closing, MayReopen, 
 use Rattle.flow_regulations.specs.Places.{stood, ArePlaces}
 use Rattle.flow_traffic.specs.declared.undo.Last as last
 use Rattle.flow_traffic.specs.declared.undo.Last.TheVariants as reading
-use Rattle.flow_traffic.specs.Traffic.{Traffic, traffic_of}
+use Rattle.flow_traffic.specs.Traffic.{Traffic, traffic_of, told_of}
 use Rattle.flow_traffic.specs.Telling.{told_again}
 use Rattle.flow_traffic.specs.Reopening.{open_again}
 use Rattle.flow_traffic.specs.Kept.{IsKept}
@@ -101,10 +103,18 @@ CanUndo (reading.Time earlier) time store listing queue places changed closed =
 CanUndo reading.Open time store listing queue places changed closed = (l : Listed) × (listing.lists ≡ before_last listing.lists ++ l ∷ [])
 CanUndo reading.Shut time store listing queue places changed closed = IfSome closed (λ c. MayReopen c listing)
 
+-- the numbers of some plans rise, all others stand as before, and this is what those were told before
+pub record AreNoted (plans before : List Plan) (told : List (Option Told)) (changed : List ℕ) (noted : List (Option Told)) : Type 0 where
+  pub rising : IsStrictlyIncreasing changed
+  pub each : length told ≡ length before
+  pub others : (number : ℕ) → 0 < number → is_in number changed ≡ false → plan_at plans number ≡ plan_at before number
+  pub were : noted ≡ map (told_of told) changed
+
 -- what plans were told can be put back, and then the traffic is kept as before
 pub record WasKept (store : Store) (listing : Listing) (changed : List ℕ) (noted told : List (Option Told)) (p : Past) : Type 0 where
   pub each : length noted ≡ length changed
   pub numbers : All (λ n. (0 < n) × (n ≤ length told)) changed
+  pub changes : AreNoted store.plans p.plans (told_past p changed noted told) changed noted
   pub kept : (flights : Awaiting) → Covers p.time p.plans flights.flights
       → IsKept p.time (record store { plans = p.plans }) (record listing { lists = p.lists }) flights.flights (told_past p changed noted told)
 

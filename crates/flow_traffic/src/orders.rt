@@ -1,23 +1,24 @@
 //! What orders do to the traffic.
-ghost use Rattle.std.specs.Prelude.{◌≡◌, ◌≤◌, ◌+◌, Some, None, IfSome, IfNone, OnOk, OnSome, length};
+ghost use Rattle.std.specs.Prelude.{◌≡◌, ◌≤◌, ◌+◌, Some, None, false, IfSome, IfNone, OnOk, OnErr, OnSome, length, vec_capacity};
+ghost use Rattle.std.specs.List.{list_any};
 ghost use Rattle.fpl_message.specs.Messages.{open_reg, shut_reg, set_time};
 ghost use Rattle.fpl_message.specs.Reads.{ord};
 ghost use Rattle.flow_plans.specs.Settings.{IsDeskTime};
+ghost use Rattle.flow_regulations.specs.Listing.{is_named, IsOpened};
 ghost use Rattle.flow_traffic.specs.Answers.{Answers};
-ghost use Rattle.flow_traffic.specs.Kept.{AreNoted};
+ghost use Rattle.flow_traffic.specs.Kept.{AreFixedIn};
+ghost use Rattle.flow_traffic.specs.Opening.{regulation_by};
 
-use crate::opening::shape_of;
+use crate::opening::shape_to_open;
 use crate::traffic::Traffic;
-use crate::undo::{Last, make_room_to_tell, note_told};
+use crate::undo::{Last, make_room_to_tell, note_told, tell_and_note};
 use crate::verdict::{Kind, Verdict};
 use flow_plans::PlanStore;
-use flow_regulations::is_due;
+use flow_regulations::{Notice, Regulations, Told};
+use flow_slots::Shape;
 use fpl_message::{OpenReg, Refusal};
 use fpl_text::{Minute, Text};
 use std::alloc::{AllocError, Allocator};
-
-/// How many regulations may be open at once.
-const MAX_REGULATIONS: usize = 64;
 
 impl<A: Allocator + Copy> Traffic<A> {
     /// Opens a regulation, and answers the verdict on it.
@@ -31,52 +32,37 @@ impl<A: Allocator + Copy> Traffic<A> {
         ensures few { length self.new.traffic.notices ≤ length self.old.traffic.notices + 20_000 }
     {
         self.last = Last::Nothing;
-        let shape = match shape_of(order) {
+        let shape = match shape_to_open(order, &self.regulations) {
             Ok(shape) => shape,
             Err(refusal) => {
                 self.last = Last::Refused;
                 return Some(Verdict::Refused(refusal));
             }
         };
-        if self.regulations.is_open(&order.id) {
-            self.last = Last::Refused;
-            return Some(Verdict::Refused(Refusal::RegulationHeld));
-        }
-        if self.regulations.count() >= MAX_REGULATIONS {
-            self.last = Last::Refused;
-            return Some(Verdict::Refused(Refusal::RegulationsFull));
-        }
-        let Ok(()) = note_due(&self.plans, self.time, &mut self.changed) else {
-            return None;
-        };
-        let count = self.changed.len();
-        let Ok(()) = make_room_to_tell(count, &mut self.noted, &mut self.notices) else {
-            return None;
-        };
-        self.issued = self.notices.len();
-        let opened = self.regulations.open(
+        let Ok(()) = open_and_note(
             self.alloc,
-            order.id.copied(),
-            order.place.copied(),
+            order,
             shape,
             &self.plans,
             self.time,
-        );
-        let Ok(()) = opened else {
+            &mut self.regulations,
+            &mut self.changed,
+            &mut self.noted,
+            &mut self.notices,
+        ) else {
             return None;
         };
-        note_told(&self.changed, &self.told, &mut self.noted);
         self.last = Last::Open;
-        self.regulations.tell(
+        self.issued = self.notices.len();
+        tell_and_note(
+            &self.regulations,
             &self.plans,
             &self.changed,
+            &mut self.noted,
             &mut self.told,
             &mut self.notices,
         );
-        Some(Verdict::Accepted {
-            kind: Kind::Open,
-            plan: 0,
-        })
+        Some(accepted(Kind::Open))
     }
 
     /// Closes a regulation, and answers the verdict on it.
@@ -92,27 +78,27 @@ impl<A: Allocator + Copy> Traffic<A> {
             self.last = Last::Refused;
             return Some(Verdict::Refused(Refusal::NoRegulation));
         }
-        let Ok(()) = note_due(&self.plans, self.time, &mut self.changed) else {
+        let Ok(()) = note_to_tell(
+            &self.regulations,
+            id,
+            &mut self.changed,
+            &mut self.noted,
+            &mut self.notices,
+        ) else {
             return None;
         };
-        let count = self.changed.len();
-        let Ok(()) = make_room_to_tell(count, &mut self.noted, &mut self.notices) else {
-            return None;
-        };
-        self.issued = self.notices.len();
         self.closed = self.regulations.shut(id);
-        note_told(&self.changed, &self.told, &mut self.noted);
         self.last = Last::Shut;
-        self.regulations.tell(
+        self.issued = self.notices.len();
+        tell_and_note(
+            &self.regulations,
             &self.plans,
             &self.changed,
+            &mut self.noted,
             &mut self.told,
             &mut self.notices,
         );
-        Some(Verdict::Accepted {
-            kind: Kind::Shut,
-            plan: 0,
-        })
+        Some(accepted(Kind::Shut))
     }
 
     /// Sets the desk's time, and answers the verdict on it.
@@ -151,28 +137,64 @@ impl<A: Allocator + Copy> Traffic<A> {
             &mut self.told,
             &mut self.notices,
         );
-        Some(Verdict::Accepted {
-            kind: Kind::Time,
-            plan: 0,
-        })
+        Some(accepted(Kind::Time))
     }
 }
 
-/// Notes the plans that are due at this time, by number. Refused where memory is.
-fn note_due<A: Allocator + Copy>(
+/// The verdict on an accepted order.
+fn accepted(kind: Kind) -> Verdict
+    ensures { result ≡ Verdict.Accepted kind 0 }
+{
+    Verdict::Accepted { kind, plan: 0 }
+}
+
+/// Opens the regulation of an order, and notes the flights that keep slots in it. Where memory is refused, the regulations
+/// are as before.
+fn open_and_note<A: Allocator + Copy>(
+    alloc: A,
+    order: &OpenReg,
+    shape: Shape,
     plans: &PlanStore<A>,
     now: Minute,
-    due: &mut Vec<u32, A>,
+    regulations: &mut Regulations<A>,
+    changed: &mut Vec<u32, A>,
+    noted: &mut Vec<Option<Told>, A>,
+    notices: &mut Vec<Notice, A>,
 ) -> Result<(), AllocError>
-    ensures noted { OnOk result (AreNoted now plans.now.plans (length plans.now.plans) due.new.items) }
-    ensures few { length plans.now.plans ≤ 20_000 }
+    requires shape { shape ≡ (regulation_by order.now).period }
+    requires plans { length plans.now.plans ≤ regulations.old.max_plans }
+    requires name { list_any (is_named order.now.id) regulations.old.lists ≡ false }
+    ensures limit { regulations.new.max_plans ≡ regulations.old.max_plans }
+    ensures opened { OnOk result (IsOpened plans.now.taxi regulations.old.max_plans now plans.now.plans (regulation_by order.now) regulations.old.lists regulations.new.lists) }
+    ensures err { OnErr result (regulations.new.lists ≡ regulations.old.lists) }
+    ensures fixed { OnOk result (AreFixedIn order.now.id regulations.new.lists changed.new.items) }
+    ensures notices { notices.new.items ≡ notices.old.items }
+    ensures room { OnOk result (length notices.new.items + length changed.new.items ≤ vec_capacity notices.new) }
+    ensures noted { OnOk result (length changed.new.items ≤ vec_capacity noted.new) }
 {
-    due.clear();
-    due.reserve(plans.count() as usize)?;
-    for index in 0..plans.count() {
-        if is_due(plans, index + 1, now) {
-            due.push_reserved(index + 1);
-        }
-    }
+    let (id, place) = (order.id.copied(), order.place.copied());
+    regulations.open(alloc, id, place, shape, plans, now)?;
+    let Ok(()) = note_to_tell(regulations, &order.id, changed, noted, notices) else {
+        regulations.take_last();
+        return Err(AllocError);
+    };
     Ok(())
+}
+
+/// Notes the flights that keep slots in the open regulation of this name, and makes room for what they were told and for a
+/// notice to each. Refused where memory is.
+fn note_to_tell<A: Allocator + Copy>(
+    regulations: &Regulations<A>,
+    id: &Text<8>,
+    changed: &mut Vec<u32, A>,
+    noted: &mut Vec<Option<Told>, A>,
+    notices: &mut Vec<Notice, A>,
+) -> Result<(), AllocError>
+    ensures fixed { OnOk result (AreFixedIn id.now regulations.now.lists changed.new.items) }
+    ensures notices { notices.new.items ≡ notices.old.items }
+    ensures room { OnOk result (length notices.new.items + length changed.new.items ≤ vec_capacity notices.new) }
+    ensures noted { OnOk result (length changed.new.items ≤ vec_capacity noted.new) }
+{
+    regulations.note_fixed(id, changed)?;
+    make_room_to_tell(changed.len(), noted, notices)
 }

@@ -4,8 +4,9 @@ ghost use Rattle.fpl_message.specs.Said.{said};
 ghost use Rattle.flow_plans.specs.Settings.{IsDeskTime};
 ghost use Rattle.flow_traffic.specs.Traffic.{no_traffic, slots_of};
 ghost use Rattle.flow_traffic.specs.Answers.{Answers, HasDeskMoments};
+ghost use Rattle.flow_traffic.specs.Frozen.{FrozenPairsStay};
 
-use crate::undo::{Last, reopen, untell};
+use crate::undo::{Last, put_back, untell};
 use crate::verdict::Verdict;
 use flow_plans::{Plan, PlanStore, Setup};
 use flow_regulations::{Closed, DueQueue, Notice, Place, Regulations, Told};
@@ -117,16 +118,20 @@ impl<A: Allocator + Copy> Traffic<A> {
         self.regulations.slots(id)
     }
 
-    /// Takes in a reading, and answers the verdict on it. A refused one changes nothing. Only want of memory answers
-    /// nothing, and then nothing has changed, but that no reading can be taken back.
+    /// Takes in a reading, and answers the verdict on it. A refused one changes nothing. Frozen flights keep their slots,
+    /// but for the flight of an accepted DLA, CHG or CNL, and those of a regulation that is shut. Only want of memory
+    /// answers nothing, and then nothing has changed, but that no reading can be taken back.
     pub fn answer(&mut self, reading: &Reading<A>) -> Option<Verdict>
         requires { HasDeskMoments (said reading.now) }
         ensures answers { IfSome result (Answers (said reading.now) self.old.traffic self.new.traffic) }
+        ensures frozen { IfSome result (FrozenPairsStay (said reading.now) self.old.traffic self.new.traffic) }
         ensures before { OnSome result (self.new.before ≡ Some self.old.traffic) }
         ensures none { IfNone result (self.new ≡ record { traffic = self.old.traffic; before = None }) }
         ensures grow { length self.old.traffic.notices ≤ length self.new.traffic.notices }
         ensures few { length self.new.traffic.notices ≤ length self.old.traffic.notices + 20_000 }
     {
+        // No effect at run time. The proof reads what is kept of the frozen pairs from this use of a field.
+        let _ = &self.regulations;
         match reading {
             Reading::Msg(message) => self.answer_message(message),
             Reading::Ord(Order::OpenReg(order)) => self.open(order),
@@ -160,44 +165,17 @@ impl<A: Allocator + Copy> Traffic<A> {
         match last {
             Last::Nothing => {}
             Last::Refused => {}
-            Last::Message { number } => {
-                self.plans.take_back();
-                self.regulations.put_back(number, &self.places);
-                untell(
+            _ => {
+                put_back(
+                    last,
+                    &mut self.time,
+                    &mut self.plans,
+                    &mut self.regulations,
+                    &mut self.queue,
+                    &self.places,
                     &self.changed,
-                    &self.noted,
-                    self.plans.count(),
-                    self.issued,
-                    &mut self.told,
-                    &mut self.notices,
+                    &mut self.closed,
                 );
-            }
-            Last::Time { earlier } => {
-                self.queue.put_back(&self.plans, &self.changed);
-                self.regulations.release_all(&self.plans, &self.changed);
-                self.time = earlier;
-                untell(
-                    &self.changed,
-                    &self.noted,
-                    self.plans.count(),
-                    self.issued,
-                    &mut self.told,
-                    &mut self.notices,
-                );
-            }
-            Last::Open => {
-                self.regulations.take_last();
-                untell(
-                    &self.changed,
-                    &self.noted,
-                    self.plans.count(),
-                    self.issued,
-                    &mut self.told,
-                    &mut self.notices,
-                );
-            }
-            Last::Shut => {
-                reopen(&mut self.closed, &mut self.regulations);
                 untell(
                     &self.changed,
                     &self.noted,

@@ -1,11 +1,18 @@
 //! What undoes the last reading.
-ghost use Rattle.std.specs.Prelude.{◌≡◌, ◌≤◌, ◌<◌, ◌+◌, ◌∷◌, [], OnOk, IfSome, length, take, vec_capacity};
+ghost use Rattle.std.specs.Prelude.{◌≡◌, ◌≤◌, ◌<◌, ◌+◌, ◌++◌, ◌∷◌, [], OnOk, IfSome, length, map, take, vec_capacity};
 ghost use Rattle.std.specs.List.{All};
-ghost use Rattle.flow_regulations.specs.Listing.{MayReopen};
+ghost use Rattle.std.specs.List.Sorted.{IsNonDecreasing};
+ghost use Rattle.flow_regulations.specs.Listing.{MayReopen, regulation_of};
+ghost use Rattle.flow_regulations.specs.Notices.{notices_from, told_from};
+ghost use Rattle.flow_regulations.specs.Quiet.{AreQuietBut, AllQuiet};
 ghost use Rattle.flow_traffic.specs.Reopening.{open_again};
+ghost use Rattle.flow_regulations.specs.Awaiting.{Covers};
+ghost use Rattle.flow_traffic.specs.Traffic.{told_of};
 ghost use Rattle.flow_traffic.specs.Telling.{AreTold, told_again};
+ghost use Rattle.flow_traffic.specs.Undoing.{past, CanUndo};
 
-use flow_regulations::{Closed, Notice, Place, Regulations, Told};
+use flow_plans::PlanStore;
+use flow_regulations::{Closed, DueQueue, Notice, Place, Regulations, Told};
 use fpl_text::Minute;
 use std::alloc::{AllocError, Allocator};
 
@@ -96,6 +103,36 @@ pub(crate) fn note_told<A: Allocator + Copy>(
     }
 }
 
+/// Tells these plans their slots, and notes what they were told before.
+pub(crate) fn tell_and_note<A: Allocator + Copy>(
+    regulations: &Regulations<A>,
+    plans: &PlanStore<A>,
+    changed: &[u32],
+    noted: &mut Vec<Option<Told>, A>,
+    told: &mut Vec<Option<Told>, A>,
+    notices: &mut Vec<Notice, A>,
+)
+    requires each { length told.old.items ≡ length plans.now.plans }
+    requires rising { IsNonDecreasing changed.now }
+    requires numbers { All (λ n. (0 < n) × (n ≤ length plans.now.plans)) changed.now }
+    requires room { length notices.old.items + length changed.now ≤ vec_capacity notices.old }
+    requires noted { length changed.now ≤ vec_capacity noted.old }
+    requires quiet { AreQuietBut changed.now plans.now.taxi (map regulation_of regulations.now.lists) plans.now.plans told.old.items }
+    ensures told { told.new.items
+        ≡ told_from 1 plans.now.taxi (map regulation_of regulations.now.lists) plans.now.plans told.old.items }
+    ensures notices { notices.new.items
+        ≡ notices.old.items ++ notices_from 1 plans.now.taxi (map regulation_of regulations.now.lists) plans.now.plans told.old.items }
+    ensures quiet { AllQuiet plans.now.taxi (map regulation_of regulations.now.lists) plans.now.plans told.new.items }
+    ensures each { length told.new.items ≡ length plans.now.plans }
+    ensures few { length notices.new.items ≤ length notices.old.items + length changed.now }
+    ensures again { told_again changed.now noted.new.items told.new.items ≡ told.old.items }
+    ensures were { noted.new.items ≡ map (told_of told.old.items) changed.now }
+    ensures count { length noted.new.items ≡ length changed.now }
+{
+    note_told(changed, told, noted);
+    regulations.tell(plans, changed, told, notices);
+}
+
 /// Puts back what these plans were told.
 pub(crate) fn tell_again<A: Allocator + Copy>(
     changed: &[u32],
@@ -131,15 +168,50 @@ pub(crate) fn untell<A: Allocator + Copy>(
 }
 
 /// Opens a closed regulation again in its place.
-pub(crate) fn reopen<A: Allocator + Copy>(
-    closed: &mut Option<Closed<A>>,
-    regulations: &mut Regulations<A>,
-)
+fn reopen<A: Allocator + Copy>(closed: &mut Option<Closed<A>>, regulations: &mut Regulations<A>)
     requires { IfSome closed.old (λ c. MayReopen c regulations.old) }
     ensures limit { regulations.new.max_plans ≡ regulations.old.max_plans }
     ensures lists { regulations.new.lists ≡ open_again closed.old regulations.old.lists }
 {
     if let Some(closed) = closed.take() {
         regulations.reopen(closed);
+    }
+}
+
+/// Puts the time, the plans, the queue and the regulations back as they were before this reading. It takes no memory.
+pub(crate) fn put_back<A: Allocator + Copy>(
+    last: Last,
+    time: &mut Minute,
+    plans: &mut PlanStore<A>,
+    regulations: &mut Regulations<A>,
+    queue: &mut DueQueue<A>,
+    places: &[Place],
+    changed: &[u32],
+    closed: &mut Option<Closed<A>>,
+)
+    requires can { CanUndo last time.old plans.old regulations.old queue.old places.now changed.now closed.old }
+    requires covers { Covers time.old plans.old.plans queue.old.flights }
+    ensures time { time.new ≡ (past last time.old plans.old regulations.old.lists places.now changed.now closed.old).time }
+    ensures plans { plans.new.plans ≡ (past last time.old plans.old regulations.old.lists places.now changed.now closed.old).plans }
+    ensures lists { regulations.new.lists ≡ (past last time.old plans.old regulations.old.lists places.now changed.now closed.old).lists }
+    ensures taxi { plans.new.taxi ≡ plans.old.taxi }
+    ensures most { plans.new.max_plans ≡ plans.old.max_plans }
+    ensures limit { regulations.new.max_plans ≡ regulations.old.max_plans }
+    ensures queue { Covers time.new plans.new.plans queue.new.flights }
+{
+    match last {
+        Last::Nothing => {}
+        Last::Refused => {}
+        Last::Message { number } => {
+            plans.take_back();
+            regulations.put_back(number, places);
+        }
+        Last::Time { earlier } => {
+            queue.put_back(plans, changed);
+            regulations.release_all(plans, changed);
+            *time = earlier;
+        }
+        Last::Open => regulations.take_last(),
+        Last::Shut => reopen(closed, regulations),
     }
 }

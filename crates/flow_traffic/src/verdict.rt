@@ -20,6 +20,9 @@ pub enum Verdict {
     /// The plan is 0 for an order.
     Accepted { kind: Kind, plan: u32 },
     /// A departure was accepted.
-    Departed { plan: u32, window: Window },
+    Departed { window: Window, plan: u32 },
     Refused(Refusal),
 }
+
+// Each filing keeps one for good.
+const _: () = prove!(size_of::<Verdict>() <= 8);

@@ -1,3 +1,4 @@
+pub mod OtherLemmas
 pub mod RoutesLemmas
 pub mod RouteLawsProofs
 pub mod ItemsLemmas

@@ -1,7 +1,7 @@
 -- Field 18: items, each an indicator and the words behind it, of which DOF (date of flight), EET (estimated elapsed times) and
 -- STS (reason for special handling) have an effect (ICAO Doc 4444, appendix 3, field type 18). A flight with STS/ATFMX is exempt
 -- from slot allocation (EUROCONTROL ATFCM Users Manual).
-use Rattle.std.specs.Prelude.{ℕ, ◌+◌, ◌-◌, Bool, false, not, ◌==◌, ◌&&◌, ◌||◌, nat_le, nat_lt, if◌then◌else◌, List, [], ◌∷◌, ◌++◌, length, take, drop, slice_index, slice_index_or, Option, Some, None, is_some, Result, Ok, Err, codes}
+use Rattle.std.specs.Prelude.{◌≡◌, ℕ, ◌+◌, ◌-◌, Bool, false, not, ◌==◌, ◌&&◌, ◌||◌, nat_le, nat_lt, if◌then◌else◌, List, [], ◌∷◌, ◌++◌, length, take, drop, slice_index, slice_index_or, Option, Some, None, is_some, Result, Ok, Err, codes}
 use Rattle.std.specs.Borrow.{Bor}
 use Rattle.std.specs.Option.{option_or}
 use Rattle.std.specs.List.{list_all, list_any}
@@ -93,11 +93,14 @@ field_fault field =
 abbrev pub items_or_fault : List ℕ → Result (List Item) ItemFault
 items_or_fault field = unless_fault (field_fault field) (items_of (words_of field))
 
--- the flight is exempt where a word of an STS item is ATFMX
+-- an STS item of which a word is ATFMX
+abbrev pub exempts : Item → Bool
+exempts item = is_text (codes "STS") item.name && list_any (is_text (codes "ATFMX")) item.words
+
+-- the flight is exempt where an item exempts it
 abbrev pub is_exempt : List Item → Bool
 is_exempt [] = false
-is_exempt (item ∷ items) =
-    (is_text (codes "STS") item.name && list_any (is_text (codes "ATFMX")) item.words) || is_exempt items
+is_exempt (item ∷ items) = exempts item || is_exempt items
 
 -- the elapsed time of the first of these estimates that is for a place
 abbrev pub estimate_for : List ℕ → List (List ℕ) → Option ℕ
@@ -116,3 +119,15 @@ elapsed_to place (item ∷ items) =
 abbrev pub day_of_items : List Item → Option ℕ
 day_of_items [] = None
 day_of_items (item ∷ items) = if is_dof item then day_of_words item.words else day_of_items items
+
+-- what items without a fault say: the day of the flight, and whether it is exempt
+pub record Say (items : List Item) (day : Option ℕ) (exempt : Bool) : Type 0 where
+  pub day_is : day ≡ day_of_items items
+  pub exempt_is : exempt ≡ is_exempt items
+
+-- one item more after a day, where there was one, and an exemption or none: what both then are, and what follows of that
+pub record SaysAfter (day : Option ℕ) (exempt : Bool) (item : Item) (new_day : Option ℕ) (new_exempt : Bool) : Type 0 where
+  pub faultless : item_fault (is_some day) item ≡ None
+  pub dof : is_some new_day ≡ (is_some day || is_dof item)
+  pub day_then : (items : List Item) → option_or new_day (day_of_items items) ≡ option_or day (day_of_items (item ∷ items))
+  pub exempt_then : new_exempt ≡ (exempt || exempts item)

@@ -1,10 +1,10 @@
 //! Field 18: other information.
 
-ghost use Rattle.std.specs.Prelude.{◌≡◌, false, slice_index_or, []};
+ghost use Rattle.std.specs.Prelude.{◌≡◌, false, is_some, slice_index_or, [], None, Some, IfSome, MatchResult};
 ghost use Rattle.std.specs.List.{list_all, list_any};
 ghost use Rattle.fpl_items.specs.Kinds.{is_text};
 ghost use Rattle.fpl_text.specs.Words.{words_of};
-ghost use Rattle.fpl_items.specs.Items.{begins_item, is_estimate, is_day, item_fault, first_fault, items_of, field_fault, items_or_fault, estimate_for, elapsed_to, is_exempt, day_of_words, day_of_items};
+ghost use Rattle.fpl_items.specs.Items.{begins_item, is_estimate, is_day, item_fault, first_fault, items_of, field_fault, items_or_fault, estimate_for, elapsed_to, is_exempt, day_of_words, day_of_items, Say, SaysAfter};
 ghost use Rattle.fpl_items.specs.Routes.{Gives};
 
 use crate::fault::ItemFault;
@@ -37,56 +37,78 @@ fn all_estimates(words: ItemWords<'_>) -> bool
     true
 }
 
-/// Exactly one word, which is a date.
+/// The day of exactly one word, which is a date.
 #[tactic(auto, unfolding(crate::specs::Items::is_day))]
-fn is_day(mut words: ItemWords<'_>) -> bool
-    ensures { result ≡ is_day words.entry }
+fn only_day(mut words: ItemWords<'_>) -> Option<Day>
+    ensures some { is_some result ≡ is_day words.entry }
+    ensures day { IfSome result (λ day. day_of_words words.entry ≡ Some day) }
 {
-    let Some(day) = words.next() else {
-        return false;
-    };
-    words.next().is_none() && Day::read(day).is_some()
-}
-
-/// The fault of an item, where a DOF stood before or not.
-#[tactic(auto, unfolding(crate::specs::Items::item_fault))]
-fn item_fault(dof: bool, item: &Item<'_>) -> Option<ItemFault>
-    ensures { result ≡ item_fault dof item.now }
-{
-    if item.name() == b"DOF".as_slice() {
-        if dof {
-            return Some(ItemFault::DuplicateItem);
-        }
-        return if is_day(item.words()) {
-            None
-        } else {
-            Some(ItemFault::BadDate)
-        };
+    let word = words.next()?;
+    if words.next().is_some() {
+        return None;
     }
-    if item.name() == b"EET".as_slice() && !all_estimates(item.words()) {
-        return Some(ItemFault::BadField(18));
-    }
-    None
-}
-
-/// The first fault, from the left.
-fn first_fault(items: Items<'_>) -> Option<ItemFault>
-    ensures { result ≡ first_fault false items.entry }
-{
-    let mut dof = false;
-    for item in items {
-        if let Some(fault) = item_fault(dof, &item) {
-            return Some(fault);
-        }
-        dof = dof || item.name() == b"DOF".as_slice();
-    }
-    None
+    Day::read(word)
 }
 
 fn has_word(mut words: ItemWords<'_>, word: &[u8]) -> bool
     ensures { result ≡ list_any (is_text word.now) words.entry }
 {
     words.any(|other| other == word)
+}
+
+/// What items say of a flight: its day, where a DOF stood, and whether it is exempt.
+#[derive(Clone, Copy)]
+struct Effects {
+    day: Option<Day>,
+    exempt: bool,
+}
+
+impl Effects {
+    /// What they say with an item more, or its fault.
+    #[tactic(auto, unfolding(crate::specs::Items::item_fault))]
+    fn with(self, item: &Item<'_>) -> Result<Effects, ItemFault>
+        ensures { MatchResult result
+            (λ next. SaysAfter self.day self.exempt item.now next.day next.exempt)
+            (λ fault. item_fault (is_some self.day) item.now ≡ Some fault) }
+    {
+        let name = item.name();
+        if name == b"DOF".as_slice() {
+            if self.day.is_some() {
+                return Err(ItemFault::DuplicateItem);
+            }
+            let Some(day) = only_day(item.words()) else {
+                return Err(ItemFault::BadDate);
+            };
+            return Ok(Effects {
+                day: Some(day),
+                exempt: self.exempt,
+            });
+        }
+        if name == b"EET".as_slice() && !all_estimates(item.words()) {
+            return Err(ItemFault::BadField(18));
+        }
+        let exempts = name == b"STS".as_slice() && has_word(item.words(), b"ATFMX");
+        Ok(Effects {
+            day: self.day,
+            exempt: self.exempt || exempts,
+        })
+    }
+}
+
+/// What items say, or their first fault from the left.
+fn read_items(items: Items<'_>) -> Result<Effects, ItemFault>
+    ensures { MatchResult result
+        (λ all. (first_fault false items.entry ≡ None) × Say items.entry all.day all.exempt)
+        (λ fault. first_fault false items.entry ≡ Some fault) }
+{
+    let mut effects = Effects {
+        day: None,
+        exempt: false,
+    };
+    for item in items {
+        effects = effects.with(&item)?;
+    }
+    Ok(effects)
 }
 
 /// The elapsed time of the first estimate for a place.
@@ -106,16 +128,20 @@ fn estimate_for(words: ItemWords<'_>, place: &[u8]) -> Option<u32>
 #[derive(Drop)]
 pub struct Other18<A: Allocator + Copy = Global> {
     text: Vec<u8, A>,
+    day: Option<Day>,
+    exempt: bool,
 }
 
 impl<A: Allocator + Copy> Model for Other18<A> {
     ghost use Rattle.std.specs.Prelude.{List};
-    ghost use Rattle.fpl_items.specs.Items.{Item as Entry, items_of};
+    ghost use Rattle.fpl_items.specs.Items.{Item as Entry, items_of, Say};
     ghost use Rattle.fpl_text.specs.Words.{words_of};
 
     ghost Value = { List Entry };
 
     ghost view = { λ o. items_of (words_of o.text.items) };
+
+    ghost invariant = { λ o. Say (items_of (words_of o.text.items)) o.day o.exempt };
 }
 
 /// Whether the first word of a field begins an item.
@@ -129,17 +155,22 @@ fn begins_with_item(field: &[u8]) -> bool
     }
 }
 
-/// The first fault of a field.
+/// What the items of a field say, or its first fault.
 #[tactic(auto, unfolding(crate::specs::Items::field_fault))]
-fn field_fault(field: &[u8]) -> Option<ItemFault>
-    ensures { result ≡ field_fault field.now }
+fn read_field(field: &[u8]) -> Result<Effects, ItemFault>
+    ensures { MatchResult result
+        (λ all. (field_fault field.now ≡ None) × Say (items_of (words_of field.now)) all.day all.exempt)
+        (λ fault. field_fault field.now ≡ Some fault) }
 {
     if field == b"0".as_slice() {
-        None
+        Ok(Effects {
+            day: None,
+            exempt: false,
+        })
     } else if begins_with_item(field) {
-        first_fault(Items::new(field))
+        read_items(Items::new(field))
     } else {
-        Some(ItemFault::BadField(18))
+        Err(ItemFault::BadField(18))
     }
 }
 
@@ -150,13 +181,18 @@ impl<A: Allocator + Copy> Other18<A> {
     pub fn read(alloc: A, field: &[u8]) -> Result<Self, ItemFault>
         ensures { Gives (λ other. other) result (items_or_fault field.now) }
     {
-        if let Some(fault) = field_fault(field) {
-            return Err(fault);
-        }
+        let effects = match read_field(field) {
+            Ok(effects) => effects,
+            Err(fault) => return Err(fault),
+        };
         let Ok(text) = Vec::from_slice(alloc, field) else {
             return Err(ItemFault::OutOfMemory);
         };
-        Ok(Other18 { text })
+        Ok(Other18 {
+            text,
+            day: effects.day,
+            exempt: effects.exempt,
+        })
     }
 
     /// The items, in order.
@@ -170,12 +206,7 @@ impl<A: Allocator + Copy> Other18<A> {
     pub fn day(&self) -> Option<Day>
         ensures { result ≡ day_of_items self.now }
     {
-        for item in self.items() {
-            if item.name() == b"DOF".as_slice() {
-                return first_day(item.words());
-            }
-        }
-        None
+        self.day
     }
 
     /// The elapsed time, in minutes, of the first estimate for a place.
@@ -196,21 +227,6 @@ impl<A: Allocator + Copy> Other18<A> {
     pub fn exempt(&self) -> bool
         ensures { result ≡ is_exempt self.now }
     {
-        for item in self.items() {
-            if item.name() == b"STS".as_slice() && has_word(item.words(), b"ATFMX") {
-                return true;
-            }
-        }
-        false
+        self.exempt
     }
-}
-
-/// The day that the first word is.
-fn first_day(mut words: ItemWords<'_>) -> Option<Day>
-    ensures { result ≡ day_of_words words.entry }
-{
-    let Some(word) = words.next() else {
-        return None;
-    };
-    Day::read(word)
 }

@@ -2,3 +2,4 @@ pub mod ModificationLemmas
 pub mod OrderLemmas
 pub mod EditionLemmas
 pub mod OrderYears
+pub mod PlaceLemmas

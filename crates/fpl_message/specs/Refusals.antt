@@ -1,5 +1,5 @@
 -- Refusals, and the steps of a reading that stops at the first.
-use Rattle.std.specs.Prelude.{◌≡◌, ℕ, Option, Result, Ok, Err}
+use Rattle.std.specs.Prelude.{◌≡◌, ◌<◌, ◌^◌, ℕ, Option, Result, Ok, Err}
 use Rattle.std.specs.Option.{ok_or}
 use Rattle.fpl_text.specs.declared.fault.TextFault.{TextFault}
 use Rattle.fpl_text.specs.declared.fault.TextFault.TheVariants as text
@@ -52,6 +52,15 @@ item_fault (item.BadField number) = Refused (refusal.BadField number)
 item_fault item.DuplicateItem = Refused refusal.DuplicateItem
 item_fault item.BadDate = Refused refusal.BadDate
 item_fault item.OutOfMemory = OutOfMemory
+
+-- the place of a byte that no message has, if that is the fault, is kept in 16 bits
+abbrev pub PlaceFits : TextFault → Type 0
+PlaceFits text.Empty = Unit {0}
+PlaceFits (text.BadByte place) = place < 2 ^ 16
+PlaceFits text.NoBracket = Unit {0}
+PlaceFits text.UnknownTitle = Unit {0}
+PlaceFits text.FieldCount = Unit {0}
+PlaceFits text.OutOfMemory = Unit {0}
 
 abbrev pub by_text : {X : Type 0} → Result X TextFault → Result X Refusal
 by_text (Ok x) = Ok x

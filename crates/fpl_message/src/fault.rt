@@ -1,6 +1,6 @@
 //! Why a reading stopped.
 ghost use Rattle.std.specs.Prelude.{◌≡◌};
-ghost use Rattle.fpl_message.specs.Refusals.{Gives, text_fault, field_fault, item_fault};
+ghost use Rattle.fpl_message.specs.Refusals.{Gives, PlaceFits, text_fault, field_fault, item_fault};
 
 use crate::refusal::Refusal;
 use fpl_items::ItemFault;
@@ -14,18 +14,18 @@ pub enum Fault {
     OutOfMemory,
 }
 
-impl From<TextFault> for Fault {
-    ghost from_gives = { λ fault made. made ≡ text_fault fault };
-
-    fn from(fault: TextFault) -> Fault {
-        match fault {
-            TextFault::Empty => Fault::Refused(Refusal::Empty),
-            TextFault::BadByte(place) => Fault::Refused(Refusal::BadByte(place)),
-            TextFault::NoBracket => Fault::Refused(Refusal::NoBracket),
-            TextFault::UnknownTitle => Fault::Refused(Refusal::UnknownTitle),
-            TextFault::FieldCount => Fault::Refused(Refusal::FieldCount),
-            TextFault::OutOfMemory => Fault::OutOfMemory,
-        }
+/// Why a reading stops at a fault of a text.
+pub(crate) fn text_fault(fault: TextFault) -> Fault
+    requires { PlaceFits fault }
+    ensures { result ≡ text_fault fault }
+{
+    match fault {
+        TextFault::Empty => Fault::Refused(Refusal::Empty),
+        TextFault::BadByte(place) => Fault::Refused(Refusal::BadByte(place as u16)),
+        TextFault::NoBracket => Fault::Refused(Refusal::NoBracket),
+        TextFault::UnknownTitle => Fault::Refused(Refusal::UnknownTitle),
+        TextFault::FieldCount => Fault::Refused(Refusal::FieldCount),
+        TextFault::OutOfMemory => Fault::OutOfMemory,
     }
 }
 

@@ -3,7 +3,7 @@ ghost use Rattle.std.specs.Prelude.{◌≡◌, ◌≤◌, ◌<◌, ◌↔◌, le
 ghost use Rattle.fpl_message.specs.Reads.{reading_of};
 ghost use Rattle.fpl_message.specs.Said.{said};
 
-use crate::fault::Fault;
+use crate::filed_text::FiledText;
 use crate::message::Reading;
 use crate::reading::read;
 use std::alloc::{Allocator, Global};
@@ -29,16 +29,15 @@ pub enum FilingFault {
     OutOfMemory,
 }
 
-/// Bytes as they were filed, with the reading of them. Contracts see the edition and the bytes.
+/// A text as it was filed, with the reading of it. Contracts see the text: the edition and the bytes.
 #[derive(Drop)]
 pub struct Filing<A: Allocator + Copy = Global> {
-    bytes: Vec<u8, A>,
-    edition: Edition,
+    text: FiledText<A>,
     reading: Reading<A>,
 }
 
 impl<A: Allocator + Copy> Model for Filing<A> {
-    ghost use Rattle.std.specs.Prelude.{◌≡◌, ◌≤◌, length};
+    ghost use Rattle.std.specs.Prelude.{◌≡◌};
     ghost use Rattle.fpl_message.specs.Filings.{FilingText};
 
     ghost Value = { FilingText };
@@ -46,10 +45,9 @@ impl<A: Allocator + Copy> Model for Filing<A> {
     ghost use Rattle.fpl_message.specs.Reads.{reading_of};
     ghost use Rattle.fpl_message.specs.Said.{said};
 
-    ghost view = { λ f. record { edition = f.edition; bytes = f.bytes.items } };
+    ghost view = { λ f. f.text };
 
-    ghost invariant = { λ f. (said f.reading ≡ reading_of (record { edition = f.edition; bytes = f.bytes.items }))
-        × (length f.bytes.items ≤ 2000) };
+    ghost invariant = { λ f. said f.reading ≡ reading_of f.text };
 }
 
 impl<A: Allocator + Copy> Filing<A> {
@@ -69,15 +67,11 @@ impl<A: Allocator + Copy> Filing<A> {
         if bytes.len() > MAX_BYTES {
             return Err(FilingFault::TooLong);
         }
-        let Ok(kept) = Vec::from_slice(alloc, bytes) else {
+        let Ok(text) = FiledText::new(alloc, edition, bytes) else {
             return Err(FilingFault::OutOfMemory);
         };
         match read(alloc, edition, bytes) {
-            Some(reading) => Ok(Filing {
-                bytes: kept,
-                edition,
-                reading,
-            }),
+            Some(reading) => Ok(Filing { text, reading }),
             None => Err(FilingFault::OutOfMemory),
         }
     }
@@ -87,14 +81,14 @@ impl<A: Allocator + Copy> Filing<A> {
         ensures value { result.now ≡ self.now.bytes }
         ensures bound { length result.now ≤ 2000 }
     {
-        self.bytes.as_slice()
+        self.text.text()
     }
 
     /// The edition of the rules by which they are read.
     pub fn edition(&self) -> Edition
         ensures { result ≡ self.now.edition }
     {
-        self.edition
+        self.text.edition()
     }
 
     /// What they say, or their first refusal.
@@ -102,5 +96,21 @@ impl<A: Allocator + Copy> Filing<A> {
         ensures { said result.now ≡ reading_of self.now }
     {
         &self.reading
+    }
+
+    /// The text, and the reading of it. It takes no memory.
+    pub fn into_parts(self) -> (FiledText<A>, Reading<A>)
+        ensures text { result.0 ≡ self }
+        ensures reading { said result.1 ≡ reading_of self }
+    {
+        (self.text, self.reading)
+    }
+
+    /// The filing of a text, with the reading of it. It takes no memory.
+    pub fn from_parts(text: FiledText<A>, reading: Reading<A>) -> Self
+        requires { said reading ≡ reading_of text }
+        ensures { result ≡ text }
+    {
+        Filing { text, reading }
     }
 }

@@ -3,6 +3,7 @@
 
 mod changes;
 mod fault;
+mod filed_text;
 mod filing;
 mod flight_plan;
 mod laws;
@@ -17,6 +18,7 @@ mod sub_periods;
 #[cfg(test)]
 mod tests;
 
+pub use filed_text::FiledText;
 pub use filing::{Edition, Filing, FilingFault, MAX_BYTES};
 pub use flight_plan::Fpl;
 pub use laws::editions_differ_in_open;

@@ -29,5 +29,5 @@ pub enum Reading<A: Allocator + Copy = Global> {
     Bad(Refusal),
 }
 
-// A refused filing costs its bytes and this.
-const _: () = prove!(size_of::<Reading>() <= 40);
+// What lies in memory of its own, as a message, comes on top.
+const _: () = prove!(size_of::<Reading>() <= 32);

@@ -1,12 +1,12 @@
 //! The reading of bytes.
-ghost use Rattle.std.specs.Prelude.{◌≡◌, IfSome};
+ghost use Rattle.std.specs.Prelude.{◌≡◌, ◌≤◌, length, IfSome};
 ghost use Rattle.fpl_text.specs.Squeezing.{squeezed_or_fault};
 ghost use Rattle.fpl_text.specs.Fields.{fields_or_fault};
 ghost use Rattle.fpl_message.specs.Refusals.{Gives, by_text};
 ghost use Rattle.fpl_message.specs.Said.{said, said_message};
 ghost use Rattle.fpl_message.specs.Reads.{reading_of, reading_or_refusal, message_of, begins_message};
 
-use crate::fault::{Fault, boxed};
+use crate::fault::{Fault, boxed, text_fault};
 use crate::filing::Edition;
 use crate::flight_plan::Fpl;
 use crate::message::{Message, Reading};
@@ -16,13 +16,14 @@ use crate::short_message::{Cnl, Dep, Dla};
 use fpl_text::{Fields, Squeezed, Title};
 use std::alloc::Allocator;
 
-/// What bytes say by the rules of an edition. None where memory ran out.
+/// What at most 2,000 bytes say by the rules of an edition. None where memory ran out.
 #[tactic(auto, unfolding(crate::specs::Reads::reading_of))]
 pub(crate) fn read<A: Allocator + Copy>(
     alloc: A,
     edition: Edition,
     bytes: &[u8],
 ) -> Option<Reading<A>>
+    requires { length bytes.now ≤ 2000 }
     ensures { IfSome result (λ r. said r ≡ reading_of (record { edition = edition; bytes = bytes.now })) }
 {
     match read_filed(alloc, edition, bytes) {
@@ -38,14 +39,36 @@ fn read_filed<A: Allocator + Copy>(
     edition: Edition,
     bytes: &[u8],
 ) -> Result<Reading<A>, Fault>
+    requires { length bytes.now ≤ 2000 }
     ensures { Gives said result (reading_or_refusal (record { edition = edition; bytes = bytes.now })) }
 {
-    let squeezed = Squeezed::read(alloc, bytes)?;
+    let squeezed = squeezed(alloc, bytes)?;
     if !begins_message(squeezed.as_bytes()) {
         let order = read_order(alloc, edition, squeezed.as_bytes())?;
         return Ok(Reading::Ord(order));
     }
-    read_message(alloc, squeezed.into_fields()?)
+    read_message(alloc, fields_of(squeezed)?)
+}
+
+/// The squeezed text of bytes, or why there is none.
+fn squeezed<A: Allocator + Copy>(alloc: A, bytes: &[u8]) -> Result<Squeezed<A>, Fault>
+    requires { length bytes.now ≤ 2000 }
+    ensures { Gives (λ text. text) result (by_text (squeezed_or_fault bytes.now)) }
+{
+    match Squeezed::read(alloc, bytes) {
+        Ok(squeezed) => Ok(squeezed),
+        Err(fault) => Err(text_fault(fault)),
+    }
+}
+
+/// The fields of a squeezed text, or why it has none.
+fn fields_of<A: Allocator + Copy>(squeezed: Squeezed<A>) -> Result<Fields<A>, Fault>
+    ensures { Gives (λ fields. fields) result (by_text (fields_or_fault squeezed)) }
+{
+    match squeezed.into_fields() {
+        Ok(fields) => Ok(fields),
+        Err(fault) => Err(text_fault(fault)),
+    }
 }
 
 /// Whether a squeezed text begins as a message does.

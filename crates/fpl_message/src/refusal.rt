@@ -10,7 +10,7 @@ pub enum Refusal {
     /// Nothing but blanks.
     Empty,
     /// A byte that no message has, at this place in the filing as given, counted from 0.
-    BadByte(usize),
+    BadByte(u16),
     /// No pair of brackets round the whole message, or a bracket inside.
     NoBracket,
     /// A first field that does not begin with FPL, DLA, CHG, CNL or DEP.
@@ -60,6 +60,9 @@ pub enum Refusal {
     /// An earlier time than the desk's.
     TimeBack,
 }
+
+// Each refused filing keeps one for good.
+const _: () = prove!(size_of::<Refusal>() <= 4);
 
 impl Refusal {
     /// The number of the reason, 1 to 36.
@@ -137,7 +140,7 @@ impl Refusal {
         ensures { result ≡ detail_of self }
     {
         match self {
-            Refusal::BadByte(place) => Some(place),
+            Refusal::BadByte(place) => Some(place as usize),
             Refusal::BadField(field) | Refusal::UnsupportedAmendment(field) => Some(field as usize),
             _ => None,
         }

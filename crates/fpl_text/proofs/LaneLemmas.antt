@@ -12,7 +12,7 @@ use Rattle.std.specs.Prelude.{◌⊎◌, max, min}
 use Rattle.std.proofs.lemmas.Bool.{cases_lt, leb-true, leb-false}
 use Rattle.std.proofs.lemmas.List.{length-map, get_or_past}
 use Rattle.std.proofs.Math.ListN.{get_or-map}
-use Rattle.fpl_text.specs.Bytes.{is_letter, is_digit, is_blank, is_other_mark, is_plain}
+use Rattle.fpl_text.specs.Bytes.{is_blank, is_border, is_digit, is_letter, is_other_mark, is_plain}
 use Rattle.fpl_text.specs.Lanes.{HasLanes, HasFlags, flag}
 
 and_flags : (p q : Bool) → bit_and (flag p) (flag q) ≡ flag (p && q)
@@ -236,6 +236,11 @@ digits_are x = refl
 pub letters_and_others : (x : ℕ) → (leb 65 x && leb x 90) || (is_digit x || is_other_mark x) ≡ is_plain x
 unfolding is_plain is_letter
 letters_and_others x = sym (or_assoc (leb 65 x && leb x 90) (is_digit x) (is_other_mark x))
+
+pub borders_are : (blank : Bool) (x : ℕ) → blank || eqb x 45 || eqb x 40 || eqb x 41 ≡ blank || is_border x
+unfolding is_border
+borders_are true x = refl
+borders_are false x = refl
 
 pub blanks_are : (x : ℕ) → eqb x 32 || eqb x 13 || eqb x 10 ≡ is_blank x
 unfolding is_blank

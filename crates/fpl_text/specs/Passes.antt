@@ -1,7 +1,7 @@
 -- How far a pass over a text has squeezed it.
 use Rattle.std.specs.Prelude.{◌≡◌, ◌≤◌, ◌+◌, ℕ, Bool, true, false, not, ◌||◌, ◌&&◌, if◌then◌else◌, List, [], ◌∷◌, ◌++◌, length, take, drop, slice_index}
 use Rattle.std.specs.List.{position_from}
-use Rattle.fpl_text.specs.Bytes.{is_blank, is_plain, is_accepted}
+use Rattle.fpl_text.specs.Bytes.{is_blank, is_border, is_plain, is_accepted}
 use Rattle.fpl_text.specs.Squeezing.{squeezed, space_between, blanks}
 use Rattle.fpl_text.specs.declared.pass.Pass.{Pass}
 
@@ -31,10 +31,11 @@ pub record IsInside (pass : Pass) : Type 0 where
   pub no_blank : pass.blank ≡ false
   pub no_border : pass.border ≡ false
 
--- a plain byte, or a blank before one: inside a text it is kept, as a space if it is a blank
+-- a plain byte, or a blank or a border before one: inside a text it is kept, as a space if it is a blank
 unfoldable pub is_easy : List ℕ → ℕ → Bool
 is_easy text place =
-    is_plain (slice_index text place) || (is_blank (slice_index text place) && is_plain (slice_index text (place + 1)))
+    is_plain (slice_index text place)
+    || ((is_blank (slice_index text place) || is_border (slice_index text place)) && is_plain (slice_index text (place + 1)))
 
 -- a blank is kept as a space
 abbrev pub as_space : ℕ → ℕ

@@ -2,7 +2,7 @@
 
 ghost use Rattle.std.specs.Prelude.{◌≡◌, ◌≤◌, ◌<◌, ◌+◌, ◌↔◌, ◌==◌, ◌&&◌, ◌||◌, if◌then◌else◌, nat_le, not, ℕ, Bool, true, false, length, slice_index, take, drop, count_by};
 ghost use Rattle.std.specs.Int.{bit_at};
-ghost use Rattle.fpl_text.specs.Bytes.{is_blank, is_letter, is_digit, is_letter_or_digit, is_other_mark, is_plain};
+ghost use Rattle.fpl_text.specs.Bytes.{is_blank, is_border, is_letter, is_digit, is_letter_or_digit, is_other_mark, is_plain};
 ghost use Rattle.fpl_text.specs.Lanes.{HasLanes, HasFlags};
 
 use std::simd::prelude::*;
@@ -93,6 +93,15 @@ pub(crate) fn blank_lanes(v: u8x16) -> u8x16
     ensures { HasFlags result (λ k. is_blank (slice_index v k)) }
 {
     or_equal_to(or_equal_to(equal_to(v, b' '), v, b'\r'), v, b'\n')
+}
+
+/// Which lanes hold a blank, as `blanks` tells, or a border.
+#[inline(always)]
+pub(crate) fn or_border_lanes(blanks: u8x16, v: u8x16) -> u8x16
+    requires { HasFlags blanks (λ k. is_blank (slice_index v k)) }
+    ensures { HasFlags result (λ k. is_blank (slice_index v k) || is_border (slice_index v k)) }
+{
+    or_equal_to(or_equal_to(or_equal_to(blanks, v, b'-'), v, b'('), v, b')')
 }
 
 /// Which lanes hold a digit or a mark that is no border. Full stop, stroke, digits and colon are one range.

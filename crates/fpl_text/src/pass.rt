@@ -7,7 +7,7 @@ ghost use Rattle.fpl_text.specs.Passes.{IsPass, IsInside, is_easy, as_space};
 ghost use Rattle.fpl_text.specs.declared.fault.TextFault.TheVariants.{Empty, BadByte};
 
 use crate::byte::{is_blank, is_border, is_plain};
-use crate::lanes::{blank_lanes, load, plain_lanes, set_or_before, spaces_or};
+use crate::lanes::{blank_lanes, load, or_border_lanes, plain_lanes, set_or_before, spaces_or};
 use std::simd::prelude::*;
 
 /// How far a text is squeezed.
@@ -109,8 +109,8 @@ fn pass_bytes(text: &[u8], out: &mut [u8], from: Pass) -> Result<Pass, usize>
     Ok(pass)
 }
 
-/// The 16 bytes from a place on, each blank as a space, and how many of the first of them are easy. A blank in the last of them
-/// is left to the next 16.
+/// The 16 bytes from a place on, each blank as a space, and how many of the first of them are easy. A blank or a border in the
+/// last of them is left to the next 16.
 #[inline(always)]
 fn easy_front(text: &[u8], at: usize) -> (u8x16, usize)
     requires { at + 16 ≤ length text.now }
@@ -120,7 +120,7 @@ fn easy_front(text: &[u8], at: usize) -> (u8x16, usize)
 {
     let here = load(text, at);
     let blanks = blank_lanes(here);
-    let count = set_or_before(plain_lanes(here), blanks);
+    let count = set_or_before(plain_lanes(here), or_border_lanes(blanks, here));
     (spaces_or(blanks, here), count)
 }
 

@@ -15,7 +15,7 @@ bounds-places-held g c =
 
 pub loop-next-preserved : goal.loop-next-preserved
 loop-next-preserved g c =
-    rw c.write.ensures (Closing-move _ _ _ _ _ _ _ _ c.loop-next.hole c.in-Some.next c.in-Some.held c.loop-next.invariant c.in-Some.ensures.found)
+    rw (c.write.ensures, c.of.ensures) (Closing-move _ _ _ _ _ _ _ _ c.loop-next.hole c.in-Some.next c.in-Some.held c.loop-next.invariant c.in-Some.ensures.found)
 
 pub returns-clause-row : goal.returns-clause-row
 returns-clause-row g c =

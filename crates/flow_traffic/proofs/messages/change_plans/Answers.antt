@@ -1,7 +1,4 @@
-use Rattle.std.proofs.Common.{◌≡◌, sym}
 use Rattle.std.proofs.lemmas.Result.{IfOk-weaker}
-use Rattle.flow_plans.specs.Changes.{Changed}
-use Rattle.flow_traffic.proofs.Both.{if-both}
 use Rattle.flow_traffic.proofs.Changing.{filed-same, delayed-same, cancelled-same, departed-same, amended-same}
 use Rattle.flow_traffic.proofs.messages.change_plans.Goals as goal
 
@@ -13,24 +10,24 @@ returns-in-Fpl-clause-same g c =
 
 pub returns-in-Dla-clause-same : goal.returns-in-Dla-clause-same
 returns-in-Dla-clause-same g c =
-    if-both c.delay.result _ _ _
-    (λ n is within. delayed-same c.args.now c.args.plans.now.plans _ (record { plans = c.delay.new.self.plans; number = n }) is within.0)
-    c.delay.ensures.ok c.delay.ensures.within
+    IfOk-weaker c.delay.result _ _
+    (λ n is. (delayed-same c.args.now c.args.plans.now.plans _ (record { plans = c.delay.new.self.plans; number = n }) is).1)
+    c.delay.ensures.ok
 
 pub returns-in-Chg-clause-same : goal.returns-in-Chg-clause-same
 returns-in-Chg-clause-same g c =
-    if-both c.amend.result _ _ _
-    (λ n is within. amended-same c.args.now c.args.plans.now.plans _ (record { plans = c.amend.new.self.plans; number = n }) is within.0)
-    c.amend.ensures.ok c.amend.ensures.within
+    IfOk-weaker c.amend.result _ _
+    (λ n is. (amended-same c.args.now c.args.plans.now.plans _ (record { plans = c.amend.new.self.plans; number = n }) is).1)
+    c.amend.ensures.ok
 
 pub returns-in-Cnl-clause-same : goal.returns-in-Cnl-clause-same
 returns-in-Cnl-clause-same g c =
-    if-both c.cancel.result _ _ _
-    (λ n is within. cancelled-same c.args.plans.now.plans _ (record { plans = c.cancel.new.self.plans; number = n }) is within.0)
-    c.cancel.ensures.ok c.cancel.ensures.within
+    IfOk-weaker c.cancel.result _ _
+    (λ n is. (cancelled-same c.args.plans.now.plans _ (record { plans = c.cancel.new.self.plans; number = n }) is).1)
+    c.cancel.ensures.ok
 
 pub returns-in-Dep-clause-same : goal.returns-in-Dep-clause-same
 returns-in-Dep-clause-same g c =
-    if-both c.depart.result _ _ _
-    (λ n is within. departed-same c.args.plans.now.plans _ (record { plans = c.depart.new.self.plans; number = n }) is within.0)
-    c.depart.ensures.ok c.depart.ensures.within
+    IfOk-weaker c.depart.result _ _
+    (λ n is. (departed-same c.args.plans.now.plans _ (record { plans = c.depart.new.self.plans; number = n }) is).1)
+    c.depart.ensures.ok

@@ -1,7 +1,6 @@
-use Rattle.std.proofs.Common.{◌≡◌, ◌-◌, ap, sym, ◌∙◌, refl, Option, None, slice_get}
+use Rattle.std.proofs.Common.{◌≡◌, ◌-◌, ap, sym, ◌∙◌, refl, None, slice_get}
 use Rattle.std.specs.Option.{option_copied}
 use Rattle.flow_regulations.specs.Notices.{window_of}
-use Rattle.flow_regulations.specs.declared.notice.Told.{Told}
 use Rattle.flow_traffic.proofs.messages.departure_window.Goals as goal
 
 pub returns-in-None : goal.returns-in-None

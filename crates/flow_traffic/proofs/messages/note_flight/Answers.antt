@@ -1,7 +1,6 @@
-use Rattle.std.proofs.Common.{◌≡◌, ◌-◌, ◌∙◌, sym, ap, Option, Some, slice_get}
+use Rattle.std.proofs.Common.{◌≡◌, ◌-◌, ◌∙◌, sym, ap, Some, slice_get}
 use Rattle.std.specs.Option.{option_copied}
 use Rattle.flow_plans.specs.Plans.{Plan}
-use Rattle.flow_regulations.specs.declared.due_queue.Awaited.{Awaited}
 use Rattle.flow_regulations.proofs.Queues.{covers-noted, noted-kept}
 use Rattle.flow_traffic.proofs.Both.{some-same}
 use Rattle.flow_traffic.proofs.messages.note_flight.Goals as goal

@@ -1,6 +1,3 @@
-use Rattle.std.proofs.Common.{◌≡◌, ℕ, ap, sym, ◌∙◌, refl, Bool, true, false}
-use Rattle.flow_plans.specs.Plans.{Plan}
-use Rattle.flow_regulations.specs.Listing.{Listing, Listed}
 use Rattle.flow_regulations.proofs.Steps.{settled-but}
 use Rattle.flow_traffic.proofs.Settles.{staying, leaving}
 use Rattle.flow_traffic.proofs.messages.settle_for.Goals as goal

@@ -1,7 +1,5 @@
-use Rattle.std.proofs.Common.{◌≡◌, ◌≤◌, ◌∙◌, length, ap, sym, arith, true}
+use Rattle.std.proofs.Common.{◌≤◌, ◌∙◌, length, sym}
 use Rattle.std.proofs.lemmas.Bool.{false≢true}
-use Rattle.fpl_text.specs.declared.part.Part.{Part}
-use Rattle.flow_traffic.specs.Opening.{rates_fit}
 use Rattle.flow_traffic.proofs.Periods.{regular}
 use Rattle.flow_traffic.proofs.opening.shape_of.Goals as goal
 

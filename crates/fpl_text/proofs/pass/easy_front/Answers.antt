@@ -7,7 +7,7 @@ use Rattle.fpl_text.proofs.pass.easy_front.Goals as goal
 pub returns-clause-easy : goal.returns-clause-easy
 returns-clause-easy c k l =
     easy-from c.args.text.now c.load-here.result c.args.at k c.load-here.ensures.lanes (omega (arith, c.set_or_before-count.ensures.bound))
-    (c.set_or_before-count.ensures.each _ _ c.plain_lanes.ensures c.blank_lanes-blanks.ensures k l)
+    (c.set_or_before-count.ensures.each _ _ c.plain_lanes.ensures c.or_border_lanes.ensures k l)
 
 pub returns-clause-lanes : goal.returns-clause-lanes
 returns-clause-lanes c =

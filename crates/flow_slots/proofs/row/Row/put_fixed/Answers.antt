@@ -18,7 +18,7 @@ pub displace-requires-clause-tied : goal.displace-requires-clause-tied
 displace-requires-clause-tied g c =
     let s = c.args.self.now in
     let away = IsTied-absent s.places.items s.cells.row c.args.flight c.requires.tied c.requires.absent in
-    rw (c.as_mut_slice.ensures.value, c.take-cells.ensures, c.write.ensures) (IsTied-replace s.places.items s.cells.row c.args.k c.args.flight (Fixed c.args.flight) c.in-Waiting.held away c.requires.slot c.requires.some (omega arith) refl c.in-Waiting.ensures)
+    rw (c.as_mut_slice.ensures.value, c.take-cells.ensures, c.write.ensures, c.of.ensures, c.none.ensures) (IsTied-replace s.places.items s.cells.row c.args.k c.args.flight (Fixed c.args.flight) c.in-Waiting.held away c.requires.slot c.requires.some (omega arith) refl c.in-Waiting.ensures)
 
 pub displace-requires-clause-follows : goal.displace-requires-clause-follows
 displace-requires-clause-follows g c =
@@ -42,7 +42,7 @@ returns-in_default g c =
     let empty : cell_at s.cells.row c.args.k ≡ Empty =
     open_is_empty _ (λ w e. c.in_default.not-Waiting w (c.cell-cell.ensures ∙ e)) c.requires.open in
     record {
-      tied = rw c.write.ensures (IsTied-put s.places.items s.cells.row c.args.k c.args.flight (Fixed c.args.flight) c.requires.tied c.requires.slot c.requires.some (omega arith) (ap flight_of empty) c.requires.absent refl);
+      tied = rw (c.write.ensures, c.of.ensures) (IsTied-put s.places.items s.cells.row c.args.k c.args.flight (Fixed c.args.flight) c.requires.tied c.requires.slot c.requires.some (omega arith) (ap flight_of empty) c.requires.absent refl);
       row = ap (λ v. v.row) c.write.ensures ∙ push-empty s.cells.row c.args.k c.args.flight c.requires.slot empty;
       len = omega arith;
       writes = rw c.write.ensures (omega arith);

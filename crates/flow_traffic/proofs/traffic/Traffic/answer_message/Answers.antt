@@ -15,6 +15,7 @@ use Rattle.flow_regulations.proofs.Queues.{covers-more}
 use Rattle.flow_traffic.specs.declared.undo.Last.TheVariants as reading
 use Rattle.flow_traffic.specs.Undoing.{Past, past, told_past}
 use Rattle.flow_traffic.proofs.ToldAgain.{told-undone}
+use Rattle.flow_traffic.proofs.Noted.{one-noted}
 use Rattle.flow_traffic.proofs.TakenBack.{stands-again, plans-before, told-before, can-forget, was-kept, traffic-before, notices-before, one-within}
 use Rattle.flow_traffic.proofs.Answered.{message-answers, fault-some, settled-count}
 use Rattle.flow_traffic.proofs.traffic.Traffic.answer_message.Goals as goal
@@ -108,7 +109,8 @@ invariant_of-self-2 g c =
       can = can-forget n c.self.inside.time store new c.note_flight.new.queue places changed c.self.inside.closed old_store.plans lists c.in-Ok-change_plans.ensures.some within c.in-Ok-change_plans.ensures.before c.note_places.ensures.places alone covers_old;
       was = was-kept p store new changed noted c.tell.new.told.items c.self.inside.time old_store c.self.inside.regulations c.self.inside.queue.flights c.self.inside.told.items
           refl plans_were lists_were told_were c.change_plans.ensures.taxi c.change_plans.ensures.limit c.settle_for.ensures.limit c.self.invariant.kept noted_each
-          (one-within n (length c.tell.new.told.items) changed c.note_one.ensures c.in-Ok-change_plans.ensures.some (omega (arith, c.in-Ok-change_plans.ensures.within, c.tell.ensures.each)));
+          (one-within n (length c.tell.new.told.items) changed c.note_one.ensures c.in-Ok-change_plans.ensures.some (omega (arith, c.in-Ok-change_plans.ensures.within, c.tell.ensures.each)))
+          (one-noted n store.plans old_store.plans c.self.inside.told.items mid changed noted c.note_one.ensures c.in-Ok-change_plans.ensures.same place c.self.invariant.kept.each one told_is);
     }
 
 pub returns-clause-before : goal.returns-clause-before

@@ -1,105 +1,86 @@
-use Rattle.std.proofs.Common.{◌≡◌, ◌≤◌, ◌<◌, ◌∙◌, ℕ, List, [], ◌∷◌, ◌++◌, map, take, length, refl, sym, ap, arith, Option, Some}
-use Rattle.flow_plans.specs.Stores.{Store}
-use Rattle.std.specs.List.{AllByRecursion}
-use Rattle.std.proofs.lemmas.List.Elements.{recursion_from_All}
-use Rattle.flow_regulations.specs.Quiet.{AreQuietBut}
-use Rattle.flow_traffic.proofs.ToldAgain.{told-undone}
-use Rattle.flow_traffic.proofs.Telling.{told_to-same}
-use Rattle.flow_traffic.specs.Undoing.{Past, past, told_past}
-use Rattle.flow_traffic.specs.declared.undo.Last.TheVariants as reading
-use Rattle.flow_regulations.specs.declared.notice.Told.{Told}
-use Rattle.flow_traffic.proofs.TakenBack.{was-opened, can-unopen, opened-count, told-before, was-kept, traffic-before, notices-before}
-use Rattle.flow_regulations.specs.Listing.{Listing, Listed, regulation_of}
-use Rattle.std.proofs.lemmas.Bool.{le-leb, lt-leb}
-use Rattle.flow_plans.specs.Plans.{Plan}
-use Rattle.flow_regulations.specs.declared.notice.Notice.{Notice}
+use Rattle.std.proofs.Common.{◌≡◌, ◌∙◌, ℕ, List, [], ◌∷◌, ◌++◌, take, length, refl, sym, ap, arith, Option, Some}
 use Rattle.fpl_message.specs.Messages.{open_reg}
 use Rattle.fpl_message.specs.Reads.{ord}
+use Rattle.flow_plans.specs.Stores.{Store}
+use Rattle.flow_regulations.specs.declared.notice.Told.{Told}
+use Rattle.flow_regulations.specs.declared.notice.Notice.{Notice}
+use Rattle.flow_regulations.specs.Listing.{Listing, Listed}
+use Rattle.flow_regulations.specs.Regulations.{Regulation}
+use Rattle.flow_regulations.proofs.ForTheDesk.{quiet-but-opened, opened-listed, opened-settled}
 use Rattle.flow_traffic.specs.declared.verdict.Kind.TheVariants as kind
+use Rattle.flow_traffic.specs.declared.undo.Last.TheVariants as reading
 use Rattle.flow_traffic.specs.Traffic.{Traffic, Undoable, traffic_of}
 use Rattle.flow_traffic.specs.Opening.{regulation_by}
-use Rattle.flow_regulations.proofs.ForTheDesk.{quiet-by-due, opened-listed, opened-settled, named-regulations, count-regulations}
-use Rattle.flow_traffic.proofs.Noting.{due-within}
-use Rattle.flow_traffic.proofs.Answered.{refused, shape-refused, held-refused, full-refused, opened-asked, opened-map, order-answers}
+use Rattle.flow_traffic.specs.Undoing.{Past, past, told_past}
+use Rattle.flow_traffic.proofs.Rising.{rises-on, few-rising}
+use Rattle.flow_traffic.proofs.Noted.{same-noted}
+use Rattle.flow_traffic.proofs.TakenBack.{was-opened, can-unopen, opened-count, told-back, was-kept, traffic-before, notices-before}
+use Rattle.flow_traffic.proofs.Answered.{refused, opened-map, order-answers}
 use Rattle.flow_traffic.proofs.traffic.Traffic.open.Goals as goal
 
 pub returns-in-Err-clause-answers : goal.returns-in-Err-clause-answers
 returns-in-Err-clause-answers g c =
     let t : Traffic = traffic_of c.self.inside.plans.taxi c.self.inside.plans.max_plans c.self.inside.time c.self.inside.plans.plans c.self.inside.regulations.lists c.self.inside.told.items c.self.inside.notices.items in
-    rw (sym (ap (λ (v : Undoable). v.traffic) c.self.view_is)) (refused (ord (open_reg c.args.order.now)) t c.in-Err.refusal (shape-refused t c.args.order.now c.in-Err.refusal c.in-Err.ensures.err))
+    rw (sym (ap (λ (v : Undoable). v.traffic) c.self.view_is)) (refused (ord (open_reg c.args.order.now)) t c.in-Err.refusal (c.in-Err.ensures.refused t refl))
 
-pub returns-then-is_open-clause-answers : goal.returns-then-is_open-clause-answers
-returns-then-is_open-clause-answers g c =
-    let t : Traffic = traffic_of c.self.inside.plans.taxi c.self.inside.plans.max_plans c.self.inside.time c.self.inside.plans.plans c.self.inside.regulations.lists c.self.inside.told.items c.self.inside.notices.items in
-    let held = sym (named-regulations c.args.order.now.id c.self.inside.regulations.lists) ∙ sym c.is_open.ensures ∙ c.if-is_open.true in
-    rw (sym (ap (λ (v : Undoable). v.traffic) c.self.view_is)) (refused (ord (open_reg c.args.order.now)) t _ (held-refused t c.args.order.now c.in-Ok.ensures.ok.0 c.in-Ok.ensures.ok.1 held))
+pub open_and_note-requires-clause-plans : goal.open_and_note-requires-clause-plans
+open_and_note-requires-clause-plans g c = omega (arith, c.self.invariant.kept.room, c.self.invariant.kept.limit)
 
-pub returns-then-count-ge-MAX_REGULATIONS-clause-answers : goal.returns-then-count-ge-MAX_REGULATIONS-clause-answers
-returns-then-count-ge-MAX_REGULATIONS-clause-answers g c =
-    let t : Traffic = traffic_of c.self.inside.plans.taxi c.self.inside.plans.max_plans c.self.inside.time c.self.inside.plans.plans c.self.inside.regulations.lists c.self.inside.told.items c.self.inside.notices.items in
-    let other = sym (named-regulations c.args.order.now.id c.self.inside.regulations.lists) ∙ sym c.is_open.ensures ∙ c.if-is_open.false in
-    let many : 64 ≤ length (map regulation_of c.self.inside.regulations.lists) = omega (arith, c.if-count-ge-MAX_REGULATIONS.true, c.count.ensures, count-regulations c.self.inside.regulations.lists) in
-    rw (sym (ap (λ (v : Undoable). v.traffic) c.self.view_is)) (refused (ord (open_reg c.args.order.now)) t _ (full-refused t c.args.order.now c.in-Ok.ensures.ok.0 c.in-Ok.ensures.ok.1 other (le-leb 64 _ many)))
+pub tell_and_note-requires-clause-rising : goal.tell_and_note-requires-clause-rising
+tell_and_note-requires-clause-rising g c = rw c.deref.ensures.value (rises-on c.open_and_note.new.changed.items c.in-Ok-open_and_note.ensures.fixed.rising)
 
-pub open-opened-requires-clause-plans : goal.open-opened-requires-clause-plans
-open-opened-requires-clause-plans g c = omega (arith, c.self.invariant.kept.room, c.self.invariant.kept.limit)
+pub tell_and_note-requires-clause-numbers : goal.tell_and_note-requires-clause-numbers
+tell_and_note-requires-clause-numbers g c =
+    let s = c.self.inside in
+    let opened = c.in-Ok-open_and_note.ensures.opened in
+    let settled = opened-settled s.plans.taxi s.regulations.max_plans s.time s.plans.plans (regulation_by c.args.order.now) s.regulations.lists c.open_and_note.new.regulations.lists opened c.self.invariant.kept.settled_in in
+    rw c.deref.ensures.value (c.in-Ok-open_and_note.ensures.fixed.numbers s.plans.taxi s.time s.plans.plans settled)
 
-pub tell-requires-clause-quiet : goal.tell-requires-clause-quiet
-tell-requires-clause-quiet g c =
-    let now : ℕ = c.self.inside.time in
-    let plans : List Plan = c.self.inside.plans.plans in
-    let noted = c.in-Ok-note_due.ensures.noted in
-    let settled = opened-settled c.self.inside.plans.taxi c.self.inside.regulations.max_plans now plans _ c.self.inside.regulations.lists c.open-opened.new.self.lists c.in-Ok-opened.ensures.opened c.self.invariant.kept.settled_in in
-    rw c.deref-3.ensures.value
-    (quiet-by-due c.self.inside.plans.taxi now plans c.self.inside.told.items c.self.inside.regulations.lists c.open-opened.new.self.lists c.note_due.new.due.items now (omega arith)
-    c.self.invariant.kept.settled_in settled (λ f some due. noted.all f some (due-within now plans f some due) due) c.self.invariant.kept.quiet)
-
-pub note_told-requires-clause-numbers : goal.note_told-requires-clause-numbers
-note_told-requires-clause-numbers g c =
-    rw (c.deref.ensures.value, c.deref-2.ensures.value, c.self.invariant.kept.each) (c.in-Ok-note_due.ensures.noted.numbers)
+pub tell_and_note-requires-clause-quiet : goal.tell_and_note-requires-clause-quiet
+tell_and_note-requires-clause-quiet g c =
+    let s = c.self.inside in
+    let opened = c.in-Ok-open_and_note.ensures.opened in
+    rw c.deref.ensures.value
+    (quiet-but-opened s.plans.taxi s.regulations.max_plans s.time s.plans.plans (regulation_by c.args.order.now) s.regulations.lists c.open_and_note.new.regulations.lists s.told.items c.open_and_note.new.changed.items
+    opened c.in-Ok-open_and_note.ensures.fixed.others c.self.invariant.kept.quiet)
 
 pub invariant_of-self-2 : goal.invariant_of-self-2
 invariant_of-self-2 g c =
     let taxi : ℕ = c.self.inside.plans.taxi in
     let now : ℕ = c.self.inside.time in
+    let max : ℕ = c.self.inside.regulations.max_plans in
     let store : Store = c.self.inside.plans in
-    let plans : List Plan = store.plans in
     let lists : List Listed = c.self.inside.regulations.lists in
-    let new : Listing = c.open-opened.new.self in
-    let changed : List ℕ = c.note_due.new.due.items in
-    let kept_noted : List (Option Told) = c.note_told.new.noted.items in
-    let told : List (Option Told) = c.tell.new.told.items in
+    let new : Listing = c.open_and_note.new.regulations in
+    let changed : List ℕ = c.open_and_note.new.changed.items in
+    let noted : List (Option Told) = c.tell_and_note.new.noted.items in
+    let told : List (Option Told) = c.tell_and_note.new.told.items in
     let p : Past = past reading.Open now store new.lists c.self.inside.places.items changed c.self.inside.closed in
-    let noted = c.in-Ok-note_due.ensures.noted in
-    let opened = c.in-Ok-opened.ensures.opened in
-    let settled = opened-settled taxi c.self.inside.regulations.max_plans now plans _ lists new.lists opened c.self.invariant.kept.settled_in in
-    let quiet_but : AreQuietBut changed taxi (map regulation_of new.lists) plans c.self.inside.told.items =
-    quiet-by-due taxi now plans c.self.inside.told.items lists new.lists changed now (omega arith) c.self.invariant.kept.settled_in settled (λ f some due. noted.all f some (due-within now plans f some due) due) c.self.invariant.kept.quiet in
-    let lists_were : p.lists ≡ lists = was-opened taxi c.self.inside.regulations.max_plans now plans _ lists new.lists opened in
-    let within = noted.numbers in
-    let told_is = rw (c.deref.ensures.value, c.deref-2.ensures.value) at c.note_told.ensures.noted in
-    let noted_each : length kept_noted ≡ length changed = rw c.deref.ensures.value at c.note_told.ensures.each in
-    let all_some : AllByRecursion (λ m. 0 < m) changed = recursion_from_All (λ m. 0 < m) changed (λ k d h. (within k d h).0) in
-    let again = told-undone taxi (map regulation_of new.lists) plans c.self.inside.told.items told changed kept_noted c.tell.ensures.told c.self.invariant.kept.each c.tell.ensures.each quiet_but told_is all_some in
-    let told_were : told_past p changed kept_noted told ≡ c.self.inside.told.items =
-    told-before p changed kept_noted told c.self.inside.told.items c.self.inside.told.items plans plans refl again (sym (told_to-same plans c.self.inside.told.items c.self.invariant.kept.each)) c.self.invariant.kept.each (omega arith) (omega arith) in
-    let listed = opened-listed taxi c.self.inside.regulations.max_plans now plans _ lists new.lists opened c.self.invariant.kept.listed in
+    let r : Regulation = regulation_by c.args.order.now in
+    let opened = c.in-Ok-open_and_note.ensures.opened in
+    let settled = opened-settled taxi max now store.plans r lists new.lists opened c.self.invariant.kept.settled_in in
+    let lists_were : p.lists ≡ lists = was-opened taxi max now store.plans r lists new.lists opened in
+    let again = rw c.deref.ensures.value at c.tell_and_note.ensures.again in
+    let count = rw c.deref.ensures.value at c.tell_and_note.ensures.count in
+    let told_were : told_past p changed noted told ≡ c.self.inside.told.items = told-back p changed noted told c.self.inside.told.items store.plans refl again c.self.invariant.kept.each in
+    let within = c.in-Ok-open_and_note.ensures.fixed.numbers taxi now store.plans settled in
     record {
       kept = record {
         desk_time = c.self.invariant.kept.desk_time;
-        limit = c.open-opened.ensures.limit ∙ c.self.invariant.kept.limit;
-        few = omega (arith, c.if-count-ge-MAX_REGULATIONS.false, c.count.ensures, opened-count taxi c.self.inside.regulations.max_plans now plans _ lists new.lists opened);
+        limit = c.open_and_note.ensures.limit ∙ c.self.invariant.kept.limit;
+        few = omega (arith, c.in-Ok.ensures.few, opened-count taxi max now store.plans r lists new.lists opened);
         room = c.self.invariant.kept.room;
         most = c.self.invariant.kept.most;
-        each = c.tell.ensures.each;
-        listed = rw (sym c.open-opened.ensures.limit) at listed;
+        each = c.tell_and_note.ensures.each;
+        listed = rw (sym c.open_and_note.ensures.limit) at (opened-listed taxi max now store.plans r lists new.lists opened c.self.invariant.kept.listed);
         settled_in = settled;
         covers = c.self.invariant.kept.covers;
-        quiet = c.tell.ensures.quiet;
+        quiet = c.tell_and_note.ensures.quiet;
       };
-      can = can-unopen taxi c.self.inside.regulations.max_plans now plans _ lists new.lists opened;
-      was = was-kept p store new changed kept_noted told now store c.self.inside.regulations c.self.inside.queue.flights c.self.inside.told.items
-          refl refl lists_were told_were refl refl c.open-opened.ensures.limit c.self.invariant.kept noted_each (rw (c.tell.ensures.each) within);
+      can = can-unopen taxi max now store.plans r lists new.lists opened;
+      was = was-kept p store new changed noted told now store c.self.inside.regulations c.self.inside.queue.flights c.self.inside.told.items
+          refl refl lists_were told_were refl refl c.open_and_note.ensures.limit c.self.invariant.kept count (rw c.tell_and_note.ensures.each within)
+          (same-noted store.plans c.self.inside.told.items changed noted c.in-Ok-open_and_note.ensures.fixed.rising c.self.invariant.kept.each (rw c.deref.ensures.value at c.tell_and_note.ensures.were));
     }
 
 pub returns-clause-before : goal.returns-clause-before
@@ -107,45 +88,37 @@ returns-clause-before g c =
     let taxi : ℕ = c.self.inside.plans.taxi in
     let now : ℕ = c.self.inside.time in
     let store : Store = c.self.inside.plans in
-    let plans : List Plan = store.plans in
     let lists : List Listed = c.self.inside.regulations.lists in
-    let new : Listing = c.open-opened.new.self in
-    let changed : List ℕ = c.note_due.new.due.items in
-    let kept_noted : List (Option Told) = c.note_told.new.noted.items in
-    let told : List (Option Told) = c.tell.new.told.items in
+    let new : Listing = c.open_and_note.new.regulations in
+    let changed : List ℕ = c.open_and_note.new.changed.items in
+    let noted : List (Option Told) = c.tell_and_note.new.noted.items in
+    let told : List (Option Told) = c.tell_and_note.new.told.items in
     let p : Past = past reading.Open now store new.lists c.self.inside.places.items changed c.self.inside.closed in
-    let noted = c.in-Ok-note_due.ensures.noted in
-    let opened = c.in-Ok-opened.ensures.opened in
-    let settled = opened-settled taxi c.self.inside.regulations.max_plans now plans _ lists new.lists opened c.self.invariant.kept.settled_in in
-    let quiet_but : AreQuietBut changed taxi (map regulation_of new.lists) plans c.self.inside.told.items =
-    quiet-by-due taxi now plans c.self.inside.told.items lists new.lists changed now (omega arith) c.self.invariant.kept.settled_in settled (λ f some due. noted.all f some (due-within now plans f some due) due) c.self.invariant.kept.quiet in
-    let lists_were : p.lists ≡ lists = was-opened taxi c.self.inside.regulations.max_plans now plans _ lists new.lists opened in
-    let within = noted.numbers in
-    let told_is = rw (c.deref.ensures.value, c.deref-2.ensures.value) at c.note_told.ensures.noted in
-    let noted_each : length kept_noted ≡ length changed = rw c.deref.ensures.value at c.note_told.ensures.each in
-    let all_some : AllByRecursion (λ m. 0 < m) changed = recursion_from_All (λ m. 0 < m) changed (λ k d h. (within k d h).0) in
-    let again = told-undone taxi (map regulation_of new.lists) plans c.self.inside.told.items told changed kept_noted c.tell.ensures.told c.self.invariant.kept.each c.tell.ensures.each quiet_but told_is all_some in
-    let told_were : told_past p changed kept_noted told ≡ c.self.inside.told.items =
-    told-before p changed kept_noted told c.self.inside.told.items c.self.inside.told.items plans plans refl again (sym (told_to-same plans c.self.inside.told.items c.self.invariant.kept.each)) c.self.invariant.kept.each (omega arith) (omega arith) in
-    ap Some (traffic-before p store changed kept_noted told (take c.len-self-inside.result c.tell.new.notices.items) now store lists c.self.inside.told.items c.self.inside.notices.items
+    let opened = c.in-Ok-open_and_note.ensures.opened in
+    let lists_were : p.lists ≡ lists = was-opened taxi c.self.inside.regulations.max_plans now store.plans (regulation_by c.args.order.now) lists new.lists opened in
+    let again = rw c.deref.ensures.value at c.tell_and_note.ensures.again in
+    let told_were : told_past p changed noted told ≡ c.self.inside.told.items = told-back p changed noted told c.self.inside.told.items store.plans refl again c.self.invariant.kept.each in
+    ap Some (traffic-before p store changed noted told (take c.len-self-inside.result c.tell_and_note.new.notices.items) now store lists c.self.inside.told.items c.self.inside.notices.items
     refl refl lists_were told_were refl refl
-    (notices-before c.self.inside.notices.items c.tell.new.notices.items _ c.len-self-inside.result (rw c.make_room_to_tell.ensures.notices at c.tell.ensures.notices)
-    (omega (arith, c.len-self-inside.ensures, c.make_room_to_tell.new.notices.ok.0, ap length c.make_room_to_tell.ensures.notices)))
+    (notices-before c.self.inside.notices.items c.tell_and_note.new.notices.items _ c.len-self-inside.result (rw c.open_and_note.ensures.notices at c.tell_and_note.ensures.notices)
+    (omega (arith, c.len-self-inside.ensures, c.open_and_note.new.notices.ok.0, ap length c.open_and_note.ensures.notices)))
     ∙ ap (λ (v : Undoable). v.traffic) c.self.view_is)
 
 pub returns-clause-answers : goal.returns-clause-answers
 returns-clause-answers g c =
     let t : Traffic = traffic_of c.self.inside.plans.taxi c.self.inside.plans.max_plans c.self.inside.time c.self.inside.plans.plans c.self.inside.regulations.lists c.self.inside.told.items c.self.inside.notices.items in
-    let other = sym (named-regulations c.args.order.now.id c.self.inside.regulations.lists) ∙ sym c.is_open.ensures ∙ c.if-is_open.false in
-    let few : length (map regulation_of c.self.inside.regulations.lists) < 64 = omega (arith, c.if-count-ge-MAX_REGULATIONS.false, c.count.ensures, count-regulations c.self.inside.regulations.lists) in
-    let opened = rw (c.copied.ensures, c.copied-2.ensures, c.in-Ok.ensures.ok.2) at c.in-Ok-opened.ensures.opened in
-    rw (sym (ap (λ (v : Undoable). v.traffic) c.self.view_is))
-    (order-answers c.self.inside.plans.taxi c.self.inside.plans.max_plans c.self.inside.time c.self.inside.time c.self.inside.plans.plans c.self.inside.regulations.lists c.open-opened.new.self.lists
-    c.self.inside.told.items c.tell.new.told.items c.self.inside.notices.items c.tell.new.notices.items (open_reg c.args.order.now) kind.Open (t.regulations ++ regulation_by c.args.order.now ∷ [])
-    (opened-asked t c.args.order.now c.in-Ok.ensures.ok.0 c.in-Ok.ensures.ok.1 other (lt-leb 64 _ few))
-    (opened-map c.self.inside.plans.taxi c.self.inside.regulations.max_plans c.self.inside.time c.self.inside.plans.plans (regulation_by c.args.order.now) c.self.inside.regulations.lists c.open-opened.new.self.lists opened c.self.invariant.kept.listed c.self.invariant.kept.settled_in)
-    c.self.invariant.kept.each c.tell.ensures.told (rw c.make_room_to_tell.ensures.notices at c.tell.ensures.notices))
+    let opened = c.in-Ok-open_and_note.ensures.opened in
+    rw (c.accepted.ensures, sym (ap (λ (v : Undoable). v.traffic) c.self.view_is))
+    (order-answers c.self.inside.plans.taxi c.self.inside.plans.max_plans c.self.inside.time c.self.inside.time c.self.inside.plans.plans c.self.inside.regulations.lists c.open_and_note.new.regulations.lists
+    c.self.inside.told.items c.tell_and_note.new.told.items c.self.inside.notices.items c.tell_and_note.new.notices.items (open_reg c.args.order.now) kind.Open (t.regulations ++ regulation_by c.args.order.now ∷ [])
+    (c.in-Ok.ensures.asked t refl)
+    (opened-map c.self.inside.plans.taxi c.self.inside.regulations.max_plans c.self.inside.time c.self.inside.plans.plans (regulation_by c.args.order.now) c.self.inside.regulations.lists c.open_and_note.new.regulations.lists opened c.self.invariant.kept.listed c.self.invariant.kept.settled_in)
+    c.self.invariant.kept.each c.tell_and_note.ensures.told (rw c.open_and_note.ensures.notices at c.tell_and_note.ensures.notices))
 
 pub returns-clause-few : goal.returns-clause-few
 returns-clause-few g c =
-    omega (arith, c.tell.ensures.few, ap (λ (ns : List Notice). length ns) c.make_room_to_tell.ensures.notices, c.in-Ok-note_due.ensures.noted.few, c.note_due.ensures.few, ap (λ (v : Undoable). length v.traffic.notices) c.self.view_is, ap (λ (ns : List ℕ). length ns) c.deref-3.ensures.value)
+    let s = c.self.inside in
+    let opened = c.in-Ok-open_and_note.ensures.opened in
+    let settled = opened-settled s.plans.taxi s.regulations.max_plans s.time s.plans.plans (regulation_by c.args.order.now) s.regulations.lists c.open_and_note.new.regulations.lists opened c.self.invariant.kept.settled_in in
+    let within = c.in-Ok-open_and_note.ensures.fixed.numbers s.plans.taxi s.time s.plans.plans settled in
+    omega (arith, c.self.invariant.kept.room, c.self.invariant.kept.most, c.tell_and_note.ensures.few, ap (λ (ns : List Notice). length ns) c.open_and_note.ensures.notices, few-rising _ _ c.in-Ok-open_and_note.ensures.fixed.rising within, ap (λ (v : Undoable). length v.traffic.notices) c.self.view_is, ap (λ (ns : List ℕ). length ns) c.deref.ensures.value)

@@ -10,6 +10,7 @@ use Rattle.flow_traffic.specs.declared.undo.Last.TheVariants as reading
 use Rattle.flow_traffic.specs.Undoing.{Past, past, told_past}
 use Rattle.flow_traffic.proofs.Telling.{told_to-same}
 use Rattle.flow_traffic.proofs.ToldAgain.{told-undone}
+use Rattle.flow_traffic.proofs.Noted.{told-were, same-noted}
 use Rattle.flow_traffic.proofs.TakenBack.{waits-again, told-before, can-go-back, was-kept, traffic-before, notices-before}
 use Rattle.flow_regulations.specs.Listing.{Listing, with_fixed_waiting, Listed, regulation_of}
 use Rattle.flow_regulations.specs.declared.notice.Told.{Told}
@@ -19,7 +20,7 @@ use Rattle.fpl_message.specs.Reads.{ord}
 use Rattle.flow_traffic.specs.declared.verdict.Kind.TheVariants as kind
 use Rattle.flow_traffic.specs.Traffic.{Traffic, Undoable, traffic_of}
 use Rattle.flow_regulations.proofs.ForTheDesk.{quiet-but-due, kept-slots-settled}
-use Rattle.flow_traffic.proofs.Noting.{rises-on, few-rising}
+use Rattle.flow_traffic.proofs.Rising.{rises-on, few-rising}
 use Rattle.flow_regulations.proofs.Queues.{became-due, became-within}
 use Rattle.flow_traffic.proofs.Answered.{refused, back-refused, time-asked, order-answers, renewed-count}
 use Rattle.flow_traffic.proofs.traffic.Traffic.set_time.Goals as goal
@@ -98,7 +99,8 @@ invariant_of-self-2 g c =
       can = can-go-back c.self.inside.time c.args.at store new c.take_due.new.self c.self.inside.places.items changed c.self.inside.closed lists due fixed within hold (c.take_due.ensures.covers later c.self.invariant.kept.covers)
           (omega (arith, c.take_due.ensures.left, c.take_due.ensures.room, c.count.ensures.value, c.count.ensures.fits));
       was = was-kept p store new changed noted told c.self.inside.time store c.self.inside.regulations c.self.inside.queue.flights c.self.inside.told.items
-          refl refl lists_were told_were refl refl c.advance_due.ensures.limit c.self.invariant.kept noted_each (rw (c.tell.ensures.each) within);
+          refl refl lists_were told_were refl refl c.advance_due.ensures.limit c.self.invariant.kept noted_each (rw (c.tell.ensures.each) within)
+          (same-noted plans c.self.inside.told.items changed noted c.take_due.ensures.rising c.self.invariant.kept.each (told-were changed c.self.inside.told.items noted told_is));
     }
 
 pub returns-clause-before : goal.returns-clause-before
@@ -150,7 +152,7 @@ returns-clause-answers g c =
     let hold = c.take_due.ensures.each c.self.invariant.kept.covers in
     let moves = rw c.deref-2.ensures.value at c.advance_due.ensures.renewed in
     let renewed = moves taxi c.self.inside.time c.args.at plans later (became-due c.self.inside.time c.args.at plans c.take_due.new.due.items c.take_due.ensures.became) hold c.self.invariant.kept.listed c.self.invariant.kept.settled_in in
-    rw (sym (ap (λ (v : Undoable). v.traffic) c.self.view_is))
+    rw (c.accepted.ensures, sym (ap (λ (v : Undoable). v.traffic) c.self.view_is))
     (order-answers taxi c.self.inside.plans.max_plans c.self.inside.time c.args.at plans c.self.inside.regulations.lists c.advance_due.new.self.lists
     c.self.inside.told.items c.tell.new.told.items c.self.inside.notices.items c.tell.new.notices.items (set_time c.args.at) kind.Time t.regulations
     (time-asked t c.args.at (le-ltb _ _ later)) renewed.regulations

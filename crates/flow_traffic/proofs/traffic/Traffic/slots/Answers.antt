@@ -1,7 +1,5 @@
-use Rattle.std.proofs.Common.{◌≡◌, ◌∙◌, sym, ap, Option, None, Some}
-use Rattle.std.specs.Option.{MatchOption}
-use Rattle.flow_slots.specs.Lineup.{Lineup}
-use Rattle.flow_traffic.specs.Traffic.{Traffic, Undoable, slots_of}
+use Rattle.std.proofs.Common.{sym, ap}
+use Rattle.flow_traffic.specs.Traffic.{Undoable}
 use Rattle.flow_traffic.proofs.Slots.{slots-named}
 use Rattle.flow_traffic.proofs.traffic.Traffic.slots.Goals as goal
 

@@ -1,0 +1,139 @@
+//! The rows that a step changed.
+ghost use Rattle.std.specs.Prelude.{◌≡◌, ◌<◌, ◌≤◌, ◌-◌, IfSome, IsSome, OnOk, length, slice_get};
+ghost use Rattle.std.specs.Option.{option_map, option_and_then};
+ghost use Rattle.flow_traffic.specs.Traffic.{told_of};
+ghost use Rattle.flow_core.specs.Changes.{same_state, same_told, same_row, row_with, change_to, change_at, changes_between, rows_in};
+
+use crate::row::{Row, row_at};
+use flow_plans::{PlanState, Status};
+use flow_regulations::Told;
+use flow_traffic::Traffic;
+use std::alloc::{AllocError, Allocator};
+
+/// The new row of a plan that a step changed.
+#[derive(Debug, Drop, PartialEq, Eq)]
+pub struct Change {
+    /// The plan's number, from 1.
+    pub plan: u32,
+    pub row: Row,
+}
+
+/// Whether this is the same state.
+fn same_state(state: PlanState, other: PlanState) -> bool
+    ensures { result ≡ same_state state other }
+{
+    match (state, other) {
+        (PlanState::Filed, PlanState::Filed) => true,
+        (PlanState::Departed, PlanState::Departed) => true,
+        (PlanState::Cancelled, PlanState::Cancelled) => true,
+        _ => false,
+    }
+}
+
+/// Whether plans that were told this were told the same.
+fn same_told(told: &Option<Told>, other: &Option<Told>) -> bool
+    ensures { result ≡ same_told told.now other.now }
+{
+    match (told, other) {
+        (None, None) => true,
+        (Some(told), Some(other)) => {
+            told.ctot == other.ctot && told.regulation.as_bytes() == other.regulation.as_bytes()
+        }
+        _ => false,
+    }
+}
+
+/// Whether a reader sees no difference between two rows.
+#[tactic(auto, unfolding(crate::specs::Changes::same_row))]
+fn same_row(row: &Row, other: &Row) -> bool
+    ensures { result ≡ same_row row.now other.now }
+{
+    same_state(row.state, other.state)
+        && row.off_block == other.off_block
+        && same_told(&row.told, &other.told)
+}
+
+/// The row of a plan that stands so, where there is one, and was told this.
+fn row_with(status: Option<Status>, told: &Option<Told>) -> Option<Row>
+    ensures { result ≡ option_map (row_with told.now) status }
+{
+    let status = match status {
+        Some(status) => status,
+        None => return None,
+    };
+    let told = match told {
+        Some(told) => Some(told.copied()),
+        None => None,
+    };
+    Some(Row {
+        state: status.state,
+        off_block: status.off_block,
+        told,
+    })
+}
+
+/// The row that the plan of this number had before the last reading, when it had been told this.
+fn row_before<A: Allocator + Copy>(
+    traffic: &Traffic<A>,
+    number: u32,
+    told: &Option<Told>,
+) -> Option<Row>
+    requires some { 0 < number }
+    requires change { IsSome traffic.now.before }
+    requires each { IfSome traffic.now.before (λ before. length before.told ≡ length before.plans) }
+    requires told { IfSome traffic.now.before (λ before. told.now ≡ told_of before.told number) }
+    ensures { IfSome traffic.now.before (λ before. result ≡ slice_get (rows_in before) (number - 1)) }
+{
+    row_with(traffic.previous(number), told)
+}
+
+/// The change between two rows of the plan of this number, if it is one.
+fn change_between(number: u32, before: Option<Row>, after: Option<Row>) -> Option<Change>
+    ensures { result ≡ option_and_then (change_to number before) after }
+{
+    let row = match after {
+        Some(row) => row,
+        None => return None,
+    };
+    if let Some(before) = before {
+        if same_row(&before, &row) {
+            return None;
+        }
+    }
+    Some(Change { plan: number, row })
+}
+
+/// The change of the plan of this number, which was told this before the last reading.
+fn change_at<A: Allocator + Copy>(
+    traffic: &Traffic<A>,
+    number: u32,
+    told: &Option<Told>,
+) -> Option<Change>
+    requires some { 0 < number }
+    requires change { IsSome traffic.now.before }
+    requires each { IfSome traffic.now.before (λ before. length before.told ≡ length before.plans) }
+    requires told { IfSome traffic.now.before (λ before. told.now ≡ told_of before.told number) }
+    ensures { IfSome traffic.now.before (λ before. result ≡ change_at (rows_in before) (rows_in traffic.now.traffic) number) }
+{
+    let before = row_before(traffic, number, told);
+    change_between(number, before, row_at(traffic, number))
+}
+
+/// Notes the changes of the last reading, by plan number. Refused where memory is.
+pub(crate) fn note_changes<A: Allocator + Copy>(
+    traffic: &Traffic<A>,
+    changes: &mut Vec<Change, A>,
+) -> Result<(), AllocError>
+    requires { IsSome traffic.now.before }
+    ensures { OnOk result (IfSome traffic.now.before (λ before. changes.new.items ≡ changes_between (rows_in before) (rows_in traffic.now.traffic))) }
+{
+    changes.clear();
+    let (numbers, told) = traffic.changed();
+    changes.reserve(numbers.len())?;
+    for (index, number) in numbers.iter().enumerate() {
+        if let Some(change) = change_at(traffic, *number, &told[index]) {
+            changes.push_reserved(change);
+        }
+    }
+    Ok(())
+}

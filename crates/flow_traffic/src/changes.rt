@@ -1,0 +1,57 @@
+//! What the last reading changed of plans.
+ghost use Rattle.std.specs.Prelude.{◌≡◌, ◌≤◌, ◌<◌, IfSome, IsSome, length, map};
+ghost use Rattle.std.specs.List.{All};
+ghost use Rattle.std.specs.List.Sorted.{IsStrictlyIncreasing};
+ghost use Rattle.flow_plans.specs.Plans.{status_at};
+ghost use Rattle.flow_traffic.specs.Traffic.{told_of};
+ghost use Rattle.flow_traffic.specs.Changes.{ChangeAtMost};
+
+use crate::traffic::Traffic;
+use crate::undo::Last;
+use flow_plans::{PlanStore, Status};
+use flow_regulations::Told;
+use std::alloc::Allocator;
+
+impl<A: Allocator + Copy> Traffic<A> {
+    /// The numbers of the plans that the last reading may have changed, rising, and what each of them was told before. All
+    /// other plans are in the same state, with the same off-block moment, and were last told the same.
+    pub fn changed(&self) -> (&[u32], &[Option<Told>])
+        requires { IsSome self.now.before }
+        ensures rising { IsStrictlyIncreasing result.0.now }
+        ensures numbers { All (λ n. (0 < n) × (n ≤ length self.now.traffic.plans)) result.0.now }
+        ensures others { IfSome self.now.before (λ before. ChangeAtMost result.0.now before self.now.traffic) }
+        ensures each { length self.now.traffic.told ≡ length self.now.traffic.plans }
+        ensures each_before { IfSome self.now.before (λ before. length before.told ≡ length before.plans) }
+        ensures told { IfSome self.now.before (λ before. result.1.now ≡ map (told_of before.told) result.0.now) }
+    {
+        match self.last {
+            Last::Nothing => (&[], &[]),
+            Last::Refused => (&[], &[]),
+            _ => (self.changed.as_slice(), self.noted.as_slice()),
+        }
+    }
+
+    /// Where the plan of this number stood before the last reading, and its off-block moment then. None where it wasn't filed
+    /// yet.
+    pub fn previous(&self, number: u32) -> Option<Status>
+        requires some { 0 < number }
+        requires change { IsSome self.now.before }
+        ensures { IfSome self.now.before (λ before. result ≡ status_at before.plans number) }
+    {
+        match self.last {
+            Last::Message { .. } => self.plans.previous(number),
+            _ => status_at(&self.plans, number),
+        }
+    }
+}
+
+/// Where the plan of this number stands, and its off-block moment.
+fn status_at<A: Allocator + Copy>(plans: &PlanStore<A>, number: u32) -> Option<Status>
+    requires { 0 < number }
+    ensures { result ≡ status_at plans.now.plans number }
+{
+    match plans.plan(number) {
+        Some(plan) => Some(plan.status()),
+        None => None,
+    }
+}
