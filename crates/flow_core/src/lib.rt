@@ -8,17 +8,11 @@ mod entry;
 mod journal;
 pub mod journal_laws;
 mod journal_reading;
-#[cfg(test)]
-mod journal_tests;
 pub mod laws;
 mod line;
 mod receipt;
 mod row;
 mod serving;
-#[cfg(test)]
-mod take_back_tests;
-#[cfg(test)]
-mod tests;
 
 pub use change::Change;
 pub use desk::{Core, StepFault};

@@ -6,8 +6,6 @@ mod intake;
 mod kept;
 pub mod laws;
 mod pieces;
-#[cfg(test)]
-mod tests;
 
 pub use counted::{Counted, WriteFault, write_bytes};
 pub use intake::{Frame, Intake, IntakeFault, next_frame};

@@ -12,8 +12,6 @@ mod places;
 mod plan;
 mod setup;
 mod store;
-#[cfg(test)]
-mod tests;
 mod texts;
 mod undo;
 

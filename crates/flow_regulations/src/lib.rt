@@ -4,19 +4,13 @@
 mod advice;
 mod closed;
 mod due_queue;
-#[cfg(test)]
-mod due_queue_tests;
 mod fixed_flights;
 pub mod laws;
 mod notice;
 mod places;
 mod regulation;
 mod regulations;
-#[cfg(test)]
-mod regulations_tests;
 mod telling;
-#[cfg(test)]
-mod telling_tests;
 mod window;
 
 pub use closed::Closed;

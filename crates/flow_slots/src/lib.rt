@@ -11,8 +11,6 @@ pub mod laws;
 mod row;
 mod shape;
 mod slot_list;
-#[cfg(test)]
-mod tests;
 
 pub use cell::{Cell, Planned};
 pub use cells::Cells;

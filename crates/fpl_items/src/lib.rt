@@ -7,8 +7,6 @@ pub mod laws;
 pub mod other;
 pub mod route;
 pub mod speed;
-#[cfg(test)]
-mod tests;
 
 pub use fault::ItemFault;
 pub use item::{Item, ItemWords, Items};

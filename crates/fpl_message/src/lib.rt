@@ -15,8 +15,6 @@ mod reading;
 mod refusal;
 mod short_message;
 mod sub_periods;
-#[cfg(test)]
-mod tests;
 
 pub use filed_text::FiledText;
 pub use filing::{Edition, Filing, FilingFault, MAX_BYTES};

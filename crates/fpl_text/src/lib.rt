@@ -18,8 +18,6 @@ pub mod part;
 mod pass;
 pub mod place;
 pub mod squeezed;
-#[cfg(test)]
-mod tests;
 pub mod text;
 pub mod time;
 pub mod words;

@@ -1,7 +1,7 @@
 //! Worked runs of a store, over messages as they are filed.
 ghost use Rattle.flow_plans.specs.Settings.{IsDeskTime};
 
-use crate::{PlanFault, PlanStore, Setup, is_desk_time};
+use flow_plans::{PlanFault, PlanStore, Setup, is_desk_time};
 use fpl_message::{Filing, Message, Reading, Spot};
 use fpl_text::{Minute, Text, read_moment};
 use linked_list_allocator::LocalHeap;

@@ -1,5 +1,5 @@
 //! Readers that cut the input anywhere, and readers that fail.
-use crate::{Counted, Frame, Intake, IntakeFault};
+use flow_intake::{Counted, Frame, Intake, IntakeFault};
 use std::alloc::Global;
 use std::io;
 use std::io::{ErrorKind, Read, Write};

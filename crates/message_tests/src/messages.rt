@@ -1,5 +1,5 @@
-use crate::{Chg, Edition, Filing, FilingFault, Message, Order, Reading, Refusal, Spot};
 use fpl_items::Kind;
+use fpl_message::{Chg, Edition, Filing, FilingFault, Message, Order, Reading, Refusal, Spot};
 use fpl_text::{Day, FlightRules, read_moment};
 use linked_list_allocator::LocalHeap;
 use std::alloc::AllocError;

@@ -1,5 +1,5 @@
 //! Inputs served from readers that cut them anywhere or fail, to writers that take little or fail.
-use crate::{Core, ServeFault, serve};
+use flow_core::{Core, ServeFault, serve};
 use flow_intake::Counted;
 use flow_plans::Setup;
 use fpl_text::read_moment;

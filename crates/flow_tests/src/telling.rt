@@ -1,13 +1,9 @@
 //! Worked examples of 2024-09-01: a flight off block at 08:00, with 10 minutes of taxi.
 
-ghost use Rattle.std.specs.Prelude.{◌<◌, ◌≤◌, length};
+ghost use Rattle.std.specs.Prelude.{◌≡◌, ◌<◌, ◌≤◌, length};
 
-use crate::advice::{Delay, advice_of, worse};
-use crate::notice::{Notice, Said, Told, Window};
-use crate::regulation::Regulation;
-use crate::telling::{says, tell};
-use crate::window::window_of;
 use flow_plans::{PlanStore, Setup, is_desk_time};
+use flow_regulations::{Notice, Regulations, Said, Told, Window, window_of};
 use flow_slots::Shape;
 use fpl_message::{Filing, Message, Reading, Spot};
 use fpl_text::{Minute, Text, TimeOfDay};
@@ -22,6 +18,7 @@ const MIDNIGHT: u32 = 28_752_480;
 pub(crate) fn at(hour: u32, minute: u32) -> Minute
     requires hour { hour < 48 }
     requires minute { minute < 60 }
+    ensures { result < 30_000_000 }
 {
     Minute::from_minutes(MIDNIGHT + 60 * hour + minute)
 }
@@ -53,29 +50,6 @@ fn departures_lie_in_the_window_or_out_of_it(rt: HostRuntime) {
     assert_eq!(rt; window_of(None, time), Window::None);
 }
 
-#[test]
-fn another_take_off_time_is_said(rt: HostRuntime) {
-    let first = told(at(8, 10), b"RMZ01");
-    let elsewhere = told(at(8, 10), b"RMZ02");
-    let later = told(at(8, 13), b"RMZ01");
-    let next_day = told(at(32, 10), b"RMZ01");
-    assert_eq!(rt; says(&None, &None), None);
-    assert_eq!(rt;
-        says(&None, &Some(first.copied())),
-        Some(Said::Sam(first.copied()))
-    );
-    assert_eq!(rt; says(&Some(first.copied()), &Some(elsewhere)), None);
-    assert_eq!(rt;
-        says(&Some(first.copied()), &Some(later.copied())),
-        Some(Said::Srm(later))
-    );
-    assert_eq!(rt;
-        says(&Some(first.copied()), &Some(next_day.copied())),
-        Some(Said::Srm(next_day))
-    );
-    assert_eq!(rt; says(&Some(first), &None), Some(Said::Slc));
-}
-
 /// A store with a flight from LIML to EDDF, off block at 08:00, which takes 1 hour 54.
 pub(crate) fn one_plan(rt: &impl Abort, alloc: Global) -> Result<PlanStore, Fail> {
     let now = at(5, 0);
@@ -94,82 +68,97 @@ pub(crate) fn one_plan(rt: &impl Abort, alloc: Global) -> Result<PlanStore, Fail
     Ok(plans)
 }
 
-/// A regulation over two hours in which that flight keeps the slot that it gets.
-fn regulation(
+/// Opens a regulation in which that flight keeps the slot that it gets.
+fn open(
     rt: &impl Abort,
     alloc: Global,
+    regulations: &mut Regulations,
+    plans: &PlanStore,
     id: &[u8],
     spot: Spot,
     start: Minute,
-    end: Minute,
     rate: u32,
-    entry: Minute,
-) -> Result<Regulation<Global>, AllocError>
-    requires { length id.now ≤ 8 }
+) -> Result<(), AllocError>
+    requires name { length id.now ≤ 8 }
+    requires start { start < 30_000_000 }
+    requires some { 0 < regulations.old.max_plans }
+    ensures { regulations.new.max_plans ≡ regulations.old.max_plans }
 {
+    let id: Text<8> = Text::new(id);
+    assert!(rt; plans.count() == 1);
+    assert!(rt; !regulations.is_open(&id));
+    let end = Minute::from_minutes(start.minutes() + 120);
     let shape = Shape::new(start, end, rate, &[]).expect(rt, "a shape");
-    let mut regulation = Regulation::new(alloc, Text::new(id), spot, shape, 100)?;
-    assert!(rt; regulation.list().slot_of(1).is_none());
-    assert!(rt; 1 <= regulation.list().max_plans());
-    assert!(rt; regulation.list().shape().contains(entry));
-    regulation.place(1, entry, true);
-    assert!(rt; regulation.list().is_fixed(1));
-    Ok(regulation)
+    regulations.open(alloc, id, spot, shape, plans, at(6, 0))
 }
 
 #[test]
 fn the_most_penalising_regulation_decides(rt: HostRuntime) -> Result<(), Fail> {
     let plans = one_plan(&rt, rt.alloc())?;
-    assert!(rt; plans.count() >= 1);
+    assert!(rt; plans.count() == 1);
+    let mut regulations = Regulations::new(rt.alloc(), 100);
+    assert_eq!(rt; regulations.advice(&plans, 1), None);
     let arrivals = Spot::Arr(Text::new(b"EDDF"));
-    let ra = regulation(
+    open(
         &rt,
         rt.alloc(),
+        &mut regulations,
+        &plans,
         b"RA",
         arrivals,
         at(9, 58),
-        at(11, 58),
         5,
-        at(10, 4),
     )?;
     let departures = Spot::Dep(Text::new(b"LIML"));
-    let rb = regulation(
+    open(
         &rt,
         rt.alloc(),
+        &mut regulations,
+        &plans,
         b"RB",
         departures,
         at(8, 4),
-        at(10, 4),
         4,
-        at(8, 10),
     )?;
-    let regulations = [ra, rb];
-    assert_eq!(rt;
-        advice_of(&regulations, &plans, 1),
-        Some(told(at(8, 19), b"RB"))
-    );
-    assert_eq!(rt; advice_of(&[], &plans, 1), None);
+    assert_eq!(rt; regulations.advice(&plans, 1), Some(told(at(8, 19), b"RB")));
     Ok(())
 }
 
 #[test]
-fn of_equal_delays_the_first_opened_is_named(rt: HostRuntime) {
-    let first = Delay {
-        minutes: 6,
-        regulation: Text::new(b"RA"),
-    };
-    let later = Delay {
-        minutes: 6,
-        regulation: Text::new(b"RC"),
-    };
-    let worst = worse(Some(first), Some(later)).expect(&rt, "a delay");
-    assert_eq!(rt; worst.regulation.as_bytes(), b"RA".as_slice());
+fn of_equal_delays_the_first_opened_is_named(rt: HostRuntime) -> Result<(), Fail> {
+    let plans = one_plan(&rt, rt.alloc())?;
+    assert!(rt; plans.count() == 1);
+    let mut regulations = Regulations::new(rt.alloc(), 100);
+    let arrivals = Spot::Arr(Text::new(b"EDDF"));
+    open(
+        &rt,
+        rt.alloc(),
+        &mut regulations,
+        &plans,
+        b"RC",
+        arrivals,
+        at(9, 58),
+        5,
+    )?;
+    let departures = Spot::Dep(Text::new(b"LIML"));
+    open(
+        &rt,
+        rt.alloc(),
+        &mut regulations,
+        &plans,
+        b"RA",
+        departures,
+        at(8, 1),
+        4,
+    )?;
+    assert_eq!(rt; regulations.advice(&plans, 1), Some(told(at(8, 16), b"RC")));
+    Ok(())
 }
 
 /// Tells the one plan what is to be told.
-fn tell_one(
+pub(crate) fn tell_one(
     rt: &impl Abort,
-    regulations: &[Regulation<Global>],
+    regulations: &Regulations,
     plans: &PlanStore,
     told: &mut Vec<Option<Told>>,
     notices: &mut Vec<Notice>,
@@ -177,32 +166,65 @@ fn tell_one(
     assert!(rt; plans.count() == 1);
     assert!(rt; told.len() == 1);
     notices.reserve(1)?;
-    tell(regulations, plans, &[1], told, notices);
+    regulations.tell(plans, &[1], told, notices);
     Ok(())
 }
 
 #[test]
-fn a_slot_is_told_once_and_cancelled(rt: HostRuntime) -> Result<(), Fail> {
+fn another_take_off_time_is_said(rt: HostRuntime) -> Result<(), Fail> {
     let plans = one_plan(&rt, rt.alloc())?;
-    let arrivals = Spot::Arr(Text::new(b"EDDF"));
-    let regulations = [regulation(
-        &rt,
-        rt.alloc(),
-        b"RMZ01",
-        arrivals,
-        at(10, 0),
-        at(12, 0),
-        20,
-        at(10, 4),
-    )?];
+    let mut regulations = Regulations::new(rt.alloc(), 100);
     let mut last = Vec::new(rt.alloc());
     last.push(None)?;
     let mut notices = Vec::new(rt.alloc());
+    let arrivals = Spot::Arr(Text::new(b"EDDF"));
+    open(
+        &rt,
+        rt.alloc(),
+        &mut regulations,
+        &plans,
+        b"RMZ01",
+        arrivals,
+        at(9, 58),
+        10,
+    )?;
     tell_one(&rt, &regulations, &plans, &mut last, &mut notices)?;
     tell_one(&rt, &regulations, &plans, &mut last, &mut notices)?;
-    tell_one(&rt, &[], &plans, &mut last, &mut notices)?;
+    assert_eq!(rt; notices.len(), 1);
+    assert_eq!(rt; notices[0].says, Said::Sam(told(at(8, 10), b"RMZ01")));
+    regulations.take_last();
+    // The same time, by another regulation.
+    let arrivals = Spot::Arr(Text::new(b"EDDF"));
+    open(
+        &rt,
+        rt.alloc(),
+        &mut regulations,
+        &plans,
+        b"RMZ02",
+        arrivals,
+        at(9, 58),
+        10,
+    )?;
+    tell_one(&rt, &regulations, &plans, &mut last, &mut notices)?;
+    assert_eq!(rt; notices.len(), 1);
+    let departures = Spot::Dep(Text::new(b"LIML"));
+    open(
+        &rt,
+        rt.alloc(),
+        &mut regulations,
+        &plans,
+        b"RA",
+        departures,
+        at(8, 4),
+        4,
+    )?;
+    tell_one(&rt, &regulations, &plans, &mut last, &mut notices)?;
     assert_eq!(rt; notices.len(), 2);
-    assert_eq!(rt; notices[0].says, Said::Sam(told(at(8, 12), b"RMZ01")));
-    assert_eq!(rt; notices[1].says, Said::Slc);
+    assert_eq!(rt; notices[1].says, Said::Srm(told(at(8, 19), b"RA")));
+    regulations.take_last();
+    regulations.take_last();
+    tell_one(&rt, &regulations, &plans, &mut last, &mut notices)?;
+    assert_eq!(rt; notices.len(), 3);
+    assert_eq!(rt; notices[2].says, Said::Slc);
     Ok(())
 }

@@ -1,4 +1,4 @@
-use crate::{ItemFault, Kind, Other18, Route};
+use fpl_items::{ItemFault, Kind, Other18, Route};
 use fpl_text::Day;
 use linked_list_allocator::LocalHeap;
 use std::alloc::AllocError;

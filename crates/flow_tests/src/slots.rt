@@ -2,7 +2,7 @@
 
 ghost use Rattle.std.specs.Prelude.{◌<◌};
 
-use crate::{Change, Shape, SlotList};
+use flow_slots::{Change, Shape, SlotList};
 use fpl_text::{Minute, Part};
 use linked_list_allocator::LocalHeap;
 use std::alloc::{AllocError, Allocator};

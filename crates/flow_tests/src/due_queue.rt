@@ -1,7 +1,7 @@
 //! A flight that leaves its stand at 08:00 becomes due at 06:00.
 
-use crate::due_queue::DueQueue;
-use crate::telling_tests::{at, one_plan};
+use crate::telling::{at, one_plan};
+use flow_regulations::DueQueue;
 use std::test::Fail;
 
 #[test]

@@ -1,4 +1,4 @@
-use crate::{
+use fpl_text::{
     Craft, Day, Departure, Destination, Equipment, FieldFault, FlightKind, FlightRules, Heading,
     Ident, Minute, Part, Rules, TextFault, Title, Wake, read_moment, split,
 };

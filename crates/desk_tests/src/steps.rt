@@ -1,5 +1,5 @@
 //! A desk whose journal is full or whose memory runs out.
-use crate::{Core, StepFault, Verdict, Window};
+use flow_core::{Core, StepFault, Verdict, Window};
 use flow_plans::{PlanState, Setup};
 use fpl_message::{Filing, FilingFault, Refusal};
 use fpl_text::{Text, read_moment};

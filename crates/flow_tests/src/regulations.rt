@@ -3,11 +3,9 @@
 
 ghost use Rattle.std.specs.Prelude.{◌≡◌, ◌<◌, ◌≤◌, length};
 
-use crate::notice::{Notice, Said, Told};
-use crate::places::Place;
-use crate::regulations::Regulations;
-use crate::telling_tests::{at, one_plan, told};
+use crate::telling::{at, one_plan, tell_one, told};
 use flow_plans::{PlanStore, Setup};
+use flow_regulations::{Place, Regulations, Said};
 use flow_slots::Shape;
 use fpl_message::Spot;
 use fpl_text::Text;
@@ -15,21 +13,6 @@ use linked_list_allocator::LocalHeap;
 use std::alloc::{AllocError, Global};
 use std::process::Abort;
 use std::test::Fail;
-
-/// Tells the one plan what is to be told.
-fn tell_one(
-    rt: &impl Abort,
-    regulations: &Regulations,
-    plans: &PlanStore,
-    told: &mut Vec<Option<Told>>,
-    notices: &mut Vec<Notice>,
-) -> Result<(), AllocError> {
-    assert!(rt; plans.count() == 1);
-    assert!(rt; told.len() == 1);
-    notices.reserve(1)?;
-    regulations.tell(plans, &[1], told, notices);
-    Ok(())
-}
 
 #[test]
 fn a_due_flight_is_told_its_slot_at_the_opening(rt: HostRuntime) -> Result<(), Fail> {

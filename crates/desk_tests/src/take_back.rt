@@ -1,5 +1,5 @@
 //! Filings that are taken back.
-use crate::{Core, Receipt, Row, Said};
+use flow_core::{Core, Receipt, Row, Said};
 use flow_plans::Setup;
 use fpl_message::Filing;
 use fpl_text::{Minute, read_moment};
