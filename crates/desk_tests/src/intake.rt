@@ -28,6 +28,14 @@ impl Read for Cutter<'_> {
     }
 }
 
+/// Whether a frame is that of these bytes, or too long where there are none.
+fn is_frame(next: Frame, bytes: &[u8]) -> bool {
+    match next {
+        Frame::Whole(filing) => filing.text() == bytes,
+        Frame::TooLong => bytes.is_empty(),
+    }
+}
+
 /// Takes all frames of an input, and says how many of them are these, one after the other.
 fn count_frames(
     rt: &impl Abort,
@@ -38,8 +46,7 @@ fn count_frames(
     let mut intake = Intake::new(alloc, Counted::new(reader))?;
     for (count, frame) in frames.iter().enumerate() {
         match intake.next() {
-            Ok(Some(Frame::Whole(filing))) => assert_eq!(rt; filing.text(), *frame),
-            Ok(Some(Frame::TooLong)) => assert!(rt; frame.is_empty()),
+            Ok(Some(next)) => assert!(rt; is_frame(next, frame)),
             Ok(None) => return Err(Fail::from("no more frames")),
             Err(fault) => {
                 assert_eq!(rt; fault, IntakeFault::Read);
