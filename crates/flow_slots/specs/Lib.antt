@@ -6,6 +6,7 @@ pub mod ChangeList
 pub mod Changed
 pub mod Lineup
 pub mod Order
+pub mod PackedCell
 pub mod Period
 pub mod Row
 pub mod Walk

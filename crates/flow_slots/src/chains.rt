@@ -1,4 +1,4 @@
-ghost use Rattle.std.specs.Prelude.{◌≡◌, ℕ, ◌+◌, ◌<◌, ◌≤◌, ◌++◌, true, length, take, drop, IfSome, IfNone, None, Some};
+ghost use Rattle.std.specs.Prelude.{◌≡◌, ℕ, ◌+◌, ◌-◌, ◌^◌, ◌<◌, ◌≤◌, ◌++◌, true, length, take, drop, IfSome, IfNone, None, Some};
 ghost use Rattle.flow_slots.specs.Changed.{gained};
 ghost use Rattle.flow_slots.specs.Period.{first_slot};
 ghost use Rattle.flow_slots.specs.Row.{flight_at, place_at, IsTied, EntriesWithin, MovesUp};
@@ -45,27 +45,30 @@ pub(crate) fn displace<A: Allocator + Copy>(
     requires absent { place_at places.old flight.flight ≡ None }
     requires follows { Follows flight (drop from cells.row) }
     requires room { has_empty (drop from cells.row) ≡ true }
+    requires entry { flight.entry < 2 ^ 32 - 1 }
     ensures tied { IsTied places.new result.row }
     ensures row { result.row ≡ take from cells.row ++ displace flight (drop from cells.row) }
     ensures writes { result.writes ≤ cells.writes + gained cells.row result.row }
 {
     let mut row = cells;
+    let before = row.count_afresh();
     let mut coming = flight;
-    for k in from..row.len() {
+    let mut k = from;
+    loop {
         match row.cell(k) {
-            Cell::Empty => {
-                row.write(k, Cell::Waiting(coming));
-                places[coming.flight as usize] = HeldSlot::of(k);
-                return row;
-            }
+            Cell::Empty => break,
             Cell::Fixed(_) => {}
             Cell::Waiting(held) => {
-                row.write(k, Cell::Waiting(coming));
+                row.write_next(k, Cell::Waiting(coming));
                 places[coming.flight as usize] = HeldSlot::of(k);
                 coming = held;
             }
         }
+        k += 1;
     }
+    row.write_next(k, Cell::Waiting(coming));
+    places[coming.flight as usize] = HeldSlot::of(k);
+    row.count_more(before);
     row
 }
 
@@ -79,6 +82,7 @@ fn next_up<A: Allocator + Copy>(
     requires hole { hole < length cells.now.row }
     requires entries { EntriesWithin shape.now cells.now.row }
     ensures found { IfSome result (λ r. MovesUp shape.now cells.now.row hole r.0 r.1) }
+    ensures entry { IfSome result (λ r. r.1.entry < 2 ^ 32 - 1) }
     ensures none { IfNone result
         (next_up (λ e. first_slot shape.now e) hole (drop (hole + 1) cells.now.row) ≡ None) }
 {
@@ -115,13 +119,15 @@ pub(crate) fn vacate<A: Allocator + Copy>(
     ensures writes { result.writes ≤ cells.writes + gained cells.row result.row + 1 }
 {
     let mut row = cells;
+    let before = row.count_afresh();
     let mut hole = k;
     places[flight as usize] = HeldSlot::none();
     while let Some((next, held)) = next_up(&row, shape, hole) {
-        row.write(hole, Cell::Waiting(held));
+        row.write_next(hole, Cell::Waiting(held));
         places[held.flight as usize] = HeldSlot::of(hole);
         hole = next;
     }
-    row.write(hole, Cell::Empty);
+    row.write_next(hole, Cell::Empty);
+    row.count_more(before);
     row
 }

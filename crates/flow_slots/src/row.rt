@@ -55,6 +55,7 @@ impl<A: Allocator + Copy> Row<A> {
         requires number { flight.flight < vec_len self.old.places }
         requires absent { place_at self.old.places.items flight.flight ≡ None }
         requires room { has_empty (drop from self.old.cells.row) ≡ true }
+        requires entry { flight.entry < 2 ^ 32 - 1 }
         ensures tied { IsTied self.new.places.items self.new.cells.row }
         ensures row { self.new.cells.row
             ≡ take from self.old.cells.row ++ displace flight (drop from self.old.cells.row) }
