@@ -5,6 +5,7 @@ pub mod FirstServed
 pub mod ChangeList
 pub mod Changed
 pub mod Lineup
+pub mod MadeRow
 pub mod Order
 pub mod PackedCell
 pub mod Period

@@ -1,31 +1,27 @@
-ghost use Rattle.std.specs.Prelude.{◌≡◌, ℕ, ◌+◌, ◌-◌, ◌<◌, ◌^◌, ◌↔◌, IfOk, IsTrue, length, min, replicate, slice_set};
+ghost use Rattle.std.specs.Prelude.{◌≡◌, ℕ, ◌<◌, ◌↔◌, IfOk, IsTrue, length, replicate};
 ghost use Rattle.flow_slots.specs.CellRow.{CellRow, written};
+ghost use Rattle.flow_slots.specs.MadeRow.{EndsEmpty};
 ghost use Rattle.flow_slots.specs.PackedCell.{IsStored};
 ghost use Rattle.flow_slots.specs.Row.{cell_at, flight_at};
 ghost use Rattle.flow_slots.specs.declared.cell.Cell.TheVariants.{Empty};
 
 use crate::cell::Cell;
-use crate::packed_cell::PackedCell;
+use crate::made_cells::MadeCells;
 use std::alloc::{AllocError, Allocator, Global};
 use std::marker::Model;
-use std::mem;
 
 /// The row of slots. Each write to a cell is counted.
 #[derive(Drop)]
 pub struct Cells<A: Allocator + Copy = Global> {
-    row: Vec<PackedCell, A>,
-    writes: u64,
+    made: MadeCells<A>,
 }
 
 impl<A: Allocator + Copy> Model for Cells<A> {
-    ghost use Rattle.std.specs.Prelude.{◌<◌, ◌^◌, length};
     ghost use Rattle.flow_slots.specs.CellRow.{CellRow};
 
     ghost Value = { CellRow };
 
-    ghost view = { λ c. record { row = c.row.items; writes = c.writes } };
-
-    ghost invariant = { λ c. length c.row.items < 2 ^ 32 };
+    ghost view = { λ c. record { row = c.made.row; writes = c.made.writes } };
 }
 
 impl<A: Allocator + Copy> Cells<A> {
@@ -33,28 +29,35 @@ impl<A: Allocator + Copy> Cells<A> {
         ensures { IfOk result (λ c. c ≡ record { row = replicate len Empty; writes = 0 }) }
     {
         Ok(Cells {
-            row: vec![in alloc; PackedCell::empty(); len as usize]?,
-            writes: 0,
+            made: MadeCells::new(alloc, len)?,
         })
     }
 
-    /// Takes the cells out, and leaves none. A chain holds them by value, so that the count of its
-    /// writes lies in a register.
-    pub(crate) fn take(&mut self) -> Cells<A>
-        ensures { result ≡ self.old }
+    /// These cells.
+    #[inline(always)]
+    pub(crate) fn from_made(made: MadeCells<A>) -> Cells<A>
+        ensures { result ≡ record { row = made.row; writes = made.writes } }
     {
-        let none = Cells {
-            row: Vec::new(*self.row.allocator()),
-            writes: 0,
-        };
-        mem::replace(self, none)
+        Cells { made }
+    }
+
+    /// Takes the cells out for a chain that begins at slot `k`, and leaves none.
+    pub(crate) fn take_from(&mut self, k: u32) -> MadeCells<A>
+        requires { k < length self.old.row }
+        ensures row { result.row ≡ self.old.row }
+        ensures writes { result.writes ≡ self.old.writes }
+        ensures ends { EndsEmpty result k }
+    {
+        let mut made = self.made.take();
+        made.make_to(k);
+        made
     }
 
     #[inline(always)]
     pub(crate) fn len(&self) -> u32
         ensures { result ≡ length self.now.row }
     {
-        self.row.len() as u32
+        self.made.len()
     }
 
     /// The flight in slot `k`.
@@ -88,7 +91,7 @@ impl<A: Allocator + Copy> Cells<A> {
     pub fn writes(&self) -> u64
         ensures { result ≡ self.now.writes }
     {
-        self.writes
+        self.made.writes()
     }
 
     #[inline(always)]
@@ -97,7 +100,7 @@ impl<A: Allocator + Copy> Cells<A> {
         ensures value { result ≡ cell_at self.now.row k }
         ensures kept { IsStored result }
     {
-        self.row[k as usize].get()
+        self.made.cell(k)
     }
 
     /// Writes a cell, and counts it.
@@ -107,36 +110,6 @@ impl<A: Allocator + Copy> Cells<A> {
         requires kept { IsStored cell }
         ensures { self.new ≡ written self.old k cell }
     {
-        self.row[k as usize].set(cell);
-        self.writes = self.writes.saturating_add(1);
-    }
-
-    /// Counts writes from nothing again, and gives the count up to now.
-    pub(crate) fn count_afresh(&mut self) -> u64
-        ensures value { result ≡ self.old.writes }
-        ensures row { self.new ≡ record { row = self.old.row; writes = 0 } }
-    {
-        mem::replace(&mut self.writes, 0)
-    }
-
-    /// Writes a cell of a chain, and counts it by one addition.
-    #[inline(always)]
-    pub(crate) fn write_next(&mut self, k: u32, cell: Cell)
-        requires slot { k < length self.old.row }
-        requires kept { IsStored cell }
-        requires few { self.old.writes < 2 ^ 64 - 1 }
-        ensures { self.new
-            ≡ record { row = slice_set self.old.row k cell; writes = self.old.writes + 1 } }
-    {
-        self.row[k as usize].set(cell);
-        self.writes += 1;
-    }
-
-    /// Adds writes that were counted before.
-    pub(crate) fn count_more(&mut self, before: u64)
-        ensures { self.new
-            ≡ record { row = self.old.row; writes = min (self.old.writes + before) (2 ^ 64 - 1) } }
-    {
-        self.writes = self.writes.saturating_add(before);
+        self.made.write(k, cell);
     }
 }

@@ -6,7 +6,7 @@ use crate::cell::{Cell, Planned};
 use std::marker::Model;
 
 /// What stands in a slot. It takes eight bytes, so that a chain reads and writes little for each flight that it moves.
-#[derive(Clone, Copy, Debug, PartialEq, Eq)]
+#[derive(Clone, Copy, Debug)]
 pub(crate) struct PackedCell {
     /// The entry of a flight that waits, and the greatest number where none does.
     entry: u32,

@@ -64,8 +64,8 @@ impl<A: Allocator + Copy> Row<A> {
             ≤ self.old.cells.writes + gained self.old.cells.row self.new.cells.row }
     {
         let k = first_later(&self.cells, from, flight);
-        let cells = self.cells.take();
-        self.cells = displace(cells, self.places.as_mut_slice(), k, flight);
+        let cells = self.cells.take_from(k);
+        self.cells = Cells::from_made(displace(cells, self.places.as_mut_slice(), k, flight));
     }
 
     /// Takes `flight` out of slot `k`: flights move up into the hole that it leaves.
@@ -81,8 +81,8 @@ impl<A: Allocator + Copy> Row<A> {
         ensures writes { self.new.cells.writes
             ≤ self.old.cells.writes + gained self.old.cells.row self.new.cells.row + 1 }
     {
-        let cells = self.cells.take();
-        self.cells = vacate(cells, self.places.as_mut_slice(), shape, flight, k);
+        let cells = self.cells.take_from(k);
+        self.cells = Cells::from_made(vacate(cells, self.places.as_mut_slice(), shape, flight, k));
     }
 
     /// Fixes a flight that stands nowhere in slot `k`; a flight that waits there makes way.
@@ -109,8 +109,8 @@ impl<A: Allocator + Copy> Row<A> {
         self.places[flight as usize] = HeldSlot::of(k);
         if let Cell::Waiting(held) = cell {
             self.places[held.flight as usize] = HeldSlot::none();
-            let cells = self.cells.take();
-            self.cells = displace(cells, self.places.as_mut_slice(), k + 1, held);
+            let cells = self.cells.take_from(k + 1);
+            self.cells = Cells::from_made(displace(cells, self.places.as_mut_slice(), k + 1, held));
         }
     }
 }

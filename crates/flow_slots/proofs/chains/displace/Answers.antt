@@ -1,5 +1,7 @@
-use Rattle.std.proofs.Common.{sym, ap, ◌∙◌, arith}
+use Rattle.std.proofs.Common.{◌+◌, sym, ap, ◌∙◌, arith}
 use Rattle.flow_slots.proofs.Displacing.{Displacing-fixed, Displacing-later, Displacing-count}
+use Rattle.flow_slots.specs.declared.cell.Cell.TheVariants.{Waiting, Fixed}
+use Rattle.flow_slots.proofs.Filled.{EndsEmpty-pass, EndsEmpty-write}
 use Rattle.flow_slots.proofs.Steps.{displace-empty, has_empty-within}
 use Rattle.flow_slots.proofs.Tied.{IsTied-seat}
 use Rattle.flow_slots.proofs.chains.displace.Goals as goal
@@ -10,12 +12,13 @@ loop-held-preserved g c =
     let row = c.loop-held.row.row in
     let walk = c.loop-held.invariant.walk in
     let within = has_empty-within row c.loop-held.k walk.room in
-    elim c.match-cell.branch [
+    elim c.match-made_cell.branch [
       | in-Fixed w ↦
           rw (w.row-is, w.places-is, w.coming-is) (record {
             walk = Displacing-fixed _ _ _ _ _ row c.loop-held.row.writes c.loop-held.places c.loop-held.coming c.loop-held.k w.in-Fixed.field-0 walk within w.in-Fixed.ensures.value;
             entry = c.loop-held.invariant.entry;
             few = omega (arith, c.loop-held.invariant.few);
+            ends = EndsEmpty-pass c.loop-held.row c.loop-held.k (Fixed w.in-Fixed.field-0) c.loop-held.invariant.ends w.in-Fixed.ensures.value (λ q. cc);
             within = omega (arith, within);
           })
       | in-Waiting w ↦
@@ -24,6 +27,7 @@ loop-held-preserved g c =
             walk = later;
             entry = w.in-Waiting.ensures.kept;
             few = omega (arith, c.loop-held.invariant.few);
+            ends = EndsEmpty-write c.loop-held.row c.loop-held.k (c.loop-held.row.writes + 1) (Waiting w.in-Waiting.held) (Waiting c.loop-held.coming) c.loop-held.invariant.ends w.in-Waiting.ensures.value (λ q. cc);
             within = omega (arith, within, later.len, walk.len);
           })
     ]

@@ -17,6 +17,7 @@ pub loop-next-preserved : goal.loop-next-preserved
 loop-next-preserved g c =
     rw (c.write_next.ensures, c.of.ensures) (record {
       walk = Closing-move _ _ _ _ _ _ _ _ c.loop-next.hole c.in-Some.next c.in-Some.held c.loop-next.invariant.walk c.in-Some.ensures.found;
+      made = c.in-Some.ensures.made;
       few = omega (arith, c.loop-next.invariant.few, c.in-Some.ensures.found.after);
     })
 

@@ -1,4 +1,4 @@
-use Rattle.std.proofs.Common.{length, ◌-◌, ◌≤◌}
+use Rattle.std.proofs.Common.{length, ◌-◌, ◌<◌, ◌≤◌}
 use Rattle.flow_slots.proofs.MovingUp.{Closing}
 use Rattle.flow_slots.proofs.chains.vacate.Given as goal
 
@@ -6,6 +6,7 @@ abbrev pub invariant-loop-next : goal.invariant-loop-next
 invariant-loop-next g l =
     record {
       walk : Closing l.shape l.fn.cells.row l.fn.places 0 l.fn.k l.row.row l.row.writes l.places l.hole;
+      made : l.hole < l.row.made;
       few : l.row.writes ≤ l.hole;
     }
 
