@@ -5,7 +5,6 @@ use Rattle.std.proofs.lemmas.Grind.{drop_more_same}
 use Rattle.flow_slots.specs.declared.cell.Planned.{Planned}
 use Rattle.flow_slots.specs.declared.cell.Cell.{Cell}
 use Rattle.flow_slots.specs.declared.cell.Cell.TheVariants.{Empty, Waiting, Fixed}
-use Rattle.flow_slots.specs.CellRow.{one_more}
 use Rattle.flow_slots.specs.Changed.{gained}
 use Rattle.flow_slots.specs.Row.{flight_of, flight_at, place_at, IsTied}
 use Rattle.flow_slots.specs.Walk.{displace, has_empty, Follows}
@@ -66,7 +65,7 @@ Displacing-fixed start flights first_writes from x row writes places coming k f 
     }
 
 -- one write, to a cell of another flight or of none
-pub Displacing-count : (start : List Cell) (flights first_writes from : ℕ) (x : Planned) (row : List Cell) (writes : ℕ) (places : List (Option ℕ)) (coming : Planned) (k : ℕ) → Displacing start flights first_writes from x row writes places coming k → k < length row → one_more writes ≤ first_writes + gained start (set row k (Waiting coming))
+pub Displacing-count : (start : List Cell) (flights first_writes from : ℕ) (x : Planned) (row : List Cell) (writes : ℕ) (places : List (Option ℕ)) (coming : Planned) (k : ℕ) → Displacing start flights first_writes from x row writes places coming k → k < length row → writes + 1 ≤ first_writes + gained start (set row k (Waiting coming))
 Displacing-count start flights first_writes from x row writes places coming k d h =
     let same = same_ahead start row k d.ahead in
     let apart : flight_at start k ≡ Some coming.flight → ⊥ = λ q.
@@ -75,7 +74,7 @@ Displacing-count start flights first_writes from x row writes places coming k d 
     let more = gained-write start row k coming.flight (Waiting coming) h (omega (arith, d.len)) same refl apart in
     omega (arith, more, d.count)
 
-pub Displacing-later : (start : List Cell) (flights first_writes from : ℕ) (x : Planned) (row : List Cell) (writes : ℕ) (places : List (Option ℕ)) (coming : Planned) (k : ℕ) (held : Planned) → Displacing start flights first_writes from x row writes places coming k → k < length row → Waiting held ≡ get_or row k Empty → Displacing start flights first_writes from x (set row k (Waiting coming)) (one_more writes) (set places coming.flight (Some k)) held (k + 1)
+pub Displacing-later : (start : List Cell) (flights first_writes from : ℕ) (x : Planned) (row : List Cell) (writes : ℕ) (places : List (Option ℕ)) (coming : Planned) (k : ℕ) (held : Planned) → Displacing start flights first_writes from x row writes places coming k → k < length row → Waiting held ≡ get_or row k Empty → Displacing start flights first_writes from x (set row k (Waiting coming)) (writes + 1) (set places coming.flight (Some k)) held (k + 1)
 Displacing-later start flights first_writes from x row writes places coming k held d h e =
     let beyond = drop-set-lt (k + 1) row k (Waiting coming) (omega arith) in
     let next = Follows-waiting row k held coming h e d.follows in

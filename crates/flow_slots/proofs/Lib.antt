@@ -3,6 +3,7 @@ pub mod Absent
 pub mod Changes
 pub mod Displacing
 pub mod Examples
+pub mod Filled
 pub mod Fixing
 pub mod Following
 pub mod Fresh

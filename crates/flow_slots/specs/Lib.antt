@@ -5,7 +5,9 @@ pub mod FirstServed
 pub mod ChangeList
 pub mod Changed
 pub mod Lineup
+pub mod MadeRow
 pub mod Order
+pub mod PackedCell
 pub mod Period
 pub mod Row
 pub mod Walk

@@ -1,29 +1,27 @@
-ghost use Rattle.std.specs.Prelude.{◌≡◌, ℕ, ◌<◌, ◌^◌, ◌↔◌, IfOk, IsTrue, length, replicate};
+ghost use Rattle.std.specs.Prelude.{◌≡◌, ℕ, ◌<◌, ◌↔◌, IfOk, IsTrue, length, replicate};
 ghost use Rattle.flow_slots.specs.CellRow.{CellRow, written};
+ghost use Rattle.flow_slots.specs.MadeRow.{EndsEmpty};
+ghost use Rattle.flow_slots.specs.PackedCell.{IsStored};
 ghost use Rattle.flow_slots.specs.Row.{cell_at, flight_at};
 ghost use Rattle.flow_slots.specs.declared.cell.Cell.TheVariants.{Empty};
 
 use crate::cell::Cell;
+use crate::made_cells::MadeCells;
 use std::alloc::{AllocError, Allocator, Global};
 use std::marker::Model;
-use std::mem;
 
 /// The row of slots. Each write to a cell is counted.
 #[derive(Drop)]
 pub struct Cells<A: Allocator + Copy = Global> {
-    row: Vec<Cell, A>,
-    writes: u64,
+    made: MadeCells<A>,
 }
 
 impl<A: Allocator + Copy> Model for Cells<A> {
-    ghost use Rattle.std.specs.Prelude.{◌<◌, ◌^◌, length};
     ghost use Rattle.flow_slots.specs.CellRow.{CellRow};
 
     ghost Value = { CellRow };
 
-    ghost view = { λ c. record { row = c.row.items; writes = c.writes } };
-
-    ghost invariant = { λ c. length c.row.items < 2 ^ 32 };
+    ghost view = { λ c. record { row = c.made.row; writes = c.made.writes } };
 }
 
 impl<A: Allocator + Copy> Cells<A> {
@@ -31,28 +29,35 @@ impl<A: Allocator + Copy> Cells<A> {
         ensures { IfOk result (λ c. c ≡ record { row = replicate len Empty; writes = 0 }) }
     {
         Ok(Cells {
-            row: vec![in alloc; Cell::Empty; len as usize]?,
-            writes: 0,
+            made: MadeCells::new(alloc, len)?,
         })
     }
 
-    /// Takes the cells out, and leaves none. A chain holds them by value, so that the count of its
-    /// writes lies in a register.
-    pub(crate) fn take(&mut self) -> Cells<A>
-        ensures { result ≡ self.old }
+    /// These cells.
+    #[inline(always)]
+    pub(crate) fn from_made(made: MadeCells<A>) -> Cells<A>
+        ensures { result ≡ record { row = made.row; writes = made.writes } }
     {
-        let none = Cells {
-            row: Vec::new(*self.row.allocator()),
-            writes: 0,
-        };
-        mem::replace(self, none)
+        Cells { made }
+    }
+
+    /// Takes the cells out for a chain that begins at slot `k`, and leaves none.
+    pub(crate) fn take_from(&mut self, k: u32) -> MadeCells<A>
+        requires { k < length self.old.row }
+        ensures row { result.row ≡ self.old.row }
+        ensures writes { result.writes ≡ self.old.writes }
+        ensures ends { EndsEmpty result k }
+    {
+        let mut made = self.made.take();
+        made.make_to(k);
+        made
     }
 
     #[inline(always)]
     pub(crate) fn len(&self) -> u32
         ensures { result ≡ length self.now.row }
     {
-        self.row.len() as u32
+        self.made.len()
     }
 
     /// The flight in slot `k`.
@@ -71,31 +76,40 @@ impl<A: Allocator + Copy> Cells<A> {
     pub(crate) fn same(&self, other: &Cells<A>) -> bool
         ensures { IsTrue result ↔ (self.now.row ≡ other.now.row) }
     {
-        self.row.as_slice() == other.row.as_slice()
+        if self.len() != other.len() {
+            return false;
+        }
+        for k in 0..self.len() {
+            if self.cell(k) != other.cell(k) {
+                return false;
+            }
+        }
+        true
     }
 
     /// How often a cell was written, to 2^64 - 1, where the count stays.
     pub fn writes(&self) -> u64
         ensures { result ≡ self.now.writes }
     {
-        self.writes
+        self.made.writes()
     }
 
     #[inline(always)]
     pub(crate) fn cell(&self, k: u32) -> Cell
         requires { k < length self.now.row }
-        ensures { result ≡ cell_at self.now.row k }
+        ensures value { result ≡ cell_at self.now.row k }
+        ensures kept { IsStored result }
     {
-        self.row[k as usize]
+        self.made.cell(k)
     }
 
     /// Writes a cell, and counts it.
     #[inline(always)]
     pub(crate) fn write(&mut self, k: u32, cell: Cell)
-        requires { k < length self.old.row }
+        requires slot { k < length self.old.row }
+        requires kept { IsStored cell }
         ensures { self.new ≡ written self.old k cell }
     {
-        self.row[k as usize] = cell;
-        self.writes = self.writes.saturating_add(1);
+        self.made.write(k, cell);
     }
 }

@@ -1,5 +1,6 @@
-ghost use Rattle.std.specs.Prelude.{◌≡◌, ℕ, ◌+◌, ◌<◌, ◌≤◌, ◌++◌, true, length, take, drop, IfSome, IfNone, None, Some};
+ghost use Rattle.std.specs.Prelude.{◌≡◌, ℕ, ◌+◌, ◌-◌, ◌^◌, ◌<◌, ◌≤◌, ◌++◌, true, length, take, drop, IfSome, IfNone, None, Some};
 ghost use Rattle.flow_slots.specs.Changed.{gained};
+ghost use Rattle.flow_slots.specs.MadeRow.{EndsEmpty};
 ghost use Rattle.flow_slots.specs.Period.{first_slot};
 ghost use Rattle.flow_slots.specs.Row.{flight_at, place_at, IsTied, EntriesWithin, MovesUp};
 ghost use Rattle.flow_slots.specs.Walk.{displace, has_empty, next_up, close, Follows, AllFollow, ComesIn};
@@ -8,6 +9,7 @@ use crate::cell::{Cell, Planned};
 use crate::cells::Cells;
 use crate::first_slots::FirstSlots;
 use crate::held_slot::HeldSlot;
+use crate::made_cells::MadeCells;
 use std::alloc::Allocator;
 
 /// The first slot from `from` on that is empty or held by a flight that waits and doesn't stand
@@ -34,57 +36,63 @@ pub(crate) fn first_later<A: Allocator + Copy>(cells: &Cells<A>, from: u32, flig
 /// Takes `flight` in at slot `from`, where no waiting flight up to the next empty slot stands before
 /// it: each flight takes the slot of the next one that waits, the last one the empty slot.
 pub(crate) fn displace<A: Allocator + Copy>(
-    cells: Cells<A>,
+    cells: MadeCells<A>,
     places: &mut [HeldSlot],
     from: u32,
     flight: Planned,
-) -> Cells<A>
+) -> MadeCells<A>
     requires tied { IsTied places.old cells.row }
     requires some { 0 < flight.flight }
     requires number { flight.flight < length places.old }
     requires absent { place_at places.old flight.flight ≡ None }
     requires follows { Follows flight (drop from cells.row) }
     requires room { has_empty (drop from cells.row) ≡ true }
+    requires entry { flight.entry < 2 ^ 32 - 1 }
+    requires ends { EndsEmpty cells from }
     ensures tied { IsTied places.new result.row }
     ensures row { result.row ≡ take from cells.row ++ displace flight (drop from cells.row) }
     ensures writes { result.writes ≤ cells.writes + gained cells.row result.row }
 {
     let mut row = cells;
+    let before = row.count_afresh();
     let mut coming = flight;
-    for k in from..row.len() {
-        match row.cell(k) {
-            Cell::Empty => {
-                row.write(k, Cell::Waiting(coming));
-                places[coming.flight as usize] = HeldSlot::of(k);
-                return row;
-            }
+    let mut k = from;
+    loop {
+        match row.made_cell(k) {
+            Cell::Empty => break,
             Cell::Fixed(_) => {}
             Cell::Waiting(held) => {
-                row.write(k, Cell::Waiting(coming));
+                row.write_next(k, Cell::Waiting(coming));
                 places[coming.flight as usize] = HeldSlot::of(k);
                 coming = held;
             }
         }
+        k += 1;
     }
+    row.write_next(k, Cell::Waiting(coming));
+    places[coming.flight as usize] = HeldSlot::of(k);
+    row.count_more(before);
     row
 }
 
 /// The flight that may move up into an empty slot `hole`, with its slot.
 #[inline(always)]
 fn next_up<A: Allocator + Copy>(
-    cells: &Cells<A>,
+    cells: &MadeCells<A>,
     shape: &FirstSlots<A>,
     hole: u32,
 ) -> Option<(u32, Planned)>
-    requires hole { hole < length cells.now.row }
+    requires hole { hole < cells.now.made }
     requires entries { EntriesWithin shape.now cells.now.row }
     ensures found { IfSome result (λ r. MovesUp shape.now cells.now.row hole r.0 r.1) }
+    ensures entry { IfSome result (λ r. r.1.entry < 2 ^ 32 - 1) }
+    ensures made { IfSome result (λ r. r.0 < cells.now.made) }
     ensures none { IfNone result
         (next_up (λ e. first_slot shape.now e) hole (drop (hole + 1) cells.now.row) ≡ None) }
 {
-    let len = cells.len();
-    for next in hole + 1..len {
-        match cells.cell(next) {
+    let made = cells.made();
+    for next in hole + 1..made {
+        match cells.made_cell(next) {
             Cell::Empty => return None,
             Cell::Fixed(_) => {}
             Cell::Waiting(held) => {
@@ -100,28 +108,31 @@ fn next_up<A: Allocator + Copy>(
 
 /// Takes `flight` out of slot `k`: flights move up into the hole that it leaves.
 pub(crate) fn vacate<A: Allocator + Copy>(
-    cells: Cells<A>,
+    cells: MadeCells<A>,
     places: &mut [HeldSlot],
     shape: &FirstSlots<A>,
     flight: u32,
     k: u32,
-) -> Cells<A>
+) -> MadeCells<A>
     requires tied { IsTied places.old cells.row }
     requires stands { flight_at cells.row k ≡ Some flight }
     requires entries { EntriesWithin shape.now cells.row }
+    requires made { k < cells.made }
     ensures tied { IsTied places.new result.row }
     ensures row { result.row
         ≡ take k cells.row ++ close (λ e. first_slot shape.now e) k (drop (k + 1) cells.row) }
     ensures writes { result.writes ≤ cells.writes + gained cells.row result.row + 1 }
 {
     let mut row = cells;
+    let before = row.count_afresh();
     let mut hole = k;
     places[flight as usize] = HeldSlot::none();
     while let Some((next, held)) = next_up(&row, shape, hole) {
-        row.write(hole, Cell::Waiting(held));
+        row.write_next(hole, Cell::Waiting(held));
         places[held.flight as usize] = HeldSlot::of(hole);
         hole = next;
     }
-    row.write(hole, Cell::Empty);
+    row.write_next(hole, Cell::Empty);
+    row.count_more(before);
     row
 }

@@ -8,6 +8,8 @@ mod change_list;
 mod first_slots;
 mod held_slot;
 pub mod laws;
+mod made_cells;
+mod packed_cell;
 mod row;
 mod shape;
 mod slot_list;

@@ -55,6 +55,7 @@ impl<A: Allocator + Copy> Row<A> {
         requires number { flight.flight < vec_len self.old.places }
         requires absent { place_at self.old.places.items flight.flight ≡ None }
         requires room { has_empty (drop from self.old.cells.row) ≡ true }
+        requires entry { flight.entry < 2 ^ 32 - 1 }
         ensures tied { IsTied self.new.places.items self.new.cells.row }
         ensures row { self.new.cells.row
             ≡ take from self.old.cells.row ++ displace flight (drop from self.old.cells.row) }
@@ -63,8 +64,8 @@ impl<A: Allocator + Copy> Row<A> {
             ≤ self.old.cells.writes + gained self.old.cells.row self.new.cells.row }
     {
         let k = first_later(&self.cells, from, flight);
-        let cells = self.cells.take();
-        self.cells = displace(cells, self.places.as_mut_slice(), k, flight);
+        let cells = self.cells.take_from(k);
+        self.cells = Cells::from_made(displace(cells, self.places.as_mut_slice(), k, flight));
     }
 
     /// Takes `flight` out of slot `k`: flights move up into the hole that it leaves.
@@ -80,8 +81,8 @@ impl<A: Allocator + Copy> Row<A> {
         ensures writes { self.new.cells.writes
             ≤ self.old.cells.writes + gained self.old.cells.row self.new.cells.row + 1 }
     {
-        let cells = self.cells.take();
-        self.cells = vacate(cells, self.places.as_mut_slice(), shape, flight, k);
+        let cells = self.cells.take_from(k);
+        self.cells = Cells::from_made(vacate(cells, self.places.as_mut_slice(), shape, flight, k));
     }
 
     /// Fixes a flight that stands nowhere in slot `k`; a flight that waits there makes way.
@@ -108,8 +109,8 @@ impl<A: Allocator + Copy> Row<A> {
         self.places[flight as usize] = HeldSlot::of(k);
         if let Cell::Waiting(held) = cell {
             self.places[held.flight as usize] = HeldSlot::none();
-            let cells = self.cells.take();
-            self.cells = displace(cells, self.places.as_mut_slice(), k + 1, held);
+            let cells = self.cells.take_from(k + 1);
+            self.cells = Cells::from_made(displace(cells, self.places.as_mut_slice(), k + 1, held));
         }
     }
 }

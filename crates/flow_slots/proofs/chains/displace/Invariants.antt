@@ -1,7 +1,16 @@
-use Rattle.std.proofs.Common.{length}
+use Rattle.std.proofs.Common.{◌≤◌, ◌<◌, ◌-◌, ◌^◌, length}
+use Rattle.flow_slots.specs.MadeRow.{EndsEmpty}
 use Rattle.flow_slots.proofs.Displacing.{Displacing}
 use Rattle.flow_slots.proofs.chains.displace.Given as goal
 
-abbrev pub invariant-loop-k : goal.invariant-loop-k
-invariant-loop-k g l =
-    Displacing l.fn.cells.row (length l.fn.places) l.fn.cells.writes l.from l.fn.flight l.row.row l.row.writes l.places l.coming l.k
+abbrev pub invariant-loop-held : goal.invariant-loop-held
+invariant-loop-held g l = record {
+  walk : Displacing l.fn.cells.row (length l.fn.places) 0 l.from l.fn.flight l.row.row l.row.writes l.places l.coming l.k;
+  entry : l.coming.entry < 2 ^ 32 - 1;
+  few : l.row.writes ≤ l.k;
+  ends : EndsEmpty l.row l.k;
+  within : l.k ≤ length l.row.row;
+}
+
+abbrev pub decreases-loop-held : goal.decreases-loop-held
+decreases-loop-held g l = length l.fn.cells.row - l.k

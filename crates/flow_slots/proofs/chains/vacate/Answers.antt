@@ -11,17 +11,22 @@ bounds-places-flight g c =
 pub bounds-places-held : goal.bounds-places-held
 bounds-places-held g c =
     let m = c.in-Some.ensures.found in
-    IsTied-other c.loop-next.places c.loop-next.row.row c.loop-next.hole c.in-Some.next c.in-Some.held c.loop-next.invariant.tied m.after m.stands
+    IsTied-other c.loop-next.places c.loop-next.row.row c.loop-next.hole c.in-Some.next c.in-Some.held c.loop-next.invariant.walk.tied m.after m.stands
 
 pub loop-next-preserved : goal.loop-next-preserved
 loop-next-preserved g c =
-    rw (c.write.ensures, c.of.ensures) (Closing-move _ _ _ _ _ _ _ _ c.loop-next.hole c.in-Some.next c.in-Some.held c.loop-next.invariant c.in-Some.ensures.found)
+    rw (c.write_next.ensures, c.of.ensures) (record {
+      walk = Closing-move _ _ _ _ _ _ _ _ c.loop-next.hole c.in-Some.next c.in-Some.held c.loop-next.invariant.walk c.in-Some.ensures.found;
+      made = c.in-Some.ensures.made;
+      few = omega (arith, c.loop-next.invariant.few, c.in-Some.ensures.found.after);
+    })
 
 pub returns-clause-row : goal.returns-clause-row
 returns-clause-row g c =
     let stays = close-stays (λ e. first_slot c.args.shape.now e) c.loop-next.hole c.loop-next.row.row (omega arith) c.in_default.ensures.none in
-    ap (λ v. v.row) c.write-2.ensures ∙ (sym stays ∙ c.loop-next.invariant.target)
+    ap (λ v. v.row) c.count_more.ensures ∙ (ap (λ v. v.row) c.write_next-2.ensures ∙ (sym stays ∙ c.loop-next.invariant.walk.target))
 
 pub returns-clause-writes : goal.returns-clause-writes
 returns-clause-writes g c =
-    rw c.write-2.ensures (Closing-end _ _ _ _ _ c.loop-next.row.row c.loop-next.row.writes _ c.loop-next.hole c.loop-next.invariant)
+    let end = Closing-end _ _ _ _ _ c.loop-next.row.row c.loop-next.row.writes _ c.loop-next.hole c.loop-next.invariant.walk in
+    rw (c.count_more.ensures, c.write_next-2.ensures) (omega (arith, end))

@@ -1,10 +1,14 @@
-use Rattle.std.proofs.Common.{length, ◌-◌}
+use Rattle.std.proofs.Common.{length, ◌-◌, ◌<◌, ◌≤◌}
 use Rattle.flow_slots.proofs.MovingUp.{Closing}
 use Rattle.flow_slots.proofs.chains.vacate.Given as goal
 
 abbrev pub invariant-loop-next : goal.invariant-loop-next
 invariant-loop-next g l =
-    Closing l.shape l.fn.cells.row l.fn.places l.fn.cells.writes l.fn.k l.row.row l.row.writes l.places l.hole
+    record {
+      walk : Closing l.shape l.fn.cells.row l.fn.places 0 l.fn.k l.row.row l.row.writes l.places l.hole;
+      made : l.hole < l.row.made;
+      few : l.row.writes ≤ l.hole;
+    }
 
 abbrev pub decreases-loop-next : goal.decreases-loop-next
 decreases-loop-next g l = length l.fn.cells.row - l.hole

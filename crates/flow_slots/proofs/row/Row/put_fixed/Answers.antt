@@ -12,35 +12,35 @@ use Rattle.flow_slots.proofs.row.Row.put_fixed.Goals as goal
 pub index_mut-requires-in-Waiting : goal.index_mut-requires-in-Waiting
 index_mut-requires-in-Waiting g c =
     let s = c.args.self.now in
-    omega (arith, IsTied-known s.places.items s.cells.row c.args.k c.in-Waiting.held.flight c.requires.tied (ap flight_of (sym c.in-Waiting.ensures)))
+    omega (arith, IsTied-known s.places.items s.cells.row c.args.k c.in-Waiting.held.flight c.requires.tied (ap flight_of (sym c.in-Waiting.ensures.value)))
 
 pub displace-requires-clause-tied : goal.displace-requires-clause-tied
 displace-requires-clause-tied g c =
     let s = c.args.self.now in
     let away = IsTied-absent s.places.items s.cells.row c.args.flight c.requires.tied c.requires.absent in
-    rw (c.as_mut_slice.ensures.value, c.take-cells.ensures, c.write.ensures, c.of.ensures, c.none.ensures) (IsTied-replace s.places.items s.cells.row c.args.k c.args.flight (Fixed c.args.flight) c.in-Waiting.held away c.requires.slot c.requires.some (omega arith) refl c.in-Waiting.ensures)
+    rw (c.as_mut_slice.ensures.value, c.take_from-cells.ensures.row, c.write.ensures, c.of.ensures, c.none.ensures) (IsTied-replace s.places.items s.cells.row c.args.k c.args.flight (Fixed c.args.flight) c.in-Waiting.held away c.requires.slot c.requires.some (omega arith) refl c.in-Waiting.ensures.value)
 
 pub displace-requires-clause-follows : goal.displace-requires-clause-follows
 displace-requires-clause-follows g c =
     let s = c.args.self.now in
     let beyond = drop-set-lt (c.args.k + 1) s.cells.row c.args.k (Fixed c.args.flight) (omega arith) in
-    rw (c.take-cells.ensures, c.write.ensures) (subst (Follows c.in-Waiting.held) (sym beyond) (AllFollow-next c.args.k c.in-Waiting.held s.cells.row c.in-Waiting.ensures c.requires.order))
+    rw (c.take_from-cells.ensures.row, c.write.ensures) (subst (Follows c.in-Waiting.held) (sym beyond) (AllFollow-next c.args.k c.in-Waiting.held s.cells.row c.in-Waiting.ensures.value c.requires.order))
 
 pub displace-requires-clause-some : goal.displace-requires-clause-some
 displace-requires-clause-some g c =
     let s = c.args.self.now in
-    IsTied-some s.places.items s.cells.row c.args.k c.in-Waiting.held.flight c.requires.tied (ap flight_of (sym c.in-Waiting.ensures))
+    IsTied-some s.places.items s.cells.row c.args.k c.in-Waiting.held.flight c.requires.tied (ap flight_of (sym c.in-Waiting.ensures.value))
 
 pub displace-requires-clause-number : goal.displace-requires-clause-number
 displace-requires-clause-number g c =
     let s = c.args.self.now in
-    omega (arith, IsTied-known s.places.items s.cells.row c.args.k c.in-Waiting.held.flight c.requires.tied (ap flight_of (sym c.in-Waiting.ensures)))
+    omega (arith, IsTied-known s.places.items s.cells.row c.args.k c.in-Waiting.held.flight c.requires.tied (ap flight_of (sym c.in-Waiting.ensures.value)))
 
 pub returns-in_default : goal.returns-in_default
 returns-in_default g c =
     let s = c.args.self.now in
     let empty : cell_at s.cells.row c.args.k ≡ Empty =
-    open_is_empty _ (λ w e. c.in_default.not-Waiting w (c.cell-cell.ensures ∙ e)) c.requires.open in
+    open_is_empty _ (λ w e. c.in_default.not-Waiting w (c.cell-cell.ensures.value ∙ e)) c.requires.open in
     record {
       tied = rw (c.write.ensures, c.of.ensures) (IsTied-put s.places.items s.cells.row c.args.k c.args.flight (Fixed c.args.flight) c.requires.tied c.requires.slot c.requires.some (omega arith) (ap flight_of empty) c.requires.absent refl);
       row = ap (λ v. v.row) c.write.ensures ∙ push-empty s.cells.row c.args.k c.args.flight c.requires.slot empty;
@@ -51,6 +51,6 @@ returns-in_default g c =
 pub returns-in-Waiting-clause-writes : goal.returns-in-Waiting-clause-writes
 returns-in-Waiting-clause-writes g c =
     let s = c.args.self.now in
-    let row = rw (c.take-cells.ensures, c.write.ensures) at c.displace.ensures.row in
-    let writes = rw (c.take-cells.ensures, c.write.ensures) at c.displace.ensures.writes in
-    omega (arith, writes, gained-pushed s.cells.row _ c.displace.result.row c.args.k (Fixed c.args.flight) c.requires.slot row)
+    let row = rw (c.take_from-cells.ensures.row, c.write.ensures) at c.displace.ensures.row in
+    let writes = rw (c.take_from-cells.ensures.row, c.take_from-cells.ensures.writes, c.write.ensures) at c.displace.ensures.writes in
+    rw c.from_made.ensures (omega (arith, writes, gained-pushed s.cells.row _ c.displace.result.row c.args.k (Fixed c.args.flight) c.requires.slot row))

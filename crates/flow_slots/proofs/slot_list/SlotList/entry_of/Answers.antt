@@ -13,7 +13,7 @@ cell-requires g c =
 pub from_minutes-requires : goal.from_minutes-requires
 from_minutes-requires g c =
     let s = c.self.inside in
-    let within = EntriesWithin-row s.first_slots s.row.cells.row c.self.invariant.entries c.in_ok-place.field-0 c.in-Waiting.planned (sym c.in-Waiting.ensures) in
+    let within = EntriesWithin-row s.first_slots s.row.cells.row c.self.invariant.entries c.in_ok-place.field-0 c.in-Waiting.planned (sym c.in-Waiting.ensures.value) in
     omega (arith, within.1, c.self.invariant.regular.before)
 
 pub returns-in_err-place-clause-entry : goal.returns-in_err-place-clause-entry
@@ -25,19 +25,19 @@ returns-in_err-place-clause-entry g c =
 pub returns-in-Waiting-clause-entry : goal.returns-in-Waiting-clause-entry
 returns-in-Waiting-clause-entry g c =
     let s = c.self.inside in
-    let found = entry-waiting s.row.places.items s.row.cells.row c.args.flight c.in_ok-place.field-0 c.in-Waiting.planned c.self.invariant.tied (sym c.in_ok-place.ensures) (sym c.in-Waiting.ensures) in
+    let found = entry-waiting s.row.places.items s.row.cells.row c.args.flight c.in_ok-place.field-0 c.in-Waiting.planned c.self.invariant.tied (sym c.in_ok-place.ensures) (sym c.in-Waiting.ensures.value) in
     ap Some c.from_minutes.ensures ∙ (sym found ∙ ap (λ v. waiting_entry v.lineup c.args.flight) c.self.view_is)
 
 pub returns-in_default-clause-entry : goal.returns-in_default-clause-entry
 returns-in_default-clause-entry g c =
     let s = c.self.inside in
-    let none = entry-not s.row.places.items s.row.cells.row c.args.flight c.in_ok-place.field-0 c.self.invariant.tied (sym c.in_ok-place.ensures) (λ w e. c.in_default.not-Waiting w (c.cell.ensures ∙ e)) in
+    let none = entry-not s.row.places.items s.row.cells.row c.args.flight c.in_ok-place.field-0 c.self.invariant.tied (sym c.in_ok-place.ensures) (λ w e. c.in_default.not-Waiting w (c.cell.ensures.value ∙ e)) in
     sym none ∙ ap (λ v. waiting_entry v.lineup c.args.flight) c.self.view_is
 
 pub returns-in-Waiting-clause-within : goal.returns-in-Waiting-clause-within
 returns-in-Waiting-clause-within g c =
     let s = c.self.inside in
-    let within = EntriesWithin-row s.first_slots s.row.cells.row c.self.invariant.entries c.in_ok-place.field-0 c.in-Waiting.planned (sym c.in-Waiting.ensures) in
+    let within = EntriesWithin-row s.first_slots s.row.cells.row c.self.invariant.entries c.in_ok-place.field-0 c.in-Waiting.planned (sym c.in-Waiting.ensures.value) in
     let W : ℕ → Type 0 = λ e. IsWithin s.first_slots e in
     let V : Slots → Type 0 = λ v. IsWithin v.lineup.period c.from_minutes.result in
     subst V c.self.view_is (subst W (sym c.from_minutes.ensures) within)

@@ -3,11 +3,16 @@ use Rattle.std.proofs.lemmas.Bool.{false≢true}
 use Rattle.flow_slots.specs.Lineup.{held_slot, fixed_slot, fixed_at}
 use Rattle.flow_slots.proofs.Changes.{IsKept-fixed, lineup-fixed}
 use Rattle.flow_slots.proofs.Held.{held_slot-is, waits}
-use Rattle.flow_slots.proofs.Tied.{flight_at-within}
+use Rattle.flow_slots.proofs.Tied.{flight_at-within, IsTied-some}
 use Rattle.flow_slots.proofs.slot_list.SlotList.fix.Goals as goal
 
-pub write-requires : goal.write-requires
-write-requires g c =
+pub write-requires-clause-kept : goal.write-requires-clause-kept
+write-requires-clause-kept g c =
+    let s = c.self.inside in
+    IsTied-some s.row.places.items s.row.cells.row c.in-Some.k c.args.flight c.self.invariant.tied ((c.self.invariant.tied.each c.args.flight c.in-Some.k).0 (sym c.in-Some.ensures))
+
+pub write-requires-clause-slot : goal.write-requires-clause-slot
+write-requires-clause-slot g c =
     flight_at-within c.self.inside.row.cells.row c.in-Some.k c.args.flight ((c.self.invariant.tied.each c.args.flight c.in-Some.k).0 (sym c.in-Some.ensures))
 
 pub invariant_of-self : goal.invariant_of-self

@@ -13,14 +13,14 @@ cell-requires g c =
 pub returns-in-Fixed : goal.returns-in-Fixed
 returns-in-Fixed g c =
     let s = c.self.inside in
-    let found = fixed_slot-fixed s.row.places.items s.row.cells.row c.args.flight c.in-Fixed.field-0 c.in-Some.k c.self.invariant.tied (sym c.in-Some.ensures) (sym c.in-Fixed.ensures) in
+    let found = fixed_slot-fixed s.row.places.items s.row.cells.row c.args.flight c.in-Fixed.field-0 c.in-Some.k c.self.invariant.tied (sym c.in-Some.ensures) (sym c.in-Fixed.ensures.value) in
     let at = sym (ap (λ v. fixed_slot v.lineup c.args.flight) c.self.view_is) ∙ found in
     ((λ _. ap is_some at), (λ _. refl))
 
 pub returns-in_default : goal.returns-in_default
 returns-in_default g c =
     let s = c.self.inside in
-    let found = fixed_slot-not s.row.places.items s.row.cells.row c.args.flight c.in-Some.k c.self.invariant.tied (sym c.in-Some.ensures) (λ g e. c.in_default.not-Fixed g (c.cell.ensures ∙ e)) in
+    let found = fixed_slot-not s.row.places.items s.row.cells.row c.args.flight c.in-Some.k c.self.invariant.tied (sym c.in-Some.ensures) (λ g e. c.in_default.not-Fixed g (c.cell.ensures.value ∙ e)) in
     let none = sym (ap (λ v. fixed_slot v.lineup c.args.flight) c.self.view_is) ∙ found in
     ((λ h. absurd (false≢true h)), (λ h. absurd (false≢true (rw none at h))))
 

@@ -1,0 +1,25 @@
+-- A row of slots of which only the first cells were made; the others are empty.
+use Rattle.std.specs.Prelude.{◌≡◌, ℕ, ◌-◌, ◌^◌, ◌<◌, ◌≤◌, List, ◌++◌, length, replicate}
+use Rattle.flow_slots.specs.declared.cell.Cell.{Cell}
+use Rattle.flow_slots.specs.declared.cell.Cell.TheVariants.{Empty}
+use Rattle.flow_slots.specs.Row.{cell_at}
+
+pub record MadeRow : Type 0 where
+  pub row : List Cell
+  pub made : ℕ
+  pub writes : ℕ
+
+-- the row of so many slots that begins with these cells
+abbrev pub filled : List Cell → ℕ → List Cell
+filled cells len = cells ++ replicate (len - length cells) Empty
+
+-- no more cells than slots, and room for a cell of each slot
+pub record HasRoom (cells : List Cell) (len capacity : ℕ) : Type 0 where
+  pub made : length cells ≤ len
+  pub room : len ≤ capacity
+  pub slots : len < 2 ^ 32
+
+-- where not all cells were made, the last one is empty and not before slot `k`
+pub record EndsEmpty (c : MadeRow) (k : ℕ) : Type 0 where
+  pub most : c.made ≤ length c.row
+  pub last : c.made < length c.row → (k < c.made) × (cell_at c.row (c.made - 1) ≡ Empty)

@@ -1,0 +1,189 @@
+//! The cells of a row, made as they are needed.
+ghost use Rattle.std.specs.Prelude.{◌≡◌, ℕ, ◌+◌, ◌-◌, ◌<◌, ◌≤◌, ◌++◌, ◌^◌, ◌↔◌, IfOk, IsTrue, drop, length, min, replicate, slice_set, vec_len, vec_capacity};
+ghost use Rattle.flow_slots.specs.CellRow.{one_more};
+ghost use Rattle.flow_slots.specs.MadeRow.{MadeRow, EndsEmpty};
+ghost use Rattle.flow_slots.specs.PackedCell.{IsStored};
+ghost use Rattle.flow_slots.specs.Row.{cell_at};
+ghost use Rattle.flow_slots.specs.declared.cell.Cell.TheVariants.{Empty};
+
+use crate::cell::Cell;
+use crate::packed_cell::PackedCell;
+use std::alloc::{AllocError, Allocator};
+use std::marker::Model;
+use std::mem;
+
+/// A row of slots, whose room is there from the start. Its cells are made up to the last one that was
+/// written or that a chain was to reach; the others are empty.
+#[derive(Drop)]
+pub(crate) struct MadeCells<A: Allocator + Copy> {
+    row: Vec<PackedCell, A>,
+    len: u32,
+    writes: u64,
+}
+
+impl<A: Allocator + Copy> Model for MadeCells<A> {
+    ghost use Rattle.std.specs.Prelude.{length, vec_capacity};
+    ghost use Rattle.flow_slots.specs.MadeRow.{MadeRow, HasRoom, filled};
+
+    ghost Value = { MadeRow };
+
+    ghost view = { λ c. record {
+      row = filled c.row.items c.len;
+      made = length c.row.items;
+      writes = c.writes;
+    } };
+
+    ghost invariant = { λ c. HasRoom c.row.items c.len (vec_capacity c.row) };
+}
+
+/// Makes empty cells, until there are `count`.
+fn make<A: Allocator + Copy>(row: &mut Vec<PackedCell, A>, count: u32)
+    requires { count ≤ vec_capacity row.old }
+    ensures items { row.new.items
+        ≡ row.old.items ++ replicate (count - length row.old.items) Empty }
+    ensures capacity { vec_capacity row.new ≡ vec_capacity row.old }
+{
+    while row.len() < count as usize {
+        row.push_reserved(PackedCell::empty());
+    }
+}
+
+impl<A: Allocator + Copy> MadeCells<A> {
+    /// Takes memory for all cells, and makes none.
+    pub(crate) fn new(alloc: A, len: u32) -> Result<MadeCells<A>, AllocError>
+        ensures { IfOk result (λ c. c ≡ record { row = replicate len Empty; made = 0; writes = 0 }) }
+    {
+        Ok(MadeCells {
+            row: Vec::with_capacity(alloc, len as usize)?,
+            len,
+            writes: 0,
+        })
+    }
+
+    /// Takes the cells out, and leaves none. A chain holds them by value, so that the count of its
+    /// writes lies in a register.
+    pub(crate) fn take(&mut self) -> MadeCells<A>
+        ensures { result ≡ self.old }
+    {
+        let none = MadeCells {
+            row: Vec::new(*self.row.allocator()),
+            len: 0,
+            writes: 0,
+        };
+        mem::replace(self, none)
+    }
+
+    /// How many slots the row has.
+    #[inline(always)]
+    pub(crate) fn len(&self) -> u32
+        ensures { result ≡ length self.now.row }
+    {
+        self.len
+    }
+
+    /// How many cells were made.
+    #[inline(always)]
+    pub(crate) fn made(&self) -> u32
+        ensures value { result ≡ self.now.made }
+        ensures most { result ≤ length self.now.row }
+        ensures others { drop result self.now.row ≡ replicate (length self.now.row - result) Empty }
+    {
+        self.row.len() as u32
+    }
+
+    /// How often a cell was written.
+    #[inline(always)]
+    pub(crate) fn writes(&self) -> u64
+        ensures { result ≡ self.now.writes }
+    {
+        self.writes
+    }
+
+    /// What stands in slot `k`.
+    #[inline(always)]
+    pub(crate) fn cell(&self, k: u32) -> Cell
+        requires { k < length self.now.row }
+        ensures value { result ≡ cell_at self.now.row k }
+        ensures kept { IsStored result }
+    {
+        if (k as usize) < self.row.len() {
+            self.row[k as usize].get()
+        } else {
+            Cell::Empty
+        }
+    }
+
+    /// What stands in slot `k`, whose cell was made.
+    #[inline(always)]
+    pub(crate) fn made_cell(&self, k: u32) -> Cell
+        requires { k < self.now.made }
+        ensures value { result ≡ cell_at self.now.row k }
+        ensures kept { IsStored result }
+    {
+        self.row[k as usize].get()
+    }
+
+    /// Makes the cells up to slot `k`, and an empty one at their end where the row has room.
+    pub(crate) fn make_to(&mut self, k: u32)
+        requires { k < length self.old.row }
+        ensures row { self.new.row ≡ self.old.row }
+        ensures writes { self.new.writes ≡ self.old.writes }
+        ensures ends { EndsEmpty self.new k }
+    {
+        let made = self.row.len() as u32;
+        if made <= k {
+            make(&mut self.row, k + 1);
+        } else if made < self.len && self.row[made as usize - 1].get() != Cell::Empty {
+            make(&mut self.row, made + 1);
+        }
+    }
+
+    /// Writes a cell, and counts it.
+    #[inline(always)]
+    pub(crate) fn write(&mut self, k: u32, cell: Cell)
+        requires slot { k < length self.old.row }
+        requires kept { IsStored cell }
+        ensures row { self.new.row ≡ slice_set self.old.row k cell }
+        ensures writes { self.new.writes ≡ one_more self.old.writes }
+    {
+        make(&mut self.row, k + 1);
+        self.row[k as usize].set(cell);
+        self.writes = self.writes.saturating_add(1);
+    }
+
+    /// Counts writes from nothing again, and gives the count up to now.
+    pub(crate) fn count_afresh(&mut self) -> u64
+        ensures value { result ≡ self.old.writes }
+        ensures row { self.new
+            ≡ record { row = self.old.row; made = self.old.made; writes = 0 } }
+    {
+        mem::replace(&mut self.writes, 0)
+    }
+
+    /// Writes a cell that was made, and counts it by one addition.
+    #[inline(always)]
+    pub(crate) fn write_next(&mut self, k: u32, cell: Cell)
+        requires slot { k < self.old.made }
+        requires kept { IsStored cell }
+        requires few { self.old.writes < 2 ^ 64 - 1 }
+        ensures { self.new ≡ record {
+          row = slice_set self.old.row k cell;
+          made = self.old.made;
+          writes = self.old.writes + 1;
+        } }
+    {
+        self.row[k as usize].set(cell);
+        self.writes += 1;
+    }
+
+    /// Adds writes that were counted before.
+    pub(crate) fn count_more(&mut self, before: u64)
+        ensures { self.new ≡ record {
+          row = self.old.row;
+          made = self.old.made;
+          writes = min (self.old.writes + before) (2 ^ 64 - 1);
+        } }
+    {
+        self.writes = self.writes.saturating_add(before);
+    }
+}
