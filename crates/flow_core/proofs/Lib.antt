@@ -1,5 +1,6 @@
 pub mod Runs
 pub mod Lines
+pub mod KeptEntries
 pub mod Rows
 pub mod Serves
 pub mod JournalTexts

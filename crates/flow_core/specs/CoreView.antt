@@ -1,7 +1,7 @@
 -- How a core keeps the state.
 use Rattle.std.specs.Prelude.{◌≡◌, ◌≤◌, ◌<◌, ◌+◌, ◌-◌, List, [], ◌∷◌, ◌++◌, map, length, take, Option, Some}
 use Rattle.std.specs.List.{AllByRecursion}
-use Rattle.fpl_message.specs.Reads.{Reading, reading_of}
+use Rattle.fpl_message.specs.Filings.{FilingText}
 use Rattle.flow_plans.specs.Settings.{Settings}
 use Rattle.flow_traffic.specs.Traffic.{Traffic, Undoable}
 use Rattle.flow_core.specs.State.{State, Input, Record}
@@ -24,17 +24,17 @@ pub record IsRun (s : State) : Type 0 where
 abbrev pub without_last : {X : Type 0} → List X → List X
 without_last xs = take (length xs - 1) xs
 
--- the last filing, which reads so, can be taken back, what is then kept is the run without it, and these are the changes of
+-- the last filing, of this text, can be taken back, what is then kept is the run without it, and these are the changes of
 -- rows that it made
-pub record MayTakeBack (setup : Settings) (traffic : Undoable) (journal : List Record) (reading : Reading) (changes : List Change) : Type 0 where
+pub record MayTakeBack (setup : Settings) (traffic : Undoable) (journal : List Record) (text : FilingText) (changes : List Change) : Type 0 where
   pub before : Traffic
   pub is : traffic.before ≡ Some before
   pub some : 0 < length journal
   pub changed : changes ≡ changes_between (rows_in before) (rows_in traffic.traffic)
-  pub reads : (earlier : List Record) (e : Record) → journal ≡ earlier ++ e ∷ [] → reading ≡ reading_of e.input.text
+  pub filed : (earlier : List Record) (e : Record) → journal ≡ earlier ++ e ∷ [] → text ≡ e.input.text
   pub run_then : IsRun (record { setup = setup; traffic = before; journal = without_last journal })
 
--- the state kept in these fields is that of the run, and so is what can be taken back while the last reading is kept
-pub record IsRunWith (setup : Settings) (traffic : Undoable) (journal : List Record) (last : Option Reading) (changes : List Change) : Type 0 where
+-- the state kept in these fields is that of the run, and so is what can be taken back while the last filing is kept
+pub record IsRunWith (setup : Settings) (traffic : Undoable) (journal : List Record) (last : Option FilingText) (changes : List Change) : Type 0 where
   pub run_now : IsRun (record { setup = setup; traffic = traffic.traffic; journal = journal })
-  pub back : (reading : Reading) → last ≡ Some reading → MayTakeBack setup traffic journal reading changes
+  pub back : (text : FilingText) → last ≡ Some text → MayTakeBack setup traffic journal text changes

@@ -1,4 +1,5 @@
 pub mod State
+pub mod KeptEntries
 pub mod Steps
 pub mod History
 pub mod Changes

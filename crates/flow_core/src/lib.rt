@@ -5,6 +5,7 @@ mod answer;
 mod change;
 mod desk;
 mod entry;
+mod entry_list;
 mod journal;
 pub mod journal_laws;
 mod journal_reading;
