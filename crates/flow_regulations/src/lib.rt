@@ -8,6 +8,7 @@ mod due_queue;
 mod due_queue_tests;
 mod fixed_flights;
 pub mod laws;
+mod marks;
 mod notice;
 mod places;
 mod regulation;
