@@ -12,10 +12,13 @@ pub mod ForTheDesk
 pub mod Frozen
 pub mod Looked
 pub mod Looks
+pub mod MarkBits
+pub mod Marking
 pub mod Names
 pub mod Numbers
 pub mod Openings
 pub mod Others
+pub mod Outs
 pub mod Placing
 pub mod PutBack
 pub mod Queues

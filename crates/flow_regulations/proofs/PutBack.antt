@@ -1,21 +1,21 @@
 -- A flight is put back where it stood.
-use Rattle.std.proofs.Common.{◌≡◌, ℕ, zero, suc, ◌+◌, ◌<◌, ◌≤◌, ◌++◌, Bool, true, false, not, cond, eqb, List, [], ◌∷◌, length, map, take, get_or, Option, Some, None, refl, sym, ap, subst, ◌∙◌, arith}
+use Rattle.std.proofs.Common.{◌≡◌, ℕ, zero, suc, ◌+◌, ◌<◌, ◌++◌, Bool, true, false, not, cond, eqb, List, [], ◌∷◌, length, map, take, get_or, Option, Some, None, refl, sym, ap, subst, ◌∙◌, arith}
 use Rattle.std.proofs.lemmas.List.{take_more, length-map}
 use Rattle.std.specs.Prelude.{IsSome, IfSome, slice_set}
 use Rattle.std.specs.List.{AllByRecursion}
 use Rattle.std.specs.Option.{option_map_or}
-use Rattle.std.proofs.lemmas.Bool.{eqb-true, eqb-false, ne_eqb}
+use Rattle.std.proofs.lemmas.Bool.{eqb-false, ne_eqb}
 use Rattle.flow_slots.specs.declared.cell.Planned.{Planned}
 use Rattle.flow_slots.specs.Period.{first_slot}
 use Rattle.flow_slots.specs.Order.{without}
 use Rattle.flow_slots.specs.Assignment.{Placed, first_free, greedy, slots}
-use Rattle.flow_slots.specs.Lineup.{Lineup, IsLineup, NoneIs, NoneFixed, BySlot, WaitingApart, slot_in, flight_in, held_slot, held_flight, fixed_slot, entry_in, waiting_entry, without_fixed, with_waiting, with_fixed, without_flight}
+use Rattle.flow_slots.specs.Lineup.{Lineup, IsLineup, NoneIs, NoneFixed, BySlot, WaitingApart, slot_in, flight_in, held_flight, fixed_slot, entry_in, waiting_entry, without_fixed, without_flight}
 use Rattle.flow_slots.proofs.TakenBack.{removed-inserted, removed-put_fixed}
 use Rattle.flow_regulations.specs.declared.places.Place.{Place}
 use Rattle.flow_regulations.specs.declared.places.Place.TheVariants as place
 use Rattle.flow_regulations.specs.Listing.{Listed, with_lineup, without_in, HaveCapacity}
 use Rattle.flow_regulations.specs.Places.{place_in, stood, HasPlace, MayStand, IsPlaceOf, ArePlaces}
-use Rattle.flow_regulations.proofs.FixedOnes.{all-map, slot_in-none, without_fixed-none}
+use Rattle.flow_regulations.proofs.FixedOnes.{slot_in-none, without_fixed-none}
 use Rattle.flow_regulations.proofs.Looks.{slot_in-before}
 use Rattle.flow_regulations.proofs.Standing.{none-slot}
 use Rattle.flow_regulations.proofs.Waiting.{without-none}

@@ -1,5 +1,5 @@
 -- Flights that were fixed when they became due wait again.
-use Rattle.std.proofs.Common.{◌≡◌, ℕ, ◌+◌, ◌<◌, ◌≤◌, ◌++◌, Bool, true, false, cond, eqb, ltb, List, [], ◌∷◌, length, map, take, get_or, Option, Some, None, refl, sym, ap, subst, ◌∙◌, arith}
+use Rattle.std.proofs.Common.{◌≡◌, ℕ, ◌+◌, ◌<◌, ◌++◌, Bool, true, false, cond, eqb, ltb, List, [], ◌∷◌, length, map, take, get_or, Option, Some, None, refl, sym, ap, subst, ◌∙◌, arith}
 use mathlib.Core.Logic.{⊎_elim}
 use Rattle.std.specs.List.{All, AllByRecursion}
 use Rattle.std.specs.Option.{option_and_then, is_some}
@@ -9,16 +9,16 @@ use Rattle.std.proofs.lemmas.List.Elements.{All-take, recursion_from_All}
 use Rattle.std.proofs.lemmas.List.Kept.{AllPairs-from_increasing}
 use Rattle.flow_plans.specs.Plans.{Plan, plan_at}
 use Rattle.flow_slots.specs.declared.cell.Planned.{Planned}
-use Rattle.flow_slots.specs.Order.{insert, without}
+use Rattle.flow_slots.specs.Order.{insert}
 use Rattle.flow_slots.specs.Assignment.{Placed, is_in}
-use Rattle.flow_slots.specs.Lineup.{Lineup, NoneFixed, slot_in, fixed_slot, without_fixed, insert_fixed, with_waiting, without_flight}
-use Rattle.flow_regulations.specs.Regulations.{Regulation, subject_to}
+use Rattle.flow_slots.specs.Lineup.{Lineup, NoneFixed, slot_in, without_fixed, insert_fixed, with_waiting, without_flight}
+use Rattle.flow_regulations.specs.Regulations.{subject_to}
 use Rattle.flow_regulations.specs.Settling.{pairs_of}
-use Rattle.flow_regulations.specs.Listing.{Listed, regulation_of, with_lineup, IsListedIn, IsListed, Walked, HaveCapacity, fixed_waiting, all_fixed_waiting, with_fixed_waiting, released, released_in, IsReleased}
+use Rattle.flow_regulations.specs.Listing.{Listed, regulation_of, with_lineup, IsListedIn, IsListed, Walked, HaveCapacity, fixed_waiting, with_fixed_waiting, released, released_in, IsReleased}
 use Rattle.flow_regulations.specs.Awaiting.{BecameDue, HaveBecomeDue}
 use Rattle.flow_regulations.proofs.Advances.{pairs-advanced, all_fixed-last}
-use Rattle.flow_regulations.proofs.FixedOnes.{all-map, all-both, without_fixed-none}
-use Rattle.flow_regulations.proofs.Fixes.{lined, others, own, more, pair, none, DoesNot, Does, either, is, listed-more}
+use Rattle.flow_regulations.proofs.FixedOnes.{without_fixed-none}
+use Rattle.flow_regulations.proofs.Fixes.{lined, others, more, none, DoesNot, Does, either, is, listed-more}
 use Rattle.flow_regulations.proofs.ForTheDesk.{newly-due-unfixed}
 use Rattle.flow_regulations.proofs.Queues.{in-at, due-there}
 use Rattle.flow_regulations.proofs.Standing.{none-slot, without_fixed-comes}

@@ -1,6 +1,7 @@
 pub mod Regulations
 pub mod Settling
 pub mod Listing
+pub mod Marks
 pub mod Advice
 pub mod Awaiting
 pub mod Notices

@@ -1,5 +1,5 @@
 //! What flights are to be told of their slots.
-ghost use Rattle.std.specs.Prelude.{◌≡◌, ◌+◌, ◌-◌, ◌<◌, ◌≤◌, length, map, IfSome, IsSome};
+ghost use Rattle.std.specs.Prelude.{◌≡◌, ◌+◌, ◌-◌, ◌<◌, ◌≤◌, false, length, map, IfSome, IsSome};
 ghost use Rattle.std.specs.Option.{option_map};
 ghost use Rattle.flow_plans.specs.Plans.{plan_at};
 ghost use Rattle.flow_plans.specs.Entries.{take_off};
@@ -7,7 +7,9 @@ ghost use Rattle.flow_slots.specs.Period.{slot_time};
 ghost use Rattle.flow_slots.specs.Lineup.{fixed_slot};
 ghost use Rattle.flow_regulations.specs.Advice.{delay_in, caused_by, worse, advice};
 ghost use Rattle.flow_regulations.specs.Listing.{regulation_of};
+ghost use Rattle.flow_regulations.specs.Marks.{IsOut, Covers};
 
+use crate::marks::may_stand;
 use crate::notice::Told;
 use crate::regulation::Regulation;
 use flow_plans::PlanStore;
@@ -56,6 +58,28 @@ fn delay_in<A: Allocator + Copy>(
     })
 }
 
+/// The delay that the slot gives which a flight keeps in a regulation. One that may not be held there isn't looked for.
+#[inline(always)]
+fn delay_where<A: Allocator + Copy>(
+    regulation: &Regulation<A>,
+    plans: &PlanStore<A>,
+    number: u32,
+    may_stand: bool,
+) -> Option<Delay>
+    requires some { 0 < number }
+    requires within { number ≤ length plans.now.plans }
+    requires out { may_stand ≡ false → IsOut number regulation.now }
+    ensures value { IfSome (plan_at plans.now.plans number)
+        (λ p. result ≡ option_map (caused_by (regulation_of regulation.now)) (delay_in plans.now.taxi number p (regulation_of regulation.now))) }
+    ensures bound { IfSome (plan_at plans.now.plans number)
+        (λ p. IfSome result (λ d. take_off plans.now.taxi p + d.minutes ≤ 100_000_000)) }
+{
+    if !may_stand {
+        return None;
+    }
+    delay_in(regulation, plans, number)
+}
+
 /// The greater delay, the first of equal ones.
 pub(crate) fn worse(first: Option<Delay>, later: Option<Delay>) -> Option<Delay>
     ensures { result ≡ worse first later }
@@ -75,20 +99,23 @@ pub(crate) fn worse(first: Option<Delay>, later: Option<Delay>) -> Option<Delay>
 
 /// What the flight of a plan is to be told: its take-off delayed by the most penalising of the regulations where it keeps
 /// a slot, of equal ones by the one opened first, and the name of that one. None where it keeps no slot. The regulations
-/// stand in the order of opening.
+/// stand in the order of opening. The word marks those where the flight may be held: no other is asked.
 pub(crate) fn advice_of<A: Allocator + Copy>(
     regulations: &[Regulation<A>],
     plans: &PlanStore<A>,
     number: u32,
+    word: u64,
 ) -> Option<Told>
     requires some { 0 < number }
     requires within { number ≤ length plans.now.plans }
+    requires covers { Covers word number 0 regulations.now }
     ensures { IfSome (plan_at plans.now.plans number)
         (λ p. result ≡ advice plans.now.taxi number p (map regulation_of regulations.now)) }
 {
     let mut worst = None;
-    for regulation in regulations {
-        worst = worse(worst, delay_in(regulation, plans, number));
+    for (index, regulation) in regulations.iter().enumerate() {
+        let marked = may_stand(word, index);
+        worst = worse(worst, delay_where(regulation, plans, number, marked));
     }
     let delay = worst?;
     let take_off = plans.take_off(number).minutes();

@@ -6,6 +6,7 @@ mod closed;
 mod due_queue;
 mod fixed_flights;
 pub mod laws;
+mod marks;
 mod notice;
 mod places;
 mod regulation;

@@ -1,12 +1,13 @@
 //! An open regulation.
-ghost use Rattle.std.specs.Prelude.{◌≡◌, ◌<◌, ◌≤◌, ℕ, List, None, Some, true, IfSome, IfOk, OnOk, IsTrue, ◌↔◌, length};
+ghost use Rattle.std.specs.Prelude.{◌≡◌, ◌<◌, ◌≤◌, ℕ, List, None, Some, true, false, IfSome, IfOk, OnOk, IsTrue, ◌↔◌, length};
 ghost use Rattle.flow_plans.specs.Plans.{Plan as Held, plan_at, is_departed, is_filed};
 ghost use Rattle.flow_slots.specs.Lineup.{held_slot, fixed_slot, without_flight, waiting_entry, len_of, IsLineup};
 ghost use Rattle.flow_slots.specs.Period.{IsWithin, IsRegular};
 ghost use Rattle.flow_regulations.specs.Places.{IsPlaceOf, MayStand, stood};
+ghost use Rattle.flow_regulations.specs.Marks.{IsOut};
 ghost use Rattle.flow_regulations.specs.Regulations.{subject_to};
 ghost use Rattle.flow_regulations.specs.Settling.{is_due, pairs_of};
-ghost use Rattle.flow_regulations.specs.Listing.{Listed, regulation_of, with_lineup, without_in, released_in, keeps_slot, placed, with_no_flights, let_in, is_named, fixed_waiting, IsListedIn, IsSettledBut, AreSameBut, IsRenewed};
+ghost use Rattle.flow_regulations.specs.Listing.{Listed, regulation_of, with_lineup, without_in, released_in, keeps_slot, placed, with_no_flights, let_in, is_named, fixed_waiting, IsListedIn, IsSettledBut, AreSameBut, IsRenewed, IsFixedWaiting, IsLookedAgain};
 
 use crate::places::Place;
 use flow_plans::{Plan, PlanState, PlanStore};
@@ -74,6 +75,22 @@ impl<A: Allocator + Copy> Regulation<A> {
         ensures { result.now.lineup ≡ self.now.lineup }
     {
         &self.list
+    }
+
+    /// Whether it holds a flight.
+    pub(crate) fn holds(&self, number: u32) -> bool
+        ensures { result ≡ false → IsOut number self.now }
+    {
+        self.list.slot_of(number).is_some()
+    }
+
+    /// No flight stands twice in its slot list, and its period is regular.
+    #[inline(always)]
+    fn is_in_order(&self)
+        ensures lined { IsLineup self.now.lineup }
+        ensures regular { IsRegular self.now.lineup.period }
+    {
+        let _no_flight_twice = self.list.cells();
     }
 
     /// Lets the flight of the last of the plans so far wait, where the regulation applies to it.
@@ -213,6 +230,19 @@ impl<A: Allocator + Copy> Regulation<A> {
         }
     }
 
+    /// Where a flight stands. One that may not be held isn't looked for.
+    #[inline(always)]
+    pub(crate) fn place_where(&self, number: u32, may_stand: bool) -> Place
+        requires { may_stand ≡ false → IsOut number self.now }
+        ensures { IsPlaceOf number result self.now }
+    {
+        if !may_stand {
+            self.is_in_order();
+            return Place::Absent;
+        }
+        self.place_of(number)
+    }
+
     /// Lets a flight that isn't held stand in a place.
     fn stand_in(&mut self, number: u32, place: Place)
         requires absent { held_slot self.old.lineup number ≡ None }
@@ -258,6 +288,19 @@ impl<A: Allocator + Copy> Regulation<A> {
         }
     }
 
+    /// Fixes a flight where it waits, if it waits. One that may not be held isn't looked for.
+    #[inline(always)]
+    pub(crate) fn fix_where(&mut self, number: u32, may_stand: bool)
+        requires { may_stand ≡ false → IsOut number self.old }
+        ensures { IsFixedWaiting number self.old self.new }
+    {
+        if may_stand {
+            self.fix_waiting(number);
+        } else {
+            self.is_in_order();
+        }
+    }
+
     /// Lets a flight that keeps a slot wait again with the entry of its plan, where the regulation applies to it.
     pub(crate) fn release(&mut self, plans: &PlanStore<A>, number: u32)
         requires some { 0 < number }
@@ -275,8 +318,37 @@ impl<A: Allocator + Copy> Regulation<A> {
         }
     }
 
+    /// Settles the regulation after a message about one flight, which touches that flight alone, and answers whether the
+    /// flight may be held then. One that may not be held before is let in where the regulation applies to it.
+    #[inline(always)]
+    pub(crate) fn look_where(
+        &mut self,
+        plans: &PlanStore<A>,
+        number: u32,
+        now: Minute,
+        may_stand: bool,
+    ) -> bool
+        requires some { 0 < number }
+        requires within { number ≤ length plans.now.plans }
+        requires room { number ≤ self.old.lineup.capacity }
+        requires out { may_stand ≡ false → IsOut number self.old }
+        ensures looked { IsLookedAgain number plans.now.taxi now plans.now.plans self.old self.new }
+        ensures out { result ≡ false → IsOut number self.new }
+    {
+        if may_stand {
+            self.look_again(plans, number, now);
+            return true;
+        }
+        if self.subject(plans, number).is_none() {
+            self.is_in_order();
+            return false;
+        }
+        self.look_again(plans, number, now);
+        true
+    }
+
     /// Settles the regulation after a message about one flight, which touches that flight alone.
-    pub(crate) fn look_again(&mut self, plans: &PlanStore<A>, number: u32, now: Minute)
+    fn look_again(&mut self, plans: &PlanStore<A>, number: u32, now: Minute)
         requires some { 0 < number }
         requires within { number ≤ length plans.now.plans }
         requires room { number ≤ self.old.lineup.capacity }

@@ -7,6 +7,7 @@ ghost use Rattle.flow_slots.specs.Assignment.{is_in};
 ghost use Rattle.flow_regulations.specs.Advice.{advice};
 ghost use Rattle.flow_regulations.specs.Awaiting.{HaveBecomeDue};
 ghost use Rattle.flow_regulations.specs.Listing.{Listed, Walked, without_in, IsLookedAgain, IsListed, AreSettledBut, AreSameBut, AreRenewed, IsFixedWaiting, AreFrozen, IsSettled, IsAdvancing, is_below, is_among, with_fixed_waiting, AreDue, HoldNewlyDue, HaveCapacity, names_in, IsReleased, IsOpened, opened, is_named, without_named, lineup_named, keeps_slot_in, IsNamedAt, MayReopen, pairs_in, regulation_of};
+ghost use Rattle.flow_regulations.specs.Marks.{may_stand, Keeps, Covers, AreMarked};
 ghost use Rattle.flow_regulations.specs.Settling.{pairs_of};
 ghost use Rattle.flow_regulations.specs.Notices.{notices_from, told_from};
 ghost use Rattle.flow_regulations.specs.Places.{ArePlaces};
@@ -15,6 +16,7 @@ ghost use Rattle.flow_regulations.specs.Quiet.{AreQuietBut, AllQuiet};
 use crate::advice::advice_of;
 use crate::closed::Closed;
 use crate::fixed_flights::note_fixed;
+use crate::marks::{close_place, make_room, mark_where, may_stand, open_last, set_word, word_of};
 use crate::notice::{Notice, Told};
 use crate::places::Place;
 use crate::regulation::{Regulation, is_due};
@@ -31,18 +33,21 @@ use std::marker::Model;
 pub struct Regulations<A: Allocator + Copy = Global> {
     max_plans: u32,
     regulations: Vec<Regulation<A>, A>,
+    // for each flight, by its number, the word that marks where it may be held
+    words: Vec<u64, A>,
 }
 
 impl<A: Allocator + Copy> Model for Regulations<A> {
     ghost use Rattle.std.specs.Prelude.{◌<◌, ◌≤◌, vec_capacity};
     ghost use Rattle.flow_regulations.specs.Listing.{Listing, HaveCapacity, AreApart, names_in};
+    ghost use Rattle.flow_regulations.specs.Marks.{AreMarked};
 
     ghost Value = { Listing };
 
     ghost view = { λ r. record { max_plans = r.max_plans; lists = r.regulations.items; room = vec_capacity r.regulations } };
 
     ghost invariant = { λ r. (0 < r.max_plans) × (r.max_plans ≤ 20_000) × HaveCapacity r.max_plans r.regulations.items
-        × AreApart (names_in r.regulations.items) };
+        × AreApart (names_in r.regulations.items) × AreMarked r.words.items r.regulations.items };
 }
 
 impl<A: Allocator + Copy> Regulations<A> {
@@ -56,6 +61,7 @@ impl<A: Allocator + Copy> Regulations<A> {
         Regulations {
             max_plans,
             regulations: Vec::new(alloc),
+            words: Vec::new(alloc),
         }
     }
 
@@ -93,8 +99,10 @@ impl<A: Allocator + Copy> Regulations<A> {
     {
         let mut regulation = Regulation::new(alloc, id, spot, shape, self.max_plans)?;
         self.regulations.reserve(1)?;
+        make_room(&mut self.words, alloc, self.max_plans)?;
         let_all_in(&mut regulation, plans);
         settle(&mut regulation, plans, now);
+        open_last(&mut self.words, &self.regulations, &regulation);
         self.regulations.push_reserved(regulation);
         Ok(())
     }
@@ -144,10 +152,12 @@ impl<A: Allocator + Copy> Regulations<A> {
     {
         let index = index_named(&self.regulations, id)?;
         let regulation = self.regulations.remove(index);
+        close_place(&mut self.words, index);
         Some(Closed { index, regulation })
     }
 
-    /// Opens a closed regulation again in its place, as it was. It takes no memory: the room that it left is there.
+    /// Opens a closed regulation again in its place, as it was. It takes no memory: the room that it left is there. Where
+    /// flights are held is marked again from the next opening on.
     pub fn reopen(&mut self, closed: Closed<A>)
         requires { MayReopen closed self.old }
         ensures limit { self.new.max_plans ≡ self.old.max_plans }
@@ -155,6 +165,7 @@ impl<A: Allocator + Copy> Regulations<A> {
     {
         let Closed { index, regulation } = closed;
         self.regulations.insert(index, regulation).unwrap();
+        self.words.clear();
     }
 
     /// Takes the regulation that was opened last out again.
@@ -181,7 +192,9 @@ impl<A: Allocator + Copy> Regulations<A> {
             → AreSameBut number before plans.now.plans
             → AreRenewed plans.now.taxi self.old.max_plans now plans.now.plans self.old.lists self.new.lists }
     {
-        look_again_in(&mut self.regulations, plans, number, now);
+        let word = word_of(&self.words, number);
+        let word = look_again_in(&mut self.regulations, plans, number, now, word);
+        set_word(&mut self.words, number, word);
     }
 
     /// Settles the regulations when the desk's time has advanced: these flights, which are due now, are fixed where they
@@ -197,7 +210,7 @@ impl<A: Allocator + Copy> Regulations<A> {
             → IsSettled taxi earlier plans self.old.lists
             → AreRenewed taxi self.old.max_plans now plans self.old.lists self.new.lists }
     {
-        advance_in(&mut self.regulations, due);
+        advance_in(&mut self.regulations, &self.words, due);
     }
 
     /// Lets flights wait again that were fixed when they became due, each with the entry of its plan: the regulations are
@@ -223,7 +236,8 @@ impl<A: Allocator + Copy> Regulations<A> {
             → IsListed taxi self.old.max_plans before self.old.lists
             → AreFrozen taxi self.old.max_plans number before self.old.lists self.new.lists }
     {
-        fix_waiting_in(&mut self.regulations, number);
+        let word = word_of(&self.words, number);
+        fix_waiting_in(&mut self.regulations, number, word);
     }
 
     /// Notes where a flight stands in each regulation, in the order of opening, for `put_back`. The caller keeps room for
@@ -233,7 +247,8 @@ impl<A: Allocator + Copy> Regulations<A> {
         ensures places { ArePlaces number places.new.items self.now.lists }
         ensures capacity { vec_capacity places.new ≡ vec_capacity places.old }
     {
-        note_places_in(&self.regulations, number, places);
+        let word = word_of(&self.words, number);
+        note_places_in(&self.regulations, number, word, places);
     }
 
     /// Puts a flight back where it stood in each regulation before `look_again` or `freeze_departing`, as its places were
@@ -247,6 +262,7 @@ impl<A: Allocator + Copy> Regulations<A> {
             → map (without_in number) self.old.lists ≡ map (without_in number) before → self.new.lists ≡ before }
     {
         put_back_in(&mut self.regulations, number, places);
+        set_word(&mut self.words, number, u64::MAX);
     }
 
     /// What the flight of the plan of this number is to be told: its take-off delayed by the most penalising of the
@@ -258,7 +274,8 @@ impl<A: Allocator + Copy> Regulations<A> {
         ensures { IfSome (plan_at plans.now.plans number)
             (λ p. result ≡ advice plans.now.taxi number p (map regulation_of self.now.lists)) }
     {
-        advice_of(&self.regulations, plans, number)
+        let word = word_of(&self.words, number);
+        advice_of(&self.regulations, plans, number, word)
     }
 
     /// Compares the advice of these plans with what each was last told, by plan number, and appends a notice where the
@@ -288,7 +305,8 @@ impl<A: Allocator + Copy> Regulations<A> {
         ensures few { length notices.new.items ≤ length notices.old.items + length changed.now }
         ensures capacity { vec_capacity notices.new ≡ vec_capacity notices.old }
     {
-        tell(&self.regulations, plans, changed, told, notices);
+        let words = &self.words;
+        tell(&self.regulations, words, plans, changed, told, notices);
     }
 }
 
@@ -307,36 +325,44 @@ fn are_same<A: Allocator + Copy>(regulations: &[Regulation<A>], others: &[Regula
     true
 }
 
-/// Each regulation looks again at one flight.
+/// Each regulation looks again at one flight, which the word marks, and answers the word that marks it then.
 fn look_again_in<A: Allocator + Copy>(
     regulations: &mut [Regulation<A>],
     plans: &PlanStore<A>,
     number: u32,
     now: Minute,
-)
+    word: u64,
+) -> u64
     requires some { 0 < number }
     requires within { number ≤ length plans.now.plans }
     requires room { AllByRecursion (λ l. number ≤ l.lineup.capacity) regulations.old }
-    ensures { Walked (IsLookedAgain number plans.now.taxi now plans.now.plans) (length regulations.new) regulations.old regulations.new }
+    requires covers { Covers word number 0 regulations.old }
+    ensures walked { Walked (IsLookedAgain number plans.now.taxi now plans.now.plans) (length regulations.new) regulations.old regulations.new }
+    ensures covers { Covers result number 0 regulations.new }
 {
-    for regulation in regulations.iter_mut() {
-        regulation.look_again(plans, number, now);
+    let mut marked = word;
+    for (index, regulation) in regulations.iter_mut().enumerate() {
+        let stands = regulation.look_where(plans, number, now, may_stand(marked, index));
+        marked = mark_where(marked, index, stands);
     }
+    marked
 }
 
-/// Notes where a flight stands in each regulation.
+/// Notes where a flight stands in each regulation. The word marks it.
 fn note_places_in<A: Allocator + Copy>(
     regulations: &[Regulation<A>],
     number: u32,
+    word: u64,
     places: &mut Vec<Place, A>,
 )
-    requires { length regulations.now ≤ vec_capacity places.old }
+    requires room { length regulations.now ≤ vec_capacity places.old }
+    requires covers { Covers word number 0 regulations.now }
     ensures places { ArePlaces number places.new.items regulations.now }
     ensures capacity { vec_capacity places.new ≡ vec_capacity places.old }
 {
     places.clear();
-    for regulation in regulations {
-        places.push_reserved(regulation.place_of(number));
+    for (index, regulation) in regulations.iter().enumerate() {
+        places.push_reserved(regulation.place_where(number, may_stand(word, index)));
     }
 }
 
@@ -357,23 +383,26 @@ fn put_back_in<A: Allocator + Copy>(
     }
 }
 
-/// Each regulation fixes one flight where it waits.
-fn fix_waiting_in<A: Allocator + Copy>(regulations: &mut [Regulation<A>], number: u32)
+/// Each regulation fixes one flight where it waits. The word marks it.
+fn fix_waiting_in<A: Allocator + Copy>(regulations: &mut [Regulation<A>], number: u32, word: u64)
+    requires { Covers word number 0 regulations.old }
     ensures { Walked (IsFixedWaiting number) (length regulations.new) regulations.old regulations.new }
 {
-    for regulation in regulations.iter_mut() {
-        regulation.fix_waiting(number);
+    for (index, regulation) in regulations.iter_mut().enumerate() {
+        regulation.fix_where(number, may_stand(word, index));
     }
 }
 
-/// Each regulation fixes these flights where they wait.
-fn advance_in<A: Allocator + Copy>(regulations: &mut [Regulation<A>], due: &[u32])
+/// Each regulation fixes these flights where they wait. The words mark where flights may be held.
+fn advance_in<A: Allocator + Copy>(regulations: &mut [Regulation<A>], words: &[u64], due: &[u32])
+    requires { AreMarked words.now regulations.old }
     ensures lists { regulations.new ≡ map (with_fixed_waiting due.now) regulations.old }
+    ensures marked { AreMarked words.now regulations.new }
     ensures walked { (taxi now : ℕ) (plans : List Plan) → AreDue now plans due.now
         → Walked (IsAdvancing (is_among due.now) taxi now plans) (length regulations.new) regulations.old regulations.new }
 {
     for number in due {
-        fix_waiting_in(regulations, *number);
+        fix_waiting_in(regulations, *number, word_of(words, *number));
     }
 }
 
@@ -386,6 +415,7 @@ fn release_all_in<A: Allocator + Copy>(
     requires { All (λ n. (0 < n) × (n ≤ length plans.now.plans)) due.now }
     ensures capacity { (max : ℕ) → HaveCapacity max regulations.old → HaveCapacity max regulations.new }
     ensures names { names_in regulations.new ≡ names_in regulations.old }
+    ensures marked { (words : List ℕ) → AreMarked words regulations.old → AreMarked words regulations.new }
     ensures lists { (max earlier now : ℕ) (before : List Listed)
         → HaveBecomeDue plans.now.taxi max earlier now plans.now.plans due.now before
         → regulations.old ≡ map (with_fixed_waiting due.now) before → regulations.new ≡ before }

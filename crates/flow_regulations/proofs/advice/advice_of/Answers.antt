@@ -1,26 +1,36 @@
-use Rattle.std.proofs.Common.{arith}
+use Rattle.std.proofs.Common.{List, sym, subst, ◌∙◌, arith}
 use Rattle.flow_plans.specs.Plans.{plan_at}
+use Rattle.flow_regulations.specs.Listing.{Listed}
+use Rattle.flow_regulations.specs.Marks.{IsOut}
+use Rattle.flow_regulations.proofs.Marking.{covers-at}
 use Rattle.flow_regulations.proofs.Advised.{advice-none, advice-some, ctot-fits}
 use Rattle.flow_regulations.proofs.advice.advice_of.Goals as goal
 
 pub returns-in_err-delay : goal.returns-in_err-delay
 returns-in_err-delay g c =
-    advice-none c.args.plans.now.taxi c.args.number c.loop-regulation.regulation-index (plan_at c.args.plans.now.plans c.args.number) c.args.regulations.now c.loop-regulation.worst c.from_residual.result
-    (omega arith) c.loop-regulation.invariant.value c.in_err-delay.was c.from_residual.ensures
+    advice-none c.args.plans.now.taxi c.args.number c.loop-index.index (plan_at c.args.plans.now.plans c.args.number) c.args.regulations.now c.loop-index.worst c.from_residual.result
+    (omega arith) c.loop-index.invariant.value c.in_err-delay.was c.from_residual.ensures
 
 pub from_minutes-requires : goal.from_minutes-requires
 from_minutes-requires g c =
     rw c.minutes-take_off.ensures.value
-    (ctot-fits c.args.plans.now.taxi c.args.number 100_000_000 c.take_off.result c.args.plans.now.plans c.loop-regulation.worst c.in_ok-delay.delay
-    c.requires.some c.requires.within c.loop-regulation.invariant.bound c.in_ok-delay.was c.take_off.ensures)
+    (ctot-fits c.args.plans.now.taxi c.args.number 100_000_000 c.take_off.result c.args.plans.now.plans c.loop-index.worst c.in_ok-delay.delay
+    c.requires.some c.requires.within c.loop-index.invariant.bound c.in_ok-delay.was c.take_off.ensures)
 
 pub overflow_add-take_off : goal.overflow_add-take_off
 overflow_add-take_off g c =
-    let h = ctot-fits c.args.plans.now.taxi c.args.number 100_000_000 c.take_off.result c.args.plans.now.plans c.loop-regulation.worst c.in_ok-delay.delay
-    c.requires.some c.requires.within c.loop-regulation.invariant.bound c.in_ok-delay.was c.take_off.ensures in
+    let h = ctot-fits c.args.plans.now.taxi c.args.number 100_000_000 c.take_off.result c.args.plans.now.plans c.loop-index.worst c.in_ok-delay.delay
+    c.requires.some c.requires.within c.loop-index.invariant.bound c.in_ok-delay.was c.take_off.ensures in
     omega (arith, h, c.minutes-take_off.ensures.value)
 
 pub returns : goal.returns
 returns g c =
-    advice-some c.args.plans.now.taxi c.args.number c.loop-regulation.regulation-index c.from_minutes.result c.minutes-take_off.result (plan_at c.args.plans.now.plans c.args.number) c.args.regulations.now c.loop-regulation.worst c.in_ok-delay.delay
-    (omega arith) c.loop-regulation.invariant.value c.in_ok-delay.was (rw c.minutes-take_off.ensures.value c.take_off.ensures) c.from_minutes.ensures
+    advice-some c.args.plans.now.taxi c.args.number c.loop-index.index c.from_minutes.result c.minutes-take_off.result (plan_at c.args.plans.now.plans c.args.number) c.args.regulations.now c.loop-index.worst c.in_ok-delay.delay
+    (omega arith) c.loop-index.invariant.value c.in_ok-delay.was (rw c.minutes-take_off.ensures.value c.take_off.ensures) c.from_minutes.ensures
+
+pub delay_where-requires-clause-out : goal.delay_where-requires-clause-out
+delay_where-requires-clause-out g c = λ e.
+    (let ls : List Listed = c.args.regulations.now in
+    let d : Listed = c.index-regulations-index.result in
+    let O : Listed → Type 0 = λ l. IsOut c.args.number l in
+    subst O (sym c.index-regulations-index.is) (covers-at c.args.word c.args.number c.loop-index.index ls d c.loop-index-test.true c.requires.covers (sym c.may_stand-marked.ensures ∙ e)))

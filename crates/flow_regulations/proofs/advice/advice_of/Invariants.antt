@@ -5,9 +5,9 @@ use Rattle.flow_regulations.specs.Listing.{regulation_of}
 use Rattle.flow_regulations.specs.Advice.{worse, worst}
 use Rattle.flow_regulations.proofs.advice.advice_of.Given as goal
 
-abbrev pub invariant-loop-regulation : goal.invariant-loop-regulation
-invariant-loop-regulation g l = record {
-  value : IfSome (plan_at l.plans.plans l.number) (λ p. worse l.worst (worst l.plans.taxi l.number p (map regulation_of (drop l.regulation-index l.regulations)))
+abbrev pub invariant-loop-index : goal.invariant-loop-index
+invariant-loop-index g l = record {
+  value : IfSome (plan_at l.plans.plans l.number) (λ p. worse l.worst (worst l.plans.taxi l.number p (map regulation_of (drop l.index l.regulations)))
       ≡ worst l.plans.taxi l.number p (map regulation_of l.regulations));
   bound : IfSome (plan_at l.plans.plans l.number) (λ p. IfSome l.worst (λ d. take_off l.plans.taxi p + d.minutes ≤ 100_000_000));
 }

@@ -1,9 +1,4 @@
-use Rattle.std.proofs.Common.{◌≡◌, ℕ, ◌+◌, ◌<◌, ◌≤◌, List, Some, length, get_or, heap_items, refl, sym, ap, subst, ◌∙◌, arith, ⊎_elim}
-use Rattle.std.specs.List.{Contains}
-use Rattle.std.specs.declared.cmp.Reverse.{Reverse}
-use Rattle.flow_plans.specs.Plans.{Plan, plan_at}
-use Rattle.flow_regulations.specs.declared.due_queue.Awaited.{Awaited}
-use Rattle.flow_regulations.specs.Awaiting.{AreHeld}
+use Rattle.std.proofs.Common.{ℕ, heap_items, arith}
 use Rattle.flow_regulations.proofs.Queues.{held-more}
 use Rattle.flow_regulations.proofs.due_queue.put_all.Goals as goal
 

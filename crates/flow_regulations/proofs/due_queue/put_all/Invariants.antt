@@ -1,4 +1,4 @@
-use Rattle.std.proofs.Common.{◌≡◌, ℕ, ◌+◌, ◌<◌, ◌≤◌, length, heap_items, heap_len}
+use Rattle.std.proofs.Common.{◌+◌, ◌<◌, ◌≤◌, heap_items, heap_len}
 use Rattle.std.specs.List.{All, Contains}
 use Rattle.std.specs.BinaryHeap.{IsHeap, heap_capacity}
 use Rattle.std.specs.declared.cmp.Reverse.{Reverse}

@@ -1,7 +1,7 @@
-use Rattle.std.proofs.Common.{◌≡◌, ℕ, ◌+◌, ◌<◌, ◌≤◌, [], ◌∷◌, List, true, heap_items, sym, ap, subst, ◌∙◌, arith, ⊎_elim, true≢false, inl}
+use Rattle.std.proofs.Common.{◌≡◌, ℕ, ◌+◌, ◌<◌, ◌≤◌, [], ◌∷◌, List, true, heap_items, sym, subst, ◌∙◌, arith, ⊎_elim, true≢false}
 use Rattle.std.specs.List.{All, Contains}
 use Rattle.std.specs.declared.cmp.Reverse.{Reverse}
-use Rattle.std.proofs.lemmas.List.Elements.{All-head, All-tail, All-push, All-contains, All-from_recursion, Contains-push, Contains-append_left}
+use Rattle.std.proofs.lemmas.List.Elements.{All-head, All-tail, All-push, Contains-push, Contains-append_left}
 use Rattle.std.proofs.lemmas.List.Sorted.{All-permutation}
 use Rattle.flow_regulations.specs.declared.due_queue.Awaited.{Awaited}
 use Rattle.flow_regulations.specs.Awaiting.{awaits, BecameDue}

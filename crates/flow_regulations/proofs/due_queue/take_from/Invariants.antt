@@ -1,4 +1,4 @@
-use Rattle.std.proofs.Common.{◌≡◌, ℕ, ◌+◌, ◌<◌, ◌≤◌, length, vec_capacity, heap_items, heap_len}
+use Rattle.std.proofs.Common.{◌≡◌, ◌+◌, ◌<◌, ◌≤◌, length, vec_capacity, heap_items, heap_len}
 use Rattle.std.specs.List.{All}
 use Rattle.std.specs.BinaryHeap.{IsHeap, heap_capacity}
 use Rattle.flow_regulations.specs.Awaiting.{BecameDue, earlier_first}

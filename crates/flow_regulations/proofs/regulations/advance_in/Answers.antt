@@ -1,7 +1,9 @@
-use Rattle.std.proofs.Common.{◌≡◌, ℕ, ◌+◌, ◌<◌, ◌≤◌, List, [], length, map, take, get_or, refl, sym, ap, subst, ◌∙◌, arith}
+use Rattle.std.proofs.Common.{◌≡◌, ℕ, ◌+◌, ◌<◌, List, [], length, map, take, get_or, refl, sym, ap, subst, ◌∙◌, arith}
 use Rattle.std.proofs.lemmas.List.{take_all}
-use Rattle.flow_plans.specs.Plans.{Plan}
-use Rattle.flow_regulations.specs.Listing.{Listed, Walked, IsFixedWaiting, IsAdvancing, is_among, with_fixed_waiting, AreDue}
+use Rattle.flow_regulations.specs.Listing.{Listed, Walked, IsFixedWaiting, IsAdvancing, is_among, with_fixed_waiting}
+use Rattle.flow_regulations.specs.Marks.{Covers}
+use Rattle.flow_regulations.proofs.Marking.{marked-walked}
+use Rattle.flow_regulations.proofs.Outs.{out-fixed}
 use Rattle.flow_regulations.proofs.Advances.{walk-start, walk-step, among-more, fixed-start, fixed-more}
 use Rattle.flow_regulations.proofs.regulations.advance_in.Goals as goal
 
@@ -9,7 +11,14 @@ pub loop-number-init : goal.loop-number-init
 loop-number-init g c = record {
   lists = fixed-start c.args.regulations.now;
   walked = λ taxi now plans _. walk-start (is_among []) taxi now plans c.args.regulations.now (λ f h. refl);
+  marked = c.requires;
 }
+
+pub fix_waiting_in-requires : goal.fix_waiting_in-requires
+fix_waiting_in-requires g c =
+    let n : ℕ = get_or c.args.due.now c.loop-number.number-index 0 in
+    let C : ℕ → Type 0 = λ w. Covers w n 0 c.loop-number.regulations in
+    subst C (sym c.word_of.ensures) (c.loop-number.invariant.marked n)
 
 pub loop-number-preserved : goal.loop-number-preserved
 loop-number-preserved g c =
@@ -28,12 +37,16 @@ loop-number-preserved g c =
           let U : ℕ → Type 0 = λ i. Walked (IsFixedWaiting n) i ms xs in
           let d = all j 0 within in
           subst V len (walk-step n (is_among (take j ns)) (is_among (take (j + 1) ns)) taxi now (length ms) plans os ms xs (among-more j n ns within refl) d.0 d.1 refl (c.loop-number.invariant.walked taxi now plans all) (subst U (sym len) c.fix_waiting_in.ensures)));
+      marked = marked-walked (IsFixedWaiting n) c.args.words.now (length xs) ms xs (λ f l m r h. out-fixed n f l m r h) refl c.fix_waiting_in.ensures c.loop-number.invariant.marked;
     }
 
 pub returns-clause-lists : goal.returns-clause-lists
 returns-clause-lists g c =
     let all : take c.loop-number.number-index c.args.due.now ≡ c.args.due.now = take_all c.loop-number.number-index c.args.due.now (omega arith) in
     c.loop-number.invariant.lists ∙ ap (λ ns. map (with_fixed_waiting ns) c.args.regulations.now) all
+
+pub returns-clause-marked : goal.returns-clause-marked
+returns-clause-marked g c = c.loop-number.invariant.marked
 
 pub returns-clause-walked : goal.returns-clause-walked
 returns-clause-walked g c = λ taxi now plans due.

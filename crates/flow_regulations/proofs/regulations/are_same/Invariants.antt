@@ -1,4 +1,4 @@
-use Rattle.std.proofs.Common.{◌≡◌, length, take}
+use Rattle.std.proofs.Common.{◌≡◌, take}
 use Rattle.flow_regulations.proofs.regulations.are_same.Given as goal
 
 abbrev pub invariant-loop-index : goal.invariant-loop-index

@@ -1,5 +1,9 @@
 use Rattle.flow_regulations.specs.Listing.{Walked, IsFixedWaiting}
+use Rattle.flow_regulations.specs.Marks.{Covers}
 use Rattle.flow_regulations.proofs.regulations.fix_waiting_in.Given as goal
 
-abbrev pub invariant-loop-regulation : goal.invariant-loop-regulation
-invariant-loop-regulation g l = Walked (IsFixedWaiting l.number) l.regulation-index l.initial.regulations l.regulations
+abbrev pub invariant-loop-index : goal.invariant-loop-index
+invariant-loop-index g l = record {
+  walked : Walked (IsFixedWaiting l.number) l.index l.initial.regulations l.regulations;
+  covers : Covers l.word l.number 0 l.regulations;
+}

@@ -1,7 +1,7 @@
-use Rattle.std.proofs.Common.{◌≡◌, ℕ, ◌+◌, ◌<◌, ◌≤◌, List, length, map, get_or, refl, sym, ap, subst, ◌∙◌, arith}
+use Rattle.std.proofs.Common.{◌≡◌, ℕ, ◌<◌, ◌≤◌, List, length, get_or, refl, sym, ap, subst, ◌∙◌, arith}
 use Rattle.flow_regulations.specs.declared.places.Place.{Place}
 use Rattle.flow_regulations.specs.Listing.{Listed, without_in}
-use Rattle.flow_regulations.specs.Places.{IsPlaceOf, ArePlaces}
+use Rattle.flow_regulations.specs.Places.{IsPlaceOf}
 use Rattle.flow_regulations.proofs.PutBack.{WalkedBy, IsBack, walk-by, walk-rest, places-length, same-count, place-at, map-at, all-back}
 use Rattle.flow_regulations.proofs.Walks.{all-at}
 use Rattle.flow_regulations.proofs.regulations.put_back_in.Goals as goal

@@ -1,4 +1,3 @@
-use Rattle.std.proofs.Common.{◌≡◌, length}
 use Rattle.flow_regulations.proofs.PutBack.{WalkedBy, IsBack}
 use Rattle.flow_regulations.proofs.regulations.put_back_in.Given as goal
 

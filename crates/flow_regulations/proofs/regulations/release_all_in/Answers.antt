@@ -1,7 +1,9 @@
-use Rattle.std.proofs.Common.{◌≡◌, ℕ, ◌+◌, ◌-◌, ◌<◌, ◌≤◌, List, [], length, map, take, get_or, refl, sym, ap, subst, ◌∙◌, arith}
-use Rattle.flow_regulations.specs.Listing.{Listed, Walked, IsReleased, with_fixed_waiting}
+use Rattle.std.proofs.Common.{◌≡◌, ℕ, ◌+◌, ◌-◌, ◌<◌, List, length, map, take, get_or, refl, sym, ap, subst, ◌∙◌, arith}
+use Rattle.flow_regulations.specs.Listing.{Listed, IsReleased, with_fixed_waiting}
 use Rattle.flow_regulations.proofs.Advances.{fixed-start}
 use Rattle.flow_regulations.proofs.Alls.{names-released}
+use Rattle.flow_regulations.proofs.Marking.{marked-walked}
+use Rattle.flow_regulations.proofs.Outs.{out-released}
 use Rattle.flow_regulations.proofs.Released.{release-step, capacity-released}
 use Rattle.flow_regulations.proofs.regulations.release_all_in.Goals as goal
 
@@ -19,6 +21,9 @@ loop-left-preserved g c =
       within = omega (arith, within);
       capacity = λ max h. capacity-released (get_or due j 0) taxi max (length xs) plans ms xs refl c.release_in.ensures (c.loop-left.invariant.capacity max h);
       names = names-released (get_or due j 0) taxi (length xs) plans ms xs refl c.release_in.ensures ∙ c.loop-left.invariant.names;
+      marked = λ words h.
+          (let n = c.requires j 0 within in
+          marked-walked (IsReleased (get_or due j 0) taxi plans) words (length xs) ms xs (out-released (get_or due j 0) taxi plans n.0 n.1) refl c.release_in.ensures (c.loop-left.invariant.marked words h));
       lists = λ max earlier now before h e.
           (let M : ℕ → Type 0 = λ i. ms ≡ map (with_fixed_waiting (take i due)) before in
           release-step taxi max earlier now j plans due before ms xs h within (subst M next (c.loop-left.invariant.lists max earlier now before h e)) c.release_in.ensures);

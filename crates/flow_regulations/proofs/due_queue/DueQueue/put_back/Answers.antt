@@ -1,4 +1,4 @@
-use Rattle.std.proofs.Common.{◌≡◌, ℕ, ◌+◌, ◌<◌, ◌≤◌, List, length, heap_items, refl, sym, ap, subst, ◌∙◌, arith}
+use Rattle.std.proofs.Common.{List, heap_items, sym, ap, subst}
 use Rattle.std.specs.List.{Contains}
 use Rattle.flow_regulations.specs.declared.due_queue.Awaited.{Awaited}
 use Rattle.flow_regulations.proofs.Queues.{from-view, to-view, covers-back}

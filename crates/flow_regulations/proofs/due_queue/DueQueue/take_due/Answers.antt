@@ -1,4 +1,4 @@
-use Rattle.std.proofs.Common.{◌≡◌, ℕ, ◌+◌, ◌<◌, ◌≤◌, ◌∷◌, List, map, true, heap_items, sym, ap, subst, ◌∙◌, arith, eqb}
+use Rattle.std.proofs.Common.{◌≡◌, ℕ, ◌+◌, ◌<◌, List, true, heap_items, sym, ap, subst, arith, eqb}
 use Rattle.std.specs.List.{All, Contains, dedup}
 use Rattle.std.specs.List.Sorted.{IsStrictlyIncreasing}
 use Rattle.std.specs.declared.cmp.Reverse.{Reverse}
@@ -8,8 +8,7 @@ use Rattle.std.proofs.lemmas.List.Sorted.{All-permutation, Contains-permutation}
 use Rattle.std.proofs.lemmas.Map.Keys.{IsStrictlyIncreasing-dedup}
 use Rattle.flow_slots.specs.Assignment.{is_in}
 use Rattle.flow_regulations.specs.declared.due_queue.Awaited.{Awaited}
-use Rattle.flow_regulations.specs.Awaiting.{BecameDue, Covers}
-use Rattle.flow_regulations.proofs.Looked.{plan-there}
+use Rattle.flow_regulations.specs.Awaiting.{BecameDue}
 use Rattle.flow_regulations.proofs.Queues.{from-view, to-view, contains-in, due-there, became-awaits, awaits-is}
 use Rattle.flow_regulations.proofs.due_queue.DueQueue.take_due.Goals as goal
 

@@ -1,7 +1,6 @@
-use Rattle.std.proofs.Common.{◌≡◌, sym, ap, subst, ◌∙◌}
-use Rattle.flow_slots.specs.Lineup.{Lineup}
+use Rattle.std.proofs.Common.{sym, subst, ◌∙◌}
 use Rattle.flow_regulations.specs.declared.places.Place.{Place}
-use Rattle.flow_regulations.specs.Listing.{Listed, without_in}
+use Rattle.flow_regulations.specs.Listing.{Listed}
 use Rattle.flow_regulations.specs.Places.{IsPlaceOf, MayStand}
 use Rattle.flow_regulations.proofs.Looked.{out-absent}
 use Rattle.flow_regulations.proofs.PutBack.{same-place, stood-there, may-stand}

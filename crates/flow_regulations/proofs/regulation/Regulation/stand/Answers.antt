@@ -1,8 +1,8 @@
-use Rattle.std.proofs.Common.{Some, sym, ap, ◌∙◌}
+use Rattle.std.proofs.Common.{sym, ap, ◌∙◌}
 use Rattle.flow_regulations.specs.Listing.{with_lineup, fixed_waiting}
 use Rattle.std.proofs.Common.{cond}
 use Rattle.flow_regulations.proofs.Looked.{out-absent}
-use Rattle.flow_regulations.proofs.Standing.{stands, stands-out}
+use Rattle.flow_regulations.proofs.Standing.{stands}
 use Rattle.flow_regulations.proofs.regulation.Regulation.stand.Goals as goal
 
 pub place-requires-clause-absent : goal.place-requires-clause-absent

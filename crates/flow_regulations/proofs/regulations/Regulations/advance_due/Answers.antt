@@ -1,5 +1,7 @@
-use Rattle.std.proofs.Common.{◌≡◌, List, length, map, sym, refl, ap, subst, ◌∙◌, arith}
+use Rattle.std.proofs.Common.{◌≡◌, ℕ, List, length, map, sym, refl, ap, subst, ◌∙◌, arith}
 use Rattle.flow_regulations.specs.Listing.{Listed, Walked, IsAdvancing, AreRenewed, HaveCapacity, AreApart, names_in, is_among, with_fixed_waiting, pairs_in}
+use Rattle.flow_regulations.specs.Marks.{AreMarked}
+use Rattle.flow_regulations.proofs.Marking.{marked-both}
 use Rattle.flow_regulations.proofs.Advances.{capacity-advanced, all-advanced, others-advanced}
 use Rattle.flow_regulations.proofs.Names.{apart-as, names-advanced}
 use Rattle.flow_regulations.proofs.Walks.{written-back}
@@ -12,11 +14,14 @@ invariant_of-self g c =
     let len : s.regulations.len ≡ length ns = omega (arith, c.advance_in.auto.regulations, c.deref_mut.ensures.len) in
     let H : List Listed → Type 0 = HaveCapacity s.max_plans in
     let is : ns ≡ map (with_fixed_waiting c.args.due.now) s.regulations.items = c.advance_in.ensures.lists ∙ ap (map (with_fixed_waiting c.args.due.now)) c.deref_mut.ensures.value in
-    let A : List Listed → Type 0 = λ ls. AreApart (names_in ls) in (
+    let A : List Listed → Type 0 = λ ls. AreApart (names_in ls) in
+    let M : List Listed → Type 0 = λ ls. AreMarked s.words.items ls in
+    let V : List ℕ → Type 0 = λ vs. AreMarked vs ns in (
       c.self.invariant.0,
       c.self.invariant.1,
       subst H (sym (written-back s.regulations.len ns _ len ∙ is)) (capacity-advanced s.max_plans c.args.due.now s.regulations.items c.self.invariant.2),
       subst A (sym (written-back s.regulations.len ns _ len ∙ is)) (apart-as s.regulations.items (map (with_fixed_waiting c.args.due.now) s.regulations.items) (names-advanced c.args.due.now s.regulations.items) c.self.invariant.3),
+      subst M (sym (written-back s.regulations.len ns _ len)) (subst V c.deref.ensures.value c.advance_in.ensures.marked),
     )
 
 pub returns-clause-lists : goal.returns-clause-lists
@@ -44,3 +49,7 @@ returns-clause-renewed g c = λ taxi earlier now plans late due holds listed set
     let W : List Listed → Type 0 = λ os. Walked (IsAdvancing (is_among c.args.due.now) taxi now plans) (length ns) os ns in
     subst R (sym (written-back s.regulations.len ns _ len))
     (all-advanced c.args.due.now taxi now max earlier (length ns) plans c.args.self.now.lists ns holds late refl (subst W (c.deref_mut.ensures.value ∙ ap (λ v. v.lists) c.self.view_is) (c.advance_in.ensures.walked taxi now plans due)) listed settled_then))
+
+pub advance_in-requires : goal.advance_in-requires
+advance_in-requires g c =
+    marked-both _ c.self.inside.words.items c.self.inside.regulations.items _ c.deref.ensures.value c.deref_mut.ensures.value c.self.invariant.4

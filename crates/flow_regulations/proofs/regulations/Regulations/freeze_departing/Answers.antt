@@ -1,5 +1,8 @@
 use Rattle.std.proofs.Common.{◌≡◌, List, length, map, sym, refl, ap, subst, ◌∙◌, arith}
 use Rattle.flow_regulations.specs.Listing.{Listed, Walked, IsFixedWaiting, AreFrozen, HaveCapacity, AreApart, names_in, without_in, pairs_in}
+use Rattle.flow_regulations.specs.Marks.{AreMarked}
+use Rattle.flow_regulations.proofs.Marking.{marked-walked, marked-word}
+use Rattle.flow_regulations.proofs.Outs.{out-fixed}
 use Rattle.flow_regulations.proofs.Alls.{capacity-fixed, all-frozen, others-fixed, alone-fixed, names-fixed}
 use Rattle.flow_regulations.proofs.Names.{apart-as}
 use Rattle.flow_regulations.proofs.Walks.{written-back}
@@ -12,11 +15,13 @@ invariant_of-self g c =
     let len : s.regulations.len ≡ length ns = omega (arith, c.fix_waiting_in.auto.regulations, c.deref_mut.ensures.len) in
     let H : List Listed → Type 0 = HaveCapacity s.max_plans in
     let W : List Listed → Type 0 = λ os. Walked (IsFixedWaiting c.args.number) (length ns) os ns in
-    let A : List Listed → Type 0 = λ ls. AreApart (names_in ls) in (
+    let A : List Listed → Type 0 = λ ls. AreApart (names_in ls) in
+    let M : List Listed → Type 0 = λ ls. AreMarked s.words.items ls in (
       c.self.invariant.0,
       c.self.invariant.1,
       subst H (sym (written-back s.regulations.len ns _ len)) (capacity-fixed c.args.number s.max_plans (length ns) s.regulations.items ns refl (subst W c.deref_mut.ensures.value c.fix_waiting_in.ensures) c.self.invariant.2),
       subst A (sym (written-back s.regulations.len ns _ len)) (apart-as s.regulations.items ns (names-fixed c.args.number (length ns) s.regulations.items ns refl (subst W c.deref_mut.ensures.value c.fix_waiting_in.ensures)) c.self.invariant.3),
+      subst M (sym (written-back s.regulations.len ns _ len)) (marked-walked (IsFixedWaiting c.args.number) s.words.items (length ns) s.regulations.items ns (λ f l m r h. out-fixed c.args.number f l m r h) refl (subst W c.deref_mut.ensures.value c.fix_waiting_in.ensures) c.self.invariant.4),
     )
 
 pub returns-clause-frozen : goal.returns-clause-frozen
@@ -47,3 +52,7 @@ returns-clause-alone g c =
     let W : List Listed → Type 0 = λ os. Walked (IsFixedWaiting c.args.number) (length ns) os ns in
     ap (map (without_in c.args.number)) (written-back s.regulations.len ns _ len)
     ∙ alone-fixed c.args.number (length ns) c.args.self.now.lists ns refl (subst W (c.deref_mut.ensures.value ∙ ap (λ v. v.lists) c.self.view_is) c.fix_waiting_in.ensures)
+
+pub fix_waiting_in-requires : goal.fix_waiting_in-requires
+fix_waiting_in-requires g c =
+    marked-word c.args.number c.word_of-word.result _ c.self.inside.words.items c.self.inside.regulations.items _ c.deref.ensures.value c.deref_mut.ensures.value c.word_of-word.ensures c.self.invariant.4

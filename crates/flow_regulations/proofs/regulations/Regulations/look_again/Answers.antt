@@ -1,5 +1,7 @@
-use Rattle.std.proofs.Common.{◌≡◌, List, length, map, sym, refl, ap, subst, ◌∙◌, arith}
+use Rattle.std.proofs.Common.{◌≡◌, ℕ, List, length, map, sym, refl, ap, subst, ◌∙◌, arith}
 use Rattle.flow_regulations.specs.Listing.{Listed, Walked, IsLookedAgain, AreRenewed, HaveCapacity, AreApart, names_in, without_in, pairs_in}
+use Rattle.flow_regulations.specs.Marks.{AreMarked, word_of}
+use Rattle.flow_regulations.proofs.Marking.{marked-one, marked-word, written-marked}
 use Rattle.flow_regulations.proofs.Alls.{capacity-looked, all-looked, others-looked, alone-looked, names-looked}
 use Rattle.flow_regulations.proofs.Names.{apart-as}
 use Rattle.flow_regulations.proofs.Walks.{written-back}
@@ -8,43 +10,54 @@ use Rattle.flow_regulations.proofs.regulations.Regulations.look_again.Goals as g
 pub invariant_of-self : goal.invariant_of-self
 invariant_of-self g c =
     let s = c.self.inside in
-    let ns : List Listed = c.look_again_in.new.regulations in
-    let len : s.regulations.len ≡ length ns = omega (arith, c.look_again_in.auto.regulations, c.deref_mut.ensures.len) in
+    let ns : List Listed = c.look_again_in-word.new.regulations in
+    let len : s.regulations.len ≡ length ns = omega (arith, c.look_again_in-word.auto.regulations, c.deref_mut.ensures.len) in
     let H : List Listed → Type 0 = HaveCapacity s.max_plans in
     let W : List Listed → Type 0 = λ os. Walked (IsLookedAgain c.args.number c.args.plans.now.taxi c.args.now c.args.plans.now.plans) (length ns) os ns in
-    let A : List Listed → Type 0 = λ ls. AreApart (names_in ls) in (
+    let A : List Listed → Type 0 = λ ls. AreApart (names_in ls) in
+    let n : ℕ = c.args.number in
+    let ws : List ℕ = c.set_word.new.words in
+    let words : s.words.len ≡ length ws = omega (arith, c.set_word.auto.words, c.deref_mut-2.ensures.len) in
+    let O : List ℕ → Type 0 = λ vs. (f : ℕ) → (f ≡ n → ⊥) → word_of ws f ≡ word_of vs f in
+    let alone = alone-looked n c.args.plans.now.taxi c.args.now (length ns) c.args.plans.now.plans s.regulations.items ns refl (subst W c.deref_mut.ensures.value c.look_again_in-word.ensures.walked) in
+    let marked : AreMarked ws ns = marked-one n c.look_again_in-word.result s.words.items ws s.regulations.items ns (subst O c.deref_mut-2.ensures.value c.set_word.ensures.others) c.set_word.ensures.one alone c.look_again_in-word.ensures.covers c.self.invariant.4 in (
       c.self.invariant.0,
       c.self.invariant.1,
-      subst H (sym (written-back s.regulations.len ns _ len)) (capacity-looked c.args.number c.args.plans.now.taxi c.args.now s.max_plans (length ns) c.args.plans.now.plans s.regulations.items ns refl (subst W c.deref_mut.ensures.value c.look_again_in.ensures) c.self.invariant.2),
-      subst A (sym (written-back s.regulations.len ns _ len)) (apart-as s.regulations.items ns (names-looked c.args.number c.args.plans.now.taxi c.args.now (length ns) c.args.plans.now.plans s.regulations.items ns refl (subst W c.deref_mut.ensures.value c.look_again_in.ensures)) c.self.invariant.3),
+      subst H (sym (written-back s.regulations.len ns _ len)) (capacity-looked c.args.number c.args.plans.now.taxi c.args.now s.max_plans (length ns) c.args.plans.now.plans s.regulations.items ns refl (subst W c.deref_mut.ensures.value c.look_again_in-word.ensures.walked) c.self.invariant.2),
+      subst A (sym (written-back s.regulations.len ns _ len)) (apart-as s.regulations.items ns (names-looked c.args.number c.args.plans.now.taxi c.args.now (length ns) c.args.plans.now.plans s.regulations.items ns refl (subst W c.deref_mut.ensures.value c.look_again_in-word.ensures.walked)) c.self.invariant.3),
+      written-marked s.words.len s.regulations.len ws _ ns _ words len marked,
     )
 
 pub returns-clause-renewed : goal.returns-clause-renewed
 returns-clause-renewed g c = λ before listed settled_but same.
     (let s = c.self.inside in
-    let ns : List Listed = c.look_again_in.new.regulations in
-    let len : s.regulations.len ≡ length ns = omega (arith, c.look_again_in.auto.regulations, c.deref_mut.ensures.len) in
+    let ns : List Listed = c.look_again_in-word.new.regulations in
+    let len : s.regulations.len ≡ length ns = omega (arith, c.look_again_in-word.auto.regulations, c.deref_mut.ensures.len) in
     let max = c.args.self.now.max_plans in
     let taxi = c.args.plans.now.taxi in
     let R : List Listed → Type 0 = λ ns. AreRenewed taxi max c.args.now c.args.plans.now.plans c.args.self.now.lists ns in
     let W : List Listed → Type 0 = λ os. Walked (IsLookedAgain c.args.number taxi c.args.now c.args.plans.now.plans) (length ns) os ns in
     subst R (sym (written-back s.regulations.len ns _ len))
-    (all-looked c.args.number taxi c.args.now max (length ns) c.args.plans.now.plans before c.args.self.now.lists ns refl (subst W (c.deref_mut.ensures.value ∙ ap (λ v. v.lists) c.self.view_is) c.look_again_in.ensures) listed settled_but same))
+    (all-looked c.args.number taxi c.args.now max (length ns) c.args.plans.now.plans before c.args.self.now.lists ns refl (subst W (c.deref_mut.ensures.value ∙ ap (λ v. v.lists) c.self.view_is) c.look_again_in-word.ensures.walked) listed settled_but same))
 
 pub returns-clause-others : goal.returns-clause-others
 returns-clause-others g c = λ f ne.
     (let s = c.self.inside in
-    let ns : List Listed = c.look_again_in.new.regulations in
-    let len : s.regulations.len ≡ length ns = omega (arith, c.look_again_in.auto.regulations, c.deref_mut.ensures.len) in
+    let ns : List Listed = c.look_again_in-word.new.regulations in
+    let len : s.regulations.len ≡ length ns = omega (arith, c.look_again_in-word.auto.regulations, c.deref_mut.ensures.len) in
     let W : List Listed → Type 0 = λ os. Walked (IsLookedAgain c.args.number c.args.plans.now.taxi c.args.now c.args.plans.now.plans) (length ns) os ns in
     ap (pairs_in f) (written-back s.regulations.len ns _ len)
-    ∙ others-looked c.args.number c.args.plans.now.taxi c.args.now (length ns) f c.args.plans.now.plans c.args.self.now.lists ns ne refl (subst W (c.deref_mut.ensures.value ∙ ap (λ v. v.lists) c.self.view_is) c.look_again_in.ensures))
+    ∙ others-looked c.args.number c.args.plans.now.taxi c.args.now (length ns) f c.args.plans.now.plans c.args.self.now.lists ns ne refl (subst W (c.deref_mut.ensures.value ∙ ap (λ v. v.lists) c.self.view_is) c.look_again_in-word.ensures.walked))
 
 pub returns-clause-alone : goal.returns-clause-alone
 returns-clause-alone g c =
     let s = c.self.inside in
-    let ns : List Listed = c.look_again_in.new.regulations in
-    let len : s.regulations.len ≡ length ns = omega (arith, c.look_again_in.auto.regulations, c.deref_mut.ensures.len) in
+    let ns : List Listed = c.look_again_in-word.new.regulations in
+    let len : s.regulations.len ≡ length ns = omega (arith, c.look_again_in-word.auto.regulations, c.deref_mut.ensures.len) in
     let W : List Listed → Type 0 = λ os. Walked (IsLookedAgain c.args.number c.args.plans.now.taxi c.args.now c.args.plans.now.plans) (length ns) os ns in
     ap (map (without_in c.args.number)) (written-back s.regulations.len ns _ len)
-    ∙ alone-looked c.args.number c.args.plans.now.taxi c.args.now (length ns) c.args.plans.now.plans c.args.self.now.lists ns refl (subst W (c.deref_mut.ensures.value ∙ ap (λ v. v.lists) c.self.view_is) c.look_again_in.ensures)
+    ∙ alone-looked c.args.number c.args.plans.now.taxi c.args.now (length ns) c.args.plans.now.plans c.args.self.now.lists ns refl (subst W (c.deref_mut.ensures.value ∙ ap (λ v. v.lists) c.self.view_is) c.look_again_in-word.ensures.walked)
+
+pub look_again_in-word-requires-clause-covers : goal.look_again_in-word-requires-clause-covers
+look_again_in-word-requires-clause-covers g c =
+    marked-word c.args.number c.word_of-word.result _ c.self.inside.words.items c.self.inside.regulations.items _ c.deref.ensures.value c.deref_mut.ensures.value c.word_of-word.ensures c.self.invariant.4

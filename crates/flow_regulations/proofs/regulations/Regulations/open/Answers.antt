@@ -1,6 +1,8 @@
-use Rattle.std.proofs.Common.{◌≡◌, false, List, ◌++◌, ◌∷◌, [], sym, ap, subst, ◌∙◌}
+use Rattle.std.proofs.Common.{◌≡◌, ℕ, false, List, ◌++◌, ◌∷◌, [], length, sym, ap, subst, ◌∙◌, arith}
 use Rattle.std.specs.List.{list_any}
 use Rattle.flow_regulations.specs.Listing.{Listed, opened, with_no_flights, HaveCapacity, AreApart, names_in, is_named}
+use Rattle.flow_regulations.specs.Marks.{IsOpenedTo, AreMarked, word_of}
+use Rattle.flow_regulations.proofs.Marking.{marked-as, marked-last, written-words}
 use Rattle.flow_regulations.proofs.ForTheDesk.{all-last}
 use Rattle.flow_regulations.proofs.Names.{apart-last, settled-name}
 use Rattle.flow_regulations.proofs.Openings.{opened-settled}
@@ -18,6 +20,25 @@ returns-clause-opened g c =
     let all = opened-settled taxi c.args.self.now.max_plans c.args.now plans c.args.id c.args.spot c.args.shape o x empty (record { capacity = c.settle.ensures.capacity; advanced = c.settle.ensures.advanced }) in
     (x, c.push_reserved.ensures.items ∙ ap (λ xs. xs ++ x ∷ []) (c.in_ok-reserve.ensures.items ∙ ap (λ v. v.lists) c.self.view_is), all.0, all.1, all.2)
 
+pub invariant_of-self : goal.invariant_of-self
+invariant_of-self g c =
+    let s = c.self.inside in
+    let H : List Listed → Type 0 = HaveCapacity s.max_plans in
+    let A : List Listed → Type 0 = λ ls. AreApart (names_in ls) in
+    let M : List Listed → Type 0 = λ ls. AreMarked s.words.items ls in
+    let is = c.in_err-reserve.ensures.items in
+    (c.self.invariant.0, c.self.invariant.1, subst H (sym is) c.self.invariant.2, subst A (sym is) c.self.invariant.3, subst M (sym is) c.self.invariant.4)
+
+pub invariant_of-self-in_err-make_room : goal.invariant_of-self-in_err-make_room
+invariant_of-self-in_err-make_room g c =
+    let s = c.self.inside in
+    let H : List Listed → Type 0 = HaveCapacity s.max_plans in
+    let A : List Listed → Type 0 = λ ls. AreApart (names_in ls) in
+    let is = c.in_ok-reserve.ensures.items in
+    let marked = marked-as s.words.items c.make_room.new.words.items s.regulations.items c.make_room.ensures c.self.invariant.4 in
+    let M : List Listed → Type 0 = λ ls. AreMarked c.make_room.new.words.items ls in
+    (c.self.invariant.0, c.self.invariant.1, subst H (sym is) c.self.invariant.2, subst A (sym is) c.self.invariant.3, subst M (sym is) marked)
+
 pub invariant_of-self-2 : goal.invariant_of-self-2
 invariant_of-self-2 g c =
     let s = c.self.inside in
@@ -33,4 +54,18 @@ invariant_of-self-2 g c =
     let H : List Listed → Type 0 = HaveCapacity s.max_plans in
     let A : List Listed → Type 0 = λ ls. AreApart (names_in ls) in
     let new_name : list_any (is_named x.id) s.regulations.items ≡ false = ap (λ id. list_any (is_named id) s.regulations.items) name ∙ (ap (λ v. list_any (is_named c.args.id) v.lists) c.self.view_is ∙ c.requires.name) in
-    (c.self.invariant.0, c.self.invariant.1, subst H (sym is) (all-last (λ l. l.lineup.capacity ≡ s.max_plans) s.regulations.items x c.self.invariant.2 capacity), subst A (sym is) (apart-last x s.regulations.items c.self.invariant.3 new_name))
+    let ws : List ℕ = c.open_last.new.words in
+    let rs : List ℕ = c.make_room.new.words.items in
+    let words : c.make_room.new.words.len ≡ length ws = omega (arith, c.open_last.auto.words, c.deref_mut.ensures.len) in
+    let k : ℕ = length c.deref.result.now in
+    let same : c.deref.result.now ≡ s.regulations.items = c.deref.ensures.value ∙ c.in_ok-reserve.ensures.items in
+    let U : List ℕ → Type 0 = λ us. (f : ℕ) → IsOpenedTo k x f (word_of us f) (word_of ws f) in
+    let M : List Listed → Type 0 = λ ls. AreMarked ws ls in
+    let room : AreMarked rs s.regulations.items = marked-as s.words.items rs s.regulations.items c.make_room.ensures c.self.invariant.4 in
+    let marked : AreMarked ws (s.regulations.items ++ x ∷ []) = marked-last rs ws k s.regulations.items x (ap length same) (subst U c.deref_mut.ensures.value c.open_last.ensures) room in (
+      c.self.invariant.0,
+      c.self.invariant.1,
+      subst H (sym is) (all-last (λ l. l.lineup.capacity ≡ s.max_plans) s.regulations.items x c.self.invariant.2 capacity),
+      subst A (sym is) (apart-last x s.regulations.items c.self.invariant.3 new_name),
+      written-words c.make_room.new.words.len ws _ c.push_reserved.new.self.items words (subst M (sym is) marked),
+    )

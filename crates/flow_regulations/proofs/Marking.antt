@@ -1,0 +1,224 @@
+-- Where flights are marked, as the open regulations change.
+use Rattle.std.proofs.Common.{◌≡◌, ℕ, zero, suc, ◌+◌, ◌<◌, ◌≤◌, ◌++◌, ◌⊎◌, inl, inr, Bool, true, false, not, cond, eqb, ltb, List, [], ◌∷◌, length, map, take, get_or, refl, sym, subst, ◌∙◌, arith}
+use Rattle.std.specs.List.{remove}
+use Rattle.std.specs.Prelude.{slice_set}
+use Rattle.std.proofs.lemmas.List.{get_or-set_same, get_or-set_other, get_or_past}
+use Rattle.std.proofs.lemmas.Bool.{ltb-true, ltb-false, cases_eq, eqb-true, lt-ltb, le-ltb, true≢false}
+use Rattle.flow_slots.specs.declared.cell.Planned.{Planned}
+use Rattle.flow_slots.specs.Order.{without}
+use Rattle.flow_slots.specs.Assignment.{Placed}
+use Rattle.flow_slots.specs.Lineup.{NoneIs, NoneFixed, without_fixed}
+use Rattle.flow_regulations.specs.Listing.{Listed, Walked, without_in}
+use Rattle.flow_regulations.specs.Marks.{may_stand, word_of, IsOut, Covers, AreMarked, Keeps, KeepsBelow, MovesUp, IsOpenedTo}
+use Rattle.flow_regulations.proofs.MarkBits.{ones-stand}
+use Rattle.flow_regulations.proofs.Walks.{written-back}
+
+-- a flight that isn't held, among the others
+kept-fixed : (f n : ℕ) (xs : List Placed) → NoneFixed f xs → NoneFixed f (without_fixed n xs)
+kept-fixed f n [] h = tt
+kept-fixed f n (x ∷ xs) h = cases (kept-fixed f n xs h.1) (not (eqb x.flight n)) where
+  cases : NoneFixed f (without_fixed n xs) → (b : Bool) → NoneFixed f (cond b (x ∷ without_fixed n xs) (without_fixed n xs))
+  cases again true = (h.0, again)
+  cases again false = again
+
+back-fixed : (f n : ℕ) (xs : List Placed) → (f ≡ n → ⊥) → NoneFixed f (without_fixed n xs) → NoneFixed f xs
+back-fixed f n [] ne h = tt
+back-fixed f n (x ∷ xs) ne h = cases (λ k. back-fixed f n xs ne k) (eqb x.flight n) refl h where
+  cases : (NoneFixed f (without_fixed n xs) → NoneFixed f xs) → (b : Bool) → eqb x.flight n ≡ b → NoneFixed f (cond (not b) (x ∷ without_fixed n xs) (without_fixed n xs)) → NoneFixed f (x ∷ xs)
+  cases again true q k = (λ e. ne (sym e ∙ eqb-true x.flight n q), again k)
+  cases again false q k = (k.0, again k.1)
+
+kept-waiting : (f n : ℕ) (ws : List Planned) → NoneIs f ws → NoneIs f (without n ws)
+kept-waiting f n [] h = tt
+kept-waiting f n (w ∷ ws) h = cases (kept-waiting f n ws h.1) (not (eqb w.flight n)) where
+  cases : NoneIs f (without n ws) → (b : Bool) → NoneIs f (cond b (w ∷ without n ws) (without n ws))
+  cases again true = (h.0, again)
+  cases again false = again
+
+back-waiting : (f n : ℕ) (ws : List Planned) → (f ≡ n → ⊥) → NoneIs f (without n ws) → NoneIs f ws
+back-waiting f n [] ne h = tt
+back-waiting f n (w ∷ ws) ne h = cases (λ k. back-waiting f n ws ne k) (eqb w.flight n) refl h where
+  cases : (NoneIs f (without n ws) → NoneIs f ws) → (b : Bool) → eqb w.flight n ≡ b → NoneIs f (cond (not b) (w ∷ without n ws) (without n ws)) → NoneIs f (w ∷ ws)
+  cases again true q k = (λ e. ne (sym e ∙ eqb-true w.flight n q), again k)
+  cases again false q k = (k.0, again k.1)
+
+-- where another flight alone was touched
+pub out-alone : (f n : ℕ) (l m : Listed) → (f ≡ n → ⊥) → without_in n m ≡ without_in n l → IsOut f l → IsOut f m
+out-alone f n l m ne e h =
+    let F : Listed → Type 0 = λ v. NoneFixed f v.lineup.fixed in
+    let W : Listed → Type 0 = λ v. NoneIs f v.lineup.waiting in
+    (back-fixed f n m.lineup.fixed ne (subst F (sym e) (kept-fixed f n l.lineup.fixed h.0)), back-waiting f n m.lineup.waiting ne (subst W (sym e) (kept-waiting f n l.lineup.waiting h.1)))
+
+-- a place that isn't marked wasn't marked before
+falls : (w v i : ℕ) → (may_stand w i ≡ true → may_stand v i ≡ true) → may_stand v i ≡ false → may_stand w i ≡ false
+falls w v i k e = cases (may_stand w i) refl where
+  cases : (b : Bool) → may_stand w i ≡ b → b ≡ false
+  cases false q = refl
+  cases true q = absurd (true≢false (sym (k q) ∙ e))
+
+falls-to : (w v i j : ℕ) → (may_stand w j ≡ true → may_stand v i ≡ true) → may_stand v i ≡ false → may_stand w j ≡ false
+falls-to w v i j k e = cases (may_stand w j) refl where
+  cases : (b : Bool) → may_stand w j ≡ b → b ≡ false
+  cases false q = refl
+  cases true q = absurd (true≢false (sym (k q) ∙ e))
+
+pub covers-more : (w v f i : ℕ) (ls : List Listed) → Keeps w v → Covers w f i ls → Covers v f i ls
+covers-more w v f i [] k c = tt
+covers-more w v f i (l ∷ ls) k c = (λ e. c.0 (falls w v i (k i) e), covers-more w v f (suc i) ls k c.1)
+
+at : (w f i j k : ℕ) (ls : List Listed) (d : Listed) → k ≡ i + j → j < length ls → Covers w f i ls → may_stand w k ≡ false → IsOut f (get_or ls j d)
+at w f i j k [] d e h c m = absurd (omega arith)
+at w f i zero k (l ∷ ls) d e h c m =
+    let M : ℕ → Type 0 = λ p. may_stand w p ≡ false in
+    let same : k ≡ i = omega arith in
+    c.0 (subst M same m)
+at w f i (suc j) k (l ∷ ls) d e h c m = at w f (suc i) j k ls d (omega arith) (omega arith) c.1 m
+
+-- what a word says of the regulation at a place
+pub covers-at : (w f j : ℕ) (ls : List Listed) (d : Listed) → j < length ls → Covers w f 0 ls → may_stand w j ≡ false → IsOut f (get_or ls j d)
+covers-at w f j ls d h c m = at w f 0 j j ls d (omega arith) h c m
+
+put : (w v f i j k : ℕ) (ls : List Listed) (z : Listed) → k ≡ i + j → Keeps w v → (may_stand v k ≡ false → IsOut f z) → Covers w f i ls → Covers v f i (slice_set ls j z)
+put w v f i j k [] z e s o c = tt
+put w v f i zero k (l ∷ ls) z e s o c =
+    let M : ℕ → Type 0 = λ p. may_stand v p ≡ false in
+    let same : i ≡ k = omega arith in
+    (λ m. o (subst M same m), covers-more w v f (suc i) ls s c.1)
+put w v f i (suc j) k (l ∷ ls) z e s o c = (λ m. c.0 (falls w v i (s i) m), put w v f (suc i) j k ls z (omega arith) s o c.1)
+
+-- a regulation is replaced, and the word marks more
+pub covers-set : (w v f j : ℕ) (ls : List Listed) (z : Listed) → Keeps w v → (may_stand v j ≡ false → IsOut f z) → Covers w f 0 ls → Covers v f 0 (slice_set ls j z)
+covers-set w v f j ls z s o c = put w v f 0 j j ls z (omega arith) s o c
+
+covers-alone : (n w f i : ℕ) (os ns : List Listed) → (f ≡ n → ⊥) → map (without_in n) ns ≡ map (without_in n) os → Covers w f i os → Covers w f i ns
+covers-alone n w f i [] [] ne e c = tt
+covers-alone n w f i (o ∷ os) [] ne e c = tt
+covers-alone n w f i [] (m ∷ ms) ne e c = absurd cc
+covers-alone n w f i (o ∷ os) (m ∷ ms) ne e c =
+    let here : without_in n m ≡ without_in n o = cc in
+    let rest : map (without_in n) ms ≡ map (without_in n) os = cc in
+    (λ k. out-alone f n o m ne here (c.0 k), covers-alone n w f (suc i) os ms ne rest c.1)
+
+-- one flight is touched in each regulation, and has another word
+pub marked-one : (n w : ℕ) (olds news : List ℕ) (os ns : List Listed) → ((f : ℕ) → (f ≡ n → ⊥) → word_of news f ≡ word_of olds f) → Keeps w (word_of news n)
+    → map (without_in n) ns ≡ map (without_in n) os → Covers w n 0 ns → AreMarked olds os → AreMarked news ns
+marked-one n w olds news os ns others one alone covers a f = cases (cases_eq f n) where
+  cases : (f ≡ n) ⊎ (f ≡ n → ⊥) → Covers (word_of news f) f 0 ns
+  cases (inl e) =
+      let C : ℕ → Type 0 = λ g. Covers (word_of news g) g 0 ns in
+      subst C (sym e) (covers-more w (word_of news n) n 0 ns one covers)
+  cases (inr ne) =
+      let C : ℕ → Type 0 = λ v. Covers v f 0 ns in
+      subst C (sym (others f ne)) (covers-alone n (word_of olds f) f 0 os ns ne alone (a f))
+
+covers-walked : (R : Listed → Listed → Type 0) (w f i n : ℕ) (os ns : List Listed) → ((l m : Listed) → R l m → IsOut f l → IsOut f m) → n ≡ length ns → Walked R n os ns → Covers w f i os → Covers w f i ns
+covers-walked R w f i n os [] s e r c = tt
+covers-walked R w f i zero os (m ∷ ms) s e r c = absurd (omega arith)
+covers-walked R w f i (suc n) [] (m ∷ ms) s e r c = absurd r
+covers-walked R w f i (suc n) (o ∷ os) (m ∷ ms) s e r c = (λ k. s o m r.0 (c.0 k), covers-walked R w f (suc i) n os ms s (omega arith) r.1 c.1)
+
+-- each regulation is replaced, by one that holds no other flight
+pub marked-walked : (R : Listed → Listed → Type 0) (words : List ℕ) (n : ℕ) (os ns : List Listed) → ((f : ℕ) (l m : Listed) → R l m → IsOut f l → IsOut f m) → n ≡ length ns → Walked R n os ns → AreMarked words os → AreMarked words ns
+marked-walked R words n os ns s e r a f = covers-walked R (word_of words f) f 0 n os ns (s f) e r (a f)
+
+pub covers-ones : (f i : ℕ) (ls : List Listed) → Covers 18_446_744_073_709_551_615 f i ls
+covers-ones f i [] = tt
+covers-ones f i (l ∷ ls) = (λ e. absurd (true≢false (sym (ones-stand i) ∙ e)), covers-ones f (suc i) ls)
+
+-- without words nothing is said
+pub marked-none : (ls : List Listed) → AreMarked [] ls
+marked-none ls f = covers-ones f 0 ls
+
+pub marked-as : (olds news : List ℕ) (ls : List Listed) → ((f : ℕ) → word_of news f ≡ word_of olds f) → AreMarked olds ls → AreMarked news ls
+marked-as olds news ls e a f = (let C : ℕ → Type 0 = λ w. Covers w f 0 ls in subst C (sym (e f)) (a f))
+
+covers-last : (w v f i k : ℕ) (ls : List Listed) (x : Listed) → k ≡ i + length ls → KeepsBelow k w v → (may_stand v k ≡ false → IsOut f x) → Covers w f i ls → Covers v f i (ls ++ x ∷ [])
+covers-last w v f i k [] x e s o c =
+    let M : ℕ → Type 0 = λ p. may_stand v p ≡ false in
+    let same : i ≡ k = omega arith in
+    (λ m. o (subst M same m), tt)
+covers-last w v f i k (l ∷ ls) x e s o c = (λ m. c.0 (falls w v i (s i (lt-ltb i k (omega arith))) m), covers-last w v f (suc i) k ls x (omega arith) s o c.1)
+
+-- one more regulation is opened
+pub marked-last : (olds news : List ℕ) (k : ℕ) (ls : List Listed) (x : Listed) → k ≡ length ls → ((f : ℕ) → IsOpenedTo k x f (word_of olds f) (word_of news f)) → AreMarked olds ls → AreMarked news (ls ++ x ∷ [])
+marked-last olds news k ls x e o a f = covers-last (word_of olds f) (word_of news f) f 0 k ls x (omega (arith, e)) (o f).0 (o f).1 (a f)
+
+covers-front : (w f i : ℕ) (xs ys : List Listed) → Covers w f i (xs ++ ys) → Covers w f i xs
+covers-front w f i [] ys c = tt
+covers-front w f i (x ∷ xs) ys c = (c.0, covers-front w f (suc i) xs ys c.1)
+
+-- the last one is taken out again
+pub marked-front : (words : List ℕ) (xs ys : List Listed) → AreMarked words (xs ++ ys) → AreMarked words xs
+marked-front words xs ys a f = covers-front (word_of words f) f 0 xs ys (a f)
+
+covers-up : (w v f i k : ℕ) (ls : List Listed) → k ≤ i → MovesUp k w v → Covers w f (suc i) ls → Covers v f i ls
+covers-up w v f i k [] h s c = tt
+covers-up w v f i k (l ∷ ls) h s c = (λ m. c.0 (falls-to w v i (suc i) (s.1 i (le-ltb i k h)) m), covers-up w v f (suc i) k ls (omega arith) s c.1)
+
+covers-removed : (w v f i j k : ℕ) (ls : List Listed) → k ≡ i + j → MovesUp k w v → Covers w f i ls → Covers v f i (remove ls j)
+covers-removed w v f i zero k [] e s c = tt
+covers-removed w v f i (suc j) k [] e s c = tt
+covers-removed w v f i zero k (l ∷ ls) e s c = covers-up w v f i k ls (omega arith) s c.1
+covers-removed w v f i (suc j) k (l ∷ ls) e s c = (λ m. c.0 (falls w v i (s.0 i (lt-ltb i k (omega arith))) m), covers-removed w v f (suc i) j k ls (omega arith) s c.1)
+
+-- a regulation is closed
+pub marked-removed : (olds news : List ℕ) (k : ℕ) (ls : List Listed) → ((f : ℕ) → MovesUp k (word_of olds f) (word_of news f)) → AreMarked olds ls → AreMarked news (remove ls k)
+marked-removed olds news k ls m a f = covers-removed (word_of olds f) (word_of news f) f 0 k k ls (omega arith) (m f) (a f)
+
+-- the words are replaced in turn
+module _ (R : ℕ → ℕ → ℕ → Type 0) (olds news : List ℕ) (j : ℕ) (done : (f : ℕ) → f < j → R f (word_of olds f) (word_of news f)) (rest : (f : ℕ) → j ≤ f → word_of news f ≡ word_of olds f) where
+  pub words-done : (w v : ℕ) → j < length news → w ≡ word_of news j → R j w v → (f : ℕ) → f < j + 1 → R f (word_of olds f) (word_of (slice_set news j v) f)
+  words-done w v h e r f l = cases (cases_eq f j) where
+    cases : (f ≡ j) ⊎ (f ≡ j → ⊥) → R f (word_of olds f) (word_of (slice_set news j v) f)
+    cases (inl q) =
+        let O : ℕ → Type 0 = λ x. R j x v in
+        let N : ℕ → Type 0 = λ x. R j (word_of olds j) x in
+        let G : ℕ → Type 0 = λ g. R g (word_of olds g) (word_of (slice_set news j v) g) in
+        subst G (sym q) (subst N (sym (get_or-set_same news j v 18_446_744_073_709_551_615 h)) (subst O (e ∙ rest j (omega arith)) r))
+    cases (inr ne) =
+        let N : ℕ → Type 0 = λ x. R f (word_of olds f) x in
+        subst N (sym (get_or-set_other news j f v 18_446_744_073_709_551_615 ne)) (done f (omega arith))
+
+  pub words-rest : (v f : ℕ) → j + 1 ≤ f → word_of (slice_set news j v) f ≡ word_of olds f
+  words-rest v f l = get_or-set_other news j f v 18_446_744_073_709_551_615 (λ e. absurd (omega arith)) ∙ rest f (omega arith)
+
+  pub words-all : length olds ≤ j → ((f : ℕ) → R f 18_446_744_073_709_551_615 18_446_744_073_709_551_615) → (f : ℕ) → R f (word_of olds f) (word_of news f)
+  words-all h ones f = cases (ltb f j) refl where
+    cases : (b : Bool) → ltb f j ≡ b → R f (word_of olds f) (word_of news f)
+    cases true q = done f (ltb-true f j q)
+    cases false q =
+        let past : j ≤ f = ltb-false f j q in
+        let none : word_of olds f ≡ 18_446_744_073_709_551_615 = get_or_past olds f 18_446_744_073_709_551_615 (omega arith) in
+        let O : ℕ → Type 0 = λ x. R f x x in
+        let N : ℕ → Type 0 = λ x. R f (word_of olds f) x in
+        subst N (sym (rest f past)) (subst O (sym none) (ones f))
+
+pub ones-move : (k f : ℕ) → MovesUp k 18_446_744_073_709_551_615 18_446_744_073_709_551_615
+ones-move k f = (λ i l s. s, λ i l s. ones-stand i)
+
+pub ones-open : (k : ℕ) (l : Listed) (f : ℕ) → IsOpenedTo k l f 18_446_744_073_709_551_615 18_446_744_073_709_551_615
+ones-open k l f = (λ i b s. s, λ e. absurd (true≢false (sym (ones-stand k) ∙ e)))
+
+-- a vector of words and one of regulations that were written back whole
+pub written-marked : (i j : ℕ) (ws vs : List ℕ) (ns ls : List Listed) → i ≡ length ws → j ≡ length ns → AreMarked ws ns → AreMarked (take i (ws ++ vs)) (take j (ns ++ ls))
+written-marked i j ws vs ns ls a b h =
+    let M : List Listed → Type 0 = λ ms. AreMarked (take i (ws ++ vs)) ms in
+    let V : List ℕ → Type 0 = λ us. AreMarked us ns in
+    subst M (sym (written-back j ns ls b)) (subst V (sym (written-back i ws vs a)) h)
+
+pub written-words : (i : ℕ) (ws vs : List ℕ) (ls : List Listed) → i ≡ length ws → AreMarked ws ls → AreMarked (take i (ws ++ vs)) ls
+written-words i ws vs ls a h = (let V : List ℕ → Type 0 = λ us. AreMarked us ls in subst V (sym (written-back i ws vs a)) h)
+
+-- the word of a flight covers it
+pub marked-word : (n w : ℕ) (us ws : List ℕ) (ls ms : List Listed) → us ≡ ws → ms ≡ ls → w ≡ word_of us n → AreMarked ws ls → Covers w n 0 ms
+marked-word n w us ws ls ms a b e h =
+    let C : ℕ → Type 0 = λ v. Covers v n 0 ms in
+    let L : List Listed → Type 0 = λ xs. Covers (word_of us n) n 0 xs in
+    let V : List ℕ → Type 0 = λ vs. Covers (word_of vs n) n 0 ls in
+    subst C (sym e) (subst L (sym b) (subst V (sym a) (h n)))
+
+pub marked-both : (us ws : List ℕ) (ls ms : List Listed) → us ≡ ws → ms ≡ ls → AreMarked ws ls → AreMarked us ms
+marked-both us ws ls ms a b h =
+    let L : List Listed → Type 0 = λ xs. AreMarked us xs in
+    let V : List ℕ → Type 0 = λ vs. AreMarked vs ls in
+    subst L (sym b) (subst V (sym a) h)

@@ -1,0 +1,20 @@
+use Rattle.flow_regulations.proofs.Outs.{out-looks, is-none}
+use Rattle.flow_regulations.proofs.regulation.Regulation.look_where.Goals as goal
+
+pub returns-then-may_stand-clause-looked : goal.returns-then-may_stand-clause-looked
+returns-then-may_stand-clause-looked g c =
+    let e = c.look_again.ensures in
+    record { same = e.same; capacity = e.capacity; others = e.others; alone = e.alone; renewed = e.renewed }
+
+pub returns-then-is_none-clause-looked : goal.returns-then-is_none-clause-looked
+returns-then-is_none-clause-looked g c =
+    out-looks c.args.number c.args.plans.now.taxi c.args.now c.args.plans.now.plans c.args.self.now c.subject.result c.requires.some c.requires.within (c.requires.out c.if-may_stand.false) c.is_in_order.ensures.lined c.is_in_order.ensures.regular
+    c.subject.ensures (is-none c.subject.result c.is_none.result c.is_none.ensures c.if-is_none.true)
+
+pub returns-then-is_none-clause-out : goal.returns-then-is_none-clause-out
+returns-then-is_none-clause-out g c = λ _. c.requires.out c.if-may_stand.false
+
+pub returns-clause-looked : goal.returns-clause-looked
+returns-clause-looked g c =
+    let e = c.look_again-2.ensures in
+    record { same = e.same; capacity = e.capacity; others = e.others; alone = e.alone; renewed = e.renewed }

@@ -1,0 +1,43 @@
+-- Marks: for each flight a word, of which each bit is for one of the first 64 open regulations, in the order of opening.
+-- Where the bit isn't set, the flight isn't held there; where it is, the flight may be held or not.
+use Rattle.std.specs.Prelude.{◌≡◌, ℕ, suc, Bool, true, false, ◌==◌, nat_lt, if◌then◌else◌, List, [], ◌∷◌, slice_index_or as get_or}
+use Rattle.std.specs.Int.{bit_at}
+use Rattle.flow_slots.specs.Lineup.{NoneIs, NoneFixed}
+use Rattle.flow_regulations.specs.Listing.{Listed}
+
+-- whether a flight of this word may be held in the regulation at this place; it may in each from the 65th on
+unfoldable pub may_stand : ℕ → ℕ → Bool
+may_stand word index = if nat_lt index 64 then bit_at word index == 1 else true
+
+-- the word of a flight; one that has none may be held in each regulation
+abbrev pub word_of : List ℕ → ℕ → ℕ
+word_of words flight = get_or words flight 18_446_744_073_709_551_615
+
+-- the flight isn't held
+abbrev pub IsOut : ℕ → Listed → Type 0
+IsOut flight l = NoneFixed flight l.lineup.fixed × NoneIs flight l.lineup.waiting
+
+-- in regulations from this place on, the flight isn't held where its word says so
+abbrev pub Covers : ℕ → ℕ → ℕ → List Listed → Type 0
+Covers word flight index [] = Unit {0}
+Covers word flight index (l ∷ ls) = (may_stand word index ≡ false → IsOut flight l) × Covers word flight (suc index) ls
+
+-- and so for each flight
+abbrev pub AreMarked : List ℕ → List Listed → Type 0
+AreMarked words lists = (flight : ℕ) → Covers (word_of words flight) flight 0 lists
+
+-- a word that says of no place below this one that a flight isn't held there, where the other didn't
+abbrev pub KeepsBelow : ℕ → ℕ → ℕ → Type 0
+KeepsBelow index word new = (i : ℕ) → nat_lt i index ≡ true → may_stand word i ≡ true → may_stand new i ≡ true
+
+-- and of none at all
+abbrev pub Keeps : ℕ → ℕ → Type 0
+Keeps word new = (i : ℕ) → may_stand word i ≡ true → may_stand new i ≡ true
+
+-- the regulation at this place is gone, and the later ones moved up
+abbrev pub MovesUp : ℕ → ℕ → ℕ → Type 0
+MovesUp index word new = KeepsBelow index word new × ((i : ℕ) → nat_lt i index ≡ false → may_stand word (suc i) ≡ true → may_stand new i ≡ true)
+
+-- a regulation was opened at this place, in which the flight is held or not
+abbrev pub IsOpenedTo : ℕ → Listed → ℕ → ℕ → ℕ → Type 0
+IsOpenedTo index l flight word new = KeepsBelow index word new × (may_stand new index ≡ false → IsOut flight l)
