@@ -156,8 +156,8 @@ impl<A: Allocator + Copy> Regulations<A> {
         Some(Closed { index, regulation })
     }
 
-    /// Opens a closed regulation again in its place, as it was. It takes no memory: the room that it left is there. Where
-    /// flights are held is marked again from the next opening on.
+    /// Opens a closed regulation again in its place, as it was. It takes no memory: the room that it left is there. The marks
+    /// are given up: from then on each of these regulations is asked of each flight.
     pub fn reopen(&mut self, closed: Closed<A>)
         requires { MayReopen closed self.old }
         ensures limit { self.new.max_plans ≡ self.old.max_plans }
