@@ -1,6 +1,6 @@
 -- What a walk over the regulations gives for the advice of a plan.
-use Rattle.std.proofs.Common.{◌≡◌, ℕ, ◌+◌, ◌-◌, ◌<◌, ◌≤◌, List, [], ◌∷◌, length, Option, None, Some, IfSome, refl, sym, ap, zero, suc, ◌∙◌, arith, map, drop}
-use Rattle.std.proofs.lemmas.List.{drop_all}
+use Rattle.std.proofs.Common.{◌≡◌, subst, slice_index_or as get_or, ℕ, ◌+◌, ◌-◌, ◌<◌, ◌≤◌, List, [], ◌∷◌, length, Option, None, Some, IfSome, refl, sym, ap, zero, suc, ◌∙◌, arith, map, drop}
+use Rattle.std.proofs.lemmas.List.{drop_all, drop_more}
 use Rattle.std.specs.List.{slice_get}
 use Rattle.std.specs.Option.{option_map}
 use Rattle.flow_plans.specs.Plans.{Plan, plan_at}
@@ -8,8 +8,8 @@ use Rattle.flow_plans.specs.Entries.{take_off}
 use Rattle.flow_regulations.specs.declared.advice.Delay.{Delay}
 use Rattle.flow_regulations.specs.declared.notice.Told.{Told}
 use Rattle.flow_regulations.specs.Listing.{Listed, regulation_of}
-use Rattle.flow_regulations.specs.Advice.{worse, worst, advice}
-use Rattle.flow_regulations.proofs.Delays.{worse-none}
+use Rattle.flow_regulations.specs.Advice.{worse, worst, delay_in, caused_by, advice}
+use Rattle.flow_regulations.proofs.Delays.{worse-none, worse-joins, worse-keeps}
 
 -- the walk has found the worst of the first regulations
 abbrev pub IsWorstSoFar : ℕ → ℕ → Option Plan → List Listed → List Listed → Option Delay → Type 0
@@ -19,6 +19,26 @@ IsWorstSoFar taxi n o rest all w =
 -- no delay lies beyond the limit
 abbrev pub IsDelayWithin : ℕ → ℕ → Option Plan → Option Delay → Type 0
 IsDelayWithin taxi limit o w = IfSome o (λ p. IfSome w (λ d. take_off taxi p + d.minutes ≤ limit))
+
+-- the walk goes on to the next regulation
+pub worst-kept : (taxi n i : ℕ) (o : Option Plan) (all : List Listed) (r : Listed) (w d v : Option Delay) → i < length all → r ≡ get_or all i r
+    → IsWorstSoFar taxi n o (drop i all) all w → IfSome o (λ p. d ≡ option_map (caused_by (regulation_of r)) (delay_in taxi n p (regulation_of r)))
+    → v ≡ worse w d → IsWorstSoFar taxi n o (drop (i + 1) all) all v
+worst-kept taxi n i None all r w d v below at was delay is = tt
+worst-kept taxi n i (Some p) all r w d v below at was delay is =
+    let W : List Listed → Option Delay = λ rest. worst taxi n p (map regulation_of rest) in
+    let rest : drop i all ≡ r ∷ drop (i + 1) all = drop_more all i r below ∙ ap (λ (l : Listed). l ∷ drop (i + 1) all) (sym at) in
+    ap (λ (x : Option Delay). worse x (W (drop (i + 1) all))) is
+    ∙ worse-joins w d (W (drop (i + 1) all))
+    ∙ ap (λ (x : Option Delay). worse w (worse x (W (drop (i + 1) all)))) delay
+    ∙ ap (λ (ls : List Listed). worse w (W ls)) (sym rest)
+    ∙ was
+
+pub within-kept : (taxi limit : ℕ) (o : Option Plan) (w d v : Option Delay) → IsDelayWithin taxi limit o w → IsDelayWithin taxi limit o d → v ≡ worse w d
+    → IsDelayWithin taxi limit o v
+within-kept taxi limit None w d v hw hd is = tt
+within-kept taxi limit (Some p) w d v hw hd is =
+    subst (λ (x : Option Delay). IfSome x (λ e. take_off taxi p + e.minutes ≤ limit)) (sym is) (worse-keeps (take_off taxi p) limit w d hw hd)
 
 worst-at_end : (taxi n i : ℕ) (p : Plan) (all : List Listed) (w : Option Delay) → length all ≤ i
     → worse w (worst taxi n p (map regulation_of (drop i all))) ≡ worst taxi n p (map regulation_of all)

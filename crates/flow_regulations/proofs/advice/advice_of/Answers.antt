@@ -3,7 +3,7 @@ use Rattle.flow_plans.specs.Plans.{plan_at}
 use Rattle.flow_regulations.specs.Listing.{Listed}
 use Rattle.flow_regulations.specs.Marks.{IsOut}
 use Rattle.flow_regulations.proofs.Marking.{covers-at}
-use Rattle.flow_regulations.proofs.Advised.{advice-none, advice-some, ctot-fits}
+use Rattle.flow_regulations.proofs.Advised.{advice-none, advice-some, ctot-fits, worst-kept, within-kept}
 use Rattle.flow_regulations.proofs.advice.advice_of.Goals as goal
 
 pub returns-in_err-delay : goal.returns-in_err-delay
@@ -34,3 +34,11 @@ delay_where-requires-clause-out g c = λ e.
     let d : Listed = c.index-regulations-index.result in
     let O : Listed → Type 0 = λ l. IsOut c.args.number l in
     subst O (sym c.index-regulations-index.is) (covers-at c.args.word c.args.number c.loop-index.index ls d c.loop-index-test.true c.requires.covers (sym c.may_stand-marked.ensures ∙ e)))
+
+pub loop-index-preserved : goal.loop-index-preserved
+loop-index-preserved g c = record {
+  value = worst-kept c.args.plans.now.taxi c.args.number c.loop-index.index (plan_at c.args.plans.now.plans c.args.number) c.args.regulations.now c.index-regulations-index.result
+      c.loop-index.worst c.delay_where.result c.worse-worst.result c.loop-index-test.true c.index-regulations-index.is c.loop-index.invariant.value c.delay_where.ensures.value c.worse-worst.ensures;
+  bound = within-kept c.args.plans.now.taxi 100_000_000 (plan_at c.args.plans.now.plans c.args.number) c.loop-index.worst c.delay_where.result c.worse-worst.result
+      c.loop-index.invariant.bound c.delay_where.ensures.bound c.worse-worst.ensures;
+}

@@ -1,8 +1,9 @@
-use Rattle.std.proofs.Common.{◌≡◌, ℕ, List, length, map, sym, refl, ap, subst, ◌∙◌, arith}
+use Rattle.std.proofs.Common.{◌≡◌, ◌≤◌, ℕ, List, length, map, sym, refl, ap, subst, ◌∙◌, arith}
+use Rattle.std.specs.List.{AllByRecursion}
 use Rattle.flow_regulations.specs.Listing.{Listed, Walked, IsLookedAgain, AreRenewed, HaveCapacity, AreApart, names_in, without_in, pairs_in}
 use Rattle.flow_regulations.specs.Marks.{AreMarked, word_of}
 use Rattle.flow_regulations.proofs.Marking.{marked-one, marked-word, written-marked}
-use Rattle.flow_regulations.proofs.Alls.{capacity-looked, all-looked, others-looked, alone-looked, names-looked}
+use Rattle.flow_regulations.proofs.Alls.{room-at, capacity-looked, all-looked, others-looked, alone-looked, names-looked}
 use Rattle.flow_regulations.proofs.Names.{apart-as}
 use Rattle.flow_regulations.proofs.Walks.{written-back}
 use Rattle.flow_regulations.proofs.regulations.Regulations.look_again.Goals as goal
@@ -61,3 +62,9 @@ returns-clause-alone g c =
 pub look_again_in-word-requires-clause-covers : goal.look_again_in-word-requires-clause-covers
 look_again_in-word-requires-clause-covers g c =
     marked-word c.args.number c.word_of-word.result _ c.self.inside.words.items c.self.inside.regulations.items _ c.deref.ensures.value c.deref_mut.ensures.value c.word_of-word.ensures c.self.invariant.4
+
+pub look_again_in-word-requires-clause-room : goal.look_again_in-word-requires-clause-room
+look_again_in-word-requires-clause-room g c =
+    let R : List Listed → Type 0 = λ ls. AllByRecursion (λ l. c.args.number ≤ l.lineup.capacity) ls in
+    let most : c.args.number ≤ c.self.inside.max_plans = omega (arith, c.requires.room, ap (λ v. v.max_plans) c.self.view_is) in
+    subst R (sym c.deref_mut.ensures.value) (room-at c.args.number c.self.inside.max_plans c.self.inside.regulations.items most c.self.invariant.2)

@@ -1,7 +1,9 @@
-use Rattle.std.proofs.Common.{◌≡◌, ℕ, List, length, map, sym, ap, subst, ◌∙◌, arith}
+use Rattle.std.proofs.Common.{◌≡◌, ◌≤◌, ℕ, List, length, map, sym, ap, subst, ◌∙◌, arith}
+use Rattle.std.specs.List.{AllByRecursion}
 use Rattle.flow_regulations.specs.Listing.{Listed, HaveCapacity, AreApart, names_in, without_in}
 use Rattle.flow_regulations.specs.Marks.{AreMarked, word_of}
 use Rattle.flow_regulations.proofs.Marking.{marked-one, covers-ones, written-marked}
+use Rattle.flow_regulations.proofs.Alls.{room-at}
 use Rattle.flow_regulations.proofs.PutBack.{capacity-back}
 use Rattle.flow_regulations.proofs.Names.{apart-as, names-back}
 use Rattle.flow_regulations.proofs.Walks.{written-back}
@@ -39,3 +41,9 @@ returns-clause-lists g c = λ before are same.
     let len : s.regulations.len ≡ length ns = omega (arith, c.put_back_in.auto.regulations, c.deref_mut.ensures.len) in
     let M : List Listed → Type 0 = λ ls. map (without_in n) ls ≡ map (without_in n) before in
     written-back s.regulations.len ns _ len ∙ c.put_back_in.ensures before are (subst M (sym (c.deref_mut.ensures.value ∙ ap (λ v. v.lists) c.self.view_is)) same))
+
+pub put_back_in-requires-clause-room : goal.put_back_in-requires-clause-room
+put_back_in-requires-clause-room g c =
+    let R : List Listed → Type 0 = λ ls. AllByRecursion (λ l. c.args.number ≤ l.lineup.capacity) ls in
+    let most : c.args.number ≤ c.self.inside.max_plans = omega (arith, c.requires.room, ap (λ v. v.max_plans) c.self.view_is) in
+    subst R (sym c.deref_mut.ensures.value) (room-at c.args.number c.self.inside.max_plans c.self.inside.regulations.items most c.self.invariant.2)
