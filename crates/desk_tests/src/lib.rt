@@ -4,8 +4,6 @@
 #[cfg(test)]
 mod changes;
 #[cfg(test)]
-mod comparing;
-#[cfg(test)]
 mod intake;
 #[cfg(test)]
 mod journals;
