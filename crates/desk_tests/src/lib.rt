@@ -1,12 +1,8 @@
-//! Tests of the intake and the core: worked rows, devices that cut and fail, and growth refused in turn.
+//! Tests of the intake and the core: worked rows, and devices that cut and fail.
 #![tactic(auto)]
 
 #[cfg(test)]
 mod intake;
-#[cfg(test)]
-mod journals;
-#[cfg(test)]
-mod serving;
 #[cfg(test)]
 mod steps;
 #[cfg(test)]

@@ -1,8 +1,8 @@
 //! Filings that are taken back.
-use flow_core::{Core, Receipt, Row, Said};
+use flow_core::{Core, Receipt};
 use flow_plans::Setup;
 use fpl_message::Filing;
-use fpl_text::{Minute, read_moment};
+use fpl_text::read_moment;
 use std::alloc::Global;
 use std::process::Abort;
 use std::test::Fail;
@@ -17,37 +17,6 @@ const FILED: [&[u8]; 5] = [
 ];
 
 const DELAY: &[u8] = b"(DLA-XXX1-LIML0803-EDDF)";
-
-/// One of each kind, each of which is accepted after those, but for the last.
-const TAKEN_BACK: [&[u8]; 9] = [
-    DELAY,
-    b"TIME 2409010800",
-    b"OPEN RMZ02 ARR EDDF 2409010900 2409011100 6",
-    b"SHUT RMZ01",
-    b"(FPL-WWW1-IS-A320/M-SDFG/LB1-LIML0830-N0450F350 DCT-EDDF0130-0)",
-    b"(CHG-YYY1-LIML0820-EDDF-15/N0420F310 DCT)",
-    b"(CNL-XXX1-LIML0800-EDDF)",
-    b"(DEP-XXX1-LIML0805-EDDF)",
-    b"(CNL-VVV1-LIML0800-EDDF)",
-];
-
-/// What a reader sees of a desk with at most four plans.
-#[derive(Debug, Drop, PartialEq, Eq)]
-struct Seen {
-    entries: u32,
-    notices: u64,
-    now: Minute,
-    rows: [Option<Row>; 4],
-}
-
-fn view_of(core: &Core) -> Seen {
-    Seen {
-        entries: core.entries(),
-        notices: core.notices(),
-        now: core.now(),
-        rows: [core.row(1), core.row(2), core.row(3), core.row(4)],
-    }
-}
 
 fn filed(alloc: Global, core: &mut Core, text: &[u8]) -> Result<Receipt, Fail> {
     let filing = Filing::new(alloc, text).ok().ok_or("a filing")?;
@@ -77,36 +46,5 @@ fn a_delay_is_taken_back(rt: HostRuntime) -> Result<(), Fail> {
     assert_eq!(&rt; core.notices(), 1);
     assert!(&rt; core.row(1) == before);
     assert!(&rt; !core.can_take_back());
-    Ok(())
-}
-
-#[test]
-fn a_delay_that_was_taken_back_is_filed_again(rt: HostRuntime) -> Result<(), Fail> {
-    let mut core = desk(&rt, rt.alloc())?;
-    filed(rt.alloc(), &mut core, DELAY)?;
-    assert!(&rt; core.can_take_back());
-    let filing = core.take_back();
-    let receipt = core.step(filing, 3).ok().ok_or("a receipt")?;
-    assert_eq!(&rt; receipt.number, 6);
-    assert_eq!(&rt; receipt.notices, 1);
-    let notice = core.notice(1).ok_or("a notice")?;
-    let Said::Srm(told) = &notice.says else {
-        return Err("another slot".into());
-    };
-    assert!(&rt; Some(told.ctot) == read_moment(b"2409010813"));
-    Ok(())
-}
-
-#[test]
-fn each_kind_of_filing_is_taken_back(rt: HostRuntime) -> Result<(), Fail> {
-    let mut core = desk(&rt, rt.alloc())?;
-    let before = view_of(&core);
-    for text in TAKEN_BACK {
-        filed(rt.alloc(), &mut core, text)?;
-        assert!(&rt; core.can_take_back());
-        let filing = core.take_back();
-        assert!(&rt; filing.text() == text);
-        assert!(&rt; view_of(&core) == before);
-    }
     Ok(())
 }
