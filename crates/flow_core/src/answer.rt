@@ -2,6 +2,7 @@
 ghost use Rattle.std.specs.Prelude.{◌≡◌, ◌≤◌, ◌+◌, ◌++◌, ◌-◌, ◌^◌, min, OnOk, OnErr, length, codes, decimal, ℕ, ◌/◌, ◌%◌};
 ghost use Rattle.std.specs.List.{flat_map};
 ghost use Rattle.std.specs.Io.KnownBytes.{Appends};
+ghost use Rattle.fpl_message.specs.Numbers.{number_of, name_of};
 ghost use Rattle.flow_intake.specs.Writes.{AppendsFront};
 ghost use Rattle.arrayvec.specs.ArrayVec.{array_vec_len};
 ghost use Rattle.flow_core.specs.Output.{kind_text, window_text, plan_text, refusal_text, verdict_text, answer_line, flight_text, told_text, notice_line};
@@ -55,16 +56,48 @@ fn put_plan(line: &mut Line, plan: u32)
     }
 }
 
+/// What an answer says of a refused filing before a detail: the number and the name of the reason, in one piece.
+fn refused_text(refusal: Refusal) -> &'static [u8]
+    ensures text { result.now ≡ codes " NO " ++ decimal (number_of refusal) ++ codes " " ++ name_of refusal }
+    ensures short { length result.now ≤ 28 }
+{
+    match refusal {
+        Refusal::Empty => b" NO 1 Empty",
+        Refusal::BadByte(_) => b" NO 2 BadByte",
+        Refusal::NoBracket => b" NO 3 NoBracket",
+        Refusal::UnknownTitle => b" NO 4 UnknownTitle",
+        Refusal::FieldCount => b" NO 5 FieldCount",
+        Refusal::BadField(_) => b" NO 10 BadField",
+        Refusal::DuplicateItem => b" NO 11 DuplicateItem",
+        Refusal::BadDate => b" NO 12 BadDate",
+        Refusal::UnsupportedAmendment(_) => b" NO 13 UnsupportedAmendment",
+        Refusal::AlreadyHeld => b" NO 20 AlreadyHeld",
+        Refusal::NoPlan => b" NO 21 NoPlan",
+        Refusal::Ambiguous => b" NO 22 Ambiguous",
+        Refusal::AlreadyDeparted => b" NO 23 AlreadyDeparted",
+        Refusal::KeyChange => b" NO 24 KeyChange",
+        Refusal::NotLater => b" NO 25 NotLater",
+        Refusal::DelayTooLong => b" NO 26 DelayTooLong",
+        Refusal::Past => b" NO 27 Past",
+        Refusal::TooEarly => b" NO 28 TooEarly",
+        Refusal::PlansFull => b" NO 29 PlansFull",
+        Refusal::BadOrder => b" NO 30 BadOrder",
+        Refusal::RegulationHeld => b" NO 31 RegulationHeld",
+        Refusal::NoRegulation => b" NO 32 NoRegulation",
+        Refusal::RegulationsFull => b" NO 33 RegulationsFull",
+        Refusal::BadPeriod => b" NO 34 BadPeriod",
+        Refusal::BadRate => b" NO 35 BadRate",
+        Refusal::TimeBack => b" NO 36 TimeBack",
+    }
+}
+
 /// Appends why a filing was refused.
 fn put_refusal(line: &mut Line, refusal: Refusal)
     requires { array_vec_len line.old + 70 ≤ 192 }
     ensures items { line.new.items ≡ line.old.items ++ refusal_text refusal }
     ensures len { array_vec_len line.new ≤ array_vec_len line.old + 70 }
 {
-    put(line, b" NO ");
-    put_number(line, u64::from(refusal.number()));
-    put(line, b" ");
-    put(line, refusal.name());
+    put(line, refused_text(refusal));
     if let Some(detail) = refusal.detail() {
         put(line, b" ");
         put_number(line, detail as u64);
@@ -92,15 +125,14 @@ fn put_verdict(line: &mut Line, verdict: Verdict)
     }
 }
 
-/// The answer line of a receipt.
-fn line_of(receipt: &Receipt) -> Line
-    ensures { result.items ≡ answer_line receipt.now }
+/// Appends the answer line of a receipt. A line of 192 bytes is filled where it lies, rather than handed over.
+fn put_answer(line: &mut Line, receipt: &Receipt)
+    requires { array_vec_len line.old + 91 ≤ 192 }
+    ensures { line.new.items ≡ line.old.items ++ answer_line receipt.now }
 {
-    let mut line = ArrayVec::new();
-    put_number(&mut line, u64::from(receipt.number));
-    put_verdict(&mut line, receipt.verdict);
-    put(&mut line, b"\n");
-    line
+    put_number(line, u64::from(receipt.number));
+    put_verdict(line, receipt.verdict);
+    put(line, b"\n");
 }
 
 /// Appends of which flight a notice speaks.
@@ -132,31 +164,54 @@ fn put_told(line: &mut Line, told: &Told)
     put(line, told.regulation.as_bytes());
 }
 
-/// The line of a notice.
-fn notice_line_of(notice: &Notice) -> Line
-    ensures { result.items ≡ notice_line notice.now }
+/// Appends the line of a notice.
+fn put_notice(line: &mut Line, notice: &Notice)
+    requires { array_vec_len line.old + 121 ≤ 192 }
+    ensures { line.new.items ≡ line.old.items ++ notice_line notice.now }
 {
-    let mut line = ArrayVec::new();
     match &notice.says {
         Said::Sam(told) => {
-            put(&mut line, b"-TITLE SAM");
-            put_flight(&mut line, notice);
-            put(&mut line, b" -CTOT ");
-            put_told(&mut line, told);
+            put(line, b"-TITLE SAM");
+            put_flight(line, notice);
+            put(line, b" -CTOT ");
+            put_told(line, told);
         }
         Said::Srm(told) => {
-            put(&mut line, b"-TITLE SRM");
-            put_flight(&mut line, notice);
-            put(&mut line, b" -NEWCTOT ");
-            put_told(&mut line, told);
+            put(line, b"-TITLE SRM");
+            put_flight(line, notice);
+            put(line, b" -NEWCTOT ");
+            put_told(line, told);
         }
         Said::Slc => {
-            put(&mut line, b"-TITLE SLC");
-            put_flight(&mut line, notice);
+            put(line, b"-TITLE SLC");
+            put_flight(line, notice);
         }
     }
-    put(&mut line, b"\n");
-    line
+    put(line, b"\n");
+}
+
+/// Writes the answer line of a receipt.
+fn write_line<W: Write>(writer: &mut Counted<W>, receipt: &Receipt) -> Result<(), WriteFault>
+    ensures ok { OnOk result (Appends (W.contents writer.old.device) (W.contents writer.new.device) (answer_line receipt.now)) }
+    ensures err { OnErr result (AppendsFront (W.contents writer.old.device) (W.contents writer.new.device) (answer_line receipt.now)) }
+    ensures calm { OnOk result (writer.new.failures ≡ writer.old.failures) }
+    ensures failed { OnErr result (writer.new.failures ≡ min (writer.old.failures + 1) (2 ^ 64 - 1)) }
+{
+    let mut line = ArrayVec::new();
+    put_answer(&mut line, receipt);
+    write_bytes(writer, line.as_slice())
+}
+
+/// Writes the line of a notice.
+fn write_notice<W: Write>(writer: &mut Counted<W>, notice: &Notice) -> Result<(), WriteFault>
+    ensures ok { OnOk result (Appends (W.contents writer.old.device) (W.contents writer.new.device) (notice_line notice.now)) }
+    ensures err { OnErr result (AppendsFront (W.contents writer.old.device) (W.contents writer.new.device) (notice_line notice.now)) }
+    ensures calm { OnOk result (writer.new.failures ≡ writer.old.failures) }
+    ensures failed { OnErr result (writer.new.failures ≡ min (writer.old.failures + 1) (2 ^ 64 - 1)) }
+{
+    let mut line = ArrayVec::new();
+    put_notice(&mut line, notice);
+    write_bytes(writer, line.as_slice())
 }
 
 /// Writes the answer line of a receipt, and the lines of its notices. After an `Err` a front of that was written.
@@ -170,7 +225,7 @@ pub(crate) fn write_lines<W: Write>(
     ensures calm { OnOk result (writer.new.failures ≡ writer.old.failures) }
     ensures failed { OnErr result (writer.new.failures ≡ min (writer.old.failures + 1) (2 ^ 64 - 1)) }
 {
-    write_bytes(writer, line_of(receipt).as_slice())?;
+    write_line(writer, receipt)?;
     write_notices(writer, notices)
 }
 
@@ -181,7 +236,7 @@ fn write_notices<W: Write>(writer: &mut Counted<W>, notices: &[Notice]) -> Resul
     ensures failed { OnErr result (writer.new.failures ≡ min (writer.old.failures + 1) (2 ^ 64 - 1)) }
 {
     for notice in notices {
-        write_bytes(writer, notice_line_of(notice).as_slice())?;
+        write_notice(writer, notice)?;
     }
     Ok(())
 }

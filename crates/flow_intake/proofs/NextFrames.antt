@@ -1,10 +1,10 @@
 -- One frame, past the blanks before it.
-use Rattle.std.proofs.Common.{◌≡◌, ℕ, ◌+◌, true, false, List, [], ◌∷◌, ◌++◌, length, refl, sym, ap, ◌∙◌, subst, arith, drop, Option, Some, None, IfSome, IsTrue, slice_get, append_assoc, append-nil, length-append}
+use Rattle.std.proofs.Common.{◌≡◌, ℕ, ◌+◌, Bool, true, false, cond, leb, List, [], ◌∷◌, ◌++◌, length, refl, sym, ap, ◌∙◌, subst, arith, drop, Option, Some, None, IfSome, IsTrue, slice_get, append_assoc, append-nil, length-append}
 use Rattle.std.proofs.KnownBytes.{Consumes-nil, Consumes-trans}
 use Rattle.fpl_message.specs.Filings.{FilingText}
 use Rattle.flow_intake.specs.Frames.{Cut, cut, first_cut, since, is_text, kept_of}
 use Rattle.flow_intake.specs.Reader.{Ahead, Agrees, Came, CameTooMuch, BeginsWithStop, Took, Finished, Unfinished}
-use Rattle.flow_intake.specs.NextFrame.{IsFiled, GaveFirst, GaveNone, Starves}
+use Rattle.flow_intake.specs.NextFrame.{second, filing_kept, IsFiled, GaveFirst, GaveNone, Starves}
 use Rattle.flow_intake.proofs.Runs.{since-run}
 use Rattle.flow_intake.proofs.Firsts.{lengths}
 use Rattle.flow_intake.proofs.Takes.{Took-much}
@@ -91,3 +91,15 @@ module _ (old mid then : Ahead) (before during : Option (List ℕ)) (k k1 : Opti
 
 pub Came-behind : (old mid : Ahead) (before during after : Option (List ℕ)) (k k1 : Option (List ℕ)) → Took is_text old mid before during k k1 → Came during after → Came before after
 Came-behind old mid before during after k k1 t m = (t.came ++ m.0, Consumes-trans before during after t.came m.0 t.consumed m.1)
+
+-- what was kept of a frame gives its filing
+pub IsFiled-kept : (kept : Option (List ℕ)) → IsFiled kept (filing_kept kept)
+IsFiled-kept kept frame e = rw e (by (leb (length frame) 2000))
+  where
+    by : (b : Bool) → filing_kept (cond b (Some frame) None) ≡ cond b (Some (second frame)) None
+    by true = refl
+    by false = refl
+
+-- and the filing made of it is that
+pub GaveFirst-filed : (old new : Ahead) (before after : Option (List ℕ)) (kept : Option (List ℕ)) (filing : Option FilingText) → GaveFirst (filing_kept kept) old new before after → filing ≡ filing_kept kept → GaveFirst filing old new before after
+GaveFirst-filed old new before after kept filing g e = subst (λ (f : Option FilingText). GaveFirst f old new before after) (sym e) g

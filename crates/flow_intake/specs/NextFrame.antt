@@ -1,5 +1,5 @@
 -- What one call for a frame takes from the input.
-use Rattle.std.specs.Prelude.{◌≡◌, ◌+◌, ℕ, length, nat_le, if◌then◌else◌, true, false, List, [], ◌++◌, Option, Some, None}
+use Rattle.std.specs.Prelude.{◌≡◌, ◌+◌, ℕ, length, nat_le, if◌then◌else◌, Bool, true, false, List, [], ◌++◌, Option, Some, None}
 use Rattle.std.specs.Io.KnownBytes.{Consumes}
 use Rattle.flow_intake.specs.declared.intake.Frame.{Frame}
 use Rattle.flow_intake.specs.declared.intake.Frame.TheVariants.{Whole, TooLong}
@@ -20,6 +20,11 @@ filing_of frame = if nat_le (length frame) 2000 then Some (second frame) else No
 abbrev pub filing_in : {A : Type 0} → Frame A → Option FilingText
 filing_in (Whole filing) = Some filing
 filing_in TooLong = None
+
+-- the filing of what was kept of a frame
+abbrev pub filing_kept : Option (List ℕ) → Option FilingText
+filing_kept None = None
+filing_kept (Some frame) = Some (second frame)
 
 -- whatever frame was kept so, this is its filing
 abbrev pub IsFiled : Option (List ℕ) → Option FilingText → Type 0
@@ -45,6 +50,11 @@ pub record GaveNone (old new : Ahead) (before after : Option (List ℕ)) : Type 
   pub ended : new.ended ≡ true
   pub count : new.taken + length new.unread ≡ old.taken + length old.unread + length came
   pub quiet : old.ended ≡ true → came ≡ []
+
+-- whether a frame was cut off, what was kept of it, and what is left
+abbrev pub Cuts : Bool → Option (List ℕ) → Ahead → Ahead → Option (List ℕ) → Option (List ℕ) → Type 0
+Cuts false kept old new before after = GaveNone old new before after
+Cuts true kept old new before after = GaveFirst (filing_kept kept) old new before after
 
 -- what a call for a frame answers, and leaves
 abbrev pub Gives : {A : Type 0} → Option (Frame A) → Ahead → Ahead → Option (List ℕ) → Option (List ℕ) → Type 0

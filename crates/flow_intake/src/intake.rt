@@ -1,7 +1,7 @@
 //! The frames of an input.
 ghost use Rattle.std.specs.Prelude.{◌≡◌, ◌≢◌, ◌≤◌, ◌<◌, ◌+◌, ◌^◌, [], Some, false, min, length, IfErr, IfOk, IfNone, IfSome, IsOkAnd, OnErr, OnOk, OnSome, IsErrOf, Err, IsTrue, IsNone, ◌-◌};
 ghost use Rattle.flow_intake.specs.Frames.{kept_of};
-ghost use Rattle.flow_intake.specs.NextFrame.{Gives, IsFiled, Starves, filing_in};
+ghost use Rattle.flow_intake.specs.NextFrame.{Cuts, Gives, Starves, filing_in, filing_kept};
 ghost use Rattle.flow_intake.specs.Source.{CutsFirst, KeepsTotal};
 ghost use Rattle.flow_intake.specs.Reader.{Agrees, Came, CameTooMuch, Finished, Unfinished};
 
@@ -60,7 +60,7 @@ fn finish<R: Read, A: Allocator>(
 
 /// A frame of what was kept.
 fn frame_of<A: Allocator + Copy>(alloc: A, kept: &Kept<A>) -> Result<Frame<A>, IntakeFault>
-    ensures ok { IfOk result (λ frame. IsFiled kept.now (filing_in frame)) }
+    ensures ok { IfOk result (λ frame. filing_in frame ≡ filing_kept kept.now) }
     ensures err { IfErr result (λ e. e ≡ IntakeFault.OutOfMemory) }
 {
     let Some(bytes) = kept.bytes() else {
@@ -73,8 +73,45 @@ fn frame_of<A: Allocator + Copy>(alloc: A, kept: &Kept<A>) -> Result<Frame<A>, I
     }
 }
 
+/// Cuts the next frame of the input off, and answers whether there was one: its bytes are in `kept` then. Bytes stay in
+/// `pieces` from one call to the next.
+pub fn cut_frame<R: Read, A: Allocator>(
+    reader: &mut Counted<R>,
+    pieces: &mut Pieces<A>,
+    kept: &mut Kept<A>,
+) -> Result<bool, IntakeFault>
+    requires { Agrees pieces.old (R.remaining reader.old.device) }
+    ensures cuts { IfOk result (λ found. Cuts found kept.new pieces.old pieces.new (R.remaining reader.old.device) (R.remaining reader.new.device)) }
+    ensures ended { IsTrue pieces.old.ended → IfOk result (λ found. found ≡ false) }
+    ensures still { IsTrue pieces.old.ended → (pieces.new ≡ pieces.old) × (reader.new ≡ reader.old) }
+    ensures agrees { OnOk result (Agrees pieces.new (R.remaining reader.new.device)) }
+    ensures nearer { IfOk result (λ found. IsTrue found → pieces.old.taken < pieces.new.taken) }
+    ensures within { IfOk result (λ found. IsTrue found → pieces.new.taken ≤ 4000000000) }
+
+    // What the bytes that came show, and when each fault comes.
+    ensures err { OnErr result (Came (R.remaining reader.old.device) (R.remaining reader.new.device)) }
+    ensures going { OnErr result (pieces.old.ended ≡ false) }
+    ensures read { IsErrOf result IntakeFault.Read → Starves pieces.old (R.remaining reader.old.device) (R.remaining reader.new.device) }
+    ensures much { IsErrOf result IntakeFault.TooMuch → CameTooMuch pieces.old (R.remaining reader.old.device) (R.remaining reader.new.device) }
+    ensures memory { result ≢ Err IntakeFault.OutOfMemory }
+    ensures calm { OnOk result (reader.new.failures ≡ reader.old.failures) }
+    ensures failed { IsErrOf result IntakeFault.Read → reader.new.failures ≡ min (reader.old.failures + 1) (2 ^ 64 - 1) }
+{
+    if pieces.has_ended() {
+        return Ok(false);
+    }
+    take_until(reader, pieces, Until::Text, kept)?;
+    let Some(first) = pieces.front() else {
+        return Ok(false);
+    };
+    kept.start(first);
+    pieces.skip(1);
+    finish(reader, pieces, first, kept)?;
+    Ok(true)
+}
+
 /// The next frame of the input. Bytes stay in `pieces` from one call to the next; `kept` is room for the bytes of a frame.
-pub fn next_frame<R: Read, A: Allocator + Copy>(
+fn next_frame<R: Read, A: Allocator + Copy>(
     alloc: A,
     reader: &mut Counted<R>,
     pieces: &mut Pieces<A>,
@@ -85,27 +122,16 @@ pub fn next_frame<R: Read, A: Allocator + Copy>(
     ensures ended { IsTrue pieces.old.ended → IfOk result (λ frame. IsNone frame) }
     ensures still { IsTrue pieces.old.ended → (pieces.new ≡ pieces.old) × (reader.new ≡ reader.old) }
     ensures agrees { OnOk result (Agrees pieces.new (R.remaining reader.new.device)) }
-    ensures nearer { IfOk result (λ frame. OnSome frame (pieces.old.taken < pieces.new.taken)) }
-    ensures within { IfOk result (λ frame. OnSome frame (pieces.new.taken ≤ 4000000000)) }
 
-    // What the bytes that came show, and when each fault comes.
-    ensures err { OnErr result (Came (R.remaining reader.old.device) (R.remaining reader.new.device)) }
+    // When each fault comes.
     ensures going { OnErr result (pieces.old.ended ≡ false) }
-    ensures read { IsErrOf result IntakeFault.Read → Starves pieces.old (R.remaining reader.old.device) (R.remaining reader.new.device) }
     ensures much { IsErrOf result IntakeFault.TooMuch → CameTooMuch pieces.old (R.remaining reader.old.device) (R.remaining reader.new.device) }
     ensures calm { OnOk result (reader.new.failures ≡ reader.old.failures) }
     ensures failed { IsErrOf result IntakeFault.Read → reader.new.failures ≡ min (reader.old.failures + 1) (2 ^ 64 - 1) }
 {
-    if pieces.has_ended() {
+    if !cut_frame(reader, pieces, kept)? {
         return Ok(None);
     }
-    take_until(reader, pieces, Until::Text, kept)?;
-    let Some(first) = pieces.front() else {
-        return Ok(None);
-    };
-    kept.start(first);
-    pieces.skip(1);
-    finish(reader, pieces, first, kept)?;
     Ok(Some(frame_of(alloc, kept)?))
 }
 

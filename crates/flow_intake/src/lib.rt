@@ -8,6 +8,6 @@ pub mod laws;
 mod pieces;
 
 pub use counted::{Counted, WriteFault, write_bytes};
-pub use intake::{Frame, Intake, IntakeFault, next_frame};
+pub use intake::{Frame, Intake, IntakeFault, cut_frame};
 pub use kept::Kept;
 pub use pieces::{MAX_INPUT, Pieces};

@@ -5,16 +5,14 @@ use Rattle.flow_intake.specs.Writes.{AppendsFront}
 use Rattle.flow_intake.proofs.Written.{AppendsFront-both, AppendsFront-more, on_err, OnErr-map}
 use Rattle.flow_core.proofs.answer.write_lines.Goals as goal
 
-pub returns-in_err-write_bytes-clause-err : goal.returns-in_err-write_bytes-clause-err
-returns-in_err-write_bytes-clause-err g c =
-    let is = c.as_slice.ensures.value ∙ c.line_of.ensures in
-    let front = subst (λ (bs : List ℕ). AppendsFront (g.W.Write.contents c.args.writer.now.device) (g.W.Write.contents c.write_bytes.new.writer.device) bs) is c.in_err-write_bytes.ensures.err in
-    on_err c.from_residual.result (AppendsFront-more (g.W.Write.contents c.args.writer.now.device) (g.W.Write.contents c.write_bytes.new.writer.device) (answer_line c.args.receipt.now) (flat_map notice_line c.args.notices.now) (answer_line c.args.receipt.now ++ flat_map notice_line c.args.notices.now) front refl)
+pub returns-in_err-write_line-clause-err : goal.returns-in_err-write_line-clause-err
+returns-in_err-write_line-clause-err g c =
+    let front = c.in_err-write_line.ensures.err in
+    on_err c.from_residual.result (AppendsFront-more (g.W.Write.contents c.args.writer.now.device) (g.W.Write.contents c.write_line.new.writer.device) (answer_line c.args.receipt.now) (flat_map notice_line c.args.notices.now) (answer_line c.args.receipt.now ++ flat_map notice_line c.args.notices.now) front refl)
 
 pub returns-clause-err : goal.returns-clause-err
 returns-clause-err g c =
-    let is = c.as_slice.ensures.value ∙ c.line_of.ensures in
     OnErr-map c.write_notices.result
-    (λ front. AppendsFront-both (g.W.Write.contents c.args.writer.now.device) (g.W.Write.contents c.write_bytes.new.writer.device) (g.W.Write.contents c.write_notices.new.writer.device) (answer_line c.args.receipt.now) (flat_map notice_line c.args.notices.now) (answer_line c.args.receipt.now ++ flat_map notice_line c.args.notices.now)
-    (rw is at c.in_ok-write_bytes.ensures.ok) front refl)
+    (λ front. AppendsFront-both (g.W.Write.contents c.args.writer.now.device) (g.W.Write.contents c.write_line.new.writer.device) (g.W.Write.contents c.write_notices.new.writer.device) (answer_line c.args.receipt.now) (flat_map notice_line c.args.notices.now) (answer_line c.args.receipt.now ++ flat_map notice_line c.args.notices.now)
+    c.in_ok-write_line.ensures.ok front refl)
     c.write_notices.ensures.err

@@ -1,12 +1,12 @@
 use Rattle.std.proofs.Common.{sym, ◌∙◌}
 use Rattle.std.proofs.lemmas.Result.{err_from_is_err_and}
-use Rattle.flow_intake.specs.NextFrame.{filing_in}
+use Rattle.flow_intake.specs.NextFrame.{filing_kept}
 use Rattle.flow_intake.proofs.Results.{on_err, err_again}
-use Rattle.flow_intake.proofs.NextFrames.{GaveNone-ended, GaveNone-blank, GaveFirst-finished, Starves-blank, Starves-unfinished, CameTooMuch-behind, Came-behind}
-use Rattle.flow_intake.proofs.intake.next_frame.Goals as goal
+use Rattle.flow_intake.proofs.NextFrames.{GaveNone-ended, GaveNone-blank, GaveFirst-finished, IsFiled-kept, Starves-blank, Starves-unfinished, CameTooMuch-behind, Came-behind}
+use Rattle.flow_intake.proofs.intake.cut_frame.Goals as goal
 
-pub returns-then-has_ended-clause-gives : goal.returns-then-has_ended-clause-gives
-returns-then-has_ended-clause-gives g c = GaveNone-ended c.args.pieces.now (g.R.Read.remaining c.args.reader.now.device) c.requires (sym c.has_ended.ensures ∙ c.if-has_ended.true)
+pub returns-then-has_ended-clause-cuts : goal.returns-then-has_ended-clause-cuts
+returns-then-has_ended-clause-cuts g c = GaveNone-ended c.args.pieces.now (g.R.Read.remaining c.args.reader.now.device) c.requires (sym c.has_ended.ensures ∙ c.if-has_ended.true)
 
 pub returns-in_err-take_until-clause-read : goal.returns-in_err-take_until-clause-read
 returns-in_err-take_until-clause-read g c =
@@ -14,8 +14,8 @@ returns-in_err-take_until-clause-read g c =
     rw (p.1, p.2) (λ e. let r = c.in_err-take_until.ensures.read (err_again e) in
     Starves-blank c.args.pieces.now c.take_until.new.pieces (g.R.Read.remaining c.args.reader.now.device) (g.R.Read.remaining c.take_until.new.reader.device) c.args.kept.now c.take_until.new.kept r.0 r.1)
 
-pub returns-in_default-clause-gives : goal.returns-in_default-clause-gives
-returns-in_default-clause-gives g c =
+pub returns-in_default-clause-cuts : goal.returns-in_default-clause-cuts
+returns-in_default-clause-cuts g c =
     GaveNone-blank c.args.pieces.now c.take_until.new.pieces (g.R.Read.remaining c.args.reader.now.device) (g.R.Read.remaining c.take_until.new.reader.device) c.args.kept.now c.take_until.new.kept
     c.in_ok-take_until.ensures.took c.in_ok-take_until.ensures.end (sym c.has_ended.ensures ∙ c.if-has_ended.false) (sym c.in_default.is ∙ c.front.ensures)
 
@@ -37,15 +37,8 @@ returns-in_err-finish-clause-much g c =
     rw (p.1, p.2) (λ e. CameTooMuch-behind c.args.pieces.now c.take_until.new.pieces c.skip.new.self (g.R.Read.remaining c.args.reader.now.device) (g.R.Read.remaining c.take_until.new.reader.device) c.args.kept.now c.take_until.new.kept c.in-Some.first
     c.in_ok-take_until.ensures.took c.in_ok-take_until.ensures.stop (sym c.in-Some.is ∙ c.front.ensures) c.skip.ensures.unread (g.R.Read.remaining c.finish.new.reader.device) c.skip.ensures.taken (c.in_err-finish.ensures.much (err_again e)))
 
-pub returns-in_err-frame_of-clause-err : goal.returns-in_err-frame_of-clause-err
-returns-in_err-frame_of-clause-err g c =
-    let f = c.in_ok-finish.ensures.took in
-    on_err c.from_residual-in_err-frame_of.result
-    (Came-behind c.args.pieces.now c.take_until.new.pieces (g.R.Read.remaining c.args.reader.now.device) (g.R.Read.remaining c.take_until.new.reader.device) (g.R.Read.remaining c.finish.new.reader.device)
-    c.args.kept.now c.take_until.new.kept c.in_ok-take_until.ensures.took (f.came, f.consumed))
-
-pub returns-clause-gives : goal.returns-clause-gives
-returns-clause-gives g c =
+pub returns-clause-cuts : goal.returns-clause-cuts
+returns-clause-cuts g c =
     GaveFirst-finished c.args.pieces.now c.take_until.new.pieces c.skip.new.self (g.R.Read.remaining c.args.reader.now.device) (g.R.Read.remaining c.take_until.new.reader.device) c.args.kept.now c.take_until.new.kept c.in-Some.first
     c.in_ok-take_until.ensures.took c.in_ok-take_until.ensures.stop (sym c.in-Some.is ∙ c.front.ensures) c.skip.ensures.unread
-    c.finish.new.pieces (g.R.Read.remaining c.finish.new.reader.device) c.start.new.self c.finish.new.kept (sym c.has_ended.ensures ∙ c.if-has_ended.false) c.skip.ensures.taken c.in_ok-finish.ensures.took c.start.ensures (filing_in c.in_ok-frame_of.field-0) c.in_ok-frame_of.ensures.ok
+    c.finish.new.pieces (g.R.Read.remaining c.finish.new.reader.device) c.start.new.self c.finish.new.kept (sym c.has_ended.ensures ∙ c.if-has_ended.false) c.skip.ensures.taken c.in_ok-finish.ensures.took c.start.ensures (filing_kept c.finish.new.kept) (IsFiled-kept c.finish.new.kept)
