@@ -1,5 +1,5 @@
 -- What the operations on vectors of 16 bytes hold at each lane.
-use Rattle.std.proofs.Common.{◌+◌, ◌≡◌, ◌↔◌, ℕ, ◌%◌, ◌^◌, ◌<◌, ◌≤◌, List, [], ◌∷◌, Bool, true, false, cond, not, leb, eqb, ◌&&◌, ◌||◌, length, get_or, map, replicate, refl, sym, ap, ◌∙◌, arith, w8, w64, bit_and, bit_or, ⊎_elim, inl, inr, shr-shr, ◌/◌}
+use Rattle.std.proofs.Common.{zero, suc, ◌+◌, ◌≡◌, ◌↔◌, ℕ, ◌%◌, ◌^◌, ◌<◌, ◌≤◌, List, [], ◌∷◌, Bool, true, false, cond, not, leb, eqb, ◌&&◌, ◌||◌, length, get_or, map, replicate, refl, sym, ap, ◌∙◌, arith, w8, w64, bit_and, bit_or, ⊎_elim, inl, inr, shr-shr, ◌/◌}
 use Rattle.std.specs.Int.{bit_at, trailing_ones}
 use Rattle.std.specs.Int.RustNames.{count_ones}
 use Rattle.std.specs.List.{count_by}
@@ -13,7 +13,7 @@ use Rattle.std.proofs.lemmas.Bool.{cases_lt, leb-true, leb-false}
 use Rattle.std.proofs.lemmas.List.{length-map, get_or_past}
 use Rattle.std.proofs.Math.ListN.{get_or-map}
 use Rattle.fpl_text.specs.Bytes.{is_blank, is_border, is_digit, is_letter, is_other_mark, is_plain}
-use Rattle.fpl_text.specs.Lanes.{HasLanes, HasFlags, flag}
+use Rattle.fpl_text.specs.Lanes.{HasLanes, HasFlags, flag, behind, is_kept}
 
 and_flags : (p q : Bool) → bit_and (flag p) (flag q) ≡ flag (p && q)
 and_flags true true = refl
@@ -161,47 +161,99 @@ front-mask v m long bits small =
       stops = λ p h l. unset_flag (p n) (λ high. let one = (bits n).1 (rw (h.each n l) high) in absurd (omega (arith, t.1, one)));
     }
 
--- the lowest bits of one mask, or of another before those of the first
-pub record IsFrontBefore (v w : List ℕ) (n : ℕ) : Type 0 where
-  pub bound : n ≤ 16
-  pub each : (p q : ℕ → Bool) → HasFlags v p → HasFlags w q → (k : ℕ) → k < n → p k || (q k && p (k + 1)) ≡ true
-
 bit_below : (v : List ℕ) (m k : ℕ) → length v ≡ 16 → ((k : ℕ) → (bit_at m k ≡ 1) ↔ (128 ≤ get_or v k 0)) → bit_at m k ≡ 1 → k < 16
 bit_below v m k long bits one =
     ⊎_elim (λ l. l) (λ h. let past : 128 ≤ 0 = rw (get_or_past v k 0 (omega arith)) at ((bits k).0 one) in absurd (omega arith)) (cases_lt k 16)
 
-is_one : (a b c : ℕ) → max a (min b c) ≡ 1 → a < 2 → b < 2 → c < 2 → (a ≡ 1) ⊎ ((b ≡ 1) × (c ≡ 1))
-is_one a b c h l m n = ⊎_elim (λ z. inr (omega (arith, z), omega (arith, z))) (λ o. inl (omega (arith, o))) (cases_lt a 1)
+is_one : (a b c d e : ℕ) → max (max a b) (min (min c d) e) ≡ 1 → a < 2 → b < 2 → c < 2 → d < 2 → e < 2
+    → (a ≡ 1) ⊎ ((b ≡ 1) ⊎ ((c ≡ 1) × ((d ≡ 1) × (e ≡ 1))))
+is_one a b c d e h l m n o p =
+    ⊎_elim
+    (λ z. ⊎_elim (λ y. inr (inr (omega arith, (omega arith, omega arith)))) (λ y. inr (inl (omega arith))) (cases_lt b 1))
+    (λ z. inl (omega arith))
+    (cases_lt a 1)
 
-or_before : (p q r : Bool) → (p ≡ true) ⊎ ((q ≡ true) × (r ≡ true)) → p || (q && r) ≡ true
-or_before p q r (inl h) = rw h refl
-or_before true q r (inr h) = refl
-or_before false q r (inr h) = rw (h.0, h.1) refl
+kept_or : (p q r s t : Bool) → (p ≡ true) ⊎ ((q ≡ true) ⊎ ((r ≡ true) × ((s ≡ true) × (t ≡ true)))) → p || (q || (r && (s && t))) ≡ true
+kept_or p q r s t (inl h) = rw h refl
+kept_or true q r s t (inr h) = refl
+kept_or false q r s t (inr (inl h)) = rw h refl
+kept_or false true r s t (inr (inr h)) = refl
+kept_or false false r s t (inr (inr h)) = rw (h.0, h.1.0, h.1.1) refl
 
-pub front-before : (v w : List ℕ) (m n : ℕ) → length v ≡ 16 → length w ≡ 16 → ((k : ℕ) → (bit_at m k ≡ 1) ↔ (128 ≤ get_or v k 0)) → m < 65536
-    → ((k : ℕ) → (bit_at n k ≡ 1) ↔ (128 ≤ get_or w k 0)) → n < 65536 → IsFrontBefore v w (trailing_ones w64 (bit_or m (bit_and n (m / 2 ^ 1))))
-front-before v w m n long wide bits small others few =
-    let low : bit_and n (m / 2 ^ 1) ≤ n = and_le_l n (m / 2 ^ 1) in
-    let t = bit_at-trailing_ones w64 (bit_or m (bit_and n (m / 2 ^ 1))) (omega (arith, or_add_and m (bit_and n (m / 2 ^ 1)), low)) in
-    let count = trailing_ones w64 (bit_or m (bit_and n (m / 2 ^ 1))) in
-    let parts : (k : ℕ) → k < count → (bit_at m k ≡ 1) ⊎ ((bit_at n k ≡ 1) × (bit_at m (1 + k) ≡ 1)) = (λ k l.
+-- the bits of a vector's lanes, each one place higher
+pub record IsBehind (before : Bool) (m b : ℕ) : Type 0 where
+  pub first : bit_at b 0 ≡ cond before 1 0
+  pub others : (k : ℕ) → bit_at b (k + 1) ≡ bit_at m k
+
+one_from : (p : Bool) → cond {A = ℕ} p 1 0 ≡ 1 → p ≡ true
+one_from true h = refl
+one_from false h = absurd (omega arith)
+
+behind-set : (v : List ℕ) (m b : ℕ) (first : Bool) (p : ℕ → Bool) → length v ≡ 16 → ((k : ℕ) → (bit_at m k ≡ 1) ↔ (128 ≤ get_or v k 0)) → IsBehind first m b
+    → HasFlags v p → (k : ℕ) → bit_at b k ≡ 1 → behind first p k ≡ true
+behind-set v m b first p long bits h flags zero one = one_from first (sym h.first ∙ one)
+behind-set v m b first p long bits h flags (suc k) one =
+    let step : suc k ≡ k + 1 = omega arith in
+    let below : bit_at m k ≡ 1 = sym (h.others k) ∙ (rw step at one) in
+    set_flag (p k) (rw (flags.each k (bit_below v m k long bits below)) at ((bits k).0 below))
+
+-- the lowest bits of the mask of what is kept
+pub record IsKeptFront (v w u : List ℕ) (border : Bool) (n : ℕ) : Type 0 where
+  pub bound : n ≤ 16
+  pub each : (p q r : ℕ → Bool) → HasFlags v p → HasFlags w q → HasFlags u r → (k : ℕ) → k < n → is_kept border p q r k ≡ true
+
+pub front-kept : (v w u : List ℕ) (m n o b : ℕ) (border : Bool) → length v ≡ 16 → length w ≡ 16 → length u ≡ 16
+    → IsMask v m → IsMask w n → IsMask u o → IsBehind (not border) m b
+    → IsKeptFront v w u border (trailing_ones w64 (bit_or (bit_or m n) (bit_and (bit_and o (m / 2 ^ 1)) b)))
+front-kept v w u m n o b border long wide large inm inn ino inb =
+    let low : bit_and (bit_and o (m / 2 ^ 1)) b ≤ bit_and o (m / 2 ^ 1) = and_le_l (bit_and o (m / 2 ^ 1)) b in
+    let lower : bit_and o (m / 2 ^ 1) ≤ o = and_le_l o (m / 2 ^ 1) in
+    let between = bit_and (bit_and o (m / 2 ^ 1)) b in
+    let small : bit_or (bit_or m n) between + 1 < 2 ^ 64 = omega (arith, or_add_and (bit_or m n) between, or_add_and m n, inm.small, inn.small, ino.small, low, lower) in
+    let t = bit_at-trailing_ones w64 (bit_or (bit_or m n) between) small in
+    let count = trailing_ones w64 (bit_or (bit_or m n) between) in
+    let parts : (k : ℕ) → k < count → (bit_at m k ≡ 1) ⊎ ((bit_at n k ≡ 1) ⊎ ((bit_at o k ≡ 1) × ((bit_at m (1 + k) ≡ 1) × (bit_at b k ≡ 1)))) = (λ k l.
     let shifted : bit_at (m / 2 ^ 1) k ≡ bit_at m (1 + k) = ap (λ x. x % 2) (shr-shr m 1 k) in
-    let whole : max (bit_at m k) (min (bit_at n k) (bit_at m (1 + k))) ≡ 1 =
-    rw (bit_at_or m (bit_and n (m / 2 ^ 1)) k, bit_at_and n (m / 2 ^ 1) k, shifted) at (t.2 k l) in
-    is_one _ _ _ whole (bit_at-lt m k) (bit_at-lt n k) (bit_at-lt m (1 + k))) in
-    let inside : (k : ℕ) → k < count → k < 16 = (λ k l. ⊎_elim (λ a. bit_below v m k long bits a) (λ b. bit_below w n k wide others b.0) (parts k l)) in
+    let whole : max (max (bit_at m k) (bit_at n k)) (min (min (bit_at o k) (bit_at m (1 + k))) (bit_at b k)) ≡ 1 =
+    rw (bit_at_or (bit_or m n) between k, bit_at_or m n k, bit_at_and (bit_and o (m / 2 ^ 1)) b k, bit_at_and o (m / 2 ^ 1) k, shifted) at (t.2 k l) in
+    is_one _ _ _ _ _ whole (bit_at-lt m k) (bit_at-lt n k) (bit_at-lt o k) (bit_at-lt m (1 + k)) (bit_at-lt b k)) in
+    let inside : (k : ℕ) → k < count → k < 16 = (λ k l. ⊎_elim (λ a. bit_below v m k long inm.bits a) (λ x. ⊎_elim (λ a. bit_below w n k wide inn.bits a) (λ a. bit_below u o k large ino.bits a.0) x) (parts k l)) in
     record {
       bound = ⊎_elim (λ h. absurd (let in_it = inside 16 h in omega arith)) (λ h. h) (cases_lt 16 count);
-      each = λ p q hp hq k l.
-          or_before (p k) (q k) (p (k + 1))
+      each = λ p q r hp hq hr k l.
+          kept_or (p k) (q k) (r k) (p (k + 1)) (behind (not border) p k)
           (⊎_elim
-          (λ a. inl (set_flag (p k) (rw (hp.each k (inside k l)) at ((bits k).0 a))))
-          (λ b.
+          (λ a. inl (set_flag (p k) (rw (hp.each k (inside k l)) at ((inm.bits k).0 a))))
+          (λ x. inr (⊎_elim
+          (λ a. inl (set_flag (q k) (rw (hq.each k (inside k l)) at ((inn.bits k).0 a))))
+          (λ a.
           let next : 1 + k ≡ k + 1 = omega arith in
-          let within = bit_below v m (1 + k) long bits b.1 in
-          inr (set_flag (q k) (rw (hq.each k (inside k l)) at ((others k).0 b.0)), set_flag (p (k + 1)) (rw (next, hp.each (k + 1) (omega arith)) at ((bits (1 + k)).0 b.1))))
+          let within = bit_below v m (1 + k) long inm.bits a.1.0 in
+          inr (
+            set_flag (r k) (rw (hr.each k (inside k l)) at ((ino.bits k).0 a.0)),
+            (
+              set_flag (p (k + 1)) (rw (next, hp.each (k + 1) (omega arith)) at ((inm.bits (1 + k)).0 a.1.0)),
+              behind-set v m b (not border) p long inm.bits inb hp k a.1.1,
+            ),
+          ))
+          x))
           (parts k l));
     }
+
+-- whether the lane before one is set
+pub behind-bit : (w : List ℕ) (n b : ℕ) (first : Bool) (q : ℕ → Bool) → length w ≡ 16 → IsMask w n → IsBehind first n b → HasFlags w q → (k : ℕ) → k ≤ 16 → eqb (bit_at b k) 1 ≡ behind first q k
+behind-bit w n b first q long inn inb flags zero few = rw inb.first (first_is first)
+  where
+    first_is : (p : Bool) → eqb (cond {A = ℕ} p 1 0) 1 ≡ p
+    first_is true = refl
+    first_is false = refl
+behind-bit w n b first q long inn inb flags (suc k) few =
+    let step : suc k ≡ k + 1 = omega arith in
+    rw (step, inb.others k) (flag_is (q k) (bit_at n k) (rw (flags.each k (omega arith)) at (inn.bits k)) (bit_at-lt n k))
+  where
+    flag_is : (p : Bool) (x : ℕ) → (x ≡ 1) ↔ (128 ≤ flag p) → x < 2 → eqb x 1 ≡ p
+    flag_is true x h l = let one : x ≡ 1 = h.1 (omega arith) in rw one refl
+    flag_is false x h l = ⊎_elim (λ z. let none : x ≡ 0 = omega arith in rw none refl) (λ o. let past = h.0 (omega arith) in absurd (omega arith)) (cases_lt x 1)
 
 -- how many lanes hold a byte
 pub lanes-count : (v : List ℕ) (byte : ℕ) → length v ≡ 16
@@ -237,10 +289,9 @@ pub letters_and_others : (x : ℕ) → (leb 65 x && leb x 90) || (is_digit x || 
 unfolding is_plain is_letter
 letters_and_others x = sym (or_assoc (leb 65 x && leb x 90) (is_digit x) (is_other_mark x))
 
-pub borders_are : (blank : Bool) (x : ℕ) → blank || eqb x 45 || eqb x 40 || eqb x 41 ≡ blank || is_border x
+pub borders_are : (x : ℕ) → eqb x 45 || eqb x 40 || eqb x 41 ≡ is_border x
 unfolding is_border
-borders_are true x = refl
-borders_are false x = refl
+borders_are x = refl
 
 pub blanks_are : (x : ℕ) → eqb x 32 || eqb x 13 || eqb x 10 ≡ is_blank x
 unfolding is_blank

@@ -1,7 +1,8 @@
 -- How far a pass over a text has squeezed it.
-use Rattle.std.specs.Prelude.{◌≡◌, ◌≤◌, ◌+◌, ℕ, Bool, true, false, not, ◌||◌, ◌&&◌, if◌then◌else◌, List, [], ◌∷◌, ◌++◌, length, take, drop, slice_index}
+use Rattle.std.specs.Prelude.{◌≡◌, ◌≤◌, ◌+◌, ℕ, Bool, true, false, not, ◌||◌, ◌&&◌, if◌then◌else◌, List, [], ◌∷◌, ◌++◌, length, take, drop, replicate, slice_index}
 use Rattle.std.specs.List.{position_from}
 use Rattle.fpl_text.specs.Bytes.{is_blank, is_border, is_plain, is_accepted}
+use Rattle.fpl_text.specs.Lanes.{behind, is_kept}
 use Rattle.fpl_text.specs.Squeezing.{squeezed, space_between, blanks}
 use Rattle.fpl_text.specs.declared.pass.Pass.{Pass}
 
@@ -18,24 +19,33 @@ is_bad b = not (is_accepted b)
 abbrev pub border_or_other : Bool → ℕ
 border_or_other border = if border then 45 else 32
 
--- A pass has passed the first bytes of a text, all accepted, and the bytes that it has kept are the first of `out`.
+-- 16 zeros
+abbrev pub gap : List ℕ
+gap = replicate 16 0
+
+-- the bytes of a text from `place` on stand in `bytes` from `at_place` on, with zeros behind them
+abbrev pub StandsAt : List ℕ → ℕ → List ℕ → ℕ → Type 0
+StandsAt text place bytes at_place = (k : ℕ) → slice_index bytes (at_place + k) ≡ slice_index text (place + k)
+
+-- A pass has passed the first bytes of a text, all accepted, and the bytes that it has kept are the first of `out`. The bytes
+-- that are left stand there behind these and a gap, and a gap behind them.
 pub record IsPass (text out : List ℕ) (pass : Pass) : Type 0 where
   pub whole : take pass.made out ++ appended pass.blank (border_or_other pass.border) (drop pass.place text) ≡ squeezed text
   pub accepted : position_from is_bad pass.place (drop pass.place text) ≡ position_from is_bad 0 text
   pub room : pass.made + blanks pass.blank ≤ pass.place
   pub within : pass.place ≤ length text
-  pub long : length out ≡ length text
+  pub long : length out ≡ length text + 32
+  pub left : StandsAt text pass.place out (pass.place + 16)
 
--- the last byte that was kept is no border, and no blank stands behind it
-pub record IsInside (pass : Pass) : Type 0 where
-  pub no_blank : pass.blank ≡ false
-  pub no_border : pass.border ≡ false
+-- a byte that is kept as it is, or a blank that is kept as a space, in a text from `place` on; `border` tells of the byte before
+unfoldable pub is_easy : List ℕ → ℕ → Bool → ℕ → Bool
+is_easy text place border k =
+    is_kept border
+    (λ j. is_plain (slice_index text (place + j))) (λ j. is_border (slice_index text (place + j))) (λ j. is_blank (slice_index text (place + j))) k
 
--- a plain byte, or a blank or a border before one: inside a text it is kept, as a space if it is a blank
-unfoldable pub is_easy : List ℕ → ℕ → Bool
-is_easy text place =
-    is_plain (slice_index text place)
-    || ((is_blank (slice_index text place) || is_border (slice_index text place)) && is_plain (slice_index text (place + 1)))
+-- whether the last of so many bytes from `place` on is a border
+abbrev pub border_behind : List ℕ → ℕ → Bool → ℕ → Bool
+border_behind text place border count = behind border (λ j. is_border (slice_index text (place + j))) count
 
 -- a blank is kept as a space
 abbrev pub as_space : ℕ → ℕ

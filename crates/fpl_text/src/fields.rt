@@ -32,7 +32,7 @@ pub enum Title {
 /// The fields of a message: a squeezed text in one pair of brackets, cut at its hyphens.
 #[derive(Drop)]
 pub struct Fields<A: Allocator + Copy = Global> {
-    text: Vec<u8, A>,
+    text: Squeezed<A>,
     borders: Borders,
     title: Title,
 }
@@ -40,9 +40,9 @@ pub struct Fields<A: Allocator + Copy = Global> {
 impl<A: Allocator + Copy> Model for Fields<A> {
     ghost Value = { List (List ℕ) };
 
-    ghost view = { λ f. fields_of f.text.items };
+    ghost view = { λ f. fields_of f.text };
 
-    ghost invariant = { λ f. IsMessage f.text.items f.borders.places.items f.borders.count f.title };
+    ghost invariant = { λ f. IsMessage f.text f.borders.places.items f.borders.count f.title };
 }
 
 /// What stands between the first byte and the last one, where they are an opening and a closing bracket.
@@ -165,7 +165,7 @@ impl<A: Allocator + Copy> Fields<A> {
         requires { i < length self.now }
         ensures { slice_get self.now i ≡ Some result.now }
     {
-        self.borders.part(inside(&self.text), i)
+        self.borders.part(inside(self.text.as_bytes()), i)
     }
 
     /// The words of the field at that place.
@@ -184,10 +184,9 @@ impl<A: Allocator + Copy> Squeezed<A> {
     pub fn into_fields(self) -> Result<Fields<A>, TextFault>
         ensures { result ≡ fields_or_fault self }
     {
-        let text = self.into_bytes();
-        let (borders, title) = title_and_borders(&text)?;
+        let (borders, title) = title_and_borders(self.as_bytes())?;
         Ok(Fields {
-            text,
+            text: self,
             borders,
             title,
         })

@@ -3,7 +3,7 @@
 ghost use Rattle.std.specs.Prelude.{◌≡◌, ◌≤◌, ◌<◌, ◌+◌, ◌↔◌, ◌==◌, ◌&&◌, ◌||◌, if◌then◌else◌, nat_le, not, ℕ, Bool, true, false, length, slice_index, take, drop, count_by};
 ghost use Rattle.std.specs.Int.{bit_at};
 ghost use Rattle.fpl_text.specs.Bytes.{is_blank, is_border, is_letter, is_digit, is_letter_or_digit, is_other_mark, is_plain};
-ghost use Rattle.fpl_text.specs.Lanes.{HasLanes, HasFlags};
+ghost use Rattle.fpl_text.specs.Lanes.{HasLanes, HasFlags, behind, is_kept};
 
 use std::simd::prelude::*;
 
@@ -95,13 +95,12 @@ pub(crate) fn blank_lanes(v: u8x16) -> u8x16
     or_equal_to(or_equal_to(equal_to(v, b' '), v, b'\r'), v, b'\n')
 }
 
-/// Which lanes hold a blank, as `blanks` tells, or a border.
+/// Which lanes hold a border.
 #[inline(always)]
-pub(crate) fn or_border_lanes(blanks: u8x16, v: u8x16) -> u8x16
-    requires { HasFlags blanks (λ k. is_blank (slice_index v k)) }
-    ensures { HasFlags result (λ k. is_blank (slice_index v k) || is_border (slice_index v k)) }
+pub(crate) fn border_lanes(v: u8x16) -> u8x16
+    ensures { HasFlags result (λ k. is_border (slice_index v k)) }
 {
-    or_equal_to(or_equal_to(or_equal_to(blanks, v, b'-'), v, b'('), v, b')')
+    or_equal_to(or_equal_to(equal_to(v, b'-'), v, b'('), v, b')')
 }
 
 /// Which lanes hold a digit or a mark that is no border. Full stop, stroke, digits and colon are one range.
@@ -159,14 +158,38 @@ pub(crate) fn set_lanes(flags: u8x16) -> usize
     top_bits(flags).trailing_ones() as usize
 }
 
-/// How many of the first lanes are set, or are among `others` with the lane behind them set.
+/// How many of the first lanes are kept by a pass, of which `plain` are plain bytes, behind a border or not; and whether the
+/// last of them is a border, or the byte before them all where none is kept.
 #[inline(always)]
-pub(crate) fn set_or_before(flags: u8x16, others: u8x16) -> usize
-    ensures bound { result ≤ 16 }
-    ensures each { (p q : ℕ → Bool) → HasFlags flags p → HasFlags others q → (k : ℕ) → k < result → p k || (q k && p (k + 1)) ≡ true }
+pub(crate) fn kept_front(plain: u8x16, borders: u8x16, blanks: u8x16, border: bool) -> (usize, bool)
+    ensures bound { result.0 ≤ 16 }
+    ensures each { (p q r : ℕ → Bool) → HasFlags plain p → HasFlags borders q → HasFlags blanks r → (k : ℕ) → k < result.0 → is_kept border p q r k ≡ true }
+    ensures last { (q : ℕ → Bool) → HasFlags borders q → result.1 ≡ behind border q result.0 }
 {
-    let set = top_bits(flags);
-    (set | (top_bits(others) & (set >> 1))).trailing_ones() as usize
+    let plain = top_bits(plain);
+    let borders = top_bits(borders);
+    let between = top_bits(blanks) & (plain >> 1) & bits_behind(!border, plain);
+    let count = (plain | borders | between).trailing_ones() as usize;
+    (count, bit_is_set(bits_behind(border, borders), count))
+}
+
+/// The bits of 16 lanes, each one place higher, with another one below them.
+#[inline(always)]
+fn bits_behind(first: bool, bits: u64) -> u64
+    requires { bits < 65536 }
+    ensures first { bit_at result 0 ≡ (if first then 1 else 0) }
+    ensures others { (k : ℕ) → bit_at result (k + 1) ≡ bit_at bits k }
+{
+    2 * bits + u64::from(first)
+}
+
+/// Whether a bit is set.
+#[inline(always)]
+fn bit_is_set(bits: u64, place: usize) -> bool
+    requires { place < 64 }
+    ensures { result ≡ (bit_at bits place == 1) }
+{
+    (bits >> place) & 1 == 1
 }
 
 /// How many lanes hold this byte.

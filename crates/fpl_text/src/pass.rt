@@ -1,13 +1,13 @@
 //! One pass over a text squeezes it.
 
-ghost use Rattle.std.specs.Prelude.{◌≡◌, ◌<◌, ◌≤◌, ◌+◌, ◌&&◌, ◌++◌, ◌∷◌, [], if◌then◌else◌, not, ℕ, true, length, take, slice_index, IfOk, IfErr, MatchOption, Ok, Err};
+ghost use Rattle.std.specs.Prelude.{◌≡◌, ◌<◌, ◌≤◌, ◌+◌, ◌&&◌, ◌++◌, ◌∷◌, [], if◌then◌else◌, not, ℕ, List, true, false, length, take, slice_index, IfOk, IfErr, MatchOption, Ok, Err};
 ghost use Rattle.fpl_text.specs.Squeezing.{squeezed_or_fault, blanks};
 ghost use Rattle.fpl_text.specs.Lanes.{HasLanes};
-ghost use Rattle.fpl_text.specs.Passes.{IsPass, IsInside, is_easy, as_space};
+ghost use Rattle.fpl_text.specs.Passes.{IsPass, StandsAt, gap, is_easy, border_behind, as_space};
 ghost use Rattle.fpl_text.specs.declared.fault.TextFault.TheVariants.{Empty, BadByte};
 
 use crate::byte::{is_blank, is_border, is_plain};
-use crate::lanes::{blank_lanes, load, or_border_lanes, plain_lanes, set_or_before, spaces_or};
+use crate::lanes::{blank_lanes, border_lanes, kept_front, load, plain_lanes, spaces_or};
 use std::simd::prelude::*;
 
 /// How far a text is squeezed.
@@ -29,6 +29,7 @@ fn put_byte(out: &mut [u8], made: usize, space: bool, byte: u8) -> usize
     requires { made + blanks space < length out.old }
     ensures kept { take result out.new ≡ take made out.old ++ ((if space then 32 ∷ [] else []) ++ byte ∷ []) }
     ensures made { result ≡ made + blanks space + 1 }
+    ensures rest { (k : ℕ) → result ≤ k → slice_index out.new k ≡ slice_index out.old k }
 {
     let mut at = made;
     if space {
@@ -86,12 +87,11 @@ fn pass_byte(text: &[u8], out: &mut [u8], pass: Pass) -> Option<Pass>
     })
 }
 
-/// Passes bytes one by one, up to a plain one with 16 more behind it, or to the end. The error is the place of one that is not
-/// accepted.
+/// Passes bytes one by one, up to one that is no blank, or to the end. The error is the place of one that is not accepted.
 fn pass_bytes(text: &[u8], out: &mut [u8], from: Pass) -> Result<Pass, usize>
     requires { IsPass text.now out.old from }
     ensures pass { IfOk result (λ to. IsPass text.now out.new to) }
-    ensures inside { IfOk result (λ to. to.place < length text.now → IsInside to) }
+    ensures inside { IfOk result (λ to. to.place < length text.now → to.blank ≡ false) }
     ensures further { IfOk result (λ to. from.place ≤ to.place) }
     ensures nearer { IfOk result (λ to. from.place < length text.now → from.place < to.place) }
     ensures bad { IfErr result (λ place. squeezed_or_fault text.now ≡ Err (BadByte place)) }
@@ -102,60 +102,78 @@ fn pass_bytes(text: &[u8], out: &mut [u8], from: Pass) -> Result<Pass, usize>
             return Err(pass.place);
         };
         pass = next;
-        if !pass.blank && !pass.border && text.len() - pass.place >= 16 {
+        if !pass.blank {
             return Ok(pass);
         }
     }
     Ok(pass)
 }
 
-/// The 16 bytes from a place on, each blank as a space, and how many of the first of them are easy. A blank or a border in the
-/// last of them is left to the next 16.
+/// What a look at 16 bytes tells.
+#[derive(Clone, Copy)]
+struct Front {
+    /// The bytes, each blank as a space.
+    lanes: u8x16,
+    /// How many of the first of them are easy.
+    count: usize,
+    /// Whether the last of those is a border.
+    border: bool,
+}
+
+/// Looks at the 16 bytes from a place on, behind a border or not. A blank in the last of them is left to the next 16.
 #[inline(always)]
-fn easy_front(text: &[u8], at: usize) -> (u8x16, usize)
-    requires { at + 16 ≤ length text.now }
-    ensures bound { result.1 ≤ 16 }
-    ensures easy { (k : ℕ) → k < result.1 → is_easy text.now (at + k) ≡ true }
-    ensures lanes { HasLanes result.0 (λ k. as_space (slice_index text.now (at + k))) }
+fn easy_front(bytes: &[u8], at: usize, border: bool) -> Front
+    requires { at + 16 ≤ length bytes.now }
+    ensures bound { result.count ≤ 16 }
+    ensures easy { (text : List ℕ) (place : ℕ) → StandsAt text place bytes.now at → (k : ℕ) → k < result.count → is_easy text place border k ≡ true }
+    ensures border { (text : List ℕ) (place : ℕ) → StandsAt text place bytes.now at → result.border ≡ border_behind text place border result.count }
+    ensures lanes { HasLanes result.lanes (λ k. as_space (slice_index bytes.now (at + k))) }
 {
-    let here = load(text, at);
+    let here = load(bytes, at);
     let blanks = blank_lanes(here);
-    let count = set_or_before(plain_lanes(here), or_border_lanes(blanks, here));
-    (spaces_or(blanks, here), count)
+    let (count, border) = kept_front(plain_lanes(here), border_lanes(here), blanks, border);
+    Front {
+        lanes: spaces_or(blanks, here),
+        count,
+        border,
+    }
 }
 
 /// Passes easy bytes, 16 at a time. What is written behind those that are easy is written over later.
 fn pass_easy(text: &[u8], out: &mut [u8], from: Pass) -> Pass
     requires pass { IsPass text.now out.old from }
-    requires inside { IsInside from }
+    requires inside { from.place < length text.now → from.blank ≡ false }
     ensures pass { IsPass text.now out.new result }
     ensures further { from.place ≤ result.place }
 {
     let mut pass = from;
-    'easy: while text.len() - pass.place >= 16 {
-        let (lanes, count) = easy_front(text, pass.place);
-        lanes.copy_to_slice(&mut out[pass.made..]);
+    'easy: while pass.place < text.len() {
+        let front = easy_front(out, pass.place + 16, pass.border);
+        front.lanes.copy_to_slice(&mut out[pass.made..]);
+        pass.border = front.border;
         // Where all are easy the processor need not wait for the count before it goes on.
-        if count == 16 {
+        if front.count == 16 {
             pass.place += 16;
             pass.made += 16;
             continue;
         }
-        pass.place += count;
-        pass.made += count;
-        if count < 15 {
+        pass.place += front.count;
+        pass.made += front.count;
+        if front.count < 15 {
             return pass;
         }
     }
     pass
 }
 
-/// Squeezes a text into the front of `out`, which is as long. Gives how many bytes it has then, or the place of the first byte
-/// that is not accepted.
+/// Squeezes a text, which stands in `out` between two gaps, into the front of `out`. Gives how many bytes it has then, or the
+/// place of the first byte that is not accepted.
 pub(crate) fn squeeze(text: &[u8], out: &mut [u8]) -> Result<usize, usize>
-    requires { length out.old ≡ length text.now }
+    requires { out.old ≡ gap ++ (text.now ++ gap) }
     ensures empty { IfOk result (λ made. made ≡ 0 → squeezed_or_fault text.now ≡ Err Empty) }
     ensures some { IfOk result (λ made. 0 < made → squeezed_or_fault text.now ≡ Ok (take made out.new)) }
+    ensures bound { IfOk result (λ made. made ≤ length text.now) }
+    ensures long { length out.new ≡ length text.now + 32 }
     ensures bad { IfErr result (λ place. squeezed_or_fault text.now ≡ Err (BadByte place)) }
 {
     let mut pass = Pass {
@@ -165,10 +183,10 @@ pub(crate) fn squeeze(text: &[u8], out: &mut [u8]) -> Result<usize, usize>
         border: true,
     };
     'passes: loop {
-        pass = pass_bytes(text, out, pass)?;
+        pass = pass_easy(text, out, pass);
         if pass.place >= text.len() {
             return Ok(pass.made);
         }
-        pass = pass_easy(text, out, pass);
+        pass = pass_bytes(text, out, pass)?;
     }
 }

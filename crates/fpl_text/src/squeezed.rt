@@ -1,23 +1,42 @@
 //! Texts with their blanks squeezed.
 
-ghost use Rattle.std.specs.Prelude.{◌≡◌, List, ℕ};
+ghost use Rattle.std.specs.Prelude.{◌≡◌, ◌≤◌, ◌+◌, ◌++◌, List, ℕ, length, take, IfOk};
+ghost use Rattle.fpl_text.specs.Passes.{gap};
 ghost use Rattle.fpl_text.specs.Squeezing.{squeezed_or_fault, Gives};
 
 use crate::fault::TextFault;
 use crate::pass::squeeze;
-use std::alloc::{Allocator, Global};
+use std::alloc::{AllocError, Allocator, Global};
 use std::marker::Model;
 
 /// A text whose runs of blanks are one space each, with none at the ends or beside a hyphen or a bracket.
 #[derive(Drop)]
 pub struct Squeezed<A: Allocator + Copy = Global> {
+    /// The text, with 16 more bytes behind it at least, so that each of its bytes can be looked at with 15 others.
     bytes: Vec<u8, A>,
+    /// How many bytes the text has.
+    len: usize,
 }
 
 impl<A: Allocator + Copy> Model for Squeezed<A> {
+    ghost use Rattle.std.specs.Prelude.{◌≤◌, ◌+◌, List, ℕ, take, length};
+
     ghost Value = { List ℕ };
 
-    ghost view = { λ s. s.bytes.items };
+    ghost view = { λ s. take s.len s.bytes.items };
+
+    ghost invariant = { λ s. s.len + 16 ≤ length s.bytes.items };
+}
+
+/// A text between two gaps of 16 zeros.
+fn between_gaps<A: Allocator + Copy>(alloc: A, text: &[u8]) -> Result<Vec<u8, A>, AllocError>
+    ensures { IfOk result (λ v. v.items ≡ gap ++ (text.now ++ gap)) }
+{
+    let mut bytes = Vec::with_capacity(alloc, text.len() + 32)?;
+    bytes.extend_from_slice(&[0; 16])?;
+    bytes.extend_from_slice(text)?;
+    bytes.extend_from_slice(&[0; 16])?;
+    Ok(bytes)
 }
 
 impl<A: Allocator + Copy> Squeezed<A> {
@@ -27,18 +46,17 @@ impl<A: Allocator + Copy> Squeezed<A> {
         ensures { Gives result (squeezed_or_fault text.now) }
     {
         // A squeezed text is no longer than the text, so it is written over a copy: this is the one growth.
-        let Ok(mut bytes) = Vec::from_slice(alloc, text) else {
+        let Ok(mut bytes) = between_gaps(alloc, text) else {
             return Err(TextFault::OutOfMemory);
         };
-        let made = match squeeze(text, bytes.as_mut_slice()) {
-            Ok(made) => made,
+        let len = match squeeze(text, bytes.as_mut_slice()) {
+            Ok(len) => len,
             Err(place) => return Err(TextFault::BadByte(place)),
         };
-        if made == 0 {
+        if len == 0 {
             return Err(TextFault::Empty);
         }
-        bytes.truncate(made);
-        Ok(Squeezed { bytes })
+        Ok(Squeezed { bytes, len })
     }
 }
 
@@ -47,12 +65,6 @@ impl<A: Allocator + Copy> Squeezed<A> {
     pub fn as_bytes(&self) -> &[u8]
         ensures { result.now ≡ self.now }
     {
-        self.bytes.as_slice()
-    }
-
-    pub(crate) fn into_bytes(self) -> Vec<u8, A>
-        ensures { result.items ≡ self }
-    {
-        self.bytes
+        &self.bytes[..self.len]
     }
 }

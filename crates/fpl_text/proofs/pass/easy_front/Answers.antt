@@ -1,13 +1,22 @@
-use Rattle.std.proofs.Common.{ap, arith}
-use Rattle.fpl_text.specs.Passes.{as_space}
-use Rattle.fpl_text.proofs.SqueezingLemmas.{easy-from}
+use Rattle.std.proofs.Common.{ap, sym, ◌∙◌}
+use Rattle.fpl_text.specs.Bytes.{is_plain, is_border, is_blank}
+use Rattle.fpl_text.specs.Lanes.{flag}
+use Rattle.fpl_text.specs.Passes.{is_easy, as_space}
 use Rattle.fpl_text.proofs.LaneLemmas.{lanes-same}
 use Rattle.fpl_text.proofs.pass.easy_front.Goals as goal
 
 pub returns-clause-easy : goal.returns-clause-easy
-returns-clause-easy c k l =
-    easy-from c.args.text.now c.load-here.result c.args.at k c.load-here.ensures.lanes (omega (arith, c.set_or_before-count.ensures.bound))
-    (c.set_or_before-count.ensures.each _ _ c.plain_lanes.ensures c.or_border_lanes.ensures k l)
+unfolding is_easy
+returns-clause-easy c text place stands =
+    c.kept_front-count.ensures.each _ _ _
+    (lanes-same _ _ _ (λ k l. ap (λ b. flag (is_plain b)) (c.load-here.ensures.lanes.each k l ∙ stands k)) c.plain_lanes.ensures)
+    (lanes-same _ _ _ (λ k l. ap (λ b. flag (is_border b)) (c.load-here.ensures.lanes.each k l ∙ stands k)) c.border_lanes.ensures)
+    (lanes-same _ _ _ (λ k l. ap (λ b. flag (is_blank b)) (c.load-here.ensures.lanes.each k l ∙ stands k)) c.blank_lanes-blanks.ensures)
+
+pub returns-clause-border : goal.returns-clause-border
+returns-clause-border c text place stands =
+    c.kept_front-count.ensures.last _
+    (lanes-same _ _ _ (λ k l. ap (λ b. flag (is_border b)) (c.load-here.ensures.lanes.each k l ∙ stands k)) c.border_lanes.ensures)
 
 pub returns-clause-lanes : goal.returns-clause-lanes
 returns-clause-lanes c =

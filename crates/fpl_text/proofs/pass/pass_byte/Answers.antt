@@ -5,7 +5,7 @@ use Rattle.fpl_text.proofs.pass.pass_byte.Goals as goal
 pub returns-then-is_plain : goal.returns-then-is_plain
 returns-then-is_plain c = (
   pass-plain c.args.text.now c.args.out.now c.put_byte-made.new.out c.args.pass c.put_byte-made.result c.takes_space.result c.requires.pass c.requires.more
-      (sym c.is_plain.ensures ∙ c.if-is_plain.true) c.takes_space.ensures c.put_byte-made.ensures.kept c.put_byte-made.ensures.made c.put_byte-made.auto.out,
+      (sym c.is_plain.ensures ∙ c.if-is_plain.true) c.takes_space.ensures c.put_byte-made.ensures.kept c.put_byte-made.ensures.made c.put_byte-made.auto.out c.put_byte-made.ensures.rest,
   refl,
 )
 
@@ -21,6 +21,6 @@ returns-then-not-is_border c =
 pub returns : goal.returns
 returns c = (
   pass-border c.args.text.now c.args.out.now c.put_byte-made-2.new.out c.args.pass c.put_byte-made-2.result c.requires.pass c.requires.more
-      (sym c.is_border.ensures ∙ c.if-not-is_border.false) c.put_byte-made-2.ensures.kept (omega (arith, c.put_byte-made-2.ensures.made)) c.put_byte-made-2.auto.out,
+      (sym c.is_border.ensures ∙ c.if-not-is_border.false) c.put_byte-made-2.ensures.kept (omega (arith, c.put_byte-made-2.ensures.made)) c.put_byte-made-2.auto.out c.put_byte-made-2.ensures.rest,
   refl,
 )

@@ -1,20 +1,16 @@
-use Rattle.std.proofs.Common.{length, arith, ⊎_elim}
-use Rattle.std.proofs.lemmas.Bool.{cases_lt}
+use Rattle.std.proofs.Common.{arith, sym, refl, subst, true, false}
+use Rattle.fpl_text.specs.Passes.{IsPass}
 use Rattle.fpl_text.proofs.SqueezingLemmas.{pass-start, pass-empty, pass-ok}
 use Rattle.fpl_text.proofs.pass.squeeze.Goals as goal
 
 pub passes-init : goal.passes-init
-passes-init c = pass-start c.args.text.now c.args.out.now c.requires
+passes-init c = record {
+  pass = subst (λ out. IsPass c.args.text.now out (record { place = 0; made = 0; blank = false; border = true })) (sym c.requires) (pass-start c.args.text.now);
+  inside = λ l. refl;
+}
 
 pub returns-then-pass-text-clause-empty : goal.returns-then-pass-text-clause-empty
-returns-then-pass-text-clause-empty c none = pass-empty c.args.text.now c.pass_bytes.new.out c.in_ok-pass.pass c.if-pass-text.true c.in_ok-pass.ensures.pass none
+returns-then-pass-text-clause-empty c none = pass-empty c.args.text.now c.pass_easy-pass.new.out c.pass_easy-pass.result c.if-pass-text.true c.pass_easy-pass.ensures.pass none
 
 pub returns-then-pass-text-clause-some : goal.returns-then-pass-text-clause-some
-returns-then-pass-text-clause-some c some = pass-ok c.args.text.now c.pass_bytes.new.out c.in_ok-pass.pass c.if-pass-text.true c.in_ok-pass.ensures.pass some
-
-pub passes-smaller : goal.passes-smaller
-passes-smaller c =
-    ⊎_elim
-    (λ l. let nearer = c.in_ok-pass.ensures.nearer l in omega (arith, nearer, c.pass_easy-pass.ensures.further))
-    (λ past. omega (arith, past, c.in_ok-pass.ensures.further))
-    (cases_lt c.passes.pass.place (length c.args.text.now))
+returns-then-pass-text-clause-some c some = pass-ok c.args.text.now c.pass_easy-pass.new.out c.pass_easy-pass.result c.if-pass-text.true c.pass_easy-pass.ensures.pass some
