@@ -29,6 +29,7 @@ pub(crate) enum Until {
 }
 
 /// Where the first byte stands that is no blank. Blanks before a frame are few, so a search by vectors would gain nothing.
+#[inline(always)]
 fn text_in(bytes: &[u8]) -> Option<usize>
     ensures { result ≡ position is_text bytes.now }
 {
@@ -36,6 +37,7 @@ fn text_in(bytes: &[u8]) -> Option<usize>
 }
 
 /// Where the first byte stands that stops the run.
+#[inline(always)]
 fn stop_in(bytes: &[u8], until: Until) -> Option<usize>
     ensures { result ≡ position (stops_at until) bytes.now }
 {
@@ -174,6 +176,7 @@ fn make_ready<R: Read, A: Allocator>(
 }
 
 /// Takes the unread bytes up to where they stop, and keeps them.
+#[inline(always)]
 fn take_run<A: Allocator>(pieces: &mut Pieces<A>, until: Until, kept: &mut Kept<A>)
     ensures took { TookRun (stops_at until) pieces.old pieces.new kept.old kept.new }
     ensures stop { BeginsWithStop (stops_at until) pieces.new.unread }
@@ -187,6 +190,7 @@ fn take_run<A: Allocator>(pieces: &mut Pieces<A>, until: Until, kept: &mut Kept<
 }
 
 /// Takes the bytes up to where they stop, and keeps them.
+#[inline(always)]
 pub(crate) fn take_until<R: Read, A: Allocator>(
     reader: &mut Counted<R>,
     pieces: &mut Pieces<A>,

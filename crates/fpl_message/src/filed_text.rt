@@ -27,13 +27,30 @@ impl<A: Allocator + Copy> Model for FiledText<A> {
 }
 
 impl<A: Allocator + Copy> FiledText<A> {
-    /// A copy of the bytes, in memory of just their length.
-    pub(crate) fn new(alloc: A, edition: Edition, bytes: &[u8]) -> Result<Self, AllocError>
+    /// A copy of the bytes, in this room. It grows to just their length where it is too small.
+    pub(crate) fn new_in(
+        room: Vec<u8, A>,
+        edition: Edition,
+        bytes: &[u8],
+    ) -> Result<Self, AllocError>
         requires { length bytes.now ≤ 2000 }
         ensures { IfOk result (λ text. text ≡ record { edition = edition; bytes = bytes.now }) }
     {
-        let bytes = Vec::from_slice(alloc, bytes)?;
-        Ok(FiledText { bytes, edition })
+        let mut kept = room;
+        kept.clear();
+        kept.reserve_exact(bytes.len())?;
+        kept.extend_from_slice(bytes)?;
+        Ok(FiledText {
+            bytes: kept,
+            edition,
+        })
+    }
+
+    /// The room of the bytes, for others.
+    pub(crate) fn into_room(self) -> Vec<u8, A>
+        ensures { result.items ≡ self.bytes }
+    {
+        self.bytes
     }
 
     /// The bytes as they were filed, at most 2,000.

@@ -33,6 +33,8 @@ pub enum FilingFault {
 #[derive(Drop)]
 pub struct Filing<A: Allocator + Copy = Global> {
     text: FiledText<A>,
+    /// Where the text was squeezed, for the next one.
+    room: Vec<u8, A>,
     reading: Reading<A>,
 }
 
@@ -64,14 +66,42 @@ impl<A: Allocator + Copy> Filing<A> {
         ensures value { IfOk result (λ filing. filing ≡ record { edition = edition; bytes = bytes.now }) }
         ensures long { IsErrOf result FilingFault.TooLong ↔ (2000 < length bytes.now) }
     {
+        Filing::read_in(alloc, Vec::new(alloc), Vec::new(alloc), edition, bytes)
+    }
+
+    /// A filing of other bytes, read by the rules of today, in the memory of this one. After an `Err` there is none.
+    pub fn renewed(self, alloc: A, bytes: &[u8]) -> Result<Self, FilingFault>
+        ensures value { IfOk result (λ filing. filing ≡ record { edition = Edition.Second; bytes = bytes.now }) }
+        ensures long { IsErrOf result FilingFault.TooLong ↔ (2000 < length bytes.now) }
+    {
+        let Filing { text, room, .. } = self;
+        Filing::read_in(alloc, text.into_room(), room, Edition::Second, bytes)
+    }
+
+    /// A filing of these bytes, which are kept in the first room and squeezed in the second.
+    fn read_in(
+        alloc: A,
+        kept: Vec<u8, A>,
+        room: Vec<u8, A>,
+        edition: Edition,
+        bytes: &[u8],
+    ) -> Result<Self, FilingFault>
+        ensures value { IfOk result (λ filing. filing ≡ record { edition = edition; bytes = bytes.now }) }
+        ensures long { IsErrOf result FilingFault.TooLong ↔ (2000 < length bytes.now) }
+    {
         if bytes.len() > MAX_BYTES {
             return Err(FilingFault::TooLong);
         }
-        let Ok(text) = FiledText::new(alloc, edition, bytes) else {
+        let Ok(text) = FiledText::new_in(kept, edition, bytes) else {
             return Err(FilingFault::OutOfMemory);
         };
-        match read(alloc, edition, bytes) {
-            Some(reading) => Ok(Filing { text, reading }),
+        let mut room = room;
+        match read(alloc, &mut room, edition, bytes) {
+            Some(reading) => Ok(Filing {
+                text,
+                room,
+                reading,
+            }),
             None => Err(FilingFault::OutOfMemory),
         }
     }
@@ -96,21 +126,5 @@ impl<A: Allocator + Copy> Filing<A> {
         ensures { said result.now ≡ reading_of self.now }
     {
         &self.reading
-    }
-
-    /// The text, and the reading of it. It takes no memory.
-    pub fn into_parts(self) -> (FiledText<A>, Reading<A>)
-        ensures text { result.0 ≡ self }
-        ensures reading { said result.1 ≡ reading_of self }
-    {
-        (self.text, self.reading)
-    }
-
-    /// The filing of a text, with the reading of it. It takes no memory.
-    pub fn from_parts(text: FiledText<A>, reading: Reading<A>) -> Self
-        requires { said reading ≡ reading_of text }
-        ensures { result ≡ text }
-    {
-        Filing { text, reading }
     }
 }

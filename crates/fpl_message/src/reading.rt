@@ -15,18 +15,21 @@ use crate::order::read_order;
 use crate::short_message::{Cnl, Dep, Dla};
 use fpl_text::{Fields, Squeezed, Title};
 use std::alloc::Allocator;
+use std::mem::replace;
 
-/// What at most 2,000 bytes say by the rules of an edition. None where memory ran out.
+/// What at most 2,000 bytes say by the rules of an edition. They are squeezed in this room, which is there for the next text
+/// then, unless the message or a fault keeps it. None where memory ran out.
 #[tactic(auto, unfolding(crate::specs::Reads::reading_of))]
 pub(crate) fn read<A: Allocator + Copy>(
     alloc: A,
+    room: &mut Vec<u8, A>,
     edition: Edition,
     bytes: &[u8],
 ) -> Option<Reading<A>>
     requires { length bytes.now ≤ 2000 }
     ensures { IfSome result (λ r. said r ≡ reading_of (record { edition = edition; bytes = bytes.now })) }
 {
-    match read_filed(alloc, edition, bytes) {
+    match read_filed(alloc, room, edition, bytes) {
         Ok(reading) => Some(reading),
         Err(Fault::Refused(refusal)) => Some(Reading::Bad(refusal)),
         Err(Fault::OutOfMemory) => None,
@@ -36,26 +39,28 @@ pub(crate) fn read<A: Allocator + Copy>(
 /// What bytes say, or why not.
 fn read_filed<A: Allocator + Copy>(
     alloc: A,
+    room: &mut Vec<u8, A>,
     edition: Edition,
     bytes: &[u8],
 ) -> Result<Reading<A>, Fault>
     requires { length bytes.now ≤ 2000 }
     ensures { Gives said result (reading_or_refusal (record { edition = edition; bytes = bytes.now })) }
 {
-    let squeezed = squeezed(alloc, bytes)?;
+    let squeezed = squeezed(replace(room, Vec::new(alloc)), bytes)?;
     if !begins_message(squeezed.as_bytes()) {
-        let order = read_order(alloc, edition, squeezed.as_bytes())?;
-        return Ok(Reading::Ord(order));
+        let order = read_order(alloc, edition, squeezed.as_bytes());
+        *room = squeezed.into_room();
+        return Ok(Reading::Ord(order?));
     }
-    read_message(alloc, fields_of(squeezed)?)
+    read_message(alloc, room, fields_of(squeezed)?)
 }
 
-/// The squeezed text of bytes, or why there is none.
-fn squeezed<A: Allocator + Copy>(alloc: A, bytes: &[u8]) -> Result<Squeezed<A>, Fault>
+/// The squeezed text of bytes in this room, or why there is none.
+fn squeezed<A: Allocator + Copy>(room: Vec<u8, A>, bytes: &[u8]) -> Result<Squeezed<A>, Fault>
     requires { length bytes.now ≤ 2000 }
     ensures { Gives (λ text. text) result (by_text (squeezed_or_fault bytes.now)) }
 {
-    match Squeezed::read(alloc, bytes) {
+    match Squeezed::read_in(room, bytes) {
         Ok(squeezed) => Ok(squeezed),
         Err(fault) => Err(text_fault(fault)),
     }
@@ -82,16 +87,33 @@ fn begins_message(text: &[u8]) -> bool
     }
 }
 
-/// Reads the fields of a message.
-fn read_message<A: Allocator + Copy>(alloc: A, fields: Fields<A>) -> Result<Reading<A>, Fault>
+/// Reads the fields of a message. Those of a FPL and of a CHG stay in the message; the room of the others is left for the next
+/// text.
+fn read_message<A: Allocator + Copy>(
+    alloc: A,
+    room: &mut Vec<u8, A>,
+    fields: Fields<A>,
+) -> Result<Reading<A>, Fault>
     ensures { Gives said result (message_of fields) }
 {
     let message = match fields.title() {
         Title::Fpl => Message::Fpl(boxed(alloc, Fpl::read(alloc, fields)?)?),
-        Title::Dla => Message::Dla(boxed(alloc, Dla::read(alloc, &fields)?)?),
         Title::Chg => Message::Chg(boxed(alloc, Chg::read(alloc, fields)?)?),
-        Title::Cnl => Message::Cnl(boxed(alloc, Cnl::read(alloc, &fields)?)?),
-        Title::Dep => Message::Dep(boxed(alloc, Dep::read(alloc, &fields)?)?),
+        Title::Dla => {
+            let delay = Dla::read(alloc, &fields);
+            *room = fields.into_room();
+            Message::Dla(boxed(alloc, delay?)?)
+        }
+        Title::Cnl => {
+            let cancellation = Cnl::read(alloc, &fields);
+            *room = fields.into_room();
+            Message::Cnl(boxed(alloc, cancellation?)?)
+        }
+        Title::Dep => {
+            let departure = Dep::read(alloc, &fields);
+            *room = fields.into_room();
+            Message::Dep(boxed(alloc, departure?)?)
+        }
     };
     Ok(Reading::Msg(message))
 }

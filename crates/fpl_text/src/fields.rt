@@ -168,6 +168,13 @@ impl<A: Allocator + Copy> Fields<A> {
         self.borders.part(inside(self.text.as_bytes()), i)
     }
 
+    /// The room of the text, for another one.
+    pub fn into_room(self) -> Vec<u8, A>
+        ensures { result.items ≡ [] }
+    {
+        self.text.into_room()
+    }
+
     /// The words of the field at that place.
     pub fn words(&self, i: usize) -> Words<'_>
         requires { i < length self.now }

@@ -1,6 +1,6 @@
 //! Texts with their blanks squeezed.
 
-ghost use Rattle.std.specs.Prelude.{◌≡◌, ◌≤◌, ◌+◌, ◌++◌, List, ℕ, length, take, IfOk};
+ghost use Rattle.std.specs.Prelude.{◌≡◌, ◌≤◌, ◌+◌, ◌++◌, [], List, ℕ, length, take, IfOk};
 ghost use Rattle.fpl_text.specs.Passes.{gap};
 ghost use Rattle.fpl_text.specs.Squeezing.{squeezed_or_fault, Gives};
 
@@ -28,11 +28,16 @@ impl<A: Allocator + Copy> Model for Squeezed<A> {
     ghost invariant = { λ s. s.len + 16 ≤ length s.bytes.items };
 }
 
-/// A text between two gaps of 16 zeros.
-fn between_gaps<A: Allocator + Copy>(alloc: A, text: &[u8]) -> Result<Vec<u8, A>, AllocError>
+/// A text between two gaps of 16 zeros, in this room. It grows where it is too small.
+fn between_gaps<A: Allocator + Copy>(
+    room: Vec<u8, A>,
+    text: &[u8],
+) -> Result<Vec<u8, A>, AllocError>
     ensures { IfOk result (λ v. v.items ≡ gap ++ (text.now ++ gap)) }
 {
-    let mut bytes = Vec::with_capacity(alloc, text.len() + 32)?;
+    let mut bytes = room;
+    bytes.clear();
+    bytes.reserve_exact(text.len() + 32)?;
     bytes.extend_from_slice(&[0; 16])?;
     bytes.extend_from_slice(text)?;
     bytes.extend_from_slice(&[0; 16])?;
@@ -45,8 +50,15 @@ impl<A: Allocator + Copy> Squeezed<A> {
     pub fn read(alloc: A, text: &[u8]) -> Result<Self, TextFault>
         ensures { Gives result (squeezed_or_fault text.now) }
     {
+        Squeezed::read_in(Vec::new(alloc), text)
+    }
+
+    /// Squeezes a text as `read` does, in room that another text had. Where the text is refused, the room is given up.
+    pub fn read_in(room: Vec<u8, A>, text: &[u8]) -> Result<Self, TextFault>
+        ensures { Gives result (squeezed_or_fault text.now) }
+    {
         // A squeezed text is no longer than the text, so it is written over a copy: this is the one growth.
-        let Ok(mut bytes) = between_gaps(alloc, text) else {
+        let Ok(mut bytes) = between_gaps(room, text) else {
             return Err(TextFault::OutOfMemory);
         };
         let len = match squeeze(text, bytes.as_mut_slice()) {
@@ -66,5 +78,14 @@ impl<A: Allocator + Copy> Squeezed<A> {
         ensures { result.now ≡ self.now }
     {
         &self.bytes[..self.len]
+    }
+
+    /// The room of the text, for another one.
+    pub fn into_room(self) -> Vec<u8, A>
+        ensures { result.items ≡ [] }
+    {
+        let mut room = self.bytes;
+        room.clear();
+        room
     }
 }
