@@ -32,7 +32,7 @@ pub use ident::Ident;
 pub use minute::{Minute, read_moment};
 pub use part::Part;
 pub use place::{Alternates, Departure, Destination};
-pub use squeezed::Squeezed;
+pub use squeezed::{Squeezed, squeeze_short};
 pub use text::Text;
 pub use time::{TimeOfDay, read_elapsed};
 pub use words::{Measured, Words};

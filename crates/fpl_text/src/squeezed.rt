@@ -1,6 +1,6 @@
 //! Texts with their blanks squeezed.
 
-ghost use Rattle.std.specs.Prelude.{◌≡◌, ◌≤◌, ◌+◌, ◌++◌, List, ℕ, length, take, IfOk};
+ghost use Rattle.std.specs.Prelude.{◌≡◌, ◌≤◌, ◌+◌, ◌++◌, List, ℕ, length, take, replicate, IfOk, IfErr, Ok, Err};
 ghost use Rattle.fpl_text.specs.Passes.{gap};
 ghost use Rattle.fpl_text.specs.Squeezing.{squeezed_or_fault, Gives};
 
@@ -75,4 +75,22 @@ impl<A: Allocator + Copy> Squeezed<A> {
     {
         self.bytes.as_slice()
     }
+}
+
+/// Squeezes a text of at most 64 bytes as `Squeezed::read` does, in room of 96 zeros. It takes no memory.
+pub fn squeeze_short<'a>(text: &[u8], room: &'a mut [u8; 96]) -> Result<&'a [u8], TextFault>
+    requires short { length text.now ≤ 64 }
+    requires zeros { room.old ≡ replicate 96 0 }
+    ensures text { IfOk result (λ short. squeezed_or_fault text.now ≡ Ok short.now) }
+    ensures fault { IfErr result (λ fault. squeezed_or_fault text.now ≡ Err fault) }
+{
+    room[16..text.len() + 16].copy_from_slice(text);
+    let len = match squeeze(text, &mut room[..text.len() + 32]) {
+        Ok(len) => len,
+        Err(place) => return Err(TextFault::BadByte(place)),
+    };
+    if len == 0 {
+        return Err(TextFault::Empty);
+    }
+    Ok(&room[..len])
 }

@@ -1,4 +1,4 @@
-use Rattle.std.proofs.Common.{◌≡◌, ◌+◌, ◌-◌, ◌<◌, ◌≤◌, arith, length, get_or}
+use Rattle.std.proofs.Common.{◌≡◌, ◌+◌, ◌-◌, ◌≤◌, arith, length, get_or}
 use Rattle.std.specs.Prelude.{slice_range}
 use Rattle.fpl_text.proofs.BordersLemmas.{border-in_rest, length-inside, inside-at, cuts-hyphen, cuts-end, cuts-bad, cuts-all}
 use Rattle.fpl_text.proofs.borders.borders_of.Goals as goal

@@ -1,4 +1,4 @@
-use Rattle.std.proofs.Common.{◌≡◌, ◌≤◌, ◌-◌, arith, ap, length}
+use Rattle.std.proofs.Common.{◌≤◌, ◌-◌, arith, ap, length}
 use Rattle.std.proofs.lemmas.Bool.{and_parts, leb-true}
 use Rattle.fpl_text.proofs.BordersLemmas.{length-inside}
 use Rattle.fpl_text.specs.Fields.{stands_in_brackets}
