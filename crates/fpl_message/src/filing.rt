@@ -97,20 +97,4 @@ impl<A: Allocator + Copy> Filing<A> {
     {
         &self.reading
     }
-
-    /// The text, and the reading of it. It takes no memory.
-    pub fn into_parts(self) -> (FiledText<A>, Reading<A>)
-        ensures text { result.0 ≡ self }
-        ensures reading { said result.1 ≡ reading_of self }
-    {
-        (self.text, self.reading)
-    }
-
-    /// The filing of a text, with the reading of it. It takes no memory.
-    pub fn from_parts(text: FiledText<A>, reading: Reading<A>) -> Self
-        requires { said reading ≡ reading_of text }
-        ensures { result ≡ text }
-    {
-        Filing { text, reading }
-    }
 }

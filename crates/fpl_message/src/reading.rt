@@ -1,5 +1,5 @@
 //! The reading of bytes.
-ghost use Rattle.std.specs.Prelude.{◌≡◌, ◌≤◌, length, IfSome};
+ghost use Rattle.std.specs.Prelude.{◌≡◌, ◌≤◌, length, replicate, IfSome, IsTrue};
 ghost use Rattle.fpl_text.specs.Squeezing.{squeezed_or_fault};
 ghost use Rattle.fpl_text.specs.Fields.{fields_or_fault};
 ghost use Rattle.fpl_message.specs.Refusals.{Gives, by_text};
@@ -13,7 +13,8 @@ use crate::message::{Message, Reading};
 use crate::modification::Chg;
 use crate::order::read_order;
 use crate::short_message::{Cnl, Dep, Dla};
-use fpl_text::{Fields, Squeezed, Title};
+use fpl_text::byte::is_letter;
+use fpl_text::{Fields, Squeezed, Title, squeeze_short};
 use std::alloc::Allocator;
 
 /// What at most 2,000 bytes say by the rules of an edition. None where memory ran out.
@@ -42,12 +43,44 @@ fn read_filed<A: Allocator + Copy>(
     requires { length bytes.now ≤ 2000 }
     ensures { Gives said result (reading_or_refusal (record { edition = edition; bytes = bytes.now })) }
 {
+    if is_short_order(bytes) {
+        let mut room = [0; 96];
+        let text = squeezed_short(bytes, &mut room)?;
+        if !begins_message(text) {
+            let order = read_order(alloc, edition, text)?;
+            return Ok(Reading::Ord(order));
+        }
+    }
     let squeezed = squeezed(alloc, bytes)?;
     if !begins_message(squeezed.as_bytes()) {
         let order = read_order(alloc, edition, squeezed.as_bytes())?;
         return Ok(Reading::Ord(order));
     }
     read_message(alloc, fields_of(squeezed)?)
+}
+
+/// Whether bytes are few, and begin as most orders do: their text is squeezed with no memory.
+#[inline(always)]
+fn is_short_order(bytes: &[u8]) -> bool
+    ensures { IsTrue result → length bytes.now ≤ 64 }
+{
+    match bytes.first() {
+        Some(byte) => is_letter(*byte) && bytes.len() <= 64,
+        None => false,
+    }
+}
+
+/// The squeezed text of a few bytes, in room of zeros, or why there is none.
+#[inline(always)]
+fn squeezed_short<'a>(bytes: &[u8], room: &'a mut [u8; 96]) -> Result<&'a [u8], Fault>
+    requires short { length bytes.now ≤ 64 }
+    requires zeros { room.old ≡ replicate 96 0 }
+    ensures { Gives (λ text. text.now) result (by_text (squeezed_or_fault bytes.now)) }
+{
+    match squeeze_short(bytes, room) {
+        Ok(text) => Ok(text),
+        Err(fault) => Err(text_fault(fault)),
+    }
 }
 
 /// The squeezed text of bytes, or why there is none.
