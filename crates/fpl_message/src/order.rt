@@ -1,5 +1,6 @@
 //! Orders: to open and to close a regulation, and to set the desk's time.
-ghost use Rattle.std.specs.Prelude.{◌≡◌, length};
+ghost use Rattle.std.specs.Prelude.{◌≡◌, length, codes};
+ghost use Rattle.fpl_items.specs.Kinds.{is_text};
 ghost use Rattle.fpl_message.specs.Refusals.{Gives};
 ghost use Rattle.fpl_message.specs.Orders.{is_regulation, is_way_point, regulation_of, way_point_of, aerodrome_of, spot_of, open_of, shut_of, time_of, order_or_refusal};
 ghost use Rattle.fpl_message.specs.SaidOrders.{said_order};
@@ -115,14 +116,11 @@ fn way_point_of(word: &[u8]) -> Option<Text<11>>
 fn spot_of(kind: &[u8], place: &[u8]) -> Option<Spot>
     ensures { result ≡ spot_of kind.now place.now }
 {
-    if kind == b"DEP".as_slice() {
-        Some(Spot::Dep(aerodrome_of(place)?))
-    } else if kind == b"ARR".as_slice() {
-        Some(Spot::Arr(aerodrome_of(place)?))
-    } else if kind == b"VIA".as_slice() {
-        Some(Spot::Via(way_point_of(place)?))
-    } else {
-        None
+    match kind {
+        b"DEP" => Some(Spot::Dep(aerodrome_of(place)?)),
+        b"ARR" => Some(Spot::Arr(aerodrome_of(place)?)),
+        b"VIA" => Some(Spot::Via(way_point_of(place)?)),
+        _ => None,
     }
 }
 
@@ -169,6 +167,24 @@ fn time_of(mut words: Words<'_>) -> Option<Minute>
     }
 }
 
+fn says_open(word: &[u8]) -> bool
+    ensures { result ≡ is_text (codes "OPEN") word.now }
+{
+    matches!(word, b"OPEN")
+}
+
+fn says_shut(word: &[u8]) -> bool
+    ensures { result ≡ is_text (codes "SHUT") word.now }
+{
+    matches!(word, b"SHUT")
+}
+
+fn says_time(word: &[u8]) -> bool
+    ensures { result ≡ is_text (codes "TIME") word.now }
+{
+    matches!(word, b"TIME")
+}
+
 const BAD_ORDER: Fault = Fault::Refused(Refusal::BadOrder);
 
 /// Reads an order by the rules of an edition.
@@ -183,17 +199,17 @@ pub(crate) fn read_order<A: Allocator + Copy>(
     let Some(verb) = words.next() else {
         return Err(BAD_ORDER);
     };
-    if verb == b"OPEN".as_slice() {
+    if says_open(verb) {
         let Some(open) = open_of(edition, words) else {
             return Err(BAD_ORDER);
         };
         Ok(Order::OpenReg(boxed(alloc, open)?))
-    } else if verb == b"SHUT".as_slice() {
+    } else if says_shut(verb) {
         let Some(id) = shut_of(words) else {
             return Err(BAD_ORDER);
         };
         Ok(Order::ShutReg { id })
-    } else if verb == b"TIME".as_slice() {
+    } else if says_time(verb) {
         let Some(at) = time_of(words) else {
             return Err(BAD_ORDER);
         };

@@ -5,7 +5,8 @@ use Rattle.std.specs.List.{list_all, onto_first, position_or_len}
 use Rattle.std.proofs.lemmas.Bool.{cases_Bool, and_parts, eqb-true, le-leb, lt-leb, cond-true, cond-false, cases_lt, eq-eqb, ne_eqb}
 use Rattle.std.proofs.Math.Seq.{get_or-append_seam}
 use Rattle.std.proofs.lemmas.Option.{slice_get-get_or}
-use Rattle.std.proofs.lemmas.List.{at_drop_all, drop_more, drop-drop, take_all, get_or-drop, get_or_append_left}
+use Rattle.std.proofs.lemmas.List.{at_drop_all, drop_more, drop-drop, drop-take, take_all, get_or-drop, get_or-take, length-take, get_or_append_left}
+use Rattle.std.proofs.lemmas.List.Sums.{position_or_len_is}
 use Rattle.std.proofs.lemmas.List.Splits.{slice_split-cons_yes, slice_split-cons_no, length-slice_split}
 use Rattle.fpl_text.specs.Bytes.{is_border}
 use Rattle.fpl_text.specs.Fields.{is_bracket}
@@ -164,10 +165,39 @@ cuts-part inside from count end borders cuts h low left clean =
 found : (inside : List ℕ) (from len : ℕ) → position_or_len is_border (drop from inside) ≡ len → FirstBorder (drop from inside) len
 found inside from len first = rw first at (first_border (drop from inside))
 
--- the rest of a text, as a slice has it
-pub border-in_rest : (inside : List ℕ) (from len : ℕ) → len ≡ position_or_len is_border (take (length inside - from) (drop from inside)) → position_or_len is_border (drop from inside) ≡ len
-border-in_rest inside from len h =
-    sym (h ∙ ap (position_or_len is_border) (take_all (length inside - from) (drop from inside) (omega (arith, length-drop from inside))))
+get_or-range : (bytes : List ℕ) (from end k : ℕ) → from + k < end → get_or (slice_range bytes from end) k 0 ≡ get_or bytes (from + k) 0
+get_or-range bytes from end k l = get_or-take (end - from) (drop from bytes) k 0 (omega arith) ∙ get_or-drop from bytes k 0
+
+length-range : (bytes : List ℕ) (from end : ℕ) → end ≤ length bytes → length (slice_range bytes from end) ≡ end - from
+length-range bytes from end l = omega (arith, length-take (end - from) (drop from bytes), length-drop from bytes)
+
+-- the place of the first border, or the end
+pub border-at : (bytes : List ℕ) (from end border : ℕ) → from ≤ border → border ≤ end → end ≤ length bytes → ((k : ℕ) → from ≤ k → k < border → is_border (get_or bytes k 0) ≡ false)
+    → (border < end → is_border (get_or bytes border 0) ≡ true) → border ≡ from + position_or_len is_border (slice_range bytes from end)
+border-at bytes from end border low high inside none some =
+    let long = length-range bytes from end inside in
+    let place : from + (border - from) ≡ border = omega arith in
+    let first = position_or_len_is is_border (slice_range bytes from end) (border - from) 0 (omega (arith, long))
+    (λ k l. ap is_border (get_or-range bytes from end k (omega arith)) ∙ none (from + k) (omega arith) (omega arith))
+    (λ l. ap is_border (get_or-range bytes from end (border - from) (omega (arith, l, long))) ∙ rw place (some (omega (arith, l, long)))) in
+    omega (arith, first)
+
+-- what stands between the brackets, and the parts that are left of it
+pub length-inside : (bytes : List ℕ) (end : ℕ) → end ≤ length bytes → length (slice_range bytes 1 end) ≡ end - 1
+length-inside bytes end l = length-range bytes 1 end l
+
+pub inside-at : (bytes : List ℕ) (end border : ℕ) → 1 ≤ border → border < end → get_or (slice_range bytes 1 end) (border - 1) 0 ≡ get_or bytes border 0
+inside-at bytes end border some l = let place : 1 + (border - 1) ≡ border = omega arith in get_or-range bytes 1 end (border - 1) (omega arith) ∙ ap (λ k. get_or bytes k 0) place
+
+pub border-in_rest : (bytes : List ℕ) (from end border : ℕ) → 1 ≤ from → from ≤ end → border ≡ from + position_or_len is_border (slice_range bytes from end)
+    → position_or_len is_border (drop (from - 1) (slice_range bytes 1 end)) ≡ border - from
+border-in_rest bytes from end border some l h =
+    let len : end - 1 ≡ (from - 1) + (end - from) = omega arith in
+    let back : 1 + (from - 1) ≡ from = omega arith in
+    let rest : drop (from - 1) (slice_range bytes 1 end) ≡ slice_range bytes from end =
+    ap (λ n. drop (from - 1) (take n (drop 1 bytes))) len ∙ drop-take (from - 1) (end - from) (drop 1 bytes)
+    ∙ ap (take (end - from)) (drop-drop (from - 1) 1 bytes ∙ ap (λ n. drop n bytes) back) in
+    ap (position_or_len is_border) rest ∙ omega (arith, h)
 
 -- at a hyphen the next part ends
 pub cuts-hyphen : (inside : List ℕ) (from count len : ℕ) (borders : List ℕ) → Cuts inside from count borders → from + len < length inside → position_or_len is_border (drop from inside) ≡ len → get_or inside (from + len) 0 ≡ 45 → Cuts inside (from + len + 1) (count + 1) (with_border borders (count + 1) (from + len + 1))

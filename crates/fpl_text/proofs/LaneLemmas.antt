@@ -1,11 +1,11 @@
 -- What the operations on vectors of 16 bytes hold at each lane.
 use Rattle.std.proofs.Common.{zero, suc, ◌+◌, ◌≡◌, ◌↔◌, ℕ, ◌%◌, ◌^◌, ◌<◌, ◌≤◌, List, [], ◌∷◌, Bool, true, false, cond, not, leb, eqb, ◌&&◌, ◌||◌, length, get_or, map, replicate, refl, sym, ap, ◌∙◌, arith, w8, w64, bit_and, bit_or, ⊎_elim, inl, inr, shr-shr, ◌/◌}
-use Rattle.std.specs.Int.{bit_at, trailing_ones}
+use Rattle.std.specs.Int.{bit_at, trailing_ones, trailing_zeros}
 use Rattle.std.specs.Int.RustNames.{count_ones}
 use Rattle.std.specs.List.{count_by}
 use Rattle.std.specs.Simd.Lanes.{zip2, sel_l, mask_l, top}
 use Rattle.std.proofs.lemmas.Simd.{bitmask_splat, ones-mask_l, length-zip2, get_or-zip2, get_or-replicate, length-sel_l, get_or-sel_l, bit_mask_l, tops_compared, mask_l-mod, mask_l-lt}
-use Rattle.std.proofs.lemmas.Nat.Bits.{bit_at-trailing_ones, bit_at_or, bit_at_and, bit_at-lt}
+use Rattle.std.proofs.lemmas.Nat.Bits.{bit_at-trailing_ones, bit_at-trailing_zeros, bit_at-pow_same, bit_at-pow_other, bit_at_or, bit_at_and, bit_at-lt}
 use Rattle.std.proofs.lemmas.Nat.{and_le_l}
 use lib.Bits.{or_add_and}
 use Rattle.std.specs.Prelude.{◌⊎◌, max, min}
@@ -161,6 +161,35 @@ front-mask v m long bits small =
       stops = λ p h l. unset_flag (p n) (λ high. let one = (bits n).1 (rw (h.each n l) high) in absurd (omega (arith, t.1, one)));
     }
 
+-- how many of the lowest bits of a mask are not set
+pub record IsUnsetFront (v : List ℕ) (n : ℕ) : Type 0 where
+  pub bound : n ≤ 16
+  pub unset : (p : ℕ → Bool) → HasFlags v p → (k : ℕ) → k < n → p k ≡ false
+  pub stops : (p : ℕ → Bool) → HasFlags v p → n < 16 → p n ≡ true
+
+pub front-unset : (v : List ℕ) (m : ℕ) → IsMask v m → IsUnsetFront v (trailing_zeros w64 (bit_or m 65536))
+front-unset v m inm =
+    let end = bit_at-pow_same 16 in
+    let sum = or_add_and m 65536 in
+    let low = and_le_l m 65536 in
+    let some : 0 < bit_or m 65536 = omega (arith, sum, low, inm.small) in
+    let small : bit_or m 65536 < 2 ^ 64 = omega (arith, sum, low, inm.small) in
+    let t = bit_at-trailing_zeros w64 (bit_or m 65536) some small in
+    let n = trailing_zeros w64 (bit_or m 65536) in
+    let bit : (k : ℕ) → bit_at (bit_or m 65536) k ≡ max (bit_at m k) (bit_at 65536 k) = (λ k. bit_at_or m 65536 k) in
+    let bound : n ≤ 16 = ⊎_elim (λ h. let none = t.2 16 h in absurd (omega (arith, none, bit 16, end))) (λ h. h) (cases_lt 16 n) in
+    record {
+      bound = bound;
+      unset = λ p h k l. unset_flag (p k) (λ high.
+          let one = (inm.bits k).1 (rw (h.each k (omega arith)) high) in
+          let none = t.2 k l in
+          absurd (omega (arith, one, none, bit k)));
+      stops = λ p h l.
+          let other : bit_at 65536 n ≡ 0 = bit_at-pow_other 16 n (λ same. omega (arith, same)) in
+          let one : bit_at m n ≡ 1 = omega (arith, t.1, bit n, other) in
+          set_flag (p n) (rw (h.each n l) at ((inm.bits n).0 one));
+    }
+
 bit_below : (v : List ℕ) (m k : ℕ) → length v ≡ 16 → ((k : ℕ) → (bit_at m k ≡ 1) ↔ (128 ≤ get_or v k 0)) → bit_at m k ≡ 1 → k < 16
 bit_below v m k long bits one =
     ⊎_elim (λ l. l) (λ h. let past : 128 ≤ 0 = rw (get_or_past v k 0 (omega arith)) at ((bits k).0 one) in absurd (omega arith)) (cases_lt k 16)
@@ -296,3 +325,7 @@ borders_are x = refl
 pub blanks_are : (x : ℕ) → eqb x 32 || eqb x 13 || eqb x 10 ≡ is_blank x
 unfolding is_blank
 blanks_are x = refl
+
+-- flags of 16 bytes of a text, by their places there
+pub flags-at : (test : ℕ → Bool) (text v flags : List ℕ) (at_place : ℕ) → HasLanes v (λ k. get_or text (at_place + k) 0) → HasFlags flags (λ k. test (get_or v k 0)) → HasFlags flags (λ k. test (get_or text (at_place + k) 0))
+flags-at test text v flags at_place held told = lanes-same _ _ _ (λ k l. ap (λ b. flag (test b)) (held.each k l)) told

@@ -8,5 +8,4 @@ pub mod MomentsLemmas
 pub mod ReadBackLemmas
 pub mod MomentYears
 pub mod LaneLemmas
-pub mod FirstBytes
 pub mod MomentFronts

@@ -1,5 +1,5 @@
 -- How far a pass over a text has squeezed it.
-use Rattle.std.specs.Prelude.{◌≡◌, ◌≤◌, ◌+◌, ℕ, Bool, true, false, not, ◌||◌, ◌&&◌, if◌then◌else◌, List, [], ◌∷◌, ◌++◌, length, take, drop, replicate, slice_index}
+use Rattle.std.specs.Prelude.{◌≡◌, ◌≤◌, ◌+◌, ℕ, Bool, true, false, not, if◌then◌else◌, List, [], ◌∷◌, ◌++◌, length, take, drop, replicate, slice_index}
 use Rattle.std.specs.List.{position_from}
 use Rattle.fpl_text.specs.Bytes.{is_blank, is_border, is_plain, is_accepted}
 use Rattle.fpl_text.specs.Lanes.{behind, is_kept}

@@ -1,13 +1,13 @@
 //! Where the fields of a message stand.
 
-ghost use Rattle.std.specs.Prelude.{◌≡◌, ◌<◌, ◌≤◌, ◌+◌, length, false, not, slice_get, Some, MatchOption, option_copied, ◌==◌};
+ghost use Rattle.std.specs.Prelude.{◌≡◌, ◌<◌, ◌≤◌, ◌+◌, length, false, not, slice_get, slice_range, Some, MatchOption, option_copied, ◌==◌};
 ghost use Rattle.std.specs.List.{list_all, position_or_len};
 ghost use Rattle.fpl_text.specs.Bytes.{is_border};
 ghost use Rattle.fpl_text.specs.Fields.{is_bracket};
 ghost use Rattle.fpl_text.specs.Borders.{parts, IsCut, with_border};
 
+use crate::lanes::{border_lanes, load, unset_lanes};
 use arrayvec::ArrayVec;
-use memchr::memchr3;
 
 /// The places of the first borders of a message's fields, counted from the opening bracket, which is the first of them;
 /// behind it come the hyphens and the closing bracket. No message that is accepted has more than 12 fields.
@@ -18,12 +18,23 @@ pub(crate) struct Borders {
     pub(crate) count: usize,
 }
 
-/// How many bytes stand before the first border.
-fn part_len(text: &[u8]) -> usize
-    ensures value { result ≡ position_or_len is_border text.now }
-    ensures bound { result ≤ length text.now }
+/// Where the first border from a place on stands, before `end`. 16 more bytes stand behind that.
+#[inline(always)]
+fn next_border(bytes: &[u8], from: usize, end: usize) -> usize
+    requires room { end + 16 ≤ length bytes.now }
+    requires order { from ≤ end }
+    ensures value { result ≡ from + position_or_len is_border (slice_range bytes.now from end) }
+    ensures bound { result ≤ end }
 {
-    memchr3(b'-', b'(', b')', text).unwrap_or(text.len())
+    let mut at = from;
+    'lanes: while at < end {
+        let count = unset_lanes(border_lanes(load(bytes, at)));
+        if count < 16 {
+            return (at + count).min(end);
+        }
+        at += 16;
+    }
+    end
 }
 
 /// Notes a border behind which there are so many, where all those are noted and there is room for its place.
@@ -35,23 +46,27 @@ fn note(places: &mut ArrayVec<u16, 13>, count: usize, place: usize)
     }
 }
 
-/// Cuts what stands between two brackets at its hyphens, where it has no further bracket.
-pub(crate) fn borders_of(inside: &[u8]) -> Option<Borders>
-    ensures { MatchOption result (list_all (λ b. not (is_bracket b)) inside.now ≡ false)
-        (λ borders. IsCut inside.now borders.places.items borders.count) }
+/// Cuts what stands between two brackets at its hyphens, where it has no further bracket: the bytes from 1 to `end`, behind
+/// which 16 more stand.
+pub(crate) fn borders_of(bytes: &[u8], end: usize) -> Option<Borders>
+    requires room { end + 16 ≤ length bytes.now }
+    requires some { 1 ≤ end }
+    ensures { MatchOption result (list_all (λ b. not (is_bracket b)) (slice_range bytes.now 1 end) ≡ false)
+        (λ borders. IsCut (slice_range bytes.now 1 end) borders.places.items borders.count) }
 {
     let mut places = ArrayVec::new();
     places.push(0);
     let mut count = 0;
-    let mut from = 0;
-    while from <= inside.len() {
-        let end = from + part_len(&inside[from..]);
-        if end < inside.len() && inside[end] != b'-' {
+    // Counted from the opening bracket, which is the first byte.
+    let mut from = 1;
+    while from <= end {
+        let border = next_border(bytes, from, end);
+        if border < end && bytes[border] != b'-' {
             return None;
         }
         count += 1;
-        from = end + 1;
-        note(&mut places, count, from);
+        from = border + 1;
+        note(&mut places, count, border);
     }
     Some(Borders { places, count })
 }

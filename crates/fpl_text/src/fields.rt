@@ -104,14 +104,14 @@ fn has_its_fields(title: Title, inside: &[u8], borders: &Borders) -> bool
 
 /// Where the fields of a message stand, which has one pair of brackets round it.
 #[tactic(auto, unfolding(crate::specs::Fields::is_bracketed))]
-fn borders_in_brackets(text: &[u8]) -> Option<Borders>
+fn borders_in_brackets<A: Allocator + Copy>(text: &Squeezed<A>) -> Option<Borders>
     ensures { MatchOption result (is_bracketed text.now ≡ false)
         (λ borders. (is_bracketed text.now ≡ true) × IsCut (inside text.now) borders.places.items borders.count) }
 {
-    let Some(inside) = between_brackets(text) else {
+    let Some(inside) = between_brackets(text.as_bytes()) else {
         return None;
     };
-    borders_of(inside)
+    borders_of(text.with_room(), inside.len() + 1)
 }
 
 /// What stands between the brackets of a text.
@@ -125,14 +125,14 @@ fn inside(text: &[u8]) -> &[u8]
 
 /// The title of a message, and where its fields stand, or why it is none.
 #[tactic(auto, unfolding(crate::specs::Fields::fields_or_fault, crate::specs::Fields::fields_of))]
-fn title_and_borders(text: &[u8]) -> Result<(Borders, Title), TextFault>
+fn title_and_borders<A: Allocator + Copy>(text: &Squeezed<A>) -> Result<(Borders, Title), TextFault>
     ensures ok { IfOk result (λ found. IsMessage text.now found.0.places.items found.0.count found.1) }
     ensures err { IfErr result (λ fault. fields_or_fault text.now ≡ Err fault) }
 {
     let Some(borders) = borders_in_brackets(text) else {
         return Err(TextFault::NoBracket);
     };
-    let inside = inside(text);
+    let inside = inside(text.as_bytes());
     let Some(title) = title_of(borders.part(inside, 0)) else {
         return Err(TextFault::UnknownTitle);
     };
@@ -191,7 +191,7 @@ impl<A: Allocator + Copy> Squeezed<A> {
     pub fn into_fields(self) -> Result<Fields<A>, TextFault>
         ensures { result ≡ fields_or_fault self }
     {
-        let (borders, title) = title_and_borders(self.as_bytes())?;
+        let (borders, title) = title_and_borders(&self)?;
         Ok(Fields {
             text: self,
             borders,

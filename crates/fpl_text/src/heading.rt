@@ -75,9 +75,25 @@ fn number_in(text: &[u8]) -> Option<Option<Text<12>>>
     Some(Some(Text::new(text)))
 }
 
-/// The heading of a message with that title, behind which stands the text.
-#[tactic(auto, unfolding(crate::specs::Headings::heading_with))]
+/// The heading of a message with that title, behind which stands the text. Most have nothing there.
+#[inline(always)]
+#[tactic(auto, unfolding(crate::specs::Headings::heading_with, crate::specs::Headings::number_in))]
 fn heading_with(title: Title, text: &[u8]) -> Option<Heading>
+    ensures { result ≡ heading_with title text.now }
+{
+    if text.is_empty() {
+        return Some(Heading {
+            title,
+            number: None,
+            reference: None,
+        });
+    }
+    numbered_heading(title, text)
+}
+
+/// The heading of a message with that title, behind which stand one or two numbers.
+#[tactic(auto, unfolding(crate::specs::Headings::heading_with))]
+fn numbered_heading(title: Title, text: &[u8]) -> Option<Heading>
     ensures { result ≡ heading_with title text.now }
 {
     let (first, second) = text.split_at(number_len(text).min(text.len()));
@@ -90,6 +106,7 @@ fn heading_with(title: Title, text: &[u8]) -> Option<Heading>
     })
 }
 
+#[inline(always)]
 #[tactic(auto, unfolding(crate::specs::Headings::heading_of))]
 fn heading_of(text: &[u8]) -> Option<Heading>
     ensures { result ≡ heading_of text.now }
@@ -101,6 +118,7 @@ fn heading_of(text: &[u8]) -> Option<Heading>
 impl Heading {
     /// Reads field 3: a title of three letters, and then nothing, a number, or a number and a reference. Both are 1 to 4 letters, a
     /// stroke, 1 to 4 letters, and 3 digits.
+    #[inline(always)]
     pub fn read(field: &[u8]) -> Result<Heading, FieldFault>
         ensures { result ≡ ok_or (heading_of field.now) (FieldFault.BadField 3) }
     {

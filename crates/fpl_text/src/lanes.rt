@@ -158,6 +158,16 @@ pub(crate) fn set_lanes(flags: u8x16) -> usize
     top_bits(flags).trailing_ones() as usize
 }
 
+/// How many of the first lanes are not set.
+#[inline(always)]
+pub(crate) fn unset_lanes(flags: u8x16) -> usize
+    ensures bound { result ≤ 16 }
+    ensures unset { (p : ℕ → Bool) → HasFlags flags p → (k : ℕ) → k < result → p k ≡ false }
+    ensures stops { (p : ℕ → Bool) → HasFlags flags p → result < 16 → p result ≡ true }
+{
+    (top_bits(flags) | 65536).trailing_zeros() as usize
+}
+
 /// How many of the first lanes are kept by a pass, of which `plain` are plain bytes, behind a border or not; and whether the
 /// last of them is a border, or the byte before them all where none is kept.
 #[inline(always)]

@@ -80,6 +80,14 @@ impl<A: Allocator + Copy> Squeezed<A> {
         &self.bytes[..self.len]
     }
 
+    /// The bytes, with at least 16 more behind them.
+    pub(crate) fn with_room(&self) -> &[u8]
+        ensures text { take (length self.now) result.now ≡ self.now }
+        ensures room { length self.now + 16 ≤ length result.now }
+    {
+        self.bytes.as_slice()
+    }
+
     /// The room of the text, for another one.
     pub fn into_room(self) -> Vec<u8, A>
         ensures { result.items ≡ [] }

@@ -423,19 +423,3 @@ fn each_growth_is_refused_in_turn(rt: HostRuntime) -> Result<(), AllocError> {
     }
     Ok(())
 }
-
-#[test]
-fn filing_is_taken_apart_and_put_together(rt: HostRuntime) -> Result<(), Fail> {
-    let filing = Filing::read_as(rt.alloc(), Edition::First, b"SHUT RMZ01")?;
-    let (text, reading) = filing.into_parts();
-    assert_eq!(rt; text.text(), b"SHUT RMZ01".as_slice());
-    assert_eq!(rt; text.edition(), Edition::First);
-    let filing = Filing::from_parts(text, reading);
-    assert_eq!(rt; filing.text(), b"SHUT RMZ01".as_slice());
-    assert_eq!(rt; filing.edition(), Edition::First);
-    let Reading::Ord(Order::ShutReg { id }) = filing.reading() else {
-        return Err("an order to shut")?;
-    };
-    assert_eq!(rt; id.as_bytes(), b"RMZ01".as_slice());
-    Ok(())
-}

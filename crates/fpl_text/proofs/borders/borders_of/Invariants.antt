@@ -1,9 +1,13 @@
-use Rattle.std.proofs.Common.{◌+◌, ◌-◌, length}
+use Rattle.std.proofs.Common.{◌+◌, ◌-◌, ◌≤◌}
+use Rattle.std.specs.Prelude.{slice_range}
 use Rattle.fpl_text.proofs.BordersLemmas.{Cuts}
 use Rattle.fpl_text.proofs.borders.borders_of.Given as goal
 
 abbrev pub invariant-loop-from : goal.invariant-loop-from
-invariant-loop-from l = Cuts l.inside l.from l.count l.places.items
+invariant-loop-from l = record {
+  cuts : Cuts (slice_range l.bytes 1 l.end) (l.from - 1) l.count l.places.items;
+  some : 1 ≤ l.from;
+}
 
 abbrev pub decreases-loop-from : goal.decreases-loop-from
-decreases-loop-from l = length l.inside + 1 - l.from
+decreases-loop-from l = l.end + 1 - l.from

@@ -1,5 +1,4 @@
-use Rattle.std.proofs.Common.{subst, sym, arith, not, ap, eqb, ◌∙◌}
-use Rattle.std.specs.Int.{bit_at}
+use Rattle.std.proofs.Common.{subst, sym, arith, ◌∙◌}
 use Rattle.fpl_text.proofs.LaneLemmas.{IsKeptFront, front-kept, behind-bit}
 use Rattle.fpl_text.proofs.lanes.kept_front.Goals as goal
 

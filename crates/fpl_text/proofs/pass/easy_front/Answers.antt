@@ -1,4 +1,4 @@
-use Rattle.std.proofs.Common.{ap, sym, ◌∙◌}
+use Rattle.std.proofs.Common.{ap, ◌∙◌}
 use Rattle.fpl_text.specs.Bytes.{is_plain, is_border, is_blank}
 use Rattle.fpl_text.specs.Lanes.{flag}
 use Rattle.fpl_text.specs.Passes.{is_easy, as_space}

@@ -1,4 +1,4 @@
-use Rattle.std.proofs.Common.{arith, sym, refl, subst, true, false}
+use Rattle.std.proofs.Common.{sym, refl, subst, true, false}
 use Rattle.fpl_text.specs.Passes.{IsPass}
 use Rattle.fpl_text.proofs.SqueezingLemmas.{pass-start, pass-empty, pass-ok}
 use Rattle.fpl_text.proofs.pass.squeeze.Goals as goal
