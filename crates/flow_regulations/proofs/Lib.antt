@@ -19,6 +19,7 @@ pub mod Numbers
 pub mod Openings
 pub mod Others
 pub mod Outs
+pub mod Passing
 pub mod Placing
 pub mod PutBack
 pub mod Queues

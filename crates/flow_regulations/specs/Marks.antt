@@ -2,7 +2,8 @@
 -- Where the bit isn't set, the flight isn't held there; where it is, the flight may be held or not.
 use Rattle.std.specs.Prelude.{◌≡◌, ℕ, suc, Bool, true, false, ◌==◌, nat_lt, if◌then◌else◌, List, [], ◌∷◌, slice_index_or as get_or}
 use Rattle.std.specs.Int.{bit_at}
-use Rattle.flow_slots.specs.Lineup.{NoneIs, NoneFixed}
+use Rattle.flow_slots.specs.Lineup.{IsLineup, NoneIs, NoneFixed}
+use Rattle.flow_slots.specs.Period.{IsRegular}
 use Rattle.flow_regulations.specs.Listing.{Listed}
 
 -- whether a flight of this word may be held in the regulation at this place; it may in each from the 65th on
@@ -16,6 +17,11 @@ word_of words flight = get_or words flight 18_446_744_073_709_551_615
 -- the flight isn't held
 abbrev pub IsOut : ℕ → Listed → Type 0
 IsOut flight l = NoneFixed flight l.lineup.fixed × NoneIs flight l.lineup.waiting
+
+-- no flight stands twice, and the period is regular
+pub record IsInOrder (l : Listed) : Type 0 where
+  pub lined : IsLineup l.lineup
+  pub regular : IsRegular l.lineup.period
 
 -- in regulations from this place on, the flight isn't held where its word says so
 abbrev pub Covers : ℕ → ℕ → ℕ → List Listed → Type 0

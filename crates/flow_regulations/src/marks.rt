@@ -4,7 +4,7 @@
 //! the bit isn't set, the flight isn't held in that regulation, whose slot list need not be asked; where it is set, it may
 //! be held or not. A flight that has no word may be held in each regulation, and so may each flight from the 65th
 //! regulation on.
-ghost use Rattle.std.specs.Prelude.{◌≡◌, ℕ, suc, true, false, length};
+ghost use Rattle.std.specs.Prelude.{◌≡◌, ◌<◌, ◌≤◌, ℕ, suc, true, false, length};
 ghost use Rattle.flow_regulations.specs.Marks.{may_stand, word_of, Keeps, KeepsBelow, MovesUp, IsOut, IsOpenedTo};
 
 use crate::regulation::Regulation;
@@ -32,6 +32,23 @@ pub(crate) fn may_stand(word: u64, index: usize) -> bool
     } else {
         true
     }
+}
+
+/// The first place from this one on where a flight of this word may be held.
+#[inline(always)]
+pub(crate) fn next_marked(word: u64, index: usize) -> usize
+    ensures from { index ≤ result }
+    ensures passed { (i : ℕ) → index ≤ i → i < result → may_stand word i ≡ false }
+    ensures marked { may_stand word result ≡ true }
+{
+    if index >= 64 {
+        return index;
+    }
+    let later = word >> index;
+    if later == 0 {
+        return 64;
+    }
+    index + later.trailing_zeros() as usize
 }
 
 /// The word of a flight that may be held at this place too.

@@ -1,5 +1,5 @@
 //! The open regulations.
-ghost use Rattle.std.specs.Prelude.{◌≡◌, ◌<◌, ◌≤◌, ◌+◌, ◌++◌, ℕ, List, [], false, true, ◌∷◌, None, Some, IfSome, IfNone, IfOk, IsTrue, ◌↔◌, MatchOption, OnOk, OnErr, length, map, vec_capacity};
+ghost use Rattle.std.specs.Prelude.{◌≡◌, ◌<◌, ◌≤◌, ◌+◌, ◌-◌, ◌++◌, ℕ, List, [], false, true, ◌∷◌, None, Some, IfSome, IfNone, IfOk, IsTrue, ◌↔◌, MatchOption, OnOk, OnErr, length, map, replicate, vec_capacity};
 ghost use Rattle.std.specs.List.{All, AllByRecursion, insert, list_any};
 ghost use Rattle.std.specs.List.Sorted.{IsNonDecreasing, IsStrictlyIncreasing};
 ghost use Rattle.flow_plans.specs.Plans.{Plan, plan_at};
@@ -16,10 +16,12 @@ ghost use Rattle.flow_regulations.specs.Quiet.{AreQuietBut, AllQuiet};
 use crate::advice::advice_of;
 use crate::closed::Closed;
 use crate::fixed_flights::note_fixed;
-use crate::marks::{close_place, make_room, mark_where, may_stand, open_last, set_word, word_of};
+use crate::marks::{
+    close_place, make_room, mark_where, may_stand, next_marked, open_last, set_word, word_of,
+};
 use crate::notice::{Notice, Told};
 use crate::places::Place;
-use crate::regulation::{Regulation, is_due};
+use crate::regulation::{Regulation, are_in_order, is_due};
 use crate::telling::tell;
 use flow_plans::PlanStore;
 use flow_slots::{Shape, SlotList};
@@ -360,9 +362,25 @@ fn note_places_in<A: Allocator + Copy>(
     ensures places { ArePlaces number places.new.items regulations.now }
     ensures capacity { vec_capacity places.new ≡ vec_capacity places.old }
 {
+    are_in_order(regulations);
     places.clear();
-    for (index, regulation) in regulations.iter().enumerate() {
-        places.push_reserved(regulation.place_where(number, may_stand(word, index)));
+    let mut index = next_marked(word, 0);
+    while index < regulations.len() {
+        note_absent(places, index);
+        places.push_reserved(regulations[index].place_of(number));
+        index = next_marked(word, index + 1);
+    }
+    note_absent(places, regulations.len());
+}
+
+/// Notes that a flight isn't held in the regulations up to this place for which nothing is noted.
+fn note_absent<A: Allocator + Copy>(places: &mut Vec<Place, A>, index: usize)
+    requires room { index ≤ vec_capacity places.old }
+    ensures places { places.new.items ≡ places.old.items ++ replicate (index - length places.old.items) Place.Absent }
+    ensures capacity { vec_capacity places.new ≡ vec_capacity places.old }
+{
+    while places.len() < index {
+        places.push_reserved(Place::Absent);
     }
 }
 
@@ -388,8 +406,11 @@ fn fix_waiting_in<A: Allocator + Copy>(regulations: &mut [Regulation<A>], number
     requires { Covers word number 0 regulations.old }
     ensures { Walked (IsFixedWaiting number) (length regulations.new) regulations.old regulations.new }
 {
-    for (index, regulation) in regulations.iter_mut().enumerate() {
-        regulation.fix_where(number, may_stand(word, index));
+    are_in_order(regulations);
+    let mut index = next_marked(word, 0);
+    while index < regulations.len() {
+        regulations[index].fix_waiting(number);
+        index = next_marked(word, index + 1);
     }
 }
 
