@@ -25,6 +25,7 @@ pub mod PutBack
 pub mod Queues
 pub mod Released
 pub mod Renewed
+pub mod Rows
 pub mod Saying
 pub mod Served
 pub mod Standing

@@ -1,20 +1,21 @@
 -- Regulations that a walk passes: a flight isn't held in them.
 use Rattle.std.proofs.Common.{◌≡◌, ℕ, zero, suc, ◌+◌, ◌-◌, ◌<◌, ◌≤◌, Bool, true, false, List, [], ◌∷◌, ◌++◌, length, map, take, drop, get_or, Option, None, Some, ltb, refl, sym, ap, subst, ◌∙◌, arith}
-use Rattle.std.specs.Prelude.{replicate}
+use Rattle.std.specs.Prelude.{bit_or, replicate}
 use Rattle.std.specs.List.{All}
 use Rattle.std.proofs.lemmas.List.{drop_all, drop_more, get_or_default, length-append, length-replicate, append-nil, append_assoc}
 use Rattle.std.proofs.lemmas.Bool.{ltb-true, ltb-false}
-use Rattle.flow_plans.specs.Plans.{Plan}
+use Rattle.flow_plans.specs.Plans.{Plan, plan_at}
 use Rattle.flow_regulations.specs.declared.advice.Delay.{Delay}
 use Rattle.flow_regulations.specs.declared.places.Place.{Place}
 use Rattle.flow_regulations.specs.declared.places.Place.TheVariants as place
 use Rattle.flow_regulations.specs.Advice.{worse, worst}
-use Rattle.flow_regulations.specs.Listing.{Listed, Walked, regulation_of, IsFixedWaiting}
-use Rattle.flow_regulations.specs.Marks.{may_stand, IsOut, IsInOrder, Covers}
+use Rattle.flow_regulations.specs.Listing.{Listed, Walked, regulation_of, IsFixedWaiting, IsLookedAgain}
+use Rattle.flow_regulations.specs.Marks.{may_stand, IsOut, IsInOrder, Covers, MarksNear}
 use Rattle.flow_regulations.specs.Places.{IsPlaceOf, ArePlaces}
 use Rattle.flow_regulations.proofs.Advised.{IsWorstSoFar}
-use Rattle.flow_regulations.proofs.Marking.{covers-at}
-use Rattle.flow_regulations.proofs.Outs.{out-delay, out-fixes, out-place}
+use Rattle.flow_regulations.proofs.MarkBits.{or-first, or-second}
+use Rattle.flow_regulations.proofs.Marking.{covers-at, falls}
+use Rattle.flow_regulations.proofs.Outs.{out-delay, out-fixes, out-looks, out-place}
 use Rattle.flow_regulations.proofs.PutBack.{places-more}
 use Rattle.flow_regulations.proofs.Walks.{walked-past}
 
@@ -68,6 +69,16 @@ worst-past taxi n w i j (Some p) ls d c h u was =
 pub fixes-past : (n w i j : ℕ) (os ns : List Listed) → Covers w n 0 os → All IsInOrder os → i ≤ j → AreUnmarked w i j → Walked (IsFixedWaiting n) i os ns → Walked (IsFixedWaiting n) j os ns
 fixes-past n w i j os ns c orders h u walked =
     walked-past (IsFixedWaiting n) i j os ns (λ k d a b l. (let o = orders k d l in out-fixes n (get_or os k d) (covers-at w n k os d l c (u k a b)) o.lined o.regular)) h walked
+
+-- a second look changes nothing where the flight isn't held and that doesn't apply to it
+pub looks-past : (n taxi now w near i j : ℕ) (plans : List Plan) (os ns : List Listed) → 0 < n → n ≤ length plans → Covers w n 0 os → All IsInOrder os
+    → ((p : Plan) → plan_at plans n ≡ Some p → MarksNear near taxi p os) → i ≤ j → AreUnmarked (bit_or w near) i j → Walked (IsLookedAgain n taxi now plans) i os ns → Walked (IsLookedAgain n taxi now plans) j os ns
+looks-past n taxi now w near i j plans os ns some within c orders m h u walked =
+    walked-past (IsLookedAgain n taxi now plans) i j os ns (λ k d a b l.
+    (let o = orders k d l in
+    let out = u k a b in
+    out-looks n taxi now plans (get_or os k d) None some within (covers-at w n k os d l c (falls w (bit_or w near) k (or-first w near k) out)) o.lined o.regular
+    (λ p at. sym (m p at k d l (falls near (bit_or w near) k (or-second w near k) out))) refl)) h walked
 
 -- one more place is noted as absent, and none
 pub absent-more : (ps : List Place) (j : ℕ) → length ps < j → (ps ++ place.Absent ∷ []) ++ replicate (j - length (ps ++ place.Absent ∷ [])) place.Absent ≡ ps ++ replicate (j - length ps) place.Absent

@@ -5,7 +5,8 @@
 //! be held or not. A flight that has no word may be held in each regulation, and so may each flight from the 65th
 //! regulation on.
 ghost use Rattle.std.specs.Prelude.{◌≡◌, ◌<◌, ◌≤◌, ℕ, suc, true, false, length};
-ghost use Rattle.flow_regulations.specs.Marks.{may_stand, word_of, Keeps, KeepsBelow, MovesUp, IsOut, IsOpenedTo};
+ghost use Rattle.flow_plans.specs.Near.{row_of};
+ghost use Rattle.flow_regulations.specs.Marks.{may_stand, word_of, Keeps, KeepsBelow, MovesUp, IsOut, IsOpenedTo, IsOpenedIn};
 
 use crate::regulation::Regulation;
 use std::alloc::{AllocError, Allocator};
@@ -151,6 +152,26 @@ fn holds<A: Allocator + Copy>(regulation: &Regulation<A>, flight: usize) -> bool
     match u32::try_from(flight) {
         Ok(number) => regulation.holds(number),
         Err(_) => true,
+    }
+}
+
+/// Marks, in a table of words by places, a regulation that is opened after these.
+pub(crate) fn open_last_row<A: Allocator + Copy>(
+    table: &mut [u64],
+    regulations: &[Regulation<A>],
+    opened: &Regulation<A>,
+)
+    ensures { (row : ℕ) → IsOpenedIn (row_of opened.now.spot) (length regulations.now) row (word_of table.old row) (word_of table.new row) }
+{
+    open_row(table, regulations.len(), opened.row());
+}
+
+/// Marks a regulation of this row that is opened at this place, the last.
+fn open_row(table: &mut [u64], index: usize, own: usize)
+    ensures { (row : ℕ) → IsOpenedIn own index row (word_of table.old row) (word_of table.new row) }
+{
+    for (row, word) in table.iter_mut().enumerate() {
+        *word = with_place(*word, index, row == own);
     }
 }
 

@@ -2,6 +2,7 @@
 ghost use Rattle.std.specs.Prelude.{◌≡◌, ◌<◌, ◌≤◌, ℕ, List, None, Some, true, false, IfSome, IfOk, OnOk, IsTrue, ◌↔◌, length};
 ghost use Rattle.std.specs.List.{All};
 ghost use Rattle.flow_plans.specs.Plans.{Plan as Held, plan_at, is_departed, is_filed};
+ghost use Rattle.flow_plans.specs.Near.{row_of};
 ghost use Rattle.flow_slots.specs.Lineup.{held_slot, fixed_slot, without_flight, waiting_entry, len_of, IsLineup};
 ghost use Rattle.flow_slots.specs.Period.{IsWithin, IsRegular};
 ghost use Rattle.flow_regulations.specs.Places.{IsPlaceOf, MayStand, stood};
@@ -11,7 +12,7 @@ ghost use Rattle.flow_regulations.specs.Settling.{is_due, pairs_of};
 ghost use Rattle.flow_regulations.specs.Listing.{Listed, regulation_of, with_lineup, without_in, released_in, keeps_slot, placed, with_no_flights, let_in, is_named, fixed_waiting, IsListedIn, IsSettledBut, AreSameBut, IsRenewed, IsFixedWaiting, IsLookedAgain};
 
 use crate::places::Place;
-use flow_plans::{Plan, PlanState, PlanStore};
+use flow_plans::{Plan, PlanState, PlanStore, row_of};
 use flow_slots::{Shape, SlotList};
 use fpl_message::Spot;
 use fpl_text::{Minute, Text};
@@ -69,6 +70,13 @@ impl<A: Allocator + Copy> Regulation<A> {
         ensures { IsTrue result ↔ (self.now ≡ other.now) }
     {
         self.is_named(&other.id) && self.spot == other.spot && self.list.same(&other.list)
+    }
+
+    /// The row of its place in a table of words by places.
+    pub(crate) fn row(&self) -> usize
+        ensures { result ≡ row_of self.now.spot }
+    {
+        row_of(&self.spot)
     }
 
     /// Its slot list.
