@@ -6,6 +6,8 @@ pub mod Keepings
 pub mod Distincts
 pub mod RunLemmas
 pub mod PlaceLemmas
+pub mod NearLemmas
+pub mod NextBits
 pub mod Notes
 pub mod Amendments
 pub mod Previous

@@ -8,6 +8,7 @@ pub mod Changes
 pub mod Entries
 pub mod Estimates
 pub mod Places
+pub mod Near
 pub mod Stores
 pub mod Undoing
 pub mod Distinct

@@ -1,10 +1,13 @@
 //! The estimates of field 18, noted once.
-ghost use Rattle.std.specs.Prelude.{◌≡◌, ◌≤◌, ◌<◌, ◌+◌, [], true, length, slice_range, IfOk, IfSome};
+ghost use Rattle.std.specs.Prelude.{◌≡◌, ◌≤◌, ◌<◌, ◌+◌, [], true, List, ℕ, length, slice_range, IfOk, IfSome};
 ghost use Rattle.fpl_text.specs.Words.{words_of};
 ghost use Rattle.fpl_items.specs.Items.{items_of, estimate_for, elapsed_to};
+ghost use Rattle.flow_plans.specs.Near.{word_at, HasBitsOf};
+ghost use Rattle.flow_plans.specs.Places.{bit_of, may_have};
 ghost use Rattle.flow_plans.specs.Estimates.{first_for, IsNoteOf, AddsWords, AreNotesOf, HasPlacesOf, AreEstimatesOf};
 
 use crate::estimate::Estimate;
+use crate::near::words_on_way;
 use crate::places::{may_have, with_place};
 use fpl_items::{ItemWords, Items};
 use fpl_text::read_elapsed;
@@ -51,6 +54,17 @@ impl<A: Allocator + Copy> Estimates<A> {
             return None;
         }
         first_for(&self.notes, field, place)
+    }
+
+    /// The bits of the words in a table that stand in the rows of the places of the notes. Each bit where they aren't whole.
+    #[inline]
+    pub(crate) fn near(&self, table: &[u64]) -> u64
+        ensures { (place : List ℕ) → (self.now.whole ≡ true → may_have self.now.places place ≡ true) → HasBitsOf result (word_at table.now (128 + bit_of place)) }
+    {
+        if !self.whole {
+            return u64::MAX;
+        }
+        words_on_way(table, self.places)
     }
 }
 

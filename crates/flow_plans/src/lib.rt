@@ -8,6 +8,7 @@ mod estimates;
 mod fault;
 pub mod laws;
 mod matching;
+mod near;
 mod places;
 mod plan;
 mod setup;
@@ -17,6 +18,7 @@ mod undo;
 
 pub use fault::PlanFault;
 pub use fpl_message::Parts;
+pub use near::row_of;
 pub use plan::{Key, Plan, PlanState, Status};
 pub use setup::{MAX_ENTRIES, MAX_PLANS, MAX_TAXI, Setup, is_desk_time};
 pub use store::PlanStore;

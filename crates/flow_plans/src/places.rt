@@ -8,7 +8,7 @@ ghost use Rattle.flow_plans.specs.Places.{bit_of, may_have};
 /// The bit of a place, below 64.
 #[inline]
 #[tactic(auto, unfolding(crate::specs::Places::bit_of))]
-fn bit_of(place: &[u8]) -> u32
+pub(crate) fn bit_of(place: &[u8]) -> u32
     ensures value { result ≡ bit_of place.now }
     ensures bound { result < 64 }
 {

@@ -1,14 +1,17 @@
 //! One flight plan.
-ghost use Rattle.std.specs.Prelude.{◌≡◌, ◌≤◌, ◌<◌, IfOk, IfSome, None, option_copied};
+ghost use Rattle.std.specs.Prelude.{◌≡◌, ◌≤◌, ◌<◌, ℕ, IfOk, IfSome, IsSome, None, option_copied};
 ghost use Rattle.fpl_items.specs.Items.{day_of_items};
 ghost use Rattle.flow_plans.specs.Entries.{take_off, elapsed_at, entry_at, subject};
-ghost use Rattle.flow_plans.specs.Plans.{is_held, is_visual, same_key, is_held_as, text_of, status_of, with_state, with_off_block};
+ghost use Rattle.fpl_message.specs.declared.order.Spot.{Spot};
+ghost use Rattle.flow_plans.specs.Near.{row_of, word_at, HasBitsOf};
+ghost use Rattle.flow_plans.specs.Plans.{is_held, is_filed, is_visual, same_key, is_held_as, text_of, status_of, with_state, with_off_block};
 ghost use Rattle.flow_plans.specs.Matching.{agrees, is_candidate, is_gone};
 ghost use Rattle.flow_plans.specs.Changes.{plan_of, key_of, changes_key, key_after, amended_plan};
 ghost use Rattle.std.specs.Option.{option_map_or};
 ghost use Rattle.std.specs.Str.{bytes_eq};
 
 use crate::amending::{alternates_after, elapsed_after, exempt_after, rules_after};
+use crate::near::words_of_ends;
 use crate::texts::Texts;
 use fpl_items::Other18;
 use fpl_message::{Chg, Fpl, Parts, Spot};
@@ -228,6 +231,14 @@ impl<A: Allocator + Copy> Plan<A> {
         }
     }
 
+    /// Whether the plan was filed, and neither departed nor was cancelled.
+    #[inline]
+    fn is_filed(&self) -> bool
+        ensures { result ≡ is_filed self.now.state }
+    {
+        matches!(self.state, PlanState::Filed)
+    }
+
     /// Where the plan stands.
     pub fn state(&self) -> PlanState
         ensures { result ≡ self.now.state }
@@ -392,6 +403,22 @@ impl<A: Allocator + Copy> Plan<A> {
             return None;
         }
         Some(moment)
+    }
+
+    /// The bits of the words in a table that stand in the rows of the places to which the flight comes. None where no regulation
+    /// applies to it, wherever it is.
+    #[inline]
+    pub(crate) fn near(&self, table: &[u64]) -> u64
+        ensures { (taxi start end : ℕ) (spot : Spot) → IsSome (subject taxi spot start end self.now) → HasBitsOf result (word_at table.now (row_of spot)) }
+    {
+        if !self.is_filed() {
+            return 0;
+        }
+        if self.exempt {
+            return 0;
+        }
+        let ends = words_of_ends(table, self.key.dep.as_bytes(), self.key.dest.as_bytes());
+        ends | self.texts.near(table)
     }
 
     /// The total elapsed time, in minutes.

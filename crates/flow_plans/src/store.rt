@@ -1,11 +1,13 @@
 //! The plans by number.
-ghost use Rattle.std.specs.Prelude.{◌≡◌, ◌≤◌, ◌<◌, ◌+◌, ◌-◌, ◌*◌, ◌++◌, ◌∷◌, [], Ok, Err, Some, None, IfOk, IfErr, IfNone, OnOk, OnErr, IfSome, IsSome, IsTrue, ◌↔◌, MatchOption, length, slice_get, option_copied};
+ghost use Rattle.std.specs.Prelude.{◌≡◌, ◌≤◌, ◌<◌, ◌+◌, ◌-◌, ◌*◌, ◌++◌, ◌∷◌, ℕ, [], Ok, Err, Some, None, IfOk, IfErr, IfNone, OnOk, OnErr, IfSome, IsSome, IsTrue, ◌↔◌, MatchOption, length, slice_get, option_copied};
 ghost use Rattle.std.specs.List.{list_any};
 ghost use Rattle.flow_plans.specs.Settings.{IsDeskTime};
 ghost use Rattle.flow_plans.specs.Entries.{take_off, entry_at, subject};
 ghost use Rattle.flow_plans.specs.Undoing.{undone, IsOf};
 ghost use Rattle.flow_plans.specs.Chains.{flight_of_key, IsNamed, AreNamed, StaysNamed};
 ghost use Rattle.flow_plans.specs.Plans.{is_held_as, plan_at, status_at, with_plan, changed_at, with_state, with_off_block};
+ghost use Rattle.fpl_message.specs.declared.order.Spot.{Spot};
+ghost use Rattle.flow_plans.specs.Near.{row_of, word_at, HasBitsOf};
 ghost use Rattle.flow_plans.specs.Matching.{matching};
 ghost use Rattle.flow_plans.specs.Times.{first_from, delayed_to};
 ghost use Rattle.flow_plans.specs.Changes.{plan_of, moment_of, filed, cancelled, departed, delayed, amended, IsRefusal, IsJustRefusal, Answers};
@@ -284,6 +286,17 @@ impl<A: Allocator + Copy> PlanStore<A> {
         ensures { IfSome (plan_at self.now.plans number) (λ plan. result ≡ subject self.now.taxi spot.now start end plan) }
     {
         self.plans[(number - 1) as usize].subject(self.taxi, spot, start, end)
+    }
+
+    /// The bits of the words in a table that stand in the rows of the places to which the flight of the plan of this number comes:
+    /// wherever a regulation applies to it, at any time, the bits of that row are among them.
+    pub fn near(&self, number: u32, table: &[u64]) -> u64
+        requires some { 0 < number }
+        requires within { number ≤ length self.now.plans }
+        ensures { (start end : ℕ) (spot : Spot) → IfSome (plan_at self.now.plans number)
+            (λ plan. IsSome (subject self.now.taxi spot start end plan) → HasBitsOf result (word_at table.now (row_of spot))) }
+    {
+        self.plans[(number - 1) as usize].near(table)
     }
 }
 

@@ -1,8 +1,10 @@
 //! The field texts that a plan holds.
-ghost use Rattle.std.specs.Prelude.{◌≡◌, ◌≤◌, ◌<◌, ◌+◌, ◌++◌, length, IfOk, IfSome};
+ghost use Rattle.std.specs.Prelude.{◌≡◌, ◌≤◌, ◌<◌, ◌+◌, ◌++◌, length, List, ℕ, IfOk, IfSome, IsSome};
 ghost use Rattle.fpl_text.specs.Words.{words_of};
 ghost use Rattle.fpl_items.specs.Items.{items_of, elapsed_to};
 ghost use Rattle.flow_plans.specs.Changes.{texts_after};
+ghost use Rattle.flow_plans.specs.Near.{word_at, HasBitsOf};
+ghost use Rattle.flow_plans.specs.Places.{bit_of};
 
 use crate::amending::text_after;
 use crate::estimates::Estimates;
@@ -138,5 +140,13 @@ impl<A: Allocator + Copy> Texts<A> {
         ensures bound { IfSome result (λ minutes. minutes < 6000) }
     {
         self.estimates.elapsed(self.field18(), place)
+    }
+
+    /// The bits of the words in a table that stand in the rows of the places of the way, by the EET items of field 18.
+    #[inline]
+    pub(crate) fn near(&self, table: &[u64]) -> u64
+        ensures { (place : List ℕ) → IsSome (elapsed_to place (items_of (words_of self.now.field18))) → HasBitsOf result (word_at table.now (128 + bit_of place)) }
+    {
+        self.estimates.near(table)
     }
 }

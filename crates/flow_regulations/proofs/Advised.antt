@@ -20,6 +20,11 @@ IsWorstSoFar taxi n o rest all w =
 abbrev pub IsDelayWithin : ℕ → ℕ → Option Plan → Option Delay → Type 0
 IsDelayWithin taxi limit o w = IfSome o (λ p. IfSome w (λ d. take_off taxi p + d.minutes ≤ limit))
 
+-- before the first one nothing is found
+pub worst-start : (taxi n : ℕ) (o : Option Plan) (all : List Listed) → IsWorstSoFar taxi n o (drop 0 all) all None
+worst-start taxi n None all = tt
+worst-start taxi n (Some p) all = refl
+
 -- the walk goes on to the next regulation
 pub worst-kept : (taxi n i : ℕ) (o : Option Plan) (all : List Listed) (r : Listed) (w d v : Option Delay) → i < length all → r ≡ get_or all i r
     → IsWorstSoFar taxi n o (drop i all) all w → IfSome o (λ p. d ≡ option_map (caused_by (regulation_of r)) (delay_in taxi n p (regulation_of r)))

@@ -10,7 +10,7 @@ use Rattle.flow_regulations.proofs.FixedOnes.{all-map, all-both}
 use Rattle.flow_regulations.proofs.Standing.{alone-fixed_waiting}
 use Rattle.flow_regulations.proofs.Walks.{walked-all, walked-map, map-map}
 
-units : (os : List Listed) → AllByRecursion (λ _. Unit {0}) os
+pub units : (os : List Listed) → AllByRecursion (λ _. Unit {0}) os
 units [] = tt
 units (l ∷ ls) = (tt, units ls)
 

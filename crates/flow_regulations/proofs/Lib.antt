@@ -19,11 +19,13 @@ pub mod Numbers
 pub mod Openings
 pub mod Others
 pub mod Outs
+pub mod Passing
 pub mod Placing
 pub mod PutBack
 pub mod Queues
 pub mod Released
 pub mod Renewed
+pub mod Rows
 pub mod Saying
 pub mod Served
 pub mod Standing

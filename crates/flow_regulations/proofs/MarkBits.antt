@@ -1,11 +1,11 @@
 -- The bits of the words that mark where flights may be held.
 use Rattle.std.proofs.Common.{◌≡◌, ℕ, suc, ◌+◌, ◌-◌, ◌*◌, ◌/◌, ◌%◌, ◌^◌, ◌<◌, ◌≤◌, Bool, true, false, cond, eqb, ltb, refl, sym, ap, subst, ◌∙◌, arith}
-use Rattle.std.specs.Int.{bit_at, w64}
+use Rattle.std.specs.Int.{bit_at, trailing_zeros, w64}
 use Rattle.std.specs.Prelude.{bit_or}
-use Rattle.std.proofs.Math.Nat.{mod-lt, div-add-mod}
 use Rattle.std.proofs.lemmas.Nat.{pow_pos, one_shl}
 use Rattle.std.proofs.lemmas.Bool.{eq-eqb, eqb-true, lt-ltb, le-ltb, ltb-true, ltb-false}
-use Rattle.std.proofs.lemmas.Nat.Bits.{bit_at-lt, bit_at-suc, bit_at_or, bit_at_ones, bit_at_set_same, bit_at_cat_low, bit_at_cat_high}
+use Rattle.std.proofs.lemmas.Nat.Bits.{bit_at-lt, bit_at-suc, bit_at_or, bit_at_ones, bit_at_set_same, bit_at_cat_high}
+use Rattle.flow_plans.proofs.NextBits.{low-bit, high-bit, next-bit, next-within, none-later as bits-none-later, next-later as bits-next-later}
 use Rattle.flow_regulations.specs.Marks.{may_stand, Keeps, KeepsBelow, MovesUp}
 
 pub stands-bit : (w i : ℕ) → i < 64 → bit_at w i ≡ 1 → may_stand w i ≡ true
@@ -39,16 +39,6 @@ or-second a b i s = by-place (bit_or a b) i (λ h. stands-bit (bit_or a b) i h (
 
 pub set-stands : (w k : ℕ) → k < 64 → may_stand (bit_or w (1 * 2 ^ k % 18_446_744_073_709_551_616)) k ≡ true
 set-stands w k h = stands-bit (bit_or w (1 * 2 ^ k % 18_446_744_073_709_551_616)) k h (bit_at_set_same w64 w k h)
-
--- a word by its bits below a place, and from there on
-parts : (w k : ℕ) → (w / 2 ^ k) * 2 ^ k + w % 2 ^ k ≡ w
-parts w k = omega (arith, div-add-mod w (2 ^ k))
-
-low-bit : (w k i : ℕ) → i < k → bit_at (w % 2 ^ k) i ≡ bit_at w i
-low-bit w k i h = sym (bit_at_cat_low (w / 2 ^ k) k (w % 2 ^ k) i h) ∙ ap (λ v. bit_at v i) (parts w k)
-
-high-bit : (w k i : ℕ) → k ≤ i → bit_at (w / 2 ^ k) (i - k) ≡ bit_at w i
-high-bit w k i h = sym (bit_at_cat_high (w / 2 ^ k) k (w % 2 ^ k) i (mod-lt w (pow_pos k)) h) ∙ ap (λ v. bit_at v i) (parts w k)
 
 moved-bit : (w k i : ℕ) → k ≤ i → i < 64 → bit_at ((w / 2 ^ k / 2) * 2 ^ k % 18_446_744_073_709_551_616) i ≡ bit_at w (suc i)
 moved-bit w k i h l =
@@ -92,3 +82,19 @@ moved-up w k r h keeps last =
 
 pub late-moves : (w k : ℕ) → 64 ≤ k → MovesUp k w w
 late-moves w k h = (λ i l s. s, λ i l s. stands-late w i (let past : k ≤ i = ltb-false i k l in omega arith))
+
+clear-stands : (w i : ℕ) → i < 64 → bit_at w i ≡ 0 → may_stand w i ≡ false
+unfolding may_stand
+clear-stands w i h e = ap (λ b. cond b (eqb (bit_at w i) 1) true) (lt-ltb i 64 h) ∙ ap (λ n. eqb n 1) e
+
+-- a word without a later bit
+pub none-later : (w k i : ℕ) → k ≤ i → i < 64 → w / 2 ^ k ≡ 0 → may_stand w i ≡ false
+none-later w k i h l none = clear-stands w i l (bits-none-later w k i h none)
+
+-- the next bit of a word
+module _ (w k : ℕ) (fits : w < 2 ^ 64) (some : w / 2 ^ k ≡ 0 → ⊥) where
+  pub next-stands : may_stand w (k + trailing_zeros w64 (w / 2 ^ k)) ≡ true
+  next-stands = stands-bit w (k + trailing_zeros w64 (w / 2 ^ k)) (next-within w k fits some) (next-bit w k fits some)
+
+  pub next-later : (i : ℕ) → k ≤ i → i < k + trailing_zeros w64 (w / 2 ^ k) → may_stand w i ≡ false
+  next-later i h l = clear-stands w i (omega (arith, l, next-within w k fits some)) (bits-next-later w k fits some i h l)

@@ -50,7 +50,7 @@ out-alone f n l m ne e h =
     (back-fixed f n m.lineup.fixed ne (subst F (sym e) (kept-fixed f n l.lineup.fixed h.0)), back-waiting f n m.lineup.waiting ne (subst W (sym e) (kept-waiting f n l.lineup.waiting h.1)))
 
 -- a place that isn't marked wasn't marked before
-falls : (w v i : ℕ) → (may_stand w i ≡ true → may_stand v i ≡ true) → may_stand v i ≡ false → may_stand w i ≡ false
+pub falls : (w v i : ℕ) → (may_stand w i ≡ true → may_stand v i ≡ true) → may_stand v i ≡ false → may_stand w i ≡ false
 falls w v i k e = cases (may_stand w i) refl where
   cases : (b : Bool) → may_stand w i ≡ b → b ≡ false
   cases false q = refl

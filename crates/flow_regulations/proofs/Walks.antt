@@ -78,3 +78,29 @@ walked-then R S T f (suc n) xs [] zs e w v = absurd (omega arith)
 walked-then R S T f (suc n) [] (y ∷ ys) zs e w v = absurd w
 walked-then R S T f (suc n) (x ∷ xs) (y ∷ ys) [] e w v = absurd v
 walked-then R S T f (suc n) (x ∷ xs) (y ∷ ys) (z ∷ zs) e w v = (f x y z w.0 v.0, walked-then R S T f n xs ys zs (omega (arith, e)) w.1 v.1)
+
+-- the next ones are as they were, and each may be replaced by itself
+pub walked-past : {X : Type 0} (R : X → X → Type 0) (i j : ℕ) (xs ys : List X) → ((k : ℕ) (d : X) → i ≤ k → k < j → k < length xs → R (get_or xs k d) (get_or xs k d)) → i ≤ j → Walked R i xs ys → Walked R j xs ys
+walked-past R zero zero xs ys f h w = w
+walked-past {X} R zero (suc j) [] ys f h w =
+    let W : List X → Type 0 = λ us. Walked R (suc j) [] us in
+    subst W (sym w) tt
+walked-past {X} R zero (suc j) (x ∷ xs) ys f h w =
+    let W : List X → Type 0 = λ us. Walked R (suc j) (x ∷ xs) us in
+    subst W (sym w) (f 0 x (omega arith) (omega arith) (omega arith), walked-past R zero j xs xs (λ k d a b c. f (suc k) d (omega arith) (omega (arith, b)) (omega (arith, c))) (omega arith) refl)
+walked-past R (suc i) zero xs ys f h w = absurd (omega (arith, h))
+walked-past R (suc i) (suc j) [] [] f h w = tt
+walked-past R (suc i) (suc j) [] (y ∷ ys) f h w = absurd w
+walked-past R (suc i) (suc j) (x ∷ xs) [] f h w = absurd w
+walked-past R (suc i) (suc j) (x ∷ xs) (y ∷ ys) f h w = (w.0, walked-past R i j xs ys (λ k d a b c. f (suc k) d (omega (arith, a)) (omega (arith, b)) (omega (arith, c))) (omega (arith, h)) w.1)
+
+-- past the last one
+pub walked-end : {X : Type 0} (R : X → X → Type 0) (j n : ℕ) (xs ys : List X) → n ≡ length ys → n ≤ j → Walked R j xs ys → Walked R n xs ys
+walked-end R zero zero xs ys e h w = w
+walked-end R zero (suc n) xs ys e h w = absurd (omega (arith, h))
+walked-end R (suc j) zero [] [] e h w = refl
+walked-end R (suc j) zero (x ∷ xs) [] e h w = absurd w
+walked-end R (suc j) zero xs (y ∷ ys) e h w = absurd (omega (arith, e))
+walked-end R (suc j) (suc n) xs [] e h w = absurd (omega (arith, e))
+walked-end R (suc j) (suc n) [] (y ∷ ys) e h w = absurd w
+walked-end R (suc j) (suc n) (x ∷ xs) (y ∷ ys) e h w = (w.0, walked-end R j n xs ys (omega (arith, e)) (omega (arith, h)) w.1)

@@ -1,9 +1,14 @@
 -- Marks: for each flight a word, of which each bit is for one of the first 64 open regulations, in the order of opening.
--- Where the bit isn't set, the flight isn't held there; where it is, the flight may be held or not.
-use Rattle.std.specs.Prelude.{◌≡◌, ℕ, suc, Bool, true, false, ◌==◌, nat_lt, if◌then◌else◌, List, [], ◌∷◌, slice_index_or as get_or}
+-- Where the bit isn't set, the flight isn't held there; where it is, the flight may be held or not. In the same way a table has a word
+-- for each kind of place and each bit of a place (`row_of`): where the bit isn't set, the regulation isn't at a place of that row.
+use Rattle.std.specs.Prelude.{◌≡◌, ℕ, suc, ◌<◌, Bool, true, false, ◌==◌, nat_lt, if◌then◌else◌, List, [], ◌∷◌, length, None, slice_index_or as get_or}
 use Rattle.std.specs.Int.{bit_at}
-use Rattle.flow_slots.specs.Lineup.{NoneIs, NoneFixed}
-use Rattle.flow_regulations.specs.Listing.{Listed}
+use Rattle.flow_plans.specs.Near.{row_of}
+use Rattle.flow_plans.specs.Plans.{Plan}
+use Rattle.flow_slots.specs.Lineup.{IsLineup, NoneIs, NoneFixed}
+use Rattle.flow_slots.specs.Period.{IsRegular}
+use Rattle.flow_regulations.specs.Regulations.{subject_to}
+use Rattle.flow_regulations.specs.Listing.{Listed, regulation_of}
 
 -- whether a flight of this word may be held in the regulation at this place; it may in each from the 65th on
 unfoldable pub may_stand : ℕ → ℕ → Bool
@@ -16,6 +21,11 @@ word_of words flight = get_or words flight 18_446_744_073_709_551_615
 -- the flight isn't held
 abbrev pub IsOut : ℕ → Listed → Type 0
 IsOut flight l = NoneFixed flight l.lineup.fixed × NoneIs flight l.lineup.waiting
+
+-- no flight stands twice, and the period is regular
+pub record IsInOrder (l : Listed) : Type 0 where
+  pub lined : IsLineup l.lineup
+  pub regular : IsRegular l.lineup.period
 
 -- in regulations from this place on, the flight isn't held where its word says so
 abbrev pub Covers : ℕ → ℕ → ℕ → List Listed → Type 0
@@ -41,3 +51,17 @@ MovesUp index word new = KeepsBelow index word new × ((i : ℕ) → nat_lt i in
 -- a regulation was opened at this place, in which the flight is held or not
 abbrev pub IsOpenedTo : ℕ → Listed → ℕ → ℕ → ℕ → Type 0
 IsOpenedTo index l flight word new = KeepsBelow index word new × (may_stand new index ≡ false → IsOut flight l)
+
+-- a regulation whose row in a table of words by places is this one was opened at this place
+abbrev pub IsOpenedIn : ℕ → ℕ → ℕ → ℕ → ℕ → Type 0
+IsOpenedIn own index row word new = KeepsBelow index word new × (row ≡ own → may_stand new index ≡ true)
+
+-- regulations from this place on, each of which the word of its row marks: the table says which regulations there are at a place
+abbrev pub AreInRows : List ℕ → ℕ → List Listed → Type 0
+AreInRows table index [] = Unit {0}
+AreInRows table index (l ∷ ls) = (may_stand (word_of table (row_of l.spot)) index ≡ true) × AreInRows table (suc index) ls
+
+-- regulations that this word doesn't mark don't apply to the flight of a plan
+abbrev pub MarksNear : ℕ → ℕ → Plan → List Listed → Type 0
+MarksNear near taxi p lists =
+    (index : ℕ) (l : Listed) → index < length lists → may_stand near index ≡ false → subject_to taxi (regulation_of (get_or lists index l)) p ≡ None

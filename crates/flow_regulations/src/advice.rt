@@ -1,5 +1,5 @@
 //! What flights are to be told of their slots.
-ghost use Rattle.std.specs.Prelude.{◌≡◌, ◌+◌, ◌-◌, ◌<◌, ◌≤◌, false, length, map, IfSome, IsSome};
+ghost use Rattle.std.specs.Prelude.{◌≡◌, ◌+◌, ◌-◌, ◌<◌, ◌≤◌, length, map, IfSome, IsSome};
 ghost use Rattle.std.specs.Option.{option_map};
 ghost use Rattle.flow_plans.specs.Plans.{plan_at};
 ghost use Rattle.flow_plans.specs.Entries.{take_off};
@@ -7,9 +7,9 @@ ghost use Rattle.flow_slots.specs.Period.{slot_time};
 ghost use Rattle.flow_slots.specs.Lineup.{fixed_slot};
 ghost use Rattle.flow_regulations.specs.Advice.{delay_in, caused_by, worse, advice};
 ghost use Rattle.flow_regulations.specs.Listing.{regulation_of};
-ghost use Rattle.flow_regulations.specs.Marks.{IsOut, Covers};
+ghost use Rattle.flow_regulations.specs.Marks.{Covers};
 
-use crate::marks::may_stand;
+use crate::marks::next_marked;
 use crate::notice::Told;
 use crate::regulation::Regulation;
 use flow_plans::PlanStore;
@@ -58,28 +58,6 @@ fn delay_in<A: Allocator + Copy>(
     })
 }
 
-/// The delay that the slot gives which a flight keeps in a regulation. One that may not be held there isn't looked for.
-#[inline(always)]
-fn delay_where<A: Allocator + Copy>(
-    regulation: &Regulation<A>,
-    plans: &PlanStore<A>,
-    number: u32,
-    may_stand: bool,
-) -> Option<Delay>
-    requires some { 0 < number }
-    requires within { number ≤ length plans.now.plans }
-    requires out { may_stand ≡ false → IsOut number regulation.now }
-    ensures value { IfSome (plan_at plans.now.plans number)
-        (λ p. result ≡ option_map (caused_by (regulation_of regulation.now)) (delay_in plans.now.taxi number p (regulation_of regulation.now))) }
-    ensures bound { IfSome (plan_at plans.now.plans number)
-        (λ p. IfSome result (λ d. take_off plans.now.taxi p + d.minutes ≤ 100_000_000)) }
-{
-    if !may_stand {
-        return None;
-    }
-    delay_in(regulation, plans, number)
-}
-
 /// The greater delay, the first of equal ones.
 pub(crate) fn worse(first: Option<Delay>, later: Option<Delay>) -> Option<Delay>
     ensures { result ≡ worse first later }
@@ -113,9 +91,10 @@ pub(crate) fn advice_of<A: Allocator + Copy>(
         (λ p. result ≡ advice plans.now.taxi number p (map regulation_of regulations.now)) }
 {
     let mut worst = None;
-    for (index, regulation) in regulations.iter().enumerate() {
-        let marked = may_stand(word, index);
-        worst = worse(worst, delay_where(regulation, plans, number, marked));
+    let mut index = next_marked(word, 0);
+    while index < regulations.len() {
+        worst = worse(worst, delay_in(&regulations[index], plans, number));
+        index = next_marked(word, index + 1);
     }
     let delay = worst?;
     let take_off = plans.take_off(number).minutes();

@@ -4,8 +4,9 @@
 //! the bit isn't set, the flight isn't held in that regulation, whose slot list need not be asked; where it is set, it may
 //! be held or not. A flight that has no word may be held in each regulation, and so may each flight from the 65th
 //! regulation on.
-ghost use Rattle.std.specs.Prelude.{◌≡◌, ℕ, suc, true, false, length};
-ghost use Rattle.flow_regulations.specs.Marks.{may_stand, word_of, Keeps, KeepsBelow, MovesUp, IsOut, IsOpenedTo};
+ghost use Rattle.std.specs.Prelude.{◌≡◌, ◌<◌, ◌≤◌, ℕ, suc, true, false, length};
+ghost use Rattle.flow_plans.specs.Near.{row_of};
+ghost use Rattle.flow_regulations.specs.Marks.{may_stand, word_of, Keeps, KeepsBelow, MovesUp, IsOut, IsOpenedTo, IsOpenedIn};
 
 use crate::regulation::Regulation;
 use std::alloc::{AllocError, Allocator};
@@ -32,6 +33,23 @@ pub(crate) fn may_stand(word: u64, index: usize) -> bool
     } else {
         true
     }
+}
+
+/// The first place from this one on where a flight of this word may be held.
+#[inline(always)]
+pub(crate) fn next_marked(word: u64, index: usize) -> usize
+    ensures from { index ≤ result }
+    ensures passed { (i : ℕ) → index ≤ i → i < result → may_stand word i ≡ false }
+    ensures marked { may_stand word result ≡ true }
+{
+    if index >= 64 {
+        return index;
+    }
+    let later = word >> index;
+    if later == 0 {
+        return 64;
+    }
+    index + later.trailing_zeros() as usize
 }
 
 /// The word of a flight that may be held at this place too.
@@ -134,6 +152,26 @@ fn holds<A: Allocator + Copy>(regulation: &Regulation<A>, flight: usize) -> bool
     match u32::try_from(flight) {
         Ok(number) => regulation.holds(number),
         Err(_) => true,
+    }
+}
+
+/// Marks, in a table of words by places, a regulation that is opened after these.
+pub(crate) fn open_last_row<A: Allocator + Copy>(
+    table: &mut [u64],
+    regulations: &[Regulation<A>],
+    opened: &Regulation<A>,
+)
+    ensures { (row : ℕ) → IsOpenedIn (row_of opened.now.spot) (length regulations.now) row (word_of table.old row) (word_of table.new row) }
+{
+    open_row(table, regulations.len(), opened.row());
+}
+
+/// Marks a regulation of this row that is opened at this place, the last.
+fn open_row(table: &mut [u64], index: usize, own: usize)
+    ensures { (row : ℕ) → IsOpenedIn own index row (word_of table.old row) (word_of table.new row) }
+{
+    for (row, word) in table.iter_mut().enumerate() {
+        *word = with_place(*word, index, row == own);
     }
 }
 

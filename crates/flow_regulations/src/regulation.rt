@@ -1,16 +1,18 @@
 //! An open regulation.
 ghost use Rattle.std.specs.Prelude.{◌≡◌, ◌<◌, ◌≤◌, ℕ, List, None, Some, true, false, IfSome, IfOk, OnOk, IsTrue, ◌↔◌, length};
+ghost use Rattle.std.specs.List.{All};
 ghost use Rattle.flow_plans.specs.Plans.{Plan as Held, plan_at, is_departed, is_filed};
+ghost use Rattle.flow_plans.specs.Near.{row_of};
 ghost use Rattle.flow_slots.specs.Lineup.{held_slot, fixed_slot, without_flight, waiting_entry, len_of, IsLineup};
 ghost use Rattle.flow_slots.specs.Period.{IsWithin, IsRegular};
 ghost use Rattle.flow_regulations.specs.Places.{IsPlaceOf, MayStand, stood};
-ghost use Rattle.flow_regulations.specs.Marks.{IsOut};
+ghost use Rattle.flow_regulations.specs.Marks.{IsOut, IsInOrder};
 ghost use Rattle.flow_regulations.specs.Regulations.{subject_to};
 ghost use Rattle.flow_regulations.specs.Settling.{is_due, pairs_of};
 ghost use Rattle.flow_regulations.specs.Listing.{Listed, regulation_of, with_lineup, without_in, released_in, keeps_slot, placed, with_no_flights, let_in, is_named, fixed_waiting, IsListedIn, IsSettledBut, AreSameBut, IsRenewed, IsFixedWaiting, IsLookedAgain};
 
 use crate::places::Place;
-use flow_plans::{Plan, PlanState, PlanStore};
+use flow_plans::{Plan, PlanState, PlanStore, row_of};
 use flow_slots::{Shape, SlotList};
 use fpl_message::Spot;
 use fpl_text::{Minute, Text};
@@ -68,6 +70,13 @@ impl<A: Allocator + Copy> Regulation<A> {
         ensures { IsTrue result ↔ (self.now ≡ other.now) }
     {
         self.is_named(&other.id) && self.spot == other.spot && self.list.same(&other.list)
+    }
+
+    /// The row of its place in a table of words by places.
+    pub(crate) fn row(&self) -> usize
+        ensures { result ≡ row_of self.now.spot }
+    {
+        row_of(&self.spot)
     }
 
     /// Its slot list.
@@ -230,19 +239,6 @@ impl<A: Allocator + Copy> Regulation<A> {
         }
     }
 
-    /// Where a flight stands. One that may not be held isn't looked for.
-    #[inline(always)]
-    pub(crate) fn place_where(&self, number: u32, may_stand: bool) -> Place
-        requires { may_stand ≡ false → IsOut number self.now }
-        ensures { IsPlaceOf number result self.now }
-    {
-        if !may_stand {
-            self.is_in_order();
-            return Place::Absent;
-        }
-        self.place_of(number)
-    }
-
     /// Lets a flight that isn't held stand in a place.
     fn stand_in(&mut self, number: u32, place: Place)
         requires absent { held_slot self.old.lineup number ≡ None }
@@ -285,19 +281,6 @@ impl<A: Allocator + Copy> Regulation<A> {
         }
         if self.list.slot_of(number).is_some() {
             self.list.fix(number);
-        }
-    }
-
-    /// Fixes a flight where it waits, if it waits. One that may not be held isn't looked for.
-    #[inline(always)]
-    pub(crate) fn fix_where(&mut self, number: u32, may_stand: bool)
-        requires { may_stand ≡ false → IsOut number self.old }
-        ensures { IsFixedWaiting number self.old self.new }
-    {
-        if may_stand {
-            self.fix_waiting(number);
-        } else {
-            self.is_in_order();
         }
     }
 
@@ -370,6 +353,16 @@ impl<A: Allocator + Copy> Regulation<A> {
             Some(entry) => self.stand(number, entry, is_due(plans, number, now)),
             None => self.take_out(number),
         }
+    }
+}
+
+/// In none of these regulations does a flight stand twice, and their periods are regular.
+#[inline(always)]
+pub(crate) fn are_in_order<A: Allocator + Copy>(regulations: &[Regulation<A>])
+    ensures { All IsInOrder regulations.now }
+{
+    for regulation in regulations {
+        regulation.is_in_order();
     }
 }
 

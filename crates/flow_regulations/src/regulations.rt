@@ -1,5 +1,5 @@
 //! The open regulations.
-ghost use Rattle.std.specs.Prelude.{◌≡◌, ◌<◌, ◌≤◌, ◌+◌, ◌++◌, ℕ, List, [], false, true, ◌∷◌, None, Some, IfSome, IfNone, IfOk, IsTrue, ◌↔◌, MatchOption, OnOk, OnErr, length, map, vec_capacity};
+ghost use Rattle.std.specs.Prelude.{◌≡◌, ◌<◌, ◌≤◌, ◌+◌, ◌-◌, ◌++◌, ℕ, List, [], false, true, ◌∷◌, None, Some, IfSome, IfNone, IfOk, IsTrue, ◌↔◌, MatchOption, OnOk, OnErr, length, map, replicate, vec_capacity};
 ghost use Rattle.std.specs.List.{All, AllByRecursion, insert, list_any};
 ghost use Rattle.std.specs.List.Sorted.{IsNonDecreasing, IsStrictlyIncreasing};
 ghost use Rattle.flow_plans.specs.Plans.{Plan, plan_at};
@@ -7,7 +7,7 @@ ghost use Rattle.flow_slots.specs.Assignment.{is_in};
 ghost use Rattle.flow_regulations.specs.Advice.{advice};
 ghost use Rattle.flow_regulations.specs.Awaiting.{HaveBecomeDue};
 ghost use Rattle.flow_regulations.specs.Listing.{Listed, Walked, without_in, IsLookedAgain, IsListed, AreSettledBut, AreSameBut, AreRenewed, IsFixedWaiting, AreFrozen, IsSettled, IsAdvancing, is_below, is_among, with_fixed_waiting, AreDue, HoldNewlyDue, HaveCapacity, names_in, IsReleased, IsOpened, opened, is_named, without_named, lineup_named, keeps_slot_in, IsNamedAt, MayReopen, pairs_in, regulation_of};
-ghost use Rattle.flow_regulations.specs.Marks.{may_stand, Keeps, Covers, AreMarked};
+ghost use Rattle.flow_regulations.specs.Marks.{may_stand, Keeps, Covers, AreMarked, AreInRows, MarksNear};
 ghost use Rattle.flow_regulations.specs.Settling.{pairs_of};
 ghost use Rattle.flow_regulations.specs.Notices.{notices_from, told_from};
 ghost use Rattle.flow_regulations.specs.Places.{ArePlaces};
@@ -16,10 +16,13 @@ ghost use Rattle.flow_regulations.specs.Quiet.{AreQuietBut, AllQuiet};
 use crate::advice::advice_of;
 use crate::closed::Closed;
 use crate::fixed_flights::note_fixed;
-use crate::marks::{close_place, make_room, mark_where, may_stand, open_last, set_word, word_of};
+use crate::marks::{
+    close_place, make_room, mark_where, may_stand, next_marked, open_last, open_last_row, set_word,
+    word_of,
+};
 use crate::notice::{Notice, Told};
 use crate::places::Place;
-use crate::regulation::{Regulation, is_due};
+use crate::regulation::{Regulation, are_in_order, is_due};
 use crate::telling::tell;
 use flow_plans::PlanStore;
 use flow_slots::{Shape, SlotList};
@@ -28,6 +31,9 @@ use fpl_text::{Minute, Text};
 use std::alloc::{AllocError, Allocator, Global};
 use std::marker::Model;
 
+/// The last row of a table of words by places.
+const LAST_ROW: u32 = 191;
+
 /// The open regulations in order of opening, each with its slot list (ATFCM Users Manual, slot allocation).
 #[derive(Drop)]
 pub struct Regulations<A: Allocator + Copy = Global> {
@@ -35,19 +41,22 @@ pub struct Regulations<A: Allocator + Copy = Global> {
     regulations: Vec<Regulation<A>, A>,
     // for each flight, by its number, the word that marks where it may be held
     words: Vec<u64, A>,
+    // for each row of places, the word that marks the regulations there
+    rows: Vec<u64, A>,
 }
 
 impl<A: Allocator + Copy> Model for Regulations<A> {
     ghost use Rattle.std.specs.Prelude.{◌<◌, ◌≤◌, vec_capacity};
     ghost use Rattle.flow_regulations.specs.Listing.{Listing, HaveCapacity, AreApart, names_in};
-    ghost use Rattle.flow_regulations.specs.Marks.{AreMarked};
+    ghost use Rattle.flow_regulations.specs.Marks.{AreMarked, AreInRows};
 
     ghost Value = { Listing };
 
     ghost view = { λ r. record { max_plans = r.max_plans; lists = r.regulations.items; room = vec_capacity r.regulations } };
 
     ghost invariant = { λ r. (0 < r.max_plans) × (r.max_plans ≤ 20_000) × HaveCapacity r.max_plans r.regulations.items
-        × AreApart (names_in r.regulations.items) × AreMarked r.words.items r.regulations.items };
+        × AreApart (names_in r.regulations.items) × AreMarked r.words.items r.regulations.items
+        × AreInRows r.rows.items 0 r.regulations.items };
 }
 
 impl<A: Allocator + Copy> Regulations<A> {
@@ -62,6 +71,7 @@ impl<A: Allocator + Copy> Regulations<A> {
             max_plans,
             regulations: Vec::new(alloc),
             words: Vec::new(alloc),
+            rows: Vec::new(alloc),
         }
     }
 
@@ -100,9 +110,11 @@ impl<A: Allocator + Copy> Regulations<A> {
         let mut regulation = Regulation::new(alloc, id, spot, shape, self.max_plans)?;
         self.regulations.reserve(1)?;
         make_room(&mut self.words, alloc, self.max_plans)?;
+        make_room(&mut self.rows, alloc, LAST_ROW)?;
         let_all_in(&mut regulation, plans);
         settle(&mut regulation, plans, now);
         open_last(&mut self.words, &self.regulations, &regulation);
+        open_last_row(&mut self.rows, &self.regulations, &regulation);
         self.regulations.push_reserved(regulation);
         Ok(())
     }
@@ -153,6 +165,7 @@ impl<A: Allocator + Copy> Regulations<A> {
         let index = index_named(&self.regulations, id)?;
         let regulation = self.regulations.remove(index);
         close_place(&mut self.words, index);
+        close_place(&mut self.rows, index);
         Some(Closed { index, regulation })
     }
 
@@ -166,6 +179,7 @@ impl<A: Allocator + Copy> Regulations<A> {
         let Closed { index, regulation } = closed;
         self.regulations.insert(index, regulation).unwrap();
         self.words.clear();
+        self.rows.clear();
     }
 
     /// Takes the regulation that was opened last out again.
@@ -193,7 +207,8 @@ impl<A: Allocator + Copy> Regulations<A> {
             → AreRenewed plans.now.taxi self.old.max_plans now plans.now.plans self.old.lists self.new.lists }
     {
         let word = word_of(&self.words, number);
-        let word = look_again_in(&mut self.regulations, plans, number, now, word);
+        let near = plans.near(number, &self.rows);
+        let word = look_again_in(&mut self.regulations, plans, number, now, word, near);
         set_word(&mut self.words, number, word);
     }
 
@@ -325,25 +340,32 @@ fn are_same<A: Allocator + Copy>(regulations: &[Regulation<A>], others: &[Regula
     true
 }
 
-/// Each regulation looks again at one flight, which the word marks, and answers the word that marks it then.
+/// Each regulation looks again at one flight, which the word marks, and answers the word that marks it then. No other regulation
+/// applies to the flight than those marked near it.
 fn look_again_in<A: Allocator + Copy>(
     regulations: &mut [Regulation<A>],
     plans: &PlanStore<A>,
     number: u32,
     now: Minute,
     word: u64,
+    near: u64,
 ) -> u64
     requires some { 0 < number }
     requires within { number ≤ length plans.now.plans }
     requires room { AllByRecursion (λ l. number ≤ l.lineup.capacity) regulations.old }
     requires covers { Covers word number 0 regulations.old }
+    requires near { (p : Plan) → plan_at plans.now.plans number ≡ Some p → MarksNear near plans.now.taxi p regulations.old }
     ensures walked { Walked (IsLookedAgain number plans.now.taxi now plans.now.plans) (length regulations.new) regulations.old regulations.new }
     ensures covers { Covers result number 0 regulations.new }
 {
+    are_in_order(regulations);
+    let concerned = word | near;
     let mut marked = word;
-    for (index, regulation) in regulations.iter_mut().enumerate() {
-        let stands = regulation.look_where(plans, number, now, may_stand(marked, index));
+    let mut index = next_marked(concerned, 0);
+    while index < regulations.len() {
+        let stands = regulations[index].look_where(plans, number, now, may_stand(marked, index));
         marked = mark_where(marked, index, stands);
+        index = next_marked(concerned, index + 1);
     }
     marked
 }
@@ -360,9 +382,25 @@ fn note_places_in<A: Allocator + Copy>(
     ensures places { ArePlaces number places.new.items regulations.now }
     ensures capacity { vec_capacity places.new ≡ vec_capacity places.old }
 {
+    are_in_order(regulations);
     places.clear();
-    for (index, regulation) in regulations.iter().enumerate() {
-        places.push_reserved(regulation.place_where(number, may_stand(word, index)));
+    let mut index = next_marked(word, 0);
+    while index < regulations.len() {
+        note_absent(places, index);
+        places.push_reserved(regulations[index].place_of(number));
+        index = next_marked(word, index + 1);
+    }
+    note_absent(places, regulations.len());
+}
+
+/// Notes that a flight isn't held in the regulations up to this place for which nothing is noted.
+fn note_absent<A: Allocator + Copy>(places: &mut Vec<Place, A>, index: usize)
+    requires room { index ≤ vec_capacity places.old }
+    ensures places { places.new.items ≡ places.old.items ++ replicate (index - length places.old.items) Place.Absent }
+    ensures capacity { vec_capacity places.new ≡ vec_capacity places.old }
+{
+    while places.len() < index {
+        places.push_reserved(Place::Absent);
     }
 }
 
@@ -388,8 +426,11 @@ fn fix_waiting_in<A: Allocator + Copy>(regulations: &mut [Regulation<A>], number
     requires { Covers word number 0 regulations.old }
     ensures { Walked (IsFixedWaiting number) (length regulations.new) regulations.old regulations.new }
 {
-    for (index, regulation) in regulations.iter_mut().enumerate() {
-        regulation.fix_where(number, may_stand(word, index));
+    are_in_order(regulations);
+    let mut index = next_marked(word, 0);
+    while index < regulations.len() {
+        regulations[index].fix_waiting(number);
+        index = next_marked(word, index + 1);
     }
 }
 
@@ -416,6 +457,7 @@ fn release_all_in<A: Allocator + Copy>(
     ensures capacity { (max : ℕ) → HaveCapacity max regulations.old → HaveCapacity max regulations.new }
     ensures names { names_in regulations.new ≡ names_in regulations.old }
     ensures marked { (words : List ℕ) → AreMarked words regulations.old → AreMarked words regulations.new }
+    ensures rows { (table : List ℕ) → AreInRows table 0 regulations.old → AreInRows table 0 regulations.new }
     ensures lists { (max earlier now : ℕ) (before : List Listed)
         → HaveBecomeDue plans.now.taxi max earlier now plans.now.plans due.now before
         → regulations.old ≡ map (with_fixed_waiting due.now) before → regulations.new ≡ before }

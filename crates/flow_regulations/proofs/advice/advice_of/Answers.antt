@@ -1,10 +1,17 @@
-use Rattle.std.proofs.Common.{List, sym, subst, ◌∙◌, arith}
+use Rattle.std.proofs.Common.{ℕ, ◌+◌, ◌≤◌, None, refl, arith}
 use Rattle.flow_plans.specs.Plans.{plan_at}
-use Rattle.flow_regulations.specs.Listing.{Listed}
-use Rattle.flow_regulations.specs.Marks.{IsOut}
-use Rattle.flow_regulations.proofs.Marking.{covers-at}
-use Rattle.flow_regulations.proofs.Advised.{advice-none, advice-some, ctot-fits, worst-kept, within-kept}
+use Rattle.flow_regulations.proofs.Advised.{advice-none, advice-some, ctot-fits, worst-kept, worst-start, within-kept}
+use Rattle.flow_regulations.proofs.Outs.{no-delay}
+use Rattle.flow_regulations.proofs.Passing.{worst-past}
 use Rattle.flow_regulations.proofs.advice.advice_of.Goals as goal
+
+pub loop-index-init : goal.loop-index-init
+loop-index-init g c =
+    let o = plan_at c.args.plans.now.plans c.args.number in
+    record {
+      value = worst-past c.args.plans.now.taxi c.args.number c.args.word 0 c.next_marked-index.result o c.args.regulations.now None c.requires.covers c.next_marked-index.ensures.from c.next_marked-index.ensures.passed (worst-start c.args.plans.now.taxi c.args.number o c.args.regulations.now);
+      bound = no-delay c.args.plans.now.taxi 100_000_000 o None refl;
+    }
 
 pub returns-in_err-delay : goal.returns-in_err-delay
 returns-in_err-delay g c =
@@ -28,17 +35,15 @@ returns g c =
     advice-some c.args.plans.now.taxi c.args.number c.loop-index.index c.from_minutes.result c.minutes-take_off.result (plan_at c.args.plans.now.plans c.args.number) c.args.regulations.now c.loop-index.worst c.in_ok-delay.delay
     (omega arith) c.loop-index.invariant.value c.in_ok-delay.was (rw c.minutes-take_off.ensures.value c.take_off.ensures) c.from_minutes.ensures
 
-pub delay_where-requires-clause-out : goal.delay_where-requires-clause-out
-delay_where-requires-clause-out g c = λ e.
-    (let ls : List Listed = c.args.regulations.now in
-    let d : Listed = c.index-regulations-index.result in
-    let O : Listed → Type 0 = λ l. IsOut c.args.number l in
-    subst O (sym c.index-regulations-index.is) (covers-at c.args.word c.args.number c.loop-index.index ls d c.loop-index-test.true c.requires.covers (sym c.may_stand-marked.ensures ∙ e)))
-
 pub loop-index-preserved : goal.loop-index-preserved
-loop-index-preserved g c = record {
-  value = worst-kept c.args.plans.now.taxi c.args.number c.loop-index.index (plan_at c.args.plans.now.plans c.args.number) c.args.regulations.now c.index-regulations-index.result
-      c.loop-index.worst c.delay_where.result c.worse-worst.result c.loop-index-test.true c.index-regulations-index.is c.loop-index.invariant.value c.delay_where.ensures.value c.worse-worst.ensures;
-  bound = within-kept c.args.plans.now.taxi 100_000_000 (plan_at c.args.plans.now.plans c.args.number) c.loop-index.worst c.delay_where.result c.worse-worst.result
-      c.loop-index.invariant.bound c.delay_where.ensures.bound c.worse-worst.ensures;
-}
+loop-index-preserved g c =
+    let o = plan_at c.args.plans.now.plans c.args.number in
+    let i : ℕ = c.loop-index.index in
+    let next : i + 1 ≤ c.next_marked-index-in-loop-index.result = omega (arith, c.next_marked-index-in-loop-index.ensures.from) in
+    record {
+      value = worst-past c.args.plans.now.taxi c.args.number c.args.word (i + 1) c.next_marked-index-in-loop-index.result o c.args.regulations.now c.worse-worst.result c.requires.covers next c.next_marked-index-in-loop-index.ensures.passed
+          (worst-kept c.args.plans.now.taxi c.args.number i o c.args.regulations.now c.index-regulations-index.result
+          c.loop-index.worst c.delay_in.result c.worse-worst.result c.loop-index-test.true c.index-regulations-index.is c.loop-index.invariant.value c.delay_in.ensures.value c.worse-worst.ensures);
+      bound = within-kept c.args.plans.now.taxi 100_000_000 o c.loop-index.worst c.delay_in.result c.worse-worst.result
+          c.loop-index.invariant.bound c.delay_in.ensures.bound c.worse-worst.ensures;
+    }

@@ -1,4 +1,4 @@
-use Rattle.std.proofs.Common.{◌≡◌, ◌+◌, ◌≤◌, IfSome, drop, map}
+use Rattle.std.proofs.Common.{◌≡◌, ◌+◌, ◌-◌, ◌≤◌, IfSome, drop, map, length}
 use Rattle.flow_plans.specs.Plans.{plan_at}
 use Rattle.flow_plans.specs.Entries.{take_off}
 use Rattle.flow_regulations.specs.Listing.{regulation_of}
@@ -11,3 +11,6 @@ invariant-loop-index g l = record {
       ≡ worst l.plans.taxi l.number p (map regulation_of l.regulations));
   bound : IfSome (plan_at l.plans.plans l.number) (λ p. IfSome l.worst (λ d. take_off l.plans.taxi p + d.minutes ≤ 100_000_000));
 }
+
+abbrev pub decreases-loop-index : goal.decreases-loop-index
+decreases-loop-index g l = length l.regulations - l.index

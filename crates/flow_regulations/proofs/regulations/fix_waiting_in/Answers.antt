@@ -1,30 +1,33 @@
-use Rattle.std.proofs.Common.{ℕ, ◌<◌, List, length, get_or, sym, ◌∙◌, arith}
+use Rattle.std.proofs.Common.{rules, ℕ, ◌+◌, ◌<◌, ◌≤◌, List, length, get_or, refl, arith}
 use Rattle.flow_regulations.specs.Listing.{Listed, IsFixedWaiting}
-use Rattle.flow_regulations.proofs.Marking.{covers-at, covers-set}
-use Rattle.flow_regulations.proofs.Outs.{out-fixed}
-use Rattle.flow_regulations.proofs.Walks.{walked-step}
+use Rattle.flow_regulations.proofs.Passing.{fixes-past}
+use Rattle.flow_regulations.proofs.Walks.{walked-step, walked-end}
 use Rattle.flow_regulations.proofs.regulations.fix_waiting_in.Goals as goal
 
-pub fix_where-requires : goal.fix_where-requires
-fix_where-requires g c = λ e.
-    (let s = c.loop-index in
-    let ys : List Listed = s.regulations in
-    let i : ℕ = s.index in
-    let within : i < length ys = omega (arith, c.loop-index-test.true, s.auto.regulations) in
-    covers-at c.args.word c.args.number i ys c.index-regulations-index.result within s.invariant.covers (sym c.may_stand.ensures ∙ e))
+pub loop-index-init : goal.loop-index-init
+loop-index-init g c =
+    fixes-past c.args.number c.args.word 0 c.next_marked-index.result c.args.regulations.now c.args.regulations.now c.requires c.are_in_order.ensures c.next_marked-index.ensures.from c.next_marked-index.ensures.passed refl
 
 pub loop-index-preserved : goal.loop-index-preserved
 loop-index-preserved g c =
     let s = c.loop-index in
     let ys : List Listed = s.regulations in
     let d : Listed = c.index-regulations-index.result in
-    let z : Listed = c.fix_where.new.self in
-    let f = c.fix_where.ensures in
+    let z : Listed = c.fix_waiting.new.self in
+    let f = c.fix_waiting.ensures in
     let n : ℕ = c.args.number in
     let i : ℕ = s.index in
     let within : i < length ys = omega (arith, c.loop-index-test.true, s.auto.regulations) in
-    let here : IsFixedWaiting n (get_or ys i d) z = record { same = f.same; capacity = f.capacity; lined = f.lined; regular = f.regular } in
-    record {
-      walked = walked-step (IsFixedWaiting n) i c.args.regulations.now ys d z within here s.invariant.walked;
-      covers = covers-set c.args.word c.args.word n i ys z (λ _ m. m) (λ e. out-fixed n n (get_or ys i d) z here (covers-at c.args.word n i ys d within s.invariant.covers e)) s.invariant.covers;
-    }
+    let here : IsFixedWaiting n (get_or ys i d) z = record { same = f.fixed; capacity = f.capacity; lined = f.lined; regular = f.regular } in
+    let next : i + 1 ≤ c.next_marked-index-in-loop-index.result = omega (arith, c.next_marked-index-in-loop-index.ensures.from) in
+    fixes-past n c.args.word (i + 1) c.next_marked-index-in-loop-index.result c.args.regulations.now _ c.requires c.are_in_order.ensures next c.next_marked-index-in-loop-index.ensures.passed
+    (walked-step (IsFixedWaiting n) i c.args.regulations.now ys d z within here s.invariant)
+
+pub returns : goal.returns
+returns g c =
+    let xs : List Listed = c.loop-index.regulations in
+    let n : ℕ = c.args.number in
+    walked-end (IsFixedWaiting n) c.loop-index.index (length xs) c.args.regulations.now xs refl (omega (arith, c.loop-index-test.false, c.loop-index.auto.regulations)) c.loop-index.invariant
+
+pub offset_bounds-regulations-index : goal.offset_bounds-regulations-index
+offset_bounds-regulations-index g c = let h : c.loop-index.index < length c.args.regulations.now = omega (arith, c.loop-index-test.true, c.loop-index.auto.regulations) in search rules

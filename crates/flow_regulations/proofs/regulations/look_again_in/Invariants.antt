@@ -1,4 +1,4 @@
-use Rattle.std.proofs.Common.{◌≤◌}
+use Rattle.std.proofs.Common.{◌-◌, ◌≤◌, length}
 use Rattle.std.specs.List.{AllByRecursion}
 use Rattle.flow_regulations.specs.Listing.{Walked, IsLookedAgain}
 use Rattle.flow_regulations.specs.Marks.{Covers}
@@ -10,3 +10,6 @@ invariant-loop-index g l = record {
   room : AllByRecursion (λ r. l.number ≤ r.lineup.capacity) l.regulations;
   covers : Covers l.marked l.number 0 l.regulations;
 }
+
+abbrev pub decreases-loop-index : goal.decreases-loop-index
+decreases-loop-index g l = length l.regulations - l.index

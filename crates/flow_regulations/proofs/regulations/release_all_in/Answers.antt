@@ -4,6 +4,7 @@ use Rattle.flow_regulations.proofs.Advances.{fixed-start}
 use Rattle.flow_regulations.proofs.Alls.{names-released}
 use Rattle.flow_regulations.proofs.Marking.{marked-walked}
 use Rattle.flow_regulations.proofs.Outs.{out-released}
+use Rattle.flow_regulations.proofs.Rows.{rows-released}
 use Rattle.flow_regulations.proofs.Released.{release-step, capacity-released}
 use Rattle.flow_regulations.proofs.regulations.release_all_in.Goals as goal
 
@@ -24,6 +25,9 @@ loop-left-preserved g c =
       marked = λ words h.
           (let n = c.requires j 0 within in
           marked-walked (IsReleased (get_or due j 0) taxi plans) words (length xs) ms xs (out-released (get_or due j 0) taxi plans n.0 n.1) refl c.release_in.ensures (c.loop-left.invariant.marked words h));
+      rows = λ table h.
+          (let n = c.requires j 0 within in
+          rows-released (get_or due j 0) taxi (length xs) plans table ms xs n.0 n.1 refl c.release_in.ensures (c.loop-left.invariant.rows table h));
       lists = λ max earlier now before h e.
           (let M : ℕ → Type 0 = λ i. ms ≡ map (with_fixed_waiting (take i due)) before in
           release-step taxi max earlier now j plans due before ms xs h within (subst M next (c.loop-left.invariant.lists max earlier now before h e)) c.release_in.ensures);

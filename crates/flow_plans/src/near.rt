@@ -1,0 +1,72 @@
+//! What stands in a table of words for the places to which a flight comes.
+//!
+//! The table has a row for each kind of place and each bit of a place, so 192 rows: departures, arrivals and places on the way have
+//! 64 each.
+ghost use Rattle.std.specs.Prelude.{◌≡◌, ◌+◌, ◌<◌, ◌≤◌, ℕ};
+ghost use Rattle.std.specs.Int.{bit_at};
+ghost use Rattle.flow_plans.specs.Near.{row_of, word_at, HasBitsOf};
+ghost use Rattle.flow_plans.specs.Places.{bit_of};
+
+use crate::places::bit_of;
+use fpl_message::Spot;
+
+/// The row of a place in a table of words by places.
+#[tactic(auto, unfolding(crate::specs::Near::row_of))]
+pub fn row_of(spot: &Spot) -> usize
+    ensures value { result ≡ row_of spot.now }
+    ensures bound { result < 192 }
+{
+    match spot {
+        Spot::Dep(place) => bit_of(place.as_bytes()) as usize,
+        Spot::Arr(place) => 64 + bit_of(place.as_bytes()) as usize,
+        Spot::Via(place) => 128 + bit_of(place.as_bytes()) as usize,
+    }
+}
+
+/// The word of a row. One that the table doesn't have has each bit.
+#[inline(always)]
+fn word_at(table: &[u64], row: usize) -> u64
+    ensures { result ≡ word_at table.now row }
+{
+    match table.get(row) {
+        Some(word) => *word,
+        None => u64::MAX,
+    }
+}
+
+/// The bits of the words of a departure and a destination.
+pub(crate) fn words_of_ends(table: &[u64], dep: &[u8], dest: &[u8]) -> u64
+    ensures dep { HasBitsOf result (word_at table.now (bit_of dep.now)) }
+    ensures dest { HasBitsOf result (word_at table.now (64 + bit_of dest.now)) }
+{
+    word_at(table, bit_of(dep) as usize) | word_at(table, 64 + bit_of(dest) as usize)
+}
+
+/// The next bit of a word from this one on, 64 or more where there is none.
+#[inline(always)]
+fn next_bit(word: u64, from: usize) -> usize
+    ensures from { from ≤ result }
+    ensures passed { (i : ℕ) → from ≤ i → i < result → bit_at word i ≡ 0 }
+{
+    if from >= 64 {
+        return from;
+    }
+    let later = word >> from;
+    if later == 0 {
+        return 64;
+    }
+    from + later.trailing_zeros() as usize
+}
+
+/// The bits of the words of a set of places on the way.
+pub(crate) fn words_on_way(table: &[u64], places: u64) -> u64
+    ensures { (b : ℕ) → b < 64 → bit_at places b ≡ 1 → HasBitsOf result (word_at table.now (128 + b)) }
+{
+    let mut words = 0;
+    let mut bit = next_bit(places, 0);
+    while bit < 64 {
+        words |= word_at(table, 128 + bit);
+        bit = next_bit(places, bit + 1);
+    }
+    words
+}
