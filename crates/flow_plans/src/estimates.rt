@@ -19,9 +19,9 @@ use std::alloc::{AllocError, Allocator, Global};
 /// the field is read instead.
 #[derive(Drop)]
 pub(crate) struct Estimates<A: Allocator + Copy = Global> {
-    whole: bool,
     /// The places of the notes, so that few other places are looked for.
     places: u64,
+    whole: bool,
     notes: Vec<Estimate, A>,
 }
 
@@ -41,7 +41,7 @@ impl<A: Allocator + Copy> Estimates<A> {
     }
 
     /// The elapsed time, in minutes, of the first estimate for a place in the field that they are of.
-    #[inline]
+    #[inline(always)]
     pub(crate) fn elapsed(&self, field: &[u8], place: &[u8]) -> Option<u32>
         requires { AreEstimatesOf field.now self.now.whole self.now.places self.now.notes.items }
         ensures value { result ≡ elapsed_to place.now (items_of (words_of field.now)) }
@@ -161,6 +161,7 @@ fn note_items<A: Allocator + Copy>(
 }
 
 /// The minutes of the first of these notes of a field that is for a place.
+#[inline(never)]
 fn first_for(notes: &[Estimate], field: &[u8], place: &[u8]) -> Option<u32>
     ensures value { result ≡ first_for field.now place.now notes.now }
     ensures bound { IfSome result (λ minutes. minutes < 6000) }
@@ -188,6 +189,7 @@ fn estimate_for(words: ItemWords<'_>, place: &[u8]) -> Option<u32>
 }
 
 /// The elapsed time, in minutes, of the first estimate for a place in a field 18.
+#[inline(never)]
 fn elapsed_to(field: &[u8], place: &[u8]) -> Option<u32>
     ensures value { result ≡ elapsed_to place.now (items_of (words_of field.now)) }
     ensures bound { IfSome result (λ minutes. minutes < 6000) }

@@ -6,7 +6,7 @@ ghost use Rattle.std.specs.Prelude.{◌≡◌, ◌<◌, true, List, ℕ};
 ghost use Rattle.flow_plans.specs.Places.{bit_of, may_have};
 
 /// The bit of a place, below 64.
-#[inline]
+#[inline(always)]
 #[tactic(auto, unfolding(crate::specs::Places::bit_of))]
 pub(crate) fn bit_of(place: &[u8]) -> u32
     ensures value { result ≡ bit_of place.now }
@@ -22,7 +22,7 @@ pub(crate) fn bit_of(place: &[u8]) -> u32
 }
 
 /// Whether a place may be in a set: whether its bit is set.
-#[inline]
+#[inline(always)]
 pub(crate) fn may_have(places: u64, place: &[u8]) -> bool
     ensures { result ≡ may_have places place.now }
 {

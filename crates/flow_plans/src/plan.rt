@@ -118,7 +118,7 @@ fn day_of<A: Allocator + Copy>(amended: Option<&Other18<A>>) -> Option<Day>
 }
 
 /// Whether an aerodrome is that place. Most that are not differ in the fourth letter.
-#[inline]
+#[inline(always)]
 fn is_place(aerodrome: &[u8], place: &[u8]) -> bool
     ensures { result ≡ bytes_eq aerodrome.now place.now }
 {
@@ -129,13 +129,16 @@ fn is_place(aerodrome: &[u8], place: &[u8]) -> bool
 }
 
 /// A flight plan as the desk holds it.
+///
+/// What says where the flight enters a place stands together, since opening a regulation looks at it in all plans: from the key
+/// to the places of the estimates, with which the texts begin.
 #[derive(Drop)]
 pub struct Plan<A: Allocator + Copy = Global> {
+    alternates: Alternates,
     key: Key,
     state: PlanState,
     off_block: Minute,
     elapsed: u32,
-    alternates: Alternates,
     rules: FlightRules,
     exempt: bool,
     texts: Texts<A>,
@@ -329,7 +332,7 @@ impl<A: Allocator + Copy> Plan<A> {
     }
 
     /// The minutes from take-off to a place of the way, by the first estimate for it in the EET items of field 18.
-    #[inline]
+    #[inline(always)]
     pub fn elapsed(&self, place: &[u8]) -> Option<u32>
         ensures value { result ≡ elapsed_at place.now self.now }
         ensures bound { IfSome result (λ minutes. minutes < 6000) }
@@ -348,7 +351,7 @@ impl<A: Allocator + Copy> Plan<A> {
     }
 
     /// The moment of entry at a place.
-    #[inline]
+    #[inline(always)]
     #[tactic(auto, unfolding(crate::specs::Entries::entry_at))]
     pub(crate) fn entry_at(&self, taxi: u32, spot: &Spot) -> Option<Minute>
         requires { taxi ≤ 120 }

@@ -15,13 +15,13 @@ use std::marker::Model;
 /// The squeezed texts of fields 8, 9, 10, 15 and 18, one after the other in one piece of memory.
 #[derive(Drop)]
 pub(crate) struct Texts<A: Allocator + Copy = Global> {
+    /// What the EET items of field 18 say.
+    estimates: Estimates<A>,
     bytes: Vec<u8, A>,
     end8: usize,
     end9: usize,
     end10: usize,
     end15: usize,
-    /// What the EET items of field 18 say.
-    estimates: Estimates<A>,
 }
 
 impl<A: Allocator + Copy> Model for Texts<A> {
@@ -134,7 +134,7 @@ impl<A: Allocator + Copy> Texts<A> {
     }
 
     /// The minutes from take-off to a place of the way, by the first estimate for it in the EET items of field 18.
-    #[inline]
+    #[inline(always)]
     pub(crate) fn elapsed(&self, place: &[u8]) -> Option<u32>
         ensures value { result ≡ elapsed_to place.now (items_of (words_of self.now.field18)) }
         ensures bound { IfSome result (λ minutes. minutes < 6000) }

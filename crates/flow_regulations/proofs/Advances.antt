@@ -138,6 +138,16 @@ none-due-below n taxi max now plans l m b all =
     all-map (λ w. (is_below n w.flight ≡ true → is_due_flight now plans w.flight ≡ false) × (w.flight < n)) (λ w. is_due_flight now plans w.flight ≡ false) m.lineup.waiting (λ w h. h.0 (lt-ltb w.flight n h.1))
     (all-both (λ w. is_below n w.flight ≡ true → is_due_flight now plans w.flight ≡ false) (λ w. w.flight < n) m.lineup.waiting b.waiting (subst Q (sym (ap (λ v. v.waiting) b.listed)) (below 1 taxi (regulation_of m) m.lineup.fixed plans n all)))
 
+-- a flight is fixed where it waits if it is due
+pub advancing-due : (n : ℕ) (done more : ℕ → Bool) (taxi now : ℕ) (plans : List Plan) (l m x : Listed) → OneMore n done more → 0 < n → IsAdvancing done taxi now plans l m
+    → (is_due_flight now plans n ≡ true → IsFixedWaiting n m x) → (is_due_flight now plans n ≡ false → x ≡ m) → IsAdvancing more taxi now plans l x
+advancing-due n done more taxi now plans l m x o positive a f same = cases (is_due_flight now plans n) refl where
+  cases : (b : Bool) → is_due_flight now plans n ≡ b → IsAdvancing more taxi now plans l x
+  cases true q = advancing-step n done more taxi now plans l m x o positive q a (f q)
+  cases false q =
+      let A : Listed → Type 0 = λ v. IsAdvancing more taxi now plans l v in
+      subst A (sym (same q)) (advancing-past n done more taxi now plans l m o q a)
+
 pub due-is : (now n : ℕ) (plans : List Plan) (b : Bool) → 0 < n → n ≤ length plans → ((p : Plan) → plan_at plans n ≡ Some p → b ≡ is_due now p) → is_due_flight now plans n ≡ b
 due-is now n plans b h l f = (let p = plan-there plans n h l in ap (λ o. option_map_or (is_due now) o false) p.1 ∙ sym (f p.0 p.1))
 

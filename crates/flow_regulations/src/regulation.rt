@@ -9,7 +9,7 @@ ghost use Rattle.flow_regulations.specs.Places.{IsPlaceOf, MayStand, stood};
 ghost use Rattle.flow_regulations.specs.Marks.{IsOut, IsInOrder};
 ghost use Rattle.flow_regulations.specs.Regulations.{subject_to};
 ghost use Rattle.flow_regulations.specs.Settling.{is_due, pairs_of};
-ghost use Rattle.flow_regulations.specs.Listing.{Listed, regulation_of, with_lineup, without_in, released_in, keeps_slot, placed, with_no_flights, let_in, is_named, fixed_waiting, IsListedIn, IsSettledBut, AreSameBut, IsRenewed, IsFixedWaiting, IsLookedAgain};
+ghost use Rattle.flow_regulations.specs.Listing.{Listed, regulation_of, with_lineup, without_in, released_in, keeps_slot, placed, with_no_flights, let_in, is_named, fixed_waiting, IsListedIn, IsSettledBut, AreSameBut, IsRenewed, IsFixedWaiting, IsLookedAgain, is_due_flight};
 
 use crate::places::Place;
 use flow_plans::{Plan, PlanState, PlanStore, row_of};
@@ -281,6 +281,22 @@ impl<A: Allocator + Copy> Regulation<A> {
         }
         if self.list.slot_of(number).is_some() {
             self.list.fix(number);
+        }
+    }
+
+    /// Fixes a flight where it waits, if it waits and is due.
+    pub(crate) fn fix_due(&mut self, plans: &PlanStore<A>, number: u32, now: Minute)
+        requires some { 0 < number }
+        requires within { number ≤ length plans.now.plans }
+        ensures due { is_due_flight now plans.now.plans number ≡ true → IsFixedWaiting number self.old self.new }
+        ensures other { is_due_flight now plans.now.plans number ≡ false → self.new ≡ self.old }
+    {
+        if !self.holds(number) {
+            self.is_in_order();
+            return;
+        }
+        if is_due(plans, number, now) {
+            self.fix_waiting(number);
         }
     }
 

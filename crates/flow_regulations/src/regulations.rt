@@ -22,7 +22,7 @@ use crate::marks::{
 };
 use crate::notice::{Notice, Told};
 use crate::places::Place;
-use crate::regulation::{Regulation, are_in_order, is_due};
+use crate::regulation::{Regulation, are_in_order};
 use crate::telling::tell;
 use flow_plans::PlanStore;
 use flow_slots::{Shape, SlotList};
@@ -500,9 +500,7 @@ fn settle<A: Allocator + Copy>(regulation: &mut Regulation<A>, plans: &PlanStore
     ensures { IsAdvancing (is_below (length plans.now.plans + 1)) plans.now.taxi now plans.now.plans regulation.old regulation.new }
 {
     for index in 0..plans.count() {
-        if is_due(plans, index + 1, now) {
-            regulation.fix_waiting(index + 1);
-        }
+        regulation.fix_due(plans, index + 1, now);
     }
 }
 
