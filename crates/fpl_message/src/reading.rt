@@ -6,7 +6,7 @@ ghost use Rattle.fpl_message.specs.Refusals.{Gives, by_text};
 ghost use Rattle.fpl_message.specs.Said.{said, said_message};
 ghost use Rattle.fpl_message.specs.Reads.{reading_of, reading_or_refusal, message_of, begins_message};
 
-use crate::fault::{Fault, boxed, text_fault};
+use crate::fault::{Fault, text_fault};
 use crate::filing::Edition;
 use crate::flight_plan::Fpl;
 use crate::message::{Message, Reading};
@@ -120,11 +120,11 @@ fn read_message<A: Allocator + Copy>(alloc: A, fields: Fields<A>) -> Result<Read
     ensures { Gives said result (message_of fields) }
 {
     let message = match fields.title() {
-        Title::Fpl => Message::Fpl(boxed(alloc, Fpl::read(alloc, fields)?)?),
-        Title::Dla => Message::Dla(boxed(alloc, Dla::read(alloc, &fields)?)?),
-        Title::Chg => Message::Chg(boxed(alloc, Chg::read(alloc, fields)?)?),
-        Title::Cnl => Message::Cnl(boxed(alloc, Cnl::read(alloc, &fields)?)?),
-        Title::Dep => Message::Dep(boxed(alloc, Dep::read(alloc, &fields)?)?),
+        Title::Fpl => Message::Fpl(Fpl::read(alloc, fields)?),
+        Title::Dla => Message::Dla(Dla::read(alloc, &fields)?),
+        Title::Chg => Message::Chg(Chg::read(alloc, fields)?),
+        Title::Cnl => Message::Cnl(Cnl::read(alloc, &fields)?),
+        Title::Dep => Message::Dep(Dep::read(alloc, &fields)?),
     };
     Ok(Reading::Msg(message))
 }
