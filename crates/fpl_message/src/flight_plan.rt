@@ -6,7 +6,7 @@ ghost use Rattle.fpl_items.specs.Items.{items_or_fault};
 ghost use Rattle.fpl_message.specs.FlightPlans.{fpl_of};
 ghost use Rattle.fpl_message.specs.Messages.{field};
 
-use crate::fault::Fault;
+use crate::fault::{Fault, boxed};
 use crate::refusal::Refusal;
 use fpl_items::{Other18, Route};
 use fpl_text::equipment::is_equipment;
@@ -52,9 +52,9 @@ impl<A: Allocator + Copy> Model for Fpl<A> {
 impl<A: Allocator + Copy> Fpl<A> {
     /// Reads the fields of an FPL, from the left.
     #[tactic(auto, unfolding(crate::specs::FlightPlans::fpl_of))]
-    pub(crate) fn read(alloc: A, fields: Fields<A>) -> Result<Fpl<A>, Fault>
+    pub(crate) fn read(alloc: A, fields: Fields<A>) -> Result<Box<Fpl<A>, A>, Fault>
         requires { length fields ≡ 9 }
-        ensures { Gives (λ m. m) result (fpl_of fields) }
+        ensures { Gives (λ b. b.value) result (fpl_of fields) }
     {
         let _heading = Heading::read(fields.field(0))?;
         let ident = Ident::read(fields.field(1))?;
@@ -70,7 +70,7 @@ impl<A: Allocator + Copy> Fpl<A> {
             return Err(Fault::Refused(Refusal::BadField(16)));
         };
         let other = Other18::read(alloc, fields.field(8))?;
-        Ok(Fpl {
+        let plan = Fpl {
             fields,
             ident,
             rules,
@@ -80,7 +80,8 @@ impl<A: Allocator + Copy> Fpl<A> {
             destination,
             elapsed,
             other,
-        })
+        };
+        boxed(alloc, plan)
     }
 
     /// Field 7: the identification.

@@ -6,7 +6,7 @@ ghost use Rattle.fpl_message.specs.Modifications.{chg_of};
 ghost use Rattle.fpl_message.specs.KeptChanges.{text_at};
 
 use crate::changes::{Changes, amended_at};
-use crate::fault::Fault;
+use crate::fault::{Fault, boxed};
 use crate::parts::{Parts, read_opening};
 use fpl_items::Other18;
 use fpl_text::fields::begins_amendment;
@@ -37,15 +37,15 @@ impl<A: Allocator + Copy> Model for Chg<A> {
 impl<A: Allocator + Copy> Chg<A> {
     /// Reads the fields of a CHG, from the left.
     #[tactic(auto, unfolding(crate::specs::Modifications::chg_of))]
-    pub(crate) fn read(alloc: A, fields: Fields<A>) -> Result<Chg<A>, Fault>
+    pub(crate) fn read(alloc: A, fields: Fields<A>) -> Result<Box<Chg<A>, A>, Fault>
         requires { 5 ≤ length fields }
-        ensures { Gives (λ m. m) result (chg_of fields) }
+        ensures { Gives (λ b. b.value) result (chg_of fields) }
     {
         let has_other = !begins_amendment(fields.field(4));
         let opening = read_opening(alloc, has_other, &fields)?;
         let first = if has_other { 5 } else { 4 };
         let changes = Changes::read(alloc, opening.parts, &fields, first)?;
-        Ok(Chg { fields, changes })
+        boxed(alloc, Chg { fields, changes })
     }
 
     /// What names the plan.

@@ -6,7 +6,7 @@ ghost use Rattle.fpl_message.specs.Refusals.{Gives, by_text};
 ghost use Rattle.fpl_message.specs.Said.{said, said_message};
 ghost use Rattle.fpl_message.specs.Reads.{reading_of, reading_or_refusal, message_of, begins_message};
 
-use crate::fault::{Fault, boxed, text_fault};
+use crate::fault::{Fault, text_fault};
 use crate::filing::Edition;
 use crate::flight_plan::Fpl;
 use crate::message::{Message, Reading};
@@ -97,22 +97,22 @@ fn read_message<A: Allocator + Copy>(
     ensures { Gives said result (message_of fields) }
 {
     let message = match fields.title() {
-        Title::Fpl => Message::Fpl(boxed(alloc, Fpl::read(alloc, fields)?)?),
-        Title::Chg => Message::Chg(boxed(alloc, Chg::read(alloc, fields)?)?),
+        Title::Fpl => Message::Fpl(Fpl::read(alloc, fields)?),
+        Title::Chg => Message::Chg(Chg::read(alloc, fields)?),
         Title::Dla => {
             let delay = Dla::read(alloc, &fields);
             *room = fields.into_room();
-            Message::Dla(boxed(alloc, delay?)?)
+            Message::Dla(delay?)
         }
         Title::Cnl => {
             let cancellation = Cnl::read(alloc, &fields);
             *room = fields.into_room();
-            Message::Cnl(boxed(alloc, cancellation?)?)
+            Message::Cnl(cancellation?)
         }
         Title::Dep => {
             let departure = Dep::read(alloc, &fields);
             *room = fields.into_room();
-            Message::Dep(boxed(alloc, departure?)?)
+            Message::Dep(departure?)
         }
     };
     Ok(Reading::Msg(message))

@@ -3,7 +3,7 @@ ghost use Rattle.std.specs.Prelude.{◌≤◌, length};
 ghost use Rattle.fpl_message.specs.Refusals.{Gives};
 ghost use Rattle.fpl_message.specs.ShortMessages.{dla_of, cnl_of, dep_of, short_opening_of};
 
-use crate::fault::Fault;
+use crate::fault::{Fault, boxed};
 use crate::parts::{Opening, Parts, read_opening};
 use fpl_text::{Fields, TimeOfDay};
 use std::alloc::Allocator;
@@ -38,33 +38,42 @@ fn read_short<A: Allocator + Copy>(alloc: A, fields: &Fields<A>) -> Result<Openi
 
 impl Dla {
     /// Reads the fields of a DLA, from the left.
-    pub(crate) fn read<A: Allocator + Copy>(alloc: A, fields: &Fields<A>) -> Result<Dla, Fault>
+    pub(crate) fn read<A: Allocator + Copy>(
+        alloc: A,
+        fields: &Fields<A>,
+    ) -> Result<Box<Dla, A>, Fault>
         requires { 4 ≤ length fields.now }
-        ensures { Gives (λ m. m) result (dla_of fields.now) }
+        ensures { Gives (λ b. b.value) result (dla_of fields.now) }
     {
         let Opening { parts, time } = read_short(alloc, fields)?;
-        Ok(Dla { parts, time })
+        boxed(alloc, Dla { parts, time })
     }
 }
 
 impl Cnl {
     /// Reads the fields of a CNL, from the left.
-    pub(crate) fn read<A: Allocator + Copy>(alloc: A, fields: &Fields<A>) -> Result<Cnl, Fault>
+    pub(crate) fn read<A: Allocator + Copy>(
+        alloc: A,
+        fields: &Fields<A>,
+    ) -> Result<Box<Cnl, A>, Fault>
         requires { 4 ≤ length fields.now }
-        ensures { Gives (λ m. m) result (cnl_of fields.now) }
+        ensures { Gives (λ b. b.value) result (cnl_of fields.now) }
     {
         let Opening { parts, .. } = read_short(alloc, fields)?;
-        Ok(Cnl { parts })
+        boxed(alloc, Cnl { parts })
     }
 }
 
 impl Dep {
     /// Reads the fields of a DEP, from the left.
-    pub(crate) fn read<A: Allocator + Copy>(alloc: A, fields: &Fields<A>) -> Result<Dep, Fault>
+    pub(crate) fn read<A: Allocator + Copy>(
+        alloc: A,
+        fields: &Fields<A>,
+    ) -> Result<Box<Dep, A>, Fault>
         requires { 4 ≤ length fields.now }
-        ensures { Gives (λ m. m) result (dep_of fields.now) }
+        ensures { Gives (λ b. b.value) result (dep_of fields.now) }
     {
         let Opening { parts, time } = read_short(alloc, fields)?;
-        Ok(Dep { parts, time })
+        boxed(alloc, Dep { parts, time })
     }
 }

@@ -329,3 +329,40 @@ blanks_are x = refl
 -- flags of 16 bytes of a text, by their places there
 pub flags-at : (test : ℕ → Bool) (text v flags : List ℕ) (at_place : ℕ) → HasLanes v (λ k. get_or text (at_place + k) 0) → HasFlags flags (λ k. test (get_or v k 0)) → HasFlags flags (λ k. test (get_or text (at_place + k) 0))
 flags-at test text v flags at_place held told = lanes-same _ _ _ (λ k l. ap (λ b. flag (test b)) (held.each k l)) told
+
+-- how many of 8 lanes stand before the first space
+pub record IsBeforeSpace (v : List ℕ) (n : ℕ) : Type 0 where
+  pub bound : n ≤ 8
+  pub none : (k : ℕ) → k < n → eqb (get_or v k 0) 32 ≡ false
+  pub found : n < 8 → eqb (get_or v n 0) 32 ≡ true
+
+abbrev is_space : ℕ → Bool
+is_space x = eqb x 32
+
+zero_from : (p : Bool) → cond {A = ℕ} p 1 0 ≡ 0 → p ≡ false
+zero_from true h = absurd (omega arith)
+zero_from false h = refl
+
+pub front-space : (v : List ℕ) → length v ≡ 8
+    → IsBeforeSpace v (trailing_zeros w64 (bit_or (mask_l (map (top 7) (zip2 (λ a b. cond (eqb a b) 255 0) v (replicate 8 32))) % 2 ^ 64) 256))
+front-space v long =
+    let m = mask_l (map is_space v) in
+    let same = bitmask_splat w8 eqb v 8 32 long (omega arith) in
+    let few : m < 256 = rw (length-map v is_space, long) at (mask_l-lt (map is_space v)) in
+    let bits : (k : ℕ) → bit_at m k ≡ cond (is_space (get_or v k 0)) 1 0 = (λ k. bit_mask_l (map is_space v) k ∙ ap (λ b. cond b 1 0) (get_or-map is_space v k 0)) in
+    let end = bit_at-pow_same 8 in
+    let sum = or_add_and m 256 in
+    let low = and_le_l m 256 in
+    let some : 0 < bit_or m 256 = omega (arith, sum, low, few) in
+    let small : bit_or m 256 < 2 ^ 64 = omega (arith, sum, low, few) in
+    let t = bit_at-trailing_zeros w64 (bit_or m 256) some small in
+    let n = trailing_zeros w64 (bit_or m 256) in
+    let bit : (k : ℕ) → bit_at (bit_or m 256) k ≡ max (bit_at m k) (bit_at 256 k) = (λ k. bit_at_or m 256 k) in
+    let bound : n ≤ 8 = ⊎_elim (λ h. let none = t.2 8 h in absurd (omega (arith, none, bit 8, end))) (λ h. h) (cases_lt 8 n) in
+    rw same (record {
+      bound = bound;
+      none = λ k l. zero_from (is_space (get_or v k 0)) (let none = t.2 k l in omega (arith, bits k, none, bit k));
+      found = λ l.
+          let other : bit_at 256 n ≡ 0 = bit_at-pow_other 8 n (λ same. omega (arith, same)) in
+          one_from (is_space (get_or v n 0)) (omega (arith, bits n, t.1, bit n, other));
+    })

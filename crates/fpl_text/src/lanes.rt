@@ -202,6 +202,19 @@ fn bit_is_set(bits: u64, place: usize) -> bool
     (bits >> place) & 1 == 1
 }
 
+/// How many of the 8 bytes from a place on stand before the first space.
+#[inline(always)]
+pub(crate) fn before_space(text: &[u8], at: usize) -> usize
+    requires { at + 8 ≤ length text.now }
+    ensures bound { result ≤ 8 }
+    ensures none { (k : ℕ) → k < result → (slice_index text.now (at + k) == 32) ≡ false }
+    ensures found { result < 8 → (slice_index text.now (at + result) == 32) ≡ true }
+{
+    let here = u8x8::from_slice(&text[at..]);
+    let spaces = here.simd_eq(u8x8::splat(b' ')).to_bitmask();
+    (spaces | 256).trailing_zeros() as usize
+}
+
 /// How many lanes hold this byte.
 #[inline(always)]
 pub(crate) fn count_in(v: u8x16, byte: u8) -> usize
