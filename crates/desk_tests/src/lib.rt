@@ -8,6 +8,8 @@ mod devices;
 #[cfg(test)]
 mod intake;
 #[cfg(test)]
+mod serving;
+#[cfg(test)]
 mod steps;
 #[cfg(test)]
 mod take_back;
