@@ -8,6 +8,8 @@ mod devices;
 #[cfg(test)]
 mod intake;
 #[cfg(test)]
+mod journals;
+#[cfg(test)]
 mod serving;
 #[cfg(test)]
 mod steps;
