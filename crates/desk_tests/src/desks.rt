@@ -131,3 +131,21 @@ pub(crate) fn desk(rt: &impl Abort, alloc: Global, texts: &[&[u8]]) -> Core {
     assert_eq!(rt; count_filed(rt, alloc, &mut core, texts), texts.len());
     core
 }
+
+/// A desk of the same journal, which is the same.
+pub(crate) fn replayed<A: Allocator + Copy>(rt: &impl Abort, alloc: A, core: &Core<A>) -> Core<A> {
+    let again = core.replay(alloc).expect(rt, "a desk");
+    assert!(rt; is_same(rt, core, &again));
+    again
+}
+
+/// Whether two desks are the same, seen from either.
+pub(crate) fn is_same<A: Allocator + Copy>(
+    rt: &impl Abort,
+    core: &Core<A>,
+    other: &Core<A>,
+) -> bool {
+    let is_same = core.same(other);
+    assert_eq!(rt; other.same(core), is_same);
+    is_same
+}

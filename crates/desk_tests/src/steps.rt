@@ -1,5 +1,5 @@
 //! What becomes of filings, and a desk whose journal is full or whose memory runs out.
-use crate::desks::{DELAYED, count_filed, desk, is_filed, setup};
+use crate::desks::{DELAYED, count_filed, desk, is_filed, replayed, setup};
 use flow_core::{Core, Receipt, StepFault, Verdict, Window};
 use flow_plans::PlanState;
 use fpl_message::{Filing, Refusal};
@@ -66,7 +66,7 @@ fn a_delay_moves_the_flight_behind_the_others(rt: HostRuntime) {
 #[test]
 fn a_core_is_stepped_over_its_journal_again(rt: HostRuntime) {
     let core = desk(&rt, rt.alloc(), &DELAYED);
-    let again = core.replay(rt.alloc()).expect(&rt, "a desk");
+    let again = replayed(&rt, rt.alloc(), &core);
     assert_eq!(&rt; again.entries(), 6);
     assert_eq!(&rt; again.notices(), 2);
     assert!(&rt; again.row(1) == core.row(1));

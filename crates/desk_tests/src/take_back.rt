@@ -1,5 +1,5 @@
 //! Filings that are taken back.
-use crate::desks::{DELAY, FILED, desk, is_filed};
+use crate::desks::{DELAY, FILED, desk, is_filed, is_same, replayed};
 use flow_core::{Core, Notice, Receipt, Row, Said, StepFault};
 use fpl_message::Filing;
 use fpl_text::{Minute, read_moment};
@@ -85,11 +85,11 @@ fn a_delay_that_was_taken_back_is_filed_again(rt: HostRuntime) {
 #[test]
 fn each_kind_of_filing_is_taken_back(rt: HostRuntime) {
     let mut core = desk(&rt, rt.alloc(), &FILED);
-    let kept = core.replay(rt.alloc()).expect(&rt, "a desk");
+    let kept = replayed(&rt, rt.alloc(), &core);
     let before = view_of(&core);
     for text in TAKEN_BACK {
         let _filing = take_back(&rt, rt.alloc(), &mut core, text);
         assert!(&rt; view_of(&core) == before);
-        assert!(&rt; core.same(&kept));
+        assert!(&rt; is_same(&rt, &core, &kept));
     }
 }
