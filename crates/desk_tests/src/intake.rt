@@ -1,32 +1,11 @@
 //! Readers that cut the input anywhere, and readers that fail.
+use crate::devices::Cutter;
 use flow_intake::{Counted, Frame, Intake, IntakeFault};
 use std::alloc::Global;
 use std::io;
-use std::io::{ErrorKind, Read, Write};
+use std::io::Write;
 use std::process::Abort;
 use std::test::Fail;
-
-/// A reader that gives a few bytes at a time, and fails after some calls.
-#[derive(Drop)]
-struct Cutter<'a> {
-    rest: &'a [u8],
-    most: usize,
-    calls: usize,
-}
-
-impl Read for Cutter<'_> {
-    fn read(&mut self, buf: &mut [u8]) -> io::Result<usize> {
-        if self.calls == 0 {
-            return Err(io::Error::from(ErrorKind::Interrupted));
-        }
-        self.calls -= 1;
-        let n = self.most.min(buf.len()).min(self.rest.len());
-        let (now, later) = self.rest.split_at(n);
-        buf[..n].copy_from_slice(now);
-        self.rest = later;
-        Ok(n)
-    }
-}
 
 /// Whether a frame is that of these bytes, or too long where there are none.
 fn is_frame(next: Frame, bytes: &[u8]) -> bool {

@@ -1,10 +1,12 @@
-//! What becomes of filings.
-use flow_core::{Core, Verdict, Window};
-use flow_plans::{PlanState, Setup};
+//! What becomes of filings, and a desk whose journal is full or whose memory runs out.
+use crate::desks::{DELAYED, count_filed, desk, is_filed, replayed, setup};
+use flow_core::{Core, Receipt, StepFault, Verdict, Window};
+use flow_plans::PlanState;
 use fpl_message::{Filing, Refusal};
-use fpl_text::read_moment;
+use fpl_text::Text;
+use linked_list_allocator::LocalHeap;
+use std::alloc::AllocError;
 use std::process::Abort;
-use std::test::Fail;
 
 const TEXTS: [&[u8]; 4] = [
     b"(FPL-AAA1-IS-A320/M-SDFG/LB1-LIML0800-N0450F350 DCT-EDDF0150-0)",
@@ -13,14 +15,66 @@ const TEXTS: [&[u8]; 4] = [
     b"(DEP-AAA1-LIML0805-EDDF)",
 ];
 
-fn setup(rt: &impl Abort, max_entries: u32) -> Setup {
-    let start = read_moment(b"2409010500").expect(rt, "a moment");
-    Setup::new(start, 10, 10, max_entries).expect(rt, "a setup")
+/// Files texts over a heap, and says how many got an entry.
+fn count_entries(rt: &impl Abort, heap: &LocalHeap, texts: &[&[u8]]) -> usize {
+    match Core::new(heap, setup(rt, 10)) {
+        Ok(mut core) => count_filed(rt, heap, &mut core, texts),
+        Err(AllocError) => 0,
+    }
 }
 
 #[test]
-fn receipts_say_what_became_of_each_filing(rt: HostRuntime) -> Result<(), Fail> {
-    let mut core = Core::new(rt.alloc(), setup(&rt, 10))?;
+fn growth_is_refused_in_turn(rt: HostRuntime) -> Result<(), AllocError> {
+    let mut most = 0;
+    for size in 1..200usize {
+        let heap = LocalHeap::new(rt.alloc(), size * 32)?;
+        let count = count_entries(&rt, &heap, &TEXTS);
+        assert!(&rt; most <= count, "at {size}");
+        most = count;
+    }
+    assert_eq!(&rt; most, 4);
+    Ok(())
+}
+
+#[test]
+fn growth_is_refused_in_turn_where_slots_are_given(rt: HostRuntime) -> Result<(), AllocError> {
+    let mut most = 0;
+    for size in 1..500usize {
+        let heap = LocalHeap::new(rt.alloc(), size * 32)?;
+        let count = count_entries(&rt, &heap, &DELAYED);
+        assert!(&rt; most <= count, "at {size}");
+        most = count;
+    }
+    assert_eq!(&rt; most, 6);
+    Ok(())
+}
+
+#[test]
+fn a_delay_moves_the_flight_behind_the_others(rt: HostRuntime) {
+    let core = desk(&rt, rt.alloc(), &DELAYED);
+    let id: Text<8> = Text::new(b"RMZ01");
+    let slots = core.slots(&id).expect(&rt, "a slot list");
+    assert_eq!(&rt; slots.slot_of(1), Some(2));
+    assert_eq!(&rt; slots.slot_of(2), Some(0));
+    assert_eq!(&rt; slots.slot_of(3), Some(1));
+    assert!(&rt; slots.is_fixed(1));
+    assert!(&rt; !slots.is_fixed(3));
+    assert_eq!(&rt; core.notices(), 2);
+    assert!(&rt; core.slots(&Text::new(b"RMZ02")).is_none());
+}
+
+#[test]
+fn a_core_is_stepped_over_its_journal_again(rt: HostRuntime) {
+    let core = desk(&rt, rt.alloc(), &DELAYED);
+    let again = replayed(&rt, rt.alloc(), &core);
+    assert_eq!(&rt; again.entries(), 6);
+    assert_eq!(&rt; again.notices(), 2);
+    assert!(&rt; again.row(1) == core.row(1));
+}
+
+#[test]
+fn receipts_say_what_became_of_each_filing(rt: HostRuntime) {
+    let core = desk(&rt, rt.alloc(), &TEXTS);
     let verdicts = [
         Some(Verdict::Refused(Refusal::AlreadyHeld)),
         Some(Verdict::Departed {
@@ -28,13 +82,25 @@ fn receipts_say_what_became_of_each_filing(rt: HostRuntime) -> Result<(), Fail> 
             window: Window::None,
         }),
     ];
-    for text in TEXTS {
-        let filing = Filing::new(rt.alloc(), text).ok().ok_or("a filing")?;
-        assert!(&rt; core.step(filing, 3).is_ok());
-    }
     assert!(&rt; core.entry(3).map(|entry| entry.receipt().verdict) == verdicts[0]);
     assert!(&rt; core.entry(4).map(|entry| entry.receipt().verdict) == verdicts[1]);
     assert!(&rt; core.row(1).map(|row| row.state) == Some(PlanState::Departed));
     assert!(&rt; core.row(2).is_none());
-    Ok(())
+}
+
+/// Whether a full journal gave back the filing of this text.
+fn is_full(stepped: Result<Receipt, (StepFault, Filing)>, text: &[u8]) -> bool {
+    match stepped {
+        Ok(_) => false,
+        Err((fault, back)) => fault == StepFault::JournalFull && back.text() == text,
+    }
+}
+
+#[test]
+fn a_full_journal_takes_nothing(rt: HostRuntime) {
+    let mut core = Core::new(rt.alloc(), setup(&rt, 1)).expect(&rt, "a desk");
+    assert!(&rt; is_filed(&rt, rt.alloc(), &mut core, b"TIME 2409010500"));
+    let filing = Filing::new(rt.alloc(), b"ONE MORE").expect(&rt, "a filing");
+    assert!(&rt; is_full(core.step(filing, 0), b"ONE MORE"));
+    assert_eq!(&rt; core.entries(), 1);
 }

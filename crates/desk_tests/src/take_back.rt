@@ -1,50 +1,95 @@
 //! Filings that are taken back.
-use flow_core::{Core, Receipt};
-use flow_plans::Setup;
+use crate::desks::{DELAY, FILED, desk, is_filed, is_same, replayed};
+use flow_core::{Core, Notice, Receipt, Row, Said, StepFault};
 use fpl_message::Filing;
-use fpl_text::read_moment;
+use fpl_text::{Minute, read_moment};
 use std::alloc::Global;
 use std::process::Abort;
-use std::test::Fail;
 
-/// Three flights to an aerodrome where 20 an hour may arrive.
-const FILED: [&[u8]; 5] = [
-    b"OPEN RMZ01 ARR EDDF 2409011000 2409011200 20",
-    b"(FPL-XXX1-IS-A320/M-SDFG/LB1-LIML0800-N0450F350 DCT-EDDF0153-0)",
-    b"TIME 2409010605",
-    b"(FPL-YYY1-IS-A320/M-SDFG/LB1-LIML0820-N0450F350 DCT-EDDF0130-0)",
-    b"(FPL-ZZZ1-IS-A320/M-SDFG/LB1-LIML0820-N0450F350 DCT-EDDF0131-0)",
+/// One of each kind, each of which is accepted after the worked row, but for the last.
+const TAKEN_BACK: [&[u8]; 9] = [
+    DELAY,
+    b"TIME 2409010800",
+    b"OPEN RMZ02 ARR EDDF 2409010900 2409011100 6",
+    b"SHUT RMZ01",
+    b"(FPL-WWW1-IS-A320/M-SDFG/LB1-LIML0830-N0450F350 DCT-EDDF0130-0)",
+    b"(CHG-YYY1-LIML0820-EDDF-15/N0420F310 DCT)",
+    b"(CNL-XXX1-LIML0800-EDDF)",
+    b"(DEP-XXX1-LIML0805-EDDF)",
+    b"(CNL-VVV1-LIML0800-EDDF)",
 ];
 
-const DELAY: &[u8] = b"(DLA-XXX1-LIML0803-EDDF)";
-
-fn filed(alloc: Global, core: &mut Core, text: &[u8]) -> Result<Receipt, Fail> {
-    let filing = Filing::new(alloc, text).ok().ok_or("a filing")?;
-    let receipt = core.step(filing, 3).ok().ok_or("a receipt")?;
-    Ok(receipt)
+/// What a reader sees of a desk with at most four plans.
+#[derive(Debug, Drop, PartialEq, Eq)]
+struct Seen {
+    entries: u32,
+    notices: u64,
+    now: Minute,
+    rows: [Option<Row>; 4],
 }
 
-fn desk(rt: &impl Abort, alloc: Global) -> Result<Core, Fail> {
-    let start = read_moment(b"2409010500").expect(rt, "a moment");
-    let setup = Setup::new(start, 10, 10, 20).expect(rt, "a setup");
-    let mut core = Core::new(alloc, setup)?;
-    for text in FILED {
-        filed(alloc, &mut core, text)?;
+fn view_of(core: &Core) -> Seen {
+    Seen {
+        entries: core.entries(),
+        notices: core.notices(),
+        now: core.now(),
+        rows: [core.row(1), core.row(2), core.row(3), core.row(4)],
     }
-    Ok(core)
+}
+
+/// Files a text and takes it back, after which nothing can be taken back.
+fn take_back(rt: &impl Abort, alloc: Global, core: &mut Core, text: &[u8]) -> Filing {
+    assert!(rt; is_filed(rt, alloc, core, text));
+    assert!(rt; core.can_take_back());
+    let filing = core.take_back();
+    assert!(rt; filing.text() == text);
+    assert!(rt; !core.can_take_back());
+    filing
 }
 
 #[test]
-fn a_delay_is_taken_back(rt: HostRuntime) -> Result<(), Fail> {
-    let mut core = desk(&rt, rt.alloc())?;
+fn a_delay_is_taken_back(rt: HostRuntime) {
+    let mut core = desk(&rt, rt.alloc(), &FILED);
     let before = core.row(1);
-    assert_eq!(&rt; filed(rt.alloc(), &mut core, DELAY)?.number, 6);
-    assert!(&rt; core.can_take_back());
-    let filing = core.take_back();
-    assert!(&rt; filing.text() == DELAY);
+    let _filing = take_back(&rt, rt.alloc(), &mut core, DELAY);
     assert_eq!(&rt; core.entries(), 5);
     assert_eq!(&rt; core.notices(), 1);
     assert!(&rt; core.row(1) == before);
-    assert!(&rt; !core.can_take_back());
-    Ok(())
+}
+
+/// Whether a receipt is that of the sixth entry, with one notice.
+fn is_sixth(stepped: Result<Receipt, (StepFault, Filing)>) -> bool {
+    match stepped {
+        Ok(receipt) => receipt.number == 6 && receipt.notices == 1,
+        Err(_) => false,
+    }
+}
+
+/// Whether a notice tells a revised slot with this take-off time.
+fn is_revised(notice: &Notice, ctot: Option<Minute>) -> bool {
+    match &notice.says {
+        Said::Srm(told) => Some(told.ctot) == ctot,
+        _ => false,
+    }
+}
+
+#[test]
+fn a_delay_that_was_taken_back_is_filed_again(rt: HostRuntime) {
+    let mut core = desk(&rt, rt.alloc(), &FILED);
+    let filing = take_back(&rt, rt.alloc(), &mut core, DELAY);
+    assert!(&rt; is_sixth(core.step(filing, 3)));
+    let notice = core.notice(1).expect(&rt, "a notice");
+    assert!(&rt; is_revised(notice, read_moment(b"2409010813")));
+}
+
+#[test]
+fn each_kind_of_filing_is_taken_back(rt: HostRuntime) {
+    let mut core = desk(&rt, rt.alloc(), &FILED);
+    let kept = replayed(&rt, rt.alloc(), &core);
+    let before = view_of(&core);
+    for text in TAKEN_BACK {
+        let _filing = take_back(&rt, rt.alloc(), &mut core, text);
+        assert!(&rt; view_of(&core) == before);
+        assert!(&rt; is_same(&rt, &core, &kept));
+    }
 }
