@@ -1,14 +1,14 @@
 -- Notes of estimates, one after the other.
-use Rattle.std.proofs.Common.{◌≡◌, ℕ, ◌+◌, ◌-◌, ◌≤◌, arith, ◌&&◌, nat_le, slice_range, Bool, true, false, if◌then◌else◌, List, [], ◌∷◌, ◌++◌, length, take, drop, refl, Option, Some, None, sym, ap, ◌∙◌}
+use Rattle.std.proofs.Common.{◌≡◌, ℕ, ◌+◌, ◌-◌, ◌≤◌, arith, ◌&&◌, ◌==◌, nat_le, slice_range, Bool, true, false, if◌then◌else◌, List, [], ◌∷◌, ◌++◌, length, take, drop, refl, Option, Some, None, sym, ap, ◌∙◌}
 use Rattle.std.proofs.lemmas.Bool.{false≢true, false_from_ne_true}
-use Rattle.std.proofs.lemmas.Bool.Decides.{nat_tests}
+use Rattle.std.proofs.lemmas.Bool.Decides.{nat_tests, Decides-eqb}
 use lib.Pointwise.{bytes_decides}
 use Rattle.std.specs.Option.{option_or}
 use Rattle.fpl_items.specs.Kinds.{is_text}
 use Rattle.fpl_text.specs.Times.{elapsed_time}
 use Rattle.fpl_items.specs.Items.{estimate_for}
 use Rattle.flow_plans.specs.declared.estimate.Estimate.{Estimate}
-use Rattle.flow_plans.specs.Places.{may_have}
+use Rattle.flow_plans.specs.Places.{may_have, letters_of}
 use Rattle.flow_plans.specs.Estimates.{is_for, first_for, IsNoteOf, HasPlacesOf}
 
 -- either way of a test, the two sides agree
@@ -25,24 +25,27 @@ pub one-more : (field place : List ℕ) (notes : List Estimate) (note : Estimate
 one-more field place [] note word words h = note-is-word _ _ _ _ _ (h.0 place) h.1
 one-more field place (n ∷ ns) note word words h = if-or (is_for field place n) n.minutes _ _ _ _ (one-more field place ns note word words h)
 
--- a test of two bounds and a third thing
-both-hold : (a b c d : Bool) → a ≡ true → b ≡ true → c ≡ d → (a && b && c) ≡ d
-both-hold a b c d e f h = rw (e, f) h
+-- a test of two bounds, a third thing, and one that follows from it
+all-hold : (l a b c d : Bool) → (d ≡ true → l ≡ true) → a ≡ true → b ≡ true → c ≡ d → (l && a && b && c) ≡ d
+all-hold l a b c true k e f h = rw (k refl, e, f) h
+all-hold true a b c false k e f h = rw (e, f) h
+all-hold false a b c false k e f h = refl
 
 -- a note of where a place stands is for that place
-pub note-of-place : (field place name : List ℕ) (start : ℕ) (note : Estimate) → start + length place ≤ length field → slice_range field start (start + length place) ≡ place → note.start ≡ start → note.end ≡ start + length place → is_for field name note ≡ is_text name place
+pub note-of-place : (field place name : List ℕ) (start : ℕ) (note : Estimate) → start + length place ≤ length field → slice_range field start (start + length place) ≡ place → note.start ≡ start → note.end ≡ start + length place → note.letters ≡ letters_of place → is_for field name note ≡ is_text name place
 unfolding is_for
-note-of-place field place name start note within stands s e =
+note-of-place field place name start note within stands s e l =
     let low : nat_le note.start note.end ≡ true = grind (arith, nat_tests, s, e) in
     let high : nat_le note.end (length field) ≡ true = grind (arith, nat_tests, within, e) in
-    both-hold _ _ _ _ low high (rw (s, e, stands) refl)
+    let same : is_text name place ≡ true → (note.letters == letters_of name) ≡ true = λ is. (Decides-eqb note.letters (letters_of name)).1 (l ∙ ap letters_of ((bytes_decides _ _).0 is)) in
+    all-hold _ _ _ _ _ same low high (rw (s, e, stands) refl)
 
 -- a note of a word whose place and time stand there
-pub note-of-word : (field word place time : List ℕ) (cut start minutes : ℕ) (note : Estimate) → cut ≡ length word - 4 → place ≡ take cut word → time ≡ drop cut word → start + length place ≤ length field → slice_range field start (start + length place) ≡ place → Some minutes ≡ elapsed_time time → note.start ≡ start → note.end ≡ start + length place → note.minutes ≡ minutes → IsNoteOf field word note
-note-of-word field word place time cut start minutes note cutting front back within stands told s e m =
+pub note-of-word : (field word place time : List ℕ) (cut start minutes : ℕ) (note : Estimate) → cut ≡ length word - 4 → place ≡ take cut word → time ≡ drop cut word → start + length place ≤ length field → slice_range field start (start + length place) ≡ place → Some minutes ≡ elapsed_time time → note.start ≡ start → note.end ≡ start + length place → note.minutes ≡ minutes → note.letters ≡ letters_of place → IsNoteOf field word note
+note-of-word field word place time cut start minutes note cutting front back within stands told s e m l =
     let p : place ≡ take (length word - 4) word = cc in
     let t : elapsed_time (drop (length word - 4) word) ≡ Some note.minutes = cc in
-    (λ name. rw (← p) (note-of-place field place name start note within stands s e), t)
+    (λ name. rw (← p) (note-of-place field place name start note within stands s e l), t)
 
 -- one word noted, of those that are left
 pub word-noted : (field place : List ℕ) (before after : List Estimate) (note : Estimate) (word : List ℕ) (left rest : List (List ℕ)) (all : Option ℕ) → left ≡ word ∷ rest → after ≡ before ++ note ∷ [] → IsNoteOf field word note → option_or (first_for field place before) (estimate_for place left) ≡ all → option_or (first_for field place after) (estimate_for place rest) ≡ all

@@ -11,3 +11,9 @@ bit_of place =
 -- whether the bit of a place is set
 abbrev pub may_have : ℕ → List ℕ → Bool
 may_have places place = bit_at places (bit_of place) == 1
+
+-- the first four letters of a place as one number, 0 of a shorter one
+unfoldable pub letters_of : List ℕ → ℕ
+letters_of place =
+    if nat_lt (length place) 4 then 0
+    else 16_777_216 * slice_index place 0 + 65_536 * slice_index place 1 + 256 * slice_index place 2 + slice_index place 3

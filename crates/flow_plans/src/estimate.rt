@@ -1,9 +1,13 @@
 //! One estimate of an EET item, as a plan notes it.
 ghost use Rattle.std.specs.Prelude.{◌≡◌, ◌<◌, IfSome};
+ghost use Rattle.flow_plans.specs.Places.{letters_of};
 
-/// The elapsed time to a place of the way. The place is named in field 18, and the note says where.
+/// The elapsed time to a place of the way. The place is named in field 18, and the note says where. Its first letters tell it
+/// from most other places without a look at the field.
 #[derive(Clone, Copy, Debug)]
 pub(crate) struct Estimate {
+    /// The first four letters of the place, as `letters_of` gives them.
+    letters: u32,
     /// Where the place begins in the field.
     start: u16,
     /// Where it ends.
@@ -16,15 +20,17 @@ pub(crate) struct Estimate {
 impl Estimate {
     ghost use Rattle.flow_plans.specs.Estimates.{is_for};
 
-    /// An estimate for the place that begins and ends there in the field. None where a number is too large for a note.
-    pub(crate) fn new(start: usize, end: usize, minutes: u32) -> Option<Estimate>
+    /// An estimate for the place of these letters that begins and ends there in the field. None where a number is too large for a
+    /// note.
+    pub(crate) fn new(letters: u32, start: usize, end: usize, minutes: u32) -> Option<Estimate>
         requires { minutes < 6000 }
-        ensures { IfSome result (λ e. (e.start ≡ start) × (e.end ≡ end) × (e.minutes ≡ minutes)) }
+        ensures { IfSome result (λ e. (e.start ≡ start) × (e.end ≡ end) × (e.minutes ≡ minutes) × (e.letters ≡ letters)) }
     {
         if start > 65_535 || end > 65_535 {
             return None;
         }
         Some(Estimate {
+            letters,
             start: start as u16,
             end: end as u16,
             minutes: minutes as u16,
@@ -47,11 +53,16 @@ impl Estimate {
         u32::from(self.minutes)
     }
 
-    /// Whether the estimate, of this field, is for a place.
+    /// Whether the estimate, of this field, is for a place, whose letters these are.
+    #[inline(always)]
     #[tactic(auto, unfolding(crate::specs::Estimates::is_for))]
-    pub(crate) fn is_for(&self, field: &[u8], place: &[u8]) -> bool
+    pub(crate) fn is_for(&self, field: &[u8], place: &[u8], letters: u32) -> bool
+        requires { letters ≡ letters_of place.now }
         ensures { result ≡ is_for field.now place.now self.now }
     {
+        if self.letters != letters {
+            return false;
+        }
         let start = usize::from(self.start);
         let end = usize::from(self.end);
         start <= end && end <= field.len() && &field[start..end] == place

@@ -8,7 +8,7 @@ ghost use Rattle.flow_plans.specs.Estimates.{first_for, IsNoteOf, AddsWords, Are
 
 use crate::estimate::Estimate;
 use crate::near::words_on_way;
-use crate::places::{may_have, with_place};
+use crate::places::{letters_of, may_have, with_place};
 use fpl_items::{ItemWords, Items};
 use fpl_text::read_elapsed;
 use std::alloc::{AllocError, Allocator, Global};
@@ -105,7 +105,7 @@ fn note_of(field: &[u8], word: &[u8], from: usize) -> Option<Estimate>
     let (place, time) = word.split_at(word.len().saturating_sub(4));
     let minutes = read_elapsed(time)?;
     let start = place_in(field, place, from)?;
-    let note = Estimate::new(start, start + place.len(), minutes)?;
+    let note = Estimate::new(letters_of(place), start, start + place.len(), minutes)?;
     Some(note)
 }
 
@@ -166,8 +166,9 @@ fn first_for(notes: &[Estimate], field: &[u8], place: &[u8]) -> Option<u32>
     ensures value { result ≡ first_for field.now place.now notes.now }
     ensures bound { IfSome result (λ minutes. minutes < 6000) }
 {
+    let letters = letters_of(place);
     for note in notes {
-        if note.is_for(field, place) {
+        if note.is_for(field, place, letters) {
             return Some(note.minutes());
         }
     }

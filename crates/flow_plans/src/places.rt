@@ -3,7 +3,7 @@
 //! Each place has one of 64 bits. A set of places is kept by the bits of those in it: where the bit of a place isn't set, the
 //! place isn't in the set.
 ghost use Rattle.std.specs.Prelude.{◌≡◌, ◌<◌, true, List, ℕ};
-ghost use Rattle.flow_plans.specs.Places.{bit_of, may_have};
+ghost use Rattle.flow_plans.specs.Places.{bit_of, may_have, letters_of};
 
 /// The bit of a place, below 64.
 #[inline(always)]
@@ -35,4 +35,17 @@ pub(crate) fn with_place(places: u64, place: &[u8]) -> u64
     ensures kept { (other : List ℕ) → may_have places other ≡ true → may_have result other ≡ true }
 {
     places | 1 << bit_of(place)
+}
+
+/// The first four letters of a place as one number, 0 of a shorter one.
+#[inline(always)]
+#[tactic(auto, unfolding(crate::specs::Places::letters_of))]
+pub(crate) fn letters_of(place: &[u8]) -> u32
+    ensures { result ≡ letters_of place.now }
+{
+    if place.len() < 4 {
+        return 0;
+    }
+    let front = 16_777_216 * u32::from(place[0]) + 65_536 * u32::from(place[1]);
+    front + 256 * u32::from(place[2]) + u32::from(place[3])
 }
