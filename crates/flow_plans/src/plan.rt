@@ -380,7 +380,7 @@ impl<A: Allocator + Copy> Plan<A> {
     }
 
     /// The entry at the place of a regulation that applies to the flight.
-    #[inline]
+    #[inline(always)]
     #[tactic(auto, unfolding(crate::specs::Entries::subject))]
     pub(crate) fn subject(
         &self,

@@ -280,6 +280,7 @@ impl<A: Allocator + Copy> PlanStore<A> {
     /// The entry of the plan of this number, where a regulation of that place applies to it: one from `start` to before
     /// `end`, of a filed plan that is not flown by visual rules throughout, does not depart in the air (AFIL) and is not
     /// exempt.
+    #[inline(always)]
     pub fn subject(&self, number: u32, spot: &Spot, start: Minute, end: Minute) -> Option<Minute>
         requires some { 0 < number }
         requires within { number ≤ length self.now.plans }

@@ -117,6 +117,7 @@ impl<A: Allocator + Copy> Regulation<A> {
     }
 
     /// The entry of the plan of this number, where the regulation applies to it.
+    #[inline(always)]
     fn subject(&self, plans: &PlanStore<A>, number: u32) -> Option<Minute>
         requires some { 0 < number }
         requires within { number ≤ length plans.now.plans }
