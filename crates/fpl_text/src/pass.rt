@@ -139,6 +139,26 @@ fn easy_front(bytes: &[u8], at: usize, border: bool) -> Front
     }
 }
 
+/// Looks at the 16 bytes of a text from a place on, behind a border or not. The text stands in `out` too, behind 16 bytes more, where
+/// zeros follow it. Where 16 bytes are left, they are looked at in the text itself, since the processor waits for bytes that
+/// were stored in `out` just before.
+#[inline(always)]
+fn front_at(text: &[u8], out: &[u8], place: usize, border: bool) -> Front
+    requires within { place ≤ length text.now }
+    requires long { length out.now ≡ length text.now + 32 }
+    requires left { StandsAt text.now place out.now (place + 16) }
+    ensures bound { result.count ≤ 16 }
+    ensures easy { (k : ℕ) → k < result.count → is_easy text.now place border k ≡ true }
+    ensures border { result.border ≡ border_behind text.now place border result.count }
+    ensures lanes { HasLanes result.lanes (λ k. as_space (slice_index out.now (place + 16 + k))) }
+{
+    if text.len() - place >= 16 {
+        easy_front(text, place, border)
+    } else {
+        easy_front(out, place + 16, border)
+    }
+}
+
 /// Passes easy bytes, 16 at a time. What is written behind those that are easy is written over later.
 fn pass_easy(text: &[u8], out: &mut [u8], from: Pass) -> Pass
     requires pass { IsPass text.now out.old from }
@@ -148,7 +168,7 @@ fn pass_easy(text: &[u8], out: &mut [u8], from: Pass) -> Pass
 {
     let mut pass = from;
     'easy: while pass.place < text.len() {
-        let front = easy_front(out, pass.place + 16, pass.border);
+        let front = front_at(text, out, pass.place, pass.border);
         front.lanes.copy_to_slice(&mut out[pass.made..]);
         pass.border = front.border;
         // Where all are easy the processor need not wait for the count before it goes on.
