@@ -41,11 +41,15 @@ fn number_of<A: Allocator + Copy>(
     match stepped {
         Ok(receipt) => Some(receipt.number),
         Err((fault, back)) => {
-            assert_eq!(rt; fault, StepFault::OutOfMemory);
-            assert!(rt; back.text() == text);
+            assert!(rt; is_refused(fault, back, text));
             None
         }
     }
+}
+
+/// Whether memory was refused, and the filing of this text came back.
+fn is_refused<A: Allocator + Copy>(fault: StepFault, back: Filing<A>, text: &[u8]) -> bool {
+    fault == StepFault::OutOfMemory && back.text() == text
 }
 
 /// The filing of a text. None where memory was refused.

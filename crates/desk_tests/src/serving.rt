@@ -22,7 +22,13 @@ fn serve_new<A: Allocator + Copy>(
     reader: Cutter,
     mut writer: Taker,
 ) -> Served {
-    let mut core = Core::new(alloc, setup(rt, 10)).expect(rt, "a desk");
+    let Ok(mut core) = Core::new(alloc, setup(rt, 10)) else {
+        return Served {
+            fault: Some(ServeFault::OutOfMemory),
+            entries: 0,
+            output: writer.taken,
+        };
+    };
     let mut reader = Counted::new(reader);
     let mut counted = Counted::new(&mut writer);
     let fault = serve(alloc, &mut reader, &mut counted, &mut core).err();
