@@ -1,7 +1,7 @@
 //! Desks that are the same, and what sets them apart.
 ghost use Rattle.std.specs.Prelude.{◌<◌};
 
-use crate::desks::{DELAY, FILED, desk, is_filed, is_filed_by, is_same, replayed, setup};
+use crate::desks::{DELAY, FILED, desk, is_filed, is_filed_by, is_same, new_desk, replayed};
 use flow_core::Core;
 use linked_list_allocator::LocalHeap;
 use std::alloc::{AllocError, Allocator, Global};
@@ -43,7 +43,7 @@ fn are_filed<A: Allocator + Copy>(
 fn desk_of<A: Allocator + Copy>(rt: &impl Abort, alloc: A, feeder: u8, refused: u8) -> Core<A>
     requires { feeder < 64 }
 {
-    let mut core = Core::new(alloc, setup(rt, 20)).expect(rt, "a desk");
+    let mut core = new_desk(rt, alloc, 20);
     assert!(rt; are_filed(rt, alloc, &mut core, feeder, refused));
     core
 }

@@ -129,9 +129,18 @@ pub(crate) fn count_filed<A: Allocator + Copy>(
     texts.len()
 }
 
+/// A desk at which nothing was filed.
+pub(crate) fn new_desk<A: Allocator + Copy>(
+    rt: &impl Abort,
+    alloc: A,
+    max_entries: u32,
+) -> Core<A> {
+    Core::new(alloc, setup(rt, max_entries)).expect(rt, "a desk")
+}
+
 /// A desk at which these texts were filed.
 pub(crate) fn desk(rt: &impl Abort, alloc: Global, texts: &[&[u8]]) -> Core {
-    let mut core = Core::new(alloc, setup(rt, 20)).expect(rt, "a desk");
+    let mut core = new_desk(rt, alloc, 20);
     assert_eq!(rt; count_filed(rt, alloc, &mut core, texts), texts.len());
     core
 }

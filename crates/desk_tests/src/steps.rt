@@ -1,5 +1,5 @@
 //! What becomes of filings, and a desk whose journal is full or whose memory runs out.
-use crate::desks::{DELAYED, count_filed, desk, is_filed, replayed, setup};
+use crate::desks::{DELAYED, count_filed, desk, is_filed, new_desk, replayed, setup};
 use flow_core::{Core, Receipt, StepFault, Verdict, Window};
 use flow_plans::PlanState;
 use fpl_message::{Filing, Refusal};
@@ -113,7 +113,7 @@ fn is_full_after_one(rt: &impl Abort, alloc: Global, core: &mut Core) -> bool {
 
 #[test]
 fn a_full_journal_takes_nothing(rt: HostRuntime) {
-    let mut core = Core::new(rt.alloc(), setup(&rt, 1)).expect(&rt, "a desk");
+    let mut core = new_desk(&rt, rt.alloc(), 1);
     assert!(&rt; is_full_after_one(&rt, rt.alloc(), &mut core));
     assert_eq!(&rt; core.entries(), 1);
 }
