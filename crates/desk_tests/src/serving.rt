@@ -245,12 +245,14 @@ fn count_entries(rt: &impl Abort, alloc: Global, heap: &LocalHeap) -> u32 {
 #[test]
 fn growth_is_refused_in_turn(rt: HostRuntime) -> Result<(), AllocError> {
     let mut most = 0;
+    let mut is_cut = false;
     for size in 1..2560usize {
         let heap = LocalHeap::new(rt.alloc(), size * 32)?;
         let entries = count_entries(&rt, rt.alloc(), &heap);
         assert!(&rt; most <= entries, "at {size}");
+        is_cut = is_cut || (0 < entries && entries < 7);
         most = entries;
     }
-    assert_eq!(&rt; most, 7);
+    assert!(&rt; is_cut && most == 7);
     Ok(())
 }
