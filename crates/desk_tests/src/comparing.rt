@@ -62,11 +62,16 @@ fn is_another_until_taken_back(
     is_same(rt, core, kept)
 }
 
+/// Whether a desk is the same as its replay but for a delay that is filed and taken back.
+fn is_same_as_replay(rt: &impl Abort, alloc: Global, core: &mut Core) -> bool {
+    let kept = replayed(rt, alloc, core);
+    is_another_until_taken_back(rt, alloc, core, &kept)
+}
+
 #[test]
 fn a_desk_is_the_same_as_its_replay(rt: HostRuntime) {
     let mut core = desk(&rt, rt.alloc(), &FILED);
-    let kept = replayed(&rt, rt.alloc(), &core);
-    assert!(&rt; is_another_until_taken_back(&rt, rt.alloc(), &mut core, &kept));
+    assert!(&rt; is_same_as_replay(&rt, rt.alloc(), &mut core));
 }
 
 /// Whether a desk of a feeder, with so many refused texts, is the same as one of feeder 0 without any.

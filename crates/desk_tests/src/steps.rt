@@ -72,15 +72,15 @@ fn has_delayed(again: &Core, core: &Core) -> bool {
     again.entries() == 6 && again.notices() == 2 && again.row(1) == core.row(1)
 }
 
-fn is_stepped_again(rt: &impl Abort, alloc: Global) -> bool {
-    let core = desk(rt, alloc, &DELAYED);
-    let again = replayed(rt, alloc, &core);
-    has_delayed(&again, &core)
+fn is_stepped_again(rt: &impl Abort, alloc: Global, core: &Core) -> bool {
+    let again = replayed(rt, alloc, core);
+    has_delayed(&again, core)
 }
 
 #[test]
 fn a_core_is_stepped_over_its_journal_again(rt: HostRuntime) {
-    assert!(&rt; is_stepped_again(&rt, rt.alloc()));
+    let core = desk(&rt, rt.alloc(), &DELAYED);
+    assert!(&rt; is_stepped_again(&rt, rt.alloc(), &core));
 }
 
 fn verdict_of(core: &Core, number: u32) -> Option<Verdict> {
