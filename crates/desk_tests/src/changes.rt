@@ -81,9 +81,8 @@ fn row(
     })
 }
 
-#[test]
-fn rows_that_filings_change(rt: HostRuntime) {
-    let mut core = desk(&rt, rt.alloc(), &[]);
+/// Files the worked row and the delay, and two texts that change no row.
+fn expect_rows_of_flights(rt: &impl Abort, alloc: Global, core: &mut Core) {
     let first_slot = Some(b"2409010810".as_slice());
     let second_slot = Some(b"2409010813".as_slice());
     let cases: [(&[u8], Option<Expected>); 8] = [
@@ -96,7 +95,13 @@ fn rows_that_filings_change(rt: HostRuntime) {
         (b"(CNL-VVV1-LIML0800-EDDF)", None),
         (b"(CHG-YYY1-LIML0820-EDDF-15/N0420F310 DCT)", None),
     ];
-    expect_rows(&rt, rt.alloc(), &mut core, &cases);
+    expect_rows(rt, alloc, core, &cases);
+}
+
+#[test]
+fn rows_that_filings_change(rt: HostRuntime) {
+    let mut core = desk(&rt, rt.alloc(), &[]);
+    expect_rows_of_flights(&rt, rt.alloc(), &mut core);
 }
 
 #[test]

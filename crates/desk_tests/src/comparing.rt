@@ -1,7 +1,7 @@
 //! Desks that are the same, and what sets them apart.
 ghost use Rattle.std.specs.Prelude.{◌<◌};
 
-use crate::desks::{DELAY, FILED, desk, is_filed, is_filed_by, is_same, replayed, setup};
+use crate::desks::{DELAY, FILED, desk, is_filed, is_filed_by, is_same, new_desk, replayed};
 use flow_core::Core;
 use linked_list_allocator::LocalHeap;
 use std::alloc::{AllocError, Allocator, Global};
@@ -43,25 +43,35 @@ fn are_filed<A: Allocator + Copy>(
 fn desk_of<A: Allocator + Copy>(rt: &impl Abort, alloc: A, feeder: u8, refused: u8) -> Core<A>
     requires { feeder < 64 }
 {
-    let mut core = Core::new(alloc, setup(rt, 20)).expect(rt, "a desk");
+    let mut core = new_desk(rt, alloc, 20);
     assert!(rt; are_filed(rt, alloc, &mut core, feeder, refused));
     core
 }
 
-/// Takes a delay back that was filed last.
-fn take_back_delay(rt: &impl Abort, core: &mut Core) {
+/// Whether a desk that files the delay is another than the one that was kept, until that is taken back.
+fn is_another_until_taken_back(
+    rt: &impl Abort,
+    alloc: Global,
+    core: &mut Core,
+    kept: &Core,
+) -> bool {
+    assert!(rt; is_filed(rt, alloc, core, DELAY));
+    assert!(rt; !is_same(rt, core, kept));
     assert!(rt; core.can_take_back());
     assert!(rt; core.take_back().text() == DELAY);
+    is_same(rt, core, kept)
+}
+
+/// Whether a desk is the same as its replay but for a delay that is filed and taken back.
+fn is_same_as_replay(rt: &impl Abort, alloc: Global, core: &mut Core) -> bool {
+    let kept = replayed(rt, alloc, core);
+    is_another_until_taken_back(rt, alloc, core, &kept)
 }
 
 #[test]
 fn a_desk_is_the_same_as_its_replay(rt: HostRuntime) {
     let mut core = desk(&rt, rt.alloc(), &FILED);
-    let kept = replayed(&rt, rt.alloc(), &core);
-    assert!(&rt; is_filed(&rt, rt.alloc(), &mut core, DELAY));
-    assert!(&rt; !is_same(&rt, &core, &kept));
-    take_back_delay(&rt, &mut core);
-    assert!(&rt; is_same(&rt, &core, &kept));
+    assert!(&rt; is_same_as_replay(&rt, rt.alloc(), &mut core));
 }
 
 /// Whether a desk of a feeder, with so many refused texts, is the same as one of feeder 0 without any.
@@ -140,34 +150,40 @@ fn is_refused_first<'a>(
     is_taken_at_last(rt, elsewhere, core, &kept, blocks, text)
 }
 
+/// Whether memory is refused to a text before a new desk over a heap takes it. At the desk the worked row caused one notice,
+/// and so many texts were refused.
+fn is_refused_at_new<'a>(
+    rt: &(impl AllocGlobal + Abort),
+    heap: &'a LocalHeap,
+    elsewhere: &'a LocalHeap,
+    refused: u8,
+    text: &[u8],
+) -> bool {
+    let mut core = desk_of(rt, heap, 0, refused);
+    assert!(rt; core.entries() == 5 + u32::from(refused) && core.notices() == 1);
+    is_refused_first(rt, heap, elsewhere, &mut core, text)
+}
+
 #[test]
 fn refused_memory_leaves_a_desk_the_same(rt: HostRuntime) -> Result<(), AllocError> {
     let heap = LocalHeap::new(rt.alloc(), HEAP)?;
     let elsewhere = LocalHeap::new(rt.alloc(), HEAP)?;
-    let mut core = desk_of(&rt, &heap, 0, 0);
-    assert_eq!(&rt; core.entries(), 5);
-    assert_eq!(&rt; core.notices(), 1);
-    assert!(&rt; is_refused_first(&rt, &heap, &elsewhere, &mut core, LONG_DELAY));
+    assert!(&rt; is_refused_at_new(&rt, &heap, &elsewhere, 0, LONG_DELAY));
+    // After eight entries the list of entries has to grow.
+    assert!(&rt; is_refused_at_new(&rt, &heap, &elsewhere, 3, DELAY));
     Ok(())
 }
 
-/// After eight entries the list of entries has to grow.
-#[test]
-fn refused_memory_leaves_a_desk_of_eight_entries_the_same(
-    rt: HostRuntime,
-) -> Result<(), AllocError> {
-    let heap = LocalHeap::new(rt.alloc(), HEAP)?;
-    let elsewhere = LocalHeap::new(rt.alloc(), HEAP)?;
-    let mut core = desk_of(&rt, &heap, 0, 3);
-    assert!(&rt; is_refused_first(&rt, &heap, &elsewhere, &mut core, DELAY));
-    Ok(())
+/// Whether a replay, which is dropped, is the same.
+fn is_same_replay<A: Allocator + Copy>(rt: &impl Abort, core: &Core<A>, again: Core<A>) -> bool {
+    is_same(rt, core, &again)
 }
 
 /// Whether memory suffices for a replay, which is the same then.
 fn is_replayed<'a>(rt: &impl Abort, heap: &'a LocalHeap, core: &Core<&'a LocalHeap>) -> bool {
     match core.replay(heap) {
         Ok(again) => {
-            assert!(rt; is_same(rt, core, &again));
+            assert!(rt; is_same_replay(rt, core, again));
             true
         }
         Err(AllocError) => false,

@@ -41,11 +41,15 @@ fn number_of<A: Allocator + Copy>(
     match stepped {
         Ok(receipt) => Some(receipt.number),
         Err((fault, back)) => {
-            assert_eq!(rt; fault, StepFault::OutOfMemory);
-            assert!(rt; back.text() == text);
+            assert!(rt; is_refused(fault, back, text));
             None
         }
     }
+}
+
+/// Whether memory was refused, and the filing of this text came back.
+fn is_refused<A: Allocator + Copy>(fault: StepFault, back: Filing<A>, text: &[u8]) -> bool {
+    fault == StepFault::OutOfMemory && back.text() == text
 }
 
 /// The filing of a text. None where memory was refused.
@@ -125,9 +129,18 @@ pub(crate) fn count_filed<A: Allocator + Copy>(
     texts.len()
 }
 
+/// A desk at which nothing was filed.
+pub(crate) fn new_desk<A: Allocator + Copy>(
+    rt: &impl Abort,
+    alloc: A,
+    max_entries: u32,
+) -> Core<A> {
+    Core::new(alloc, setup(rt, max_entries)).expect(rt, "a desk")
+}
+
 /// A desk at which these texts were filed.
 pub(crate) fn desk(rt: &impl Abort, alloc: Global, texts: &[&[u8]]) -> Core {
-    let mut core = Core::new(alloc, setup(rt, 20)).expect(rt, "a desk");
+    let mut core = new_desk(rt, alloc, 20);
     assert_eq!(rt; count_filed(rt, alloc, &mut core, texts), texts.len());
     core
 }

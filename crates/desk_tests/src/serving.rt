@@ -15,22 +15,49 @@ struct Served {
     output: Vec<u8>,
 }
 
-/// Serves an input at a new desk. A device that is said to have failed is the one that did.
+/// Serves an input: how that ended. A device that is said to have failed is the one that did.
+fn serve_at<A: Allocator + Copy>(
+    rt: &impl Abort,
+    alloc: A,
+    core: &mut Core<A>,
+    reader: Cutter,
+    writer: &mut Taker,
+) -> Option<ServeFault> {
+    let mut reader = Counted::new(reader);
+    let mut writer = Counted::new(writer);
+    let fault = serve(alloc, &mut reader, &mut writer, core).err();
+    assert_eq!(rt; reader.failures() == 1, fault == Some(ServeFault::Read));
+    assert_eq!(rt; writer.failures() == 1, fault == Some(ServeFault::Write));
+    fault
+}
+
+/// Serves an input at a new desk: how that ended, and how many entries there were then.
+fn count_served<A: Allocator + Copy>(
+    rt: &impl Abort,
+    alloc: A,
+    reader: Cutter,
+    writer: &mut Taker,
+) -> (Option<ServeFault>, u32) {
+    match Core::new(alloc, setup(rt, 10)) {
+        Ok(mut core) => (
+            serve_at(rt, alloc, &mut core, reader, writer),
+            core.entries(),
+        ),
+        Err(AllocError) => (Some(ServeFault::OutOfMemory), 0),
+    }
+}
+
+/// Serves an input at a new desk.
 fn serve_new<A: Allocator + Copy>(
     rt: &impl Abort,
     alloc: A,
     reader: Cutter,
     mut writer: Taker,
 ) -> Served {
-    let mut core = Core::new(alloc, setup(rt, 10)).expect(rt, "a desk");
-    let mut reader = Counted::new(reader);
-    let mut counted = Counted::new(&mut writer);
-    let fault = serve(alloc, &mut reader, &mut counted, &mut core).err();
-    assert_eq!(rt; reader.failures() == 1, fault == Some(ServeFault::Read));
-    assert_eq!(rt; counted.failures() == 1, fault == Some(ServeFault::Write));
+    let (fault, entries) = count_served(rt, alloc, reader, &mut writer);
     Served {
         fault,
-        entries: core.entries(),
+        entries,
         output: writer.taken,
     }
 }
@@ -218,12 +245,14 @@ fn count_entries(rt: &impl Abort, alloc: Global, heap: &LocalHeap) -> u32 {
 #[test]
 fn growth_is_refused_in_turn(rt: HostRuntime) -> Result<(), AllocError> {
     let mut most = 0;
+    let mut is_cut = false;
     for size in 1..2560usize {
         let heap = LocalHeap::new(rt.alloc(), size * 32)?;
         let entries = count_entries(&rt, rt.alloc(), &heap);
         assert!(&rt; most <= entries, "at {size}");
+        is_cut = is_cut || (0 < entries && entries < 7);
         most = entries;
     }
-    assert_eq!(&rt; most, 7);
+    assert!(&rt; is_cut && most == 7);
     Ok(())
 }

@@ -1,11 +1,11 @@
 //! What becomes of filings, and a desk whose journal is full or whose memory runs out.
-use crate::desks::{DELAYED, count_filed, desk, is_filed, replayed, setup};
+use crate::desks::{DELAYED, count_filed, desk, is_filed, new_desk, replayed, setup};
 use flow_core::{Core, Receipt, StepFault, Verdict, Window};
 use flow_plans::PlanState;
 use fpl_message::{Filing, Refusal};
 use fpl_text::Text;
 use linked_list_allocator::LocalHeap;
-use std::alloc::AllocError;
+use std::alloc::{AllocError, Global};
 use std::process::Abort;
 
 const TEXTS: [&[u8]; 4] = [
@@ -49,41 +49,53 @@ fn growth_is_refused_in_turn_where_slots_are_given(rt: HostRuntime) -> Result<()
     Ok(())
 }
 
+/// Looks at the slots of the delayed row: the first flight stands behind the others, and keeps its slot.
+fn expect_delayed_slots(rt: &impl Abort, core: &Core) {
+    let id: Text<8> = Text::new(b"RMZ01");
+    let slots = core.slots(&id).expect(rt, "a slot list");
+    assert_eq!(rt; slots.slot_of(1), Some(2));
+    assert_eq!(rt; slots.slot_of(2), Some(0));
+    assert_eq!(rt; slots.slot_of(3), Some(1));
+    assert!(rt; slots.is_fixed(1) && !slots.is_fixed(3));
+}
+
 #[test]
 fn a_delay_moves_the_flight_behind_the_others(rt: HostRuntime) {
     let core = desk(&rt, rt.alloc(), &DELAYED);
-    let id: Text<8> = Text::new(b"RMZ01");
-    let slots = core.slots(&id).expect(&rt, "a slot list");
-    assert_eq!(&rt; slots.slot_of(1), Some(2));
-    assert_eq!(&rt; slots.slot_of(2), Some(0));
-    assert_eq!(&rt; slots.slot_of(3), Some(1));
-    assert!(&rt; slots.is_fixed(1));
-    assert!(&rt; !slots.is_fixed(3));
+    expect_delayed_slots(&rt, &core);
     assert_eq!(&rt; core.notices(), 2);
     assert!(&rt; core.slots(&Text::new(b"RMZ02")).is_none());
+}
+
+/// Whether a desk has the entries and notices of the delayed row, and the first flight of another.
+fn has_delayed(again: &Core, core: &Core) -> bool {
+    again.entries() == 6 && again.notices() == 2 && again.row(1) == core.row(1)
+}
+
+fn is_stepped_again(rt: &impl Abort, alloc: Global, core: &Core) -> bool {
+    let again = replayed(rt, alloc, core);
+    has_delayed(&again, core)
 }
 
 #[test]
 fn a_core_is_stepped_over_its_journal_again(rt: HostRuntime) {
     let core = desk(&rt, rt.alloc(), &DELAYED);
-    let again = replayed(&rt, rt.alloc(), &core);
-    assert_eq!(&rt; again.entries(), 6);
-    assert_eq!(&rt; again.notices(), 2);
-    assert!(&rt; again.row(1) == core.row(1));
+    assert!(&rt; is_stepped_again(&rt, rt.alloc(), &core));
+}
+
+fn verdict_of(core: &Core, number: u32) -> Option<Verdict> {
+    core.entry(number).map(|entry| entry.receipt().verdict)
 }
 
 #[test]
 fn receipts_say_what_became_of_each_filing(rt: HostRuntime) {
     let core = desk(&rt, rt.alloc(), &TEXTS);
-    let verdicts = [
-        Some(Verdict::Refused(Refusal::AlreadyHeld)),
-        Some(Verdict::Departed {
-            plan: 1,
-            window: Window::None,
-        }),
-    ];
-    assert!(&rt; core.entry(3).map(|entry| entry.receipt().verdict) == verdicts[0]);
-    assert!(&rt; core.entry(4).map(|entry| entry.receipt().verdict) == verdicts[1]);
+    let departed = Verdict::Departed {
+        plan: 1,
+        window: Window::None,
+    };
+    assert!(&rt; verdict_of(&core, 3) == Some(Verdict::Refused(Refusal::AlreadyHeld)));
+    assert!(&rt; verdict_of(&core, 4) == Some(departed));
     assert!(&rt; core.row(1).map(|row| row.state) == Some(PlanState::Departed));
     assert!(&rt; core.row(2).is_none());
 }
@@ -96,11 +108,16 @@ fn is_full(stepped: Result<Receipt, (StepFault, Filing)>, text: &[u8]) -> bool {
     }
 }
 
+/// Whether a desk whose journal has room for one entry gives the second filing back.
+fn is_full_after_one(rt: &impl Abort, alloc: Global, core: &mut Core) -> bool {
+    assert!(rt; is_filed(rt, alloc, core, b"TIME 2409010500"));
+    let filing = Filing::new(alloc, b"ONE MORE").expect(rt, "a filing");
+    is_full(core.step(filing, 0), b"ONE MORE")
+}
+
 #[test]
 fn a_full_journal_takes_nothing(rt: HostRuntime) {
-    let mut core = Core::new(rt.alloc(), setup(&rt, 1)).expect(&rt, "a desk");
-    assert!(&rt; is_filed(&rt, rt.alloc(), &mut core, b"TIME 2409010500"));
-    let filing = Filing::new(rt.alloc(), b"ONE MORE").expect(&rt, "a filing");
-    assert!(&rt; is_full(core.step(filing, 0), b"ONE MORE"));
+    let mut core = new_desk(&rt, rt.alloc(), 1);
+    assert!(&rt; is_full_after_one(&rt, rt.alloc(), &mut core));
     assert_eq!(&rt; core.entries(), 1);
 }

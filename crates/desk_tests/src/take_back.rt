@@ -73,11 +73,16 @@ fn is_revised(notice: &Notice, ctot: Option<Minute>) -> bool {
     }
 }
 
+/// Takes the delay back, and files it again.
+fn file_again(rt: &impl Abort, alloc: Global, core: &mut Core) {
+    let filing = take_back(rt, alloc, core, DELAY);
+    assert!(rt; is_sixth(core.step(filing, 3)));
+}
+
 #[test]
 fn a_delay_that_was_taken_back_is_filed_again(rt: HostRuntime) {
     let mut core = desk(&rt, rt.alloc(), &FILED);
-    let filing = take_back(&rt, rt.alloc(), &mut core, DELAY);
-    assert!(&rt; is_sixth(core.step(filing, 3)));
+    file_again(&rt, rt.alloc(), &mut core);
     let notice = core.notice(1).expect(&rt, "a notice");
     assert!(&rt; is_revised(notice, read_moment(b"2409010813")));
 }
