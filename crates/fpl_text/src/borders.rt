@@ -41,7 +41,7 @@ impl Look {
 }
 
 /// Where the first border from a place on stands, before `end`, behind which 16 more bytes stand; and the last look that was
-/// taken. The one before has the byte at `from`, or ends just before it.
+/// taken. The look before the search, `look`, has the byte at `from` or ends just before it.
 #[inline(always)]
 fn next_border(bytes: &[u8], look: Look, from: usize, end: usize) -> (usize, Look)
     requires room { end + 16 ≤ length bytes.now }
