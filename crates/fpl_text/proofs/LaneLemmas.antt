@@ -161,34 +161,13 @@ front-mask v m long bits small =
       stops = λ p h l. unset_flag (p n) (λ high. let one = (bits n).1 (rw (h.each n l) high) in absurd (omega (arith, t.1, one)));
     }
 
--- how many of the lowest bits of a mask are not set
-pub record IsUnsetFront (v : List ℕ) (n : ℕ) : Type 0 where
-  pub bound : n ≤ 16
-  pub unset : (p : ℕ → Bool) → HasFlags v p → (k : ℕ) → k < n → p k ≡ false
-  pub stops : (p : ℕ → Bool) → HasFlags v p → n < 16 → p n ≡ true
+flag_is : (p : Bool) (x : ℕ) → (x ≡ 1) ↔ (128 ≤ flag p) → x < 2 → eqb x 1 ≡ p
+flag_is true x h l = let one : x ≡ 1 = h.1 (omega arith) in rw one refl
+flag_is false x h l = ⊎_elim (λ z. let none : x ≡ 0 = omega arith in rw none refl) (λ o. let past = h.0 (omega arith) in absurd (omega arith)) (cases_lt x 1)
 
-pub front-unset : (v : List ℕ) (m : ℕ) → IsMask v m → IsUnsetFront v (trailing_zeros w64 (bit_or m 65536))
-front-unset v m inm =
-    let end = bit_at-pow_same 16 in
-    let sum = or_add_and m 65536 in
-    let low = and_le_l m 65536 in
-    let some : 0 < bit_or m 65536 = omega (arith, sum, low, inm.small) in
-    let small : bit_or m 65536 < 2 ^ 64 = omega (arith, sum, low, inm.small) in
-    let t = bit_at-trailing_zeros w64 (bit_or m 65536) some small in
-    let n = trailing_zeros w64 (bit_or m 65536) in
-    let bit : (k : ℕ) → bit_at (bit_or m 65536) k ≡ max (bit_at m k) (bit_at 65536 k) = (λ k. bit_at_or m 65536 k) in
-    let bound : n ≤ 16 = ⊎_elim (λ h. let none = t.2 16 h in absurd (omega (arith, none, bit 16, end))) (λ h. h) (cases_lt 16 n) in
-    record {
-      bound = bound;
-      unset = λ p h k l. unset_flag (p k) (λ high.
-          let one = (inm.bits k).1 (rw (h.each k (omega arith)) high) in
-          let none = t.2 k l in
-          absurd (omega (arith, one, none, bit k)));
-      stops = λ p h l.
-          let other : bit_at 65536 n ≡ 0 = bit_at-pow_other 16 n (λ same. omega (arith, same)) in
-          let one : bit_at m n ≡ 1 = omega (arith, t.1, bit n, other) in
-          set_flag (p n) (rw (h.each n l) at ((inm.bits n).0 one));
-    }
+-- a bit of a mask tells what the lane's flag tells
+pub mask-bit : (v : List ℕ) (m : ℕ) (p : ℕ → Bool) → IsMask v m → HasFlags v p → (k : ℕ) → k < 16 → eqb (bit_at m k) 1 ≡ p k
+mask-bit v m p inm flags k l = flag_is (p k) (bit_at m k) (rw (flags.each k l) at (inm.bits k)) (bit_at-lt m k)
 
 bit_below : (v : List ℕ) (m k : ℕ) → length v ≡ 16 → ((k : ℕ) → (bit_at m k ≡ 1) ↔ (128 ≤ get_or v k 0)) → bit_at m k ≡ 1 → k < 16
 bit_below v m k long bits one =
@@ -278,11 +257,7 @@ behind-bit w n b first q long inn inb flags zero few = rw inb.first (first_is fi
     first_is false = refl
 behind-bit w n b first q long inn inb flags (suc k) few =
     let step : suc k ≡ k + 1 = omega arith in
-    rw (step, inb.others k) (flag_is (q k) (bit_at n k) (rw (flags.each k (omega arith)) at (inn.bits k)) (bit_at-lt n k))
-  where
-    flag_is : (p : Bool) (x : ℕ) → (x ≡ 1) ↔ (128 ≤ flag p) → x < 2 → eqb x 1 ≡ p
-    flag_is true x h l = let one : x ≡ 1 = h.1 (omega arith) in rw one refl
-    flag_is false x h l = ⊎_elim (λ z. let none : x ≡ 0 = omega arith in rw none refl) (λ o. let past = h.0 (omega arith) in absurd (omega arith)) (cases_lt x 1)
+    rw (step, inb.others k) (mask-bit w n q inn flags k (omega arith))
 
 -- how many lanes hold a byte
 pub lanes-count : (v : List ℕ) (byte : ℕ) → length v ≡ 16

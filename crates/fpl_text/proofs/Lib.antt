@@ -8,4 +8,5 @@ pub mod MomentsLemmas
 pub mod ReadBackLemmas
 pub mod MomentYears
 pub mod LaneLemmas
+pub mod LookLemmas
 pub mod MomentFronts

@@ -1,6 +1,8 @@
 -- Where the fields of a message stand: each between two borders, which are the brackets and the hyphens.
 use Rattle.std.specs.Prelude.{◌≡◌, ℕ, ◌+◌, ◌-◌, ◌<◌, ◌≤◌, true, not, ◌==◌, ◌&&◌, nat_lt, nat_le, if◌then◌else◌, List, [], ◌∷◌, ◌++◌, length, slice_index, slice_get, slice_range, Some, true}
+use Rattle.std.specs.Int.{bit_at}
 use Rattle.std.specs.List.{list_all, slice_split}
+use Rattle.fpl_text.specs.Bytes.{is_border}
 use Rattle.fpl_text.specs.Fields.{is_bracket, inside, is_bracketed, fields_of, first_field, title_of, has_its_fields}
 use Rattle.fpl_text.specs.declared.fields.Title.{Title}
 
@@ -26,6 +28,11 @@ pub record IsCut (inside : List ℕ) (borders : List ℕ) (count : ℕ) : Type 0
   pub some : 0 < count
   pub counted : count ≡ length (parts inside)
   pub noted : AreBorders inside borders
+
+-- the low 16 bits of a word tell which of the 16 bytes from a place on are borders, and no other bit is set
+pub record IsLook (text : List ℕ) (place bits : ℕ) : Type 0 where
+  pub each : (k : ℕ) → k < 16 → (bit_at bits k == 1) ≡ is_border (slice_index text (place + k))
+  pub small : bits < 65_536
 
 -- the places of the first 13 borders are noted, where they lie in 16 bits
 abbrev pub with_border : List ℕ → ℕ → ℕ → List ℕ

@@ -4,9 +4,9 @@ ghost use Rattle.std.specs.Prelude.{◌≡◌, ◌<◌, ◌≤◌, ◌+◌, leng
 ghost use Rattle.std.specs.List.{list_all, position_or_len};
 ghost use Rattle.fpl_text.specs.Bytes.{is_border};
 ghost use Rattle.fpl_text.specs.Fields.{is_bracket};
-ghost use Rattle.fpl_text.specs.Borders.{parts, IsCut, with_border};
+ghost use Rattle.fpl_text.specs.Borders.{parts, IsCut, IsLook, with_border};
 
-use crate::lanes::{border_lanes, load, unset_lanes};
+use crate::lanes::{border_bits, load};
 use arrayvec::ArrayVec;
 
 /// The places of the first borders of a message's fields, counted from the opening bracket, which is the first of them;
@@ -18,23 +18,56 @@ pub(crate) struct Borders {
     pub(crate) count: usize,
 }
 
-/// Where the first border from a place on stands, before `end`. 16 more bytes stand behind that.
+/// The borders among 16 bytes.
+#[derive(Clone, Copy)]
+struct Look {
+    /// Where the first of the bytes stands.
+    at: usize,
+    /// A bit for each border: bit k for one that stands k bytes behind the first.
+    bits: u64,
+}
+
+impl Look {
+    /// The borders among the 16 bytes from a place on.
+    #[inline(always)]
+    fn new(bytes: &[u8], at: usize) -> Self
+        requires { at + 16 ≤ length bytes.now }
+        ensures look { IsLook bytes.now result.at result.bits }
+        ensures place { result.at ≡ at }
+    {
+        let bits = border_bits(load(bytes, at));
+        Look { at, bits }
+    }
+}
+
+/// Where the first border from a place on stands, before `end`, behind which 16 more bytes stand; and the last look that was
+/// taken. The look before the search, `look`, has the byte at `from` or ends just before it.
 #[inline(always)]
-fn next_border(bytes: &[u8], from: usize, end: usize) -> usize
+fn next_border(bytes: &[u8], look: Look, from: usize, end: usize) -> (usize, Look)
     requires room { end + 16 ≤ length bytes.now }
     requires order { from ≤ end }
-    ensures value { result ≡ from + position_or_len is_border (slice_range bytes.now from end) }
-    ensures bound { result ≤ end }
+    requires look { IsLook bytes.now look.at look.bits }
+    requires low { look.at ≤ from }
+    requires high { from ≤ look.at + 16 }
+    ensures value { result.0 ≡ from + position_or_len is_border (slice_range bytes.now from end) }
+    ensures bound { result.0 ≤ end }
+    ensures look { IsLook bytes.now result.1.at result.1.bits }
+    ensures low { result.0 < end → result.1.at ≤ result.0 }
+    ensures high { result.0 < end → result.0 < result.1.at + 16 }
 {
-    let mut at = from;
-    'lanes: while at < end {
-        let count = unset_lanes(border_lanes(load(bytes, at)));
-        if count < 16 {
-            return (at + count).min(end);
+    let mut seen = look;
+    let mut place = from;
+    let mut later = seen.bits >> (place - seen.at);
+    'looks: while later == 0 {
+        place = seen.at + 16;
+        if place >= end {
+            return (end, seen);
         }
-        at += 16;
+        seen = Look::new(bytes, place);
+        later = seen.bits;
     }
-    end
+    let border = place + later.trailing_zeros() as usize;
+    (border.min(end), seen)
 }
 
 /// Notes a border behind which there are so many, where all those are noted and there is room for its place.
@@ -57,13 +90,15 @@ pub(crate) fn borders_of(bytes: &[u8], end: usize) -> Option<Borders>
     let mut places = ArrayVec::new();
     places.push(0);
     let mut count = 0;
+    let mut look = Look::new(bytes, 0);
     // Counted from the opening bracket, which is the first byte.
     let mut from = 1;
     while from <= end {
-        let border = next_border(bytes, from, end);
+        let (border, seen) = next_border(bytes, look, from, end);
         if border < end && bytes[border] != b'-' {
             return None;
         }
+        look = seen;
         count += 1;
         from = border + 1;
         note(&mut places, count, border);

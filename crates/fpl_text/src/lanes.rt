@@ -158,14 +158,13 @@ pub(crate) fn set_lanes(flags: u8x16) -> usize
     top_bits(flags).trailing_ones() as usize
 }
 
-/// How many of the first lanes are not set.
+/// The lanes that hold a border: bit k for lane k.
 #[inline(always)]
-pub(crate) fn unset_lanes(flags: u8x16) -> usize
-    ensures bound { result ≤ 16 }
-    ensures unset { (p : ℕ → Bool) → HasFlags flags p → (k : ℕ) → k < result → p k ≡ false }
-    ensures stops { (p : ℕ → Bool) → HasFlags flags p → result < 16 → p result ≡ true }
+pub(crate) fn border_bits(v: u8x16) -> u64
+    ensures each { (k : ℕ) → k < 16 → (bit_at result k == 1) ≡ is_border (slice_index v k) }
+    ensures small { result < 65536 }
 {
-    (top_bits(flags) | 65536).trailing_zeros() as usize
+    top_bits(border_lanes(v))
 }
 
 /// How many of the first lanes are kept by a pass, of which `plain` are plain bytes, behind a border or not; and whether the

@@ -6,7 +6,7 @@ use Rattle.fpl_text.proofs.borders.borders_of.Goals.{else-border-end-via-then-bo
 
 pub returns-then-bytes-border-ne45 : goal.returns-then-bytes-border-ne45
 returns-then-bytes-border-ne45 c =
-    let border = c.next_border-border.result in
+    let border = c.next_border-border.result.0 in
     let inside = slice_range c.args.bytes.now 1 c.args.end in
     let long : length inside ≡ c.args.end - 1 = length-inside c.args.bytes.now c.args.end (omega (arith, c.requires.room)) in
     let low : c.loop-from.from ≤ border = omega (arith, c.next_border-border.ensures.value) in
@@ -19,7 +19,7 @@ returns-then-bytes-border-ne45 c =
 
 pub loop-from-preserved : goal.loop-from-preserved
 loop-from-preserved c =
-    let border = c.next_border-border.result in
+    let border = c.next_border-border.result.0 in
     let inside = slice_range c.args.bytes.now 1 c.args.end in
     let long : length inside ≡ c.args.end - 1 = length-inside c.args.bytes.now c.args.end (omega (arith, c.requires.room)) in
     let low : c.loop-from.from ≤ border = omega (arith, c.next_border-border.ensures.value) in
@@ -41,6 +41,9 @@ loop-from-preserved c =
                 (omega (arith, long, end, low)) (omega (arith, place, long, end)) first)
           ]);
       some = omega arith;
+      look = c.next_border-border.ensures.look;
+      low = λ l. let at_most = c.next_border-border.ensures.low (omega (arith, l)) in omega (arith, at_most);
+      high = λ l. let below = c.next_border-border.ensures.high (omega (arith, l)) in omega (arith, below);
     }
 
 pub returns : goal.returns
