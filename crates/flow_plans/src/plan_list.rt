@@ -70,7 +70,7 @@ impl<A: Allocator + Copy> PlanList<A> {
         self.outlines[(number - 1) as usize].may_come(spot)
     }
 
-    /// Appends a plan, and names it in the chains.
+    /// Appends a plan, and names it in the chains. After an `Err` the plans and all chains are as they were.
     pub(crate) fn append(&mut self, chains: &mut Chains<A>, plan: Plan<A>) -> Result<(), AllocError>
         requires { AreNamed chains.old self.old }
         ensures ok { OnOk result (self.new ≡ self.old ++ plan ∷ []) }
