@@ -1,10 +1,10 @@
 -- Changes that are taken back.
-use Rattle.std.proofs.Common.{◌≡◌, ℕ, ◌-◌, ◌<◌, List, length, get_or, ap, sym, ◌∙◌, Some, IfSome, slice_get, slice_set, length-set}
-use Rattle.std.proofs.lemmas.List.{set-set, set-get_or, get_or-set_same}
+use Rattle.std.proofs.Common.{◌≡◌, ℕ, ◌-◌, ◌<◌, ◌≤◌, refl, List, [], ◌∷◌, arith, length, get_or, ap, sym, ◌∙◌, Some, IfSome, slice_get, slice_set, length-set}
+use Rattle.std.proofs.lemmas.List.{set-set, set-get_or, get_or-set_same, get_or_default}
 use Rattle.std.proofs.lemmas.Option.{slice_get-get_or}
 use Rattle.flow_plans.specs.declared.plan.PlanState.{PlanState}
 use Rattle.flow_plans.specs.declared.plan.PlanState.TheVariants as state
-use Rattle.flow_plans.specs.Plans.{Plan, changed_at, with_state}
+use Rattle.flow_plans.specs.Plans.{Plan, changed_at, with_state, with_off_block}
 
 -- a plan that was replaced and is changed back
 pub changed_at-back : (change : Plan → Plan) (n : ℕ) (ps : List Plan) (p q : Plan) → n - 1 < length ps → p ≡ get_or ps (n - 1) p → change q ≡ p → changed_at change n (slice_set ps (n - 1) q) ≡ ps
@@ -25,3 +25,32 @@ filed-again s ps k p h e filed =
 -- a plan that was replaced and is put back
 pub with_plan-back : (ps : List Plan) (k : ℕ) (p q : Plan) → p ≡ get_or ps k p → slice_set (slice_set ps k q) k p ≡ ps
 with_plan-back ps k p q e = set-set ps k q p ∙ ap (λ r. slice_set ps k r) e ∙ set-get_or ps k p
+
+-- a plan that was changed, and is changed back
+back-there : (back change : Plan → Plan) (n : ℕ) (ps : List Plan) (p : Plan) → n - 1 < length ps → p ≡ get_or ps (n - 1) p → back (change p) ≡ p → changed_at back n (changed_at change n ps) ≡ ps
+unfolding changed_at
+back-there back change n ps p h e same =
+    let there : slice_get ps (n - 1) ≡ Some p = slice_get-get_or ps (n - 1) p h ∙ ap (λ r. Some r) (sym e) in
+    rw there (changed_at-back back n ps p (change p) h e same)
+
+-- a filed plan that got another state
+pub ended-back : (s : PlanState) (n : ℕ) (ps : List Plan) → n - 1 < length ps → IfSome (slice_get ps (n - 1)) (λ q. q.state ≡ state.Filed) → changed_at (with_state state.Filed) n (changed_at (with_state s) n ps) ≡ ps
+ended-back s n [] h filed = absurd (omega (arith, h))
+ended-back s n (x ∷ ps) h filed =
+    let p : Plan = get_or (x ∷ ps) (n - 1) x in
+    let e : p ≡ get_or (x ∷ ps) (n - 1) p = get_or_default (x ∷ ps) (n - 1) x p h in
+    back-there (with_state state.Filed) (with_state s) n (x ∷ ps) p h e (filed-again s (x ∷ ps) (n - 1) p h e filed)
+
+-- a plan that got another off-block moment
+pub delayed-back : (moment held n : ℕ) (ps : List Plan) (p : Plan) → n - 1 < length ps → p ≡ get_or ps (n - 1) p → held ≡ p.off_block → changed_at (with_off_block held) n (changed_at (with_off_block moment) n ps) ≡ ps
+delayed-back moment held n ps p h e same =
+    back-there (with_off_block held) (with_off_block moment) n ps p h e (ap (λ (m : ℕ). with_off_block m p) same)
+
+-- a plan that was changed in its place
+pub changed-there : (change : Plan → Plan) (n : ℕ) (ps all : List Plan) (p q : Plan) → ps ≡ all → (0 < n) × (n ≤ length all) → p ≡ get_or ps (n - 1) p → q ≡ change p → slice_set ps (n - 1) q ≡ changed_at change n all
+unfolding changed_at
+changed-there change n ps all p q same within e made =
+    let long : length ps ≡ length all = ap length same in
+    let h : n - 1 < length ps = omega (arith, long, within.0, within.1) in
+    let there : slice_get ps (n - 1) ≡ Some p = slice_get-get_or ps (n - 1) p h ∙ ap (λ r. Some r) (sym e) in
+    rw (← same, there, made) refl

@@ -7,6 +7,7 @@ pub mod Distincts
 pub mod RunLemmas
 pub mod PlaceLemmas
 pub mod NearLemmas
+pub mod OutlineLemmas
 pub mod NextBits
 pub mod Notes
 pub mod Amendments

@@ -73,11 +73,11 @@ has-place field place whole places notes e some is = cases (may_have places plac
       let S : Option ℕ → Type 0 = λ o. IsSome o in
       absurd (false≢true (subst S none some))
 
-some-first : (o : Option ℕ) (f : ℕ → Option ℕ) → IsSome (option_and_then f o) → IsSome o
+pub some-first : (o : Option ℕ) (f : ℕ → Option ℕ) → IsSome (option_and_then f o) → IsSome o
 some-first None f h = absurd (false≢true h)
 some-first (Some m) f h = refl
 
-some-if : (b : Bool) (o : Option ℕ) → IsSome (cond b o None) → b ≡ true
+pub some-if : (b : Bool) (o : Option ℕ) → IsSome (cond b o None) → b ≡ true
 some-if true o h = refl
 some-if false o h = absurd (false≢true h)
 

@@ -9,6 +9,7 @@ pub mod Entries
 pub mod Estimates
 pub mod Places
 pub mod Near
+pub mod Outlines
 pub mod Stores
 pub mod Undoing
 pub mod Distinct

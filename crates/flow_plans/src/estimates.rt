@@ -66,6 +66,16 @@ impl<A: Allocator + Copy> Estimates<A> {
         }
         words_on_way(table, self.places)
     }
+
+    /// A set that has the places of the notes. Each place where they aren't whole.
+    pub(crate) fn way(&self) -> u64
+        ensures { (place : List ℕ) → (self.now.whole ≡ true → may_have self.now.places place ≡ true) → may_have result place ≡ true }
+    {
+        if !self.whole {
+            return u64::MAX;
+        }
+        self.places
+    }
 }
 
 /// Makes room for the notes of these words, and for no more.

@@ -1,9 +1,11 @@
 //! One flight plan.
-ghost use Rattle.std.specs.Prelude.{◌≡◌, ◌≤◌, ◌<◌, ℕ, IfOk, IfSome, IsSome, None, option_copied};
+ghost use Rattle.std.specs.Prelude.{◌≡◌, ◌≤◌, ◌<◌, ℕ, List, true, IfOk, IfSome, IsSome, None, option_copied};
 ghost use Rattle.fpl_items.specs.Items.{day_of_items};
 ghost use Rattle.flow_plans.specs.Entries.{take_off, elapsed_at, entry_at, subject};
 ghost use Rattle.fpl_message.specs.declared.order.Spot.{Spot};
 ghost use Rattle.flow_plans.specs.Near.{row_of, word_at, HasBitsOf};
+ghost use Rattle.flow_plans.specs.Outlines.{may_be_subject};
+ghost use Rattle.flow_plans.specs.Places.{may_have};
 ghost use Rattle.flow_plans.specs.Plans.{is_held, is_filed, is_visual, same_key, is_held_as, text_of, status_of, with_state, with_off_block};
 ghost use Rattle.flow_plans.specs.Matching.{agrees, is_candidate, is_gone};
 ghost use Rattle.flow_plans.specs.Changes.{plan_of, key_of, changes_key, key_after, amended_plan};
@@ -130,8 +132,8 @@ fn is_place(aerodrome: &[u8], place: &[u8]) -> bool
 
 /// A flight plan as the desk holds it.
 ///
-/// What says where the flight enters a place stands together, since opening a regulation looks at it in all plans: from the key
-/// to the places of the estimates, with which the texts begin.
+/// What says where the flight enters a place stands together, since opening a regulation looks at it in each plan whose flight may
+/// come there: from the key to the places of the estimates, with which the texts begin.
 #[derive(Drop)]
 pub struct Plan<A: Allocator + Copy = Global> {
     alternates: Alternates,
@@ -422,6 +424,21 @@ impl<A: Allocator + Copy> Plan<A> {
         }
         let ends = words_of_ends(table, self.key.dep.as_bytes(), self.key.dest.as_bytes());
         ends | self.texts.near(table)
+    }
+
+    /// Whether regulations may apply to the flight, wherever they are: the plan is filed, not flown by visual rules throughout and
+    /// not exempt.
+    pub(crate) fn may_be_subject(&self) -> bool
+        ensures { result ≡ may_be_subject self.now }
+    {
+        self.is_filed() && self.rules != FlightRules::Visual && !self.exempt
+    }
+
+    /// A set that has each place of the way.
+    pub(crate) fn way(&self) -> u64
+        ensures { (place : List ℕ) → IsSome (elapsed_at place self.now) → may_have result place ≡ true }
+    {
+        self.texts.way()
     }
 
     /// The total elapsed time, in minutes.

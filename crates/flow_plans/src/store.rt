@@ -13,10 +13,11 @@ ghost use Rattle.flow_plans.specs.Times.{first_from, delayed_to};
 ghost use Rattle.flow_plans.specs.Changes.{plan_of, moment_of, filed, cancelled, departed, delayed, amended, IsRefusal, IsJustRefusal, Answers};
 
 use crate::amending::amended;
-use crate::chains::{Chains, FlightName};
+use crate::chains::Chains;
 use crate::fault::PlanFault;
 use crate::matching::{holds_key, matching};
 use crate::plan::{Plan, PlanState, Status, key_of};
+use crate::plan_list::PlanList;
 use crate::setup::Setup;
 use crate::undo::LastChange;
 use fpl_message::{Chg, Cnl, Dep, Dla, Fpl, Parts, Spot};
@@ -32,7 +33,7 @@ pub struct PlanStore<A: Allocator + Copy = Global> {
     alloc: A,
     max_plans: u32,
     taxi: u32,
-    plans: Vec<Plan<A>, A>,
+    plans: PlanList<A>,
     chains: Chains<A>,
     last: LastChange<A>,
 }
@@ -47,11 +48,11 @@ impl<A: Allocator + Copy> Model for PlanStore<A> {
     ghost view = { λ s. record {
       max_plans = s.max_plans;
       taxi = s.taxi;
-      plans = s.plans.items;
-      before = undone s.plans.items s.last;
+      plans = s.plans;
+      before = undone s.plans s.last;
     } };
 
-    ghost invariant = { λ s. IsKept s.max_plans s.taxi s.plans.items s.chains s.last };
+    ghost invariant = { λ s. IsKept s.max_plans s.taxi s.plans s.chains s.last };
 }
 
 impl<A: Allocator + Copy> PlanStore<A> {
@@ -66,7 +67,7 @@ impl<A: Allocator + Copy> PlanStore<A> {
             alloc,
             max_plans: setup.max_plans(),
             taxi: setup.taxi(),
-            plans: Vec::new(alloc),
+            plans: PlanList::new(alloc),
             chains: Chains::new(alloc),
             last: LastChange::Nothing,
         }
@@ -86,7 +87,7 @@ impl<A: Allocator + Copy> PlanStore<A> {
         requires { 0 < number }
         ensures { option_copied result ≡ slice_get self.now.plans (number - 1) }
     {
-        self.plans.get((number - 1) as usize)
+        self.plans.as_slice().get((number - 1) as usize)
     }
 
     /// Takes in a flight plan, and answers its number, the next one. After an `Err` the store is as it was.
@@ -105,14 +106,20 @@ impl<A: Allocator + Copy> PlanStore<A> {
         ensures limit { self.new.max_plans ≡ self.old.max_plans }
         ensures taxi { self.new.taxi ≡ self.old.taxi }
     {
-        let off_block = match why_refused(&self.plans, &self.chains, self.max_plans, message, now) {
+        let off_block = match why_refused(
+            self.plans.as_slice(),
+            &self.chains,
+            self.max_plans,
+            message,
+            now,
+        ) {
             Ok(off_block) => off_block,
             Err(fault) => return Err(fault),
         };
         let Ok(plan) = Plan::new(self.alloc, message, off_block) else {
             return Err(PlanFault::OutOfMemory);
         };
-        let Ok(()) = append(&mut self.plans, &mut self.chains, plan) else {
+        let Ok(()) = self.plans.append(&mut self.chains, plan) else {
             return Err(PlanFault::OutOfMemory);
         };
         self.last = LastChange::Filed;
@@ -128,7 +135,7 @@ impl<A: Allocator + Copy> PlanStore<A> {
         ensures value { Answers result (matching self.now.plans parts.now) }
         ensures within { IfOk result (λ n. (0 < n) × (n ≤ length self.now.plans)) }
     {
-        matching(&self.plans, &self.chains, parts)
+        matching(self.plans.as_slice(), &self.chains, parts)
     }
 
     /// Cancels the plan that a message is about, which frees its key, and answers its number. It takes no memory. After an
@@ -264,7 +271,7 @@ impl<A: Allocator + Copy> PlanStore<A> {
         requires within { number ≤ length self.now.plans }
         ensures { IfSome (plan_at self.now.plans number) (λ plan. result ≡ take_off self.now.taxi plan) }
     {
-        self.plans[(number - 1) as usize].take_off(self.taxi)
+        self.plans.as_slice()[(number - 1) as usize].take_off(self.taxi)
     }
 
     /// The moment at which the plan of this number enters a place: its take-off at the departure, and later by the elapsed
@@ -274,7 +281,7 @@ impl<A: Allocator + Copy> PlanStore<A> {
         requires within { number ≤ length self.now.plans }
         ensures { IfSome (plan_at self.now.plans number) (λ plan. result ≡ entry_at self.now.taxi spot.now plan) }
     {
-        self.plans[(number - 1) as usize].entry_at(self.taxi, spot)
+        self.plans.as_slice()[(number - 1) as usize].entry_at(self.taxi, spot)
     }
 
     /// The entry of the plan of this number, where a regulation of that place applies to it: one from `start` to before
@@ -286,7 +293,10 @@ impl<A: Allocator + Copy> PlanStore<A> {
         requires within { number ≤ length self.now.plans }
         ensures { IfSome (plan_at self.now.plans number) (λ plan. result ≡ subject self.now.taxi spot.now start end plan) }
     {
-        self.plans[(number - 1) as usize].subject(self.taxi, spot, start, end)
+        if !self.plans.may_come(number, spot) {
+            return None;
+        }
+        self.plans.as_slice()[(number - 1) as usize].subject(self.taxi, spot, start, end)
     }
 
     /// The bits of the words in a table that stand in the rows of the places to which the flight of the plan of this number comes:
@@ -297,57 +307,38 @@ impl<A: Allocator + Copy> PlanStore<A> {
         ensures { (start end : ℕ) (spot : Spot) → IfSome (plan_at self.now.plans number)
             (λ plan. IsSome (subject self.now.taxi spot start end plan) → HasBitsOf result (word_at table.now (row_of spot))) }
     {
-        self.plans[(number - 1) as usize].near(table)
+        self.plans.as_slice()[(number - 1) as usize].near(table)
     }
-}
-
-/// Appends a plan, and names it in the chains.
-fn append<A: Allocator + Copy>(
-    plans: &mut Vec<Plan<A>, A>,
-    chains: &mut Chains<A>,
-    plan: Plan<A>,
-) -> Result<(), AllocError>
-    requires { AreNamed chains.old plans.old.items }
-    ensures ok { OnOk result (plans.new.items ≡ plans.old.items ++ plan ∷ []) }
-    ensures err { OnErr result (plans.new.items ≡ plans.old.items) }
-    ensures named { AreNamed chains.new plans.new.items }
-    ensures kept { StaysNamed chains.old chains.new }
-{
-    plans.reserve(1)?;
-    let name = FlightName::of_key(plan.key());
-    chains.push(name, plans.as_slice().len())?;
-    plans.push_reserved(plan);
-    Ok(())
 }
 
 /// Amends the plan that a message is about, and answers its number and what it was.
 #[tactic(auto, unfolding(crate::specs::Changes::amended))]
 fn amend_plan<A: Allocator + Copy>(
     alloc: A,
-    plans: &mut Vec<Plan<A>, A>,
+    plans: &mut PlanList<A>,
     chains: &mut Chains<A>,
     message: &Chg<A>,
     now: Minute,
 ) -> Result<(u32, Plan<A>), PlanFault>
     requires now { IsDeskTime now }
-    requires few { length plans.old.items ≤ 20_000 }
-    requires named { AreNamed chains.old plans.old.items }
-    ensures ok { IfOk result (λ r. amended now plans.old.items message.now ≡ Ok (record { plans = plans.new.items; number = r.0 })) }
-    ensures within { IfOk result (λ r. (0 < r.0) × (r.0 ≤ length plans.new.items)) }
-    ensures back { IfOk result (λ r. with_plan plans.new.items r.0 r.1 ≡ plans.old.items) }
-    ensures refused { IfErr result (λ e. IsRefusal e (amended now plans.old.items message.now)) }
-    ensures count { length plans.new.items ≡ length plans.old.items }
-    ensures err { OnErr result (plans.new.items ≡ plans.old.items) }
-    ensures named { AreNamed chains.new plans.new.items }
+    requires few { length plans.old ≤ 20_000 }
+    requires named { AreNamed chains.old plans.old }
+    ensures ok { IfOk result (λ r. amended now plans.old message.now ≡ Ok (record { plans = plans.new; number = r.0 })) }
+    ensures within { IfOk result (λ r. (0 < r.0) × (r.0 ≤ length plans.new)) }
+    ensures back { IfOk result (λ r. with_plan plans.new r.0 r.1 ≡ plans.old) }
+    ensures refused { IfErr result (λ e. IsRefusal e (amended now plans.old message.now)) }
+    ensures count { length plans.new ≡ length plans.old }
+    ensures err { OnErr result (plans.new ≡ plans.old) }
+    ensures named { AreNamed chains.new plans.new }
     ensures kept { StaysNamed chains.old chains.new }
     ensures before { IfOk result (λ r. IsNamed chains.new (flight_of_key r.1.key) (r.0 - 1)) }
 {
-    let (number, plan) = amended(alloc, plans, chains, message, now)?;
+    let (number, plan) = amended(alloc, plans.as_slice(), chains, message, now)?;
     let place = (number - 1) as usize;
-    let Ok(()) = rename(plans, chains, place, &plan) else {
+    let Ok(()) = rename(plans.as_slice(), chains, place, &plan) else {
         return Err(PlanFault::OutOfMemory);
     };
-    let held = replace_plan(plans, number, plan);
+    let held = plans.replace(number, plan);
     Ok((number, held))
 }
 
@@ -367,28 +358,13 @@ fn rename<A: Allocator + Copy>(
     chains.rename(held.key(), plan.key(), place)
 }
 
-/// Puts a plan in the place of that number, and answers the one that stood there.
-fn replace_plan<A: Allocator + Copy>(
-    plans: &mut Vec<Plan<A>, A>,
-    number: u32,
-    plan: Plan<A>,
-) -> Plan<A>
-    requires { (0 < number) × (number ≤ length plans.old.items) }
-    ensures changed { plans.new.items ≡ with_plan plans.old.items number plan }
-    ensures back { with_plan plans.new.items number result ≡ plans.old.items }
-    ensures count { length plans.new.items ≡ length plans.old.items }
-{
-    let held = &mut plans[(number - 1) as usize];
-    mem::replace(held, plan)
-}
-
 /// Undoes the last change of these plans.
 #[tactic(auto, unfolding(crate::specs::Plans::changed_at))]
-fn undo<A: Allocator + Copy>(plans: &mut Vec<Plan<A>, A>, last: LastChange<A>)
-    requires change { IsSome (undone plans.old.items last) }
-    requires number { IsOf last plans.old.items }
-    ensures undone { undone plans.old.items last ≡ Some plans.new.items }
-    ensures count { length plans.new.items ≤ length plans.old.items }
+fn undo<A: Allocator + Copy>(plans: &mut PlanList<A>, last: LastChange<A>)
+    requires change { IsSome (undone plans.old last) }
+    requires number { IsOf last plans.old }
+    ensures undone { undone plans.old last ≡ Some plans.new }
+    ensures count { length plans.new ≤ length plans.old }
 {
     match last {
         LastChange::Nothing => {}
@@ -396,14 +372,14 @@ fn undo<A: Allocator + Copy>(plans: &mut Vec<Plan<A>, A>, last: LastChange<A>)
             plans.pop();
         }
         LastChange::Delayed { number, off_block } => {
-            let plan = &mut plans[(number - 1) as usize];
-            plan.set_off_block(off_block);
+            plans.set_off_block(number, off_block);
         }
         LastChange::Ended { number } => {
-            let plan = &mut plans[(number - 1) as usize];
-            plan.set_state(PlanState::Filed);
+            plans.set_state(number, PlanState::Filed);
         }
-        LastChange::Amended { number, plan } => plans[(number - 1) as usize] = plan,
+        LastChange::Amended { number, plan } => {
+            plans.replace(number, plan);
+        }
     }
 }
 
@@ -475,49 +451,47 @@ fn previous<A: Allocator + Copy>(
 /// Gives the filed plan that a message is about another state.
 #[tactic(auto, unfolding(crate::specs::Plans::changed_at))]
 fn end_plan<A: Allocator + Copy>(
-    plans: &mut Vec<Plan<A>, A>,
+    plans: &mut PlanList<A>,
     chains: &Chains<A>,
     parts: &Parts,
     state: PlanState,
 ) -> Result<u32, PlanFault>
-    requires few { length plans.old.items ≤ 20_000 }
-    requires named { AreNamed chains.now plans.old.items }
-    ensures found { Answers result (matching plans.old.items parts.now) }
-    ensures changed { IfOk result (λ n. plans.new.items ≡ changed_at (with_state state) n plans.old.items) }
-    ensures within { IfOk result (λ n. (0 < n) × (n ≤ length plans.new.items)) }
-    ensures back { IfOk result (λ n. changed_at (with_state PlanState.Filed) n plans.new.items ≡ plans.old.items) }
-    ensures count { length plans.new.items ≡ length plans.old.items }
-    ensures err { OnErr result (plans.new.items ≡ plans.old.items) }
+    requires few { length plans.old ≤ 20_000 }
+    requires named { AreNamed chains.now plans.old }
+    ensures found { Answers result (matching plans.old parts.now) }
+    ensures changed { IfOk result (λ n. plans.new ≡ changed_at (with_state state) n plans.old) }
+    ensures within { IfOk result (λ n. (0 < n) × (n ≤ length plans.new)) }
+    ensures back { IfOk result (λ n. changed_at (with_state PlanState.Filed) n plans.new ≡ plans.old) }
+    ensures count { length plans.new ≡ length plans.old }
+    ensures err { OnErr result (plans.new ≡ plans.old) }
 {
-    let number = matching(plans, chains, parts)?;
-    let plan = &mut plans[(number - 1) as usize];
-    plan.set_state(state);
+    let number = matching(plans.as_slice(), chains, parts)?;
+    plans.set_state(number, state);
     Ok(number)
 }
 
 /// Gives the plan that a delay is about its new off-block moment, and answers its number and the moment that it had.
 #[tactic(auto, unfolding(crate::specs::Changes::delayed, crate::specs::Plans::changed_at))]
 fn delay_plan<A: Allocator + Copy>(
-    plans: &mut Vec<Plan<A>, A>,
+    plans: &mut PlanList<A>,
     chains: &Chains<A>,
     message: &Dla,
     now: Minute,
 ) -> Result<(u32, Minute), PlanFault>
     requires now { IsDeskTime now }
-    requires few { length plans.old.items ≤ 20_000 }
-    requires named { AreNamed chains.now plans.old.items }
-    ensures ok { IfOk result (λ r. delayed now plans.old.items message.now ≡ Ok (record { plans = plans.new.items; number = r.0 })) }
-    ensures within { IfOk result (λ r. (0 < r.0) × (r.0 ≤ length plans.new.items) × (r.1 < 67_855_680)) }
-    ensures back { IfOk result (λ r. changed_at (with_off_block r.1) r.0 plans.new.items ≡ plans.old.items) }
-    ensures refused { IfErr result (λ e. IsJustRefusal e (delayed now plans.old.items message.now)) }
-    ensures count { length plans.new.items ≡ length plans.old.items }
-    ensures err { OnErr result (plans.new.items ≡ plans.old.items) }
+    requires few { length plans.old ≤ 20_000 }
+    requires named { AreNamed chains.now plans.old }
+    ensures ok { IfOk result (λ r. delayed now plans.old message.now ≡ Ok (record { plans = plans.new; number = r.0 })) }
+    ensures within { IfOk result (λ r. (0 < r.0) × (r.0 ≤ length plans.new) × (r.1 < 67_855_680)) }
+    ensures back { IfOk result (λ r. changed_at (with_off_block r.1) r.0 plans.new ≡ plans.old) }
+    ensures refused { IfErr result (λ e. IsJustRefusal e (delayed now plans.old message.now)) }
+    ensures count { length plans.new ≡ length plans.old }
+    ensures err { OnErr result (plans.new ≡ plans.old) }
 {
-    let number = matching(plans, chains, &message.parts)?;
-    let plan = &mut plans[(number - 1) as usize];
-    let held = plan.off_block();
+    let number = matching(plans.as_slice(), chains, &message.parts)?;
+    let held = plans.as_slice()[(number - 1) as usize].off_block();
     let moment = delayed_to(now, held, message.time)?;
-    plan.set_off_block(moment);
+    plans.set_off_block(number, moment);
     Ok((number, held))
 }
 

@@ -1,10 +1,10 @@
 //! The field texts that a plan holds.
-ghost use Rattle.std.specs.Prelude.{◌≡◌, ◌≤◌, ◌<◌, ◌+◌, ◌++◌, length, List, ℕ, IfOk, IfSome, IsSome};
+ghost use Rattle.std.specs.Prelude.{◌≡◌, ◌≤◌, ◌<◌, ◌+◌, ◌++◌, true, length, List, ℕ, IfOk, IfSome, IsSome};
 ghost use Rattle.fpl_text.specs.Words.{words_of};
 ghost use Rattle.fpl_items.specs.Items.{items_of, elapsed_to};
 ghost use Rattle.flow_plans.specs.Changes.{texts_after};
 ghost use Rattle.flow_plans.specs.Near.{word_at, HasBitsOf};
-ghost use Rattle.flow_plans.specs.Places.{bit_of};
+ghost use Rattle.flow_plans.specs.Places.{bit_of, may_have};
 
 use crate::amending::text_after;
 use crate::estimates::Estimates;
@@ -148,5 +148,12 @@ impl<A: Allocator + Copy> Texts<A> {
         ensures { (place : List ℕ) → IsSome (elapsed_to place (items_of (words_of self.now.field18))) → HasBitsOf result (word_at table.now (128 + bit_of place)) }
     {
         self.estimates.near(table)
+    }
+
+    /// A set that has each place of the way, by the EET items of field 18.
+    pub(crate) fn way(&self) -> u64
+        ensures { (place : List ℕ) → IsSome (elapsed_to place (items_of (words_of self.now.field18))) → may_have result place ≡ true }
+    {
+        self.estimates.way()
     }
 }

@@ -10,6 +10,6 @@ invariant_of-self-2 g c = (
   c.self.invariant.1,
   c.self.invariant.2,
   c.in_ok-number.ensures.within,
-  named-undoes c.self.inside.chains (with_state state.Filed) (λ p. refl) c.in_ok-number.number c.self.inside.plans.items c.end_plan.new.plans.items c.in_ok-number.ensures.back c.self.invariant.4,
+  named-undoes c.self.inside.chains (with_state state.Filed) (λ p. refl) c.in_ok-number.number c.self.inside.plans c.end_plan.new.plans c.in_ok-number.ensures.back c.self.invariant.4,
   tt,
 )

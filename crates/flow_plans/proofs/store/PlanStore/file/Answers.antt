@@ -4,7 +4,7 @@ use Rattle.flow_plans.proofs.store.PlanStore.file.Goals as goal
 
 pub invariant_of-self : goal.invariant_of-self
 invariant_of-self g c =
-    let same : c.append.new.plans.items ≡ c.self.inside.plans.items = c.in_default-append.ensures.err in (
+    let same : c.append.new.self ≡ c.self.inside.plans = c.in_default-append.ensures.err in (
       omega (arith, c.self.invariant.0, ap length same),
       c.self.invariant.1,
       c.self.invariant.2,

@@ -3,4 +3,4 @@ use Rattle.flow_plans.specs.Stores.{Store}
 use Rattle.flow_plans.proofs.store.PlanStore.previous.Goals as goal
 
 pub returns : goal.returns
-returns g c = rw (sym (ap (λ (s : Store). s.before) c.self.view_is)) (rw c.as_slice.ensures.value at c.previous.ensures)
+returns g c = rw (sym (ap (λ (s : Store). s.before) c.self.view_is)) (rw c.as_slice.ensures at c.previous.ensures)

@@ -1,0 +1,15 @@
+use Rattle.std.proofs.Common.{sym, ap, ◌∙◌}
+use Rattle.flow_plans.specs.declared.plan.Key.{Key}
+use Rattle.flow_plans.specs.Places.{letters_of}
+use Rattle.flow_plans.proofs.OutlineLemmas.{outline-of-none, outline-of-all}
+use Rattle.flow_plans.proofs.outline.Outline.of.Goals as goal
+
+pub returns-then-not-may_be_subject : goal.returns-then-not-may_be_subject
+returns-then-not-may_be_subject g c = outline-of-none _ c.args.plan.now (sym c.may_be_subject.ensures ∙ c.if-not-may_be_subject.true)
+
+pub returns : goal.returns
+returns g c =
+    outline-of-all _ c.args.plan.now
+    (c.letters_of.ensures ∙ ap letters_of (c.as_bytes.ensures.value ∙ ap (λ (k : Key). k.dep) c.key-key.ensures))
+    (c.letters_of-2.ensures ∙ ap letters_of (c.as_bytes-2.ensures.value ∙ ap (λ (k : Key). k.dest) c.key-key.ensures))
+    c.way.ensures

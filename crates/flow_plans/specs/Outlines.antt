@@ -1,0 +1,29 @@
+-- Where a regulation may apply to a flight, in few bytes. An outline may seem to come to a place to which its flight doesn't come,
+-- never the other way round.
+use Rattle.std.specs.Prelude.{◌≡◌, ℕ, Bool, true, not, ◌&&◌, ◌==◌, List, IsSome}
+use Rattle.std.specs.List.{AllZip}
+use Rattle.fpl_message.specs.declared.order.Spot.{Spot}
+use Rattle.fpl_message.specs.declared.order.Spot.TheVariants.{Dep, Arr, Via}
+use Rattle.flow_plans.specs.declared.outline.Outline.{Outline}
+use Rattle.flow_plans.specs.Plans.{Plan, is_filed, is_visual}
+use Rattle.flow_plans.specs.Entries.{subject}
+use Rattle.flow_plans.specs.Places.{may_have, letters_of}
+
+-- whether regulations may apply to the flight of a plan, wherever they are
+abbrev pub may_be_subject : Plan → Bool
+may_be_subject plan = is_filed plan.state && not (is_visual plan.rules) && not plan.exempt
+
+-- whether the flight of an outline may come to a place
+unfoldable pub may_come : Spot → Outline → Bool
+may_come (Dep place) outline = outline.dep == letters_of place
+may_come (Arr place) outline = outline.dest == letters_of place
+may_come (Via place) outline = may_have outline.way place
+
+-- wherever a regulation applies to the flight of the plan, at any time, the outline may come there
+abbrev pub IsOutlineOf : Outline → Plan → Type 0
+IsOutlineOf outline plan =
+    (taxi start end : ℕ) (spot : Spot) → IsSome (subject taxi spot start end plan) → may_come spot outline ≡ true
+
+-- as many outlines as plans, each of the plan at its place
+abbrev pub AreOutlines : List Outline → List Plan → Type 0
+AreOutlines outlines plans = AllZip IsOutlineOf outlines plans

@@ -1,0 +1,134 @@
+//! Plans, each beside its outline.
+//!
+//! The outlines stand in a dense row of their own, so that a look at which flights may come to a place reads little memory.
+ghost use Rattle.std.specs.Prelude.{◌≡◌, ◌≤◌, ◌<◌, ◌-◌, ◌++◌, ◌∷◌, ℕ, [], None, false, length, take, OnOk, OnErr, IfSome};
+ghost use Rattle.flow_plans.specs.Chains.{AreNamed, StaysNamed};
+ghost use Rattle.flow_plans.specs.Entries.{subject};
+ghost use Rattle.flow_plans.specs.Plans.{plan_at, with_plan, changed_at, with_state, with_off_block};
+
+use crate::chains::{Chains, FlightName};
+use crate::outline::Outline;
+use crate::plan::{Plan, PlanState};
+use fpl_message::Spot;
+use fpl_text::Minute;
+use std::alloc::{AllocError, Allocator, Global};
+use std::marker::Model;
+use std::mem;
+
+/// Plans by number, from 1, and their outlines. Contracts see the plans.
+#[derive(Drop)]
+pub(crate) struct PlanList<A: Allocator + Copy = Global> {
+    plans: Vec<Plan<A>, A>,
+    outlines: Vec<Outline, A>,
+}
+
+impl<A: Allocator + Copy> Model for PlanList<A> {
+    ghost use Rattle.std.specs.Prelude.{List};
+    ghost use Rattle.flow_plans.specs.Plans.{Plan as Held};
+    ghost use Rattle.flow_plans.specs.Outlines.{AreOutlines};
+
+    ghost Value = { List Held };
+
+    ghost view = { λ l. l.plans.items };
+
+    ghost invariant = { λ l. AreOutlines l.outlines.items l.plans.items };
+}
+
+impl<A: Allocator + Copy> PlanList<A> {
+    /// No plans.
+    pub(crate) fn new(alloc: A) -> Self
+        ensures { result ≡ [] }
+    {
+        PlanList {
+            plans: Vec::new(alloc),
+            outlines: Vec::new(alloc),
+        }
+    }
+
+    /// The plans.
+    #[inline(always)]
+    pub(crate) fn as_slice(&self) -> &[Plan<A>]
+        ensures { result.now ≡ self.now }
+    {
+        self.plans.as_slice()
+    }
+
+    /// How many plans there are.
+    pub(crate) fn len(&self) -> usize
+        ensures { result ≡ length self.now }
+    {
+        self.plans.len()
+    }
+
+    /// Whether the flight of the plan of this number may come to a place. Where it may not, no regulation of that place applies to
+    /// it, at any time.
+    #[inline(always)]
+    pub(crate) fn may_come(&self, number: u32, spot: &Spot) -> bool
+        requires { (0 < number) × (number ≤ length self.now) }
+        ensures { result ≡ false → (taxi start end : ℕ) → IfSome (plan_at self.now number) (λ plan. subject taxi spot.now start end plan ≡ None) }
+    {
+        self.outlines[(number - 1) as usize].may_come(spot)
+    }
+
+    /// Appends a plan, and names it in the chains. After an `Err` the plans and all chains are as they were.
+    pub(crate) fn append(&mut self, chains: &mut Chains<A>, plan: Plan<A>) -> Result<(), AllocError>
+        requires { AreNamed chains.old self.old }
+        ensures ok { OnOk result (self.new ≡ self.old ++ plan ∷ []) }
+        ensures err { OnErr result (self.new ≡ self.old) }
+        ensures named { AreNamed chains.new self.new }
+        ensures kept { StaysNamed chains.old chains.new }
+    {
+        self.plans.reserve(1)?;
+        self.outlines.reserve(1)?;
+        let name = FlightName::of_key(plan.key());
+        chains.push(name, self.plans.len())?;
+        self.outlines.push_reserved(Outline::of(&plan));
+        self.plans.push_reserved(plan);
+        Ok(())
+    }
+
+    /// Takes the last plan away.
+    pub(crate) fn pop(&mut self)
+        ensures { self.new ≡ take (length self.old - 1) self.old }
+    {
+        self.outlines.pop();
+        self.plans.pop();
+    }
+
+    /// Gives the plan of this number another state.
+    #[tactic(auto, unfolding(crate::specs::Plans::changed_at))]
+    pub(crate) fn set_state(&mut self, number: u32, state: PlanState)
+        requires { (0 < number) × (number ≤ length self.old) }
+        ensures { self.new ≡ changed_at (with_state state) number self.old }
+    {
+        let place = (number - 1) as usize;
+        let plan = &mut self.plans[place];
+        plan.set_state(state);
+        self.outlines[place] = Outline::of(plan);
+    }
+
+    /// Gives the plan of this number another off-block moment.
+    #[tactic(auto, unfolding(crate::specs::Plans::changed_at))]
+    pub(crate) fn set_off_block(&mut self, number: u32, moment: Minute)
+        requires number { (0 < number) × (number ≤ length self.old) }
+        requires bound { moment < 67_855_680 }
+        ensures { self.new ≡ changed_at (with_off_block moment) number self.old }
+    {
+        let place = (number - 1) as usize;
+        let plan = &mut self.plans[place];
+        plan.set_off_block(moment);
+        self.outlines[place] = Outline::of(plan);
+    }
+
+    /// Puts a plan in the place of that number, and answers the one that stood there.
+    pub(crate) fn replace(&mut self, number: u32, plan: Plan<A>) -> Plan<A>
+        requires { (0 < number) × (number ≤ length self.old) }
+        ensures changed { self.new ≡ with_plan self.old number plan }
+        ensures back { with_plan self.new number result ≡ self.old }
+        ensures count { length self.new ≡ length self.old }
+    {
+        let place = (number - 1) as usize;
+        self.outlines[place] = Outline::of(&plan);
+        mem::replace(&mut self.plans[place], plan)
+    }
+}
