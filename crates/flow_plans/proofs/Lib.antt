@@ -4,6 +4,7 @@ pub mod ChainLemmas
 pub mod Walks
 pub mod Keepings
 pub mod Distincts
+mod FourLetters
 pub mod RunLemmas
 pub mod PlaceLemmas
 pub mod NearLemmas
