@@ -7,6 +7,7 @@ use Rattle.fpl_message.specs.declared.parts.Parts.{Parts}
 use Rattle.flow_plans.specs.declared.chains.FlightName.{FlightName}
 use Rattle.flow_plans.specs.declared.chains.Node.{Node}
 use Rattle.flow_plans.specs.declared.plan.Key.{Key}
+use Rattle.flow_plans.specs.Places.{letters_of}
 use Rattle.flow_plans.specs.Plans.{Plan}
 
 -- bytes as one number to the base 256
@@ -15,7 +16,7 @@ base_256 bytes = fold (λ number byte. 256 * number + byte) 0 bytes
 
 -- the name of a flight of this identification, departure and destination
 abbrev pub flight_named : List ℕ → List ℕ → List ℕ → FlightName
-flight_named ident dep dest = record { ident = base_256 ident; ends = 4_294_967_296 * base_256 dep + base_256 dest }
+flight_named ident dep dest = record { ident = base_256 ident; ends = 4_294_967_296 * letters_of dep + letters_of dest }
 
 abbrev pub flight_of_key : Key → FlightName
 flight_of_key key = flight_named key.ident key.dep key.dest

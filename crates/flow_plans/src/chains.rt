@@ -1,7 +1,8 @@
 //! Finding plans by identification, departure and destination, without a walk over all plans.
-ghost use Rattle.std.specs.Prelude.{◌≡◌, ◌<◌, ◌≤◌, ◌^◌, IfSome, OnOk, length};
+ghost use Rattle.std.specs.Prelude.{◌≡◌, ◌<◌, ◌≤◌, IfSome, OnOk, length};
 ghost use Rattle.flow_plans.specs.Chains.{base_256, flight_named, flight_of_key, flight_of_parts, newest, AreLinked, IsNamed, StaysNamed};
 
+use crate::places::letters_of;
 use crate::plan::Key;
 use fpl_message::Parts;
 use fpl_text::Text;
@@ -10,8 +11,8 @@ use std::alloc::{AllocError, Allocator, Global};
 use std::hash::{BuildHasherDefault, FoldHasher};
 use std::marker::Model;
 
-/// What plans of all days of a flight have in common: the identification as one number, and the departure and the destination as
-/// another. Equal flights have equal names.
+/// What plans of all days of a flight have in common: the identification as one number, and the letters of the departure and the
+/// destination as another. Equal flights have equal names.
 #[derive(Clone, Copy, PartialEq, Eq, Hash)]
 pub(crate) struct FlightName {
     ident: u64,
@@ -23,8 +24,8 @@ impl FlightName {
     fn new(ident: &Text<7>, dep: &Text<4>, dest: &Text<4>) -> FlightName
         ensures { result ≡ flight_named ident.now dep.now dest.now }
     {
-        let departure = number_of(dep.as_bytes());
-        let destination = number_of(dest.as_bytes());
+        let departure = u64::from(letters_of(dep.as_bytes()));
+        let destination = u64::from(letters_of(dest.as_bytes()));
         FlightName {
             ident: number_of(ident.as_bytes()),
             ends: 4_294_967_296 * departure + destination,
@@ -48,8 +49,7 @@ impl FlightName {
 #[inline(always)]
 fn number_of(bytes: &[u8]) -> u64
     requires { length bytes.now ≤ 7 }
-    ensures value { result ≡ base_256 bytes.now }
-    ensures bound { result < 256 ^ length bytes.now }
+    ensures { result ≡ base_256 bytes.now }
 {
     let mut number = 0;
     for byte in bytes {
