@@ -1,8 +1,7 @@
 -- One more node in the chains.
-use Rattle.std.proofs.Common.{◌≡◌, ℕ, zero, suc, ◌<◌, ◌≤◌, ◌+◌, Bool, true, false, ◌&&◌, cond, ◌⊎◌, inl, inr, List, [], ◌∷◌, ◌++◌, length, Option, Some, None, IfSome, slice_get, unwrap_or, refl, ap, ◌∙◌, arith}
-use Rattle.std.specs.Str.{bytes_eq}
+use Rattle.std.proofs.Common.{◌≡◌, ℕ, zero, suc, ◌<◌, ◌≤◌, ◌+◌, Bool, true, false, ◌==◌, ◌&&◌, cond, ◌⊎◌, inl, inr, List, [], ◌∷◌, ◌++◌, length, Option, Some, None, IfSome, slice_get, unwrap_or, refl, ap, ◌∙◌, arith}
+use Rattle.std.proofs.lemmas.Bool.Decides.{Decides-eqb}
 use Rattle.std.proofs.lemmas.List.{length_push}
-use Rattle.std.proofs.lemmas.Slice.Eq.{bytes_eq-Decides}
 use Rattle.flow_plans.specs.declared.chains.FlightName.{FlightName}
 use Rattle.flow_plans.specs.declared.chains.Node.{Node}
 use Rattle.flow_plans.specs.Chains.{Chained, newest, same_flight, IsReached, here, further, AreLinked, AreHeads, IsNamed, StaysNamed}
@@ -17,11 +16,9 @@ and-right false b h = absurd (cc)
 
 pub same_flight-same : (a b : FlightName) → same_flight a b ≡ true → a ≡ b
 same_flight-same a b h =
-    let rest : (bytes_eq a.dep b.dep && bytes_eq a.dest b.dest) ≡ true = and-right (bytes_eq a.ident b.ident) _ h in
-    let ident : a.ident ≡ b.ident = (bytes_eq-Decides a.ident b.ident).0 (and-left (bytes_eq a.ident b.ident) _ h) in
-    let dep : a.dep ≡ b.dep = (bytes_eq-Decides a.dep b.dep).0 (and-left (bytes_eq a.dep b.dep) _ rest) in
-    let dest : a.dest ≡ b.dest = (bytes_eq-Decides a.dest b.dest).0 (and-right (bytes_eq a.dep b.dep) _ rest) in
-    λ j. record { ident = ident j; dep = dep j; dest = dest j }
+    let ident : a.ident ≡ b.ident = (Decides-eqb a.ident b.ident).0 (and-left (a.ident == b.ident) _ h) in
+    let ends : a.ends ≡ b.ends = (Decides-eqb a.ends b.ends).0 (and-right (a.ident == b.ident) _ h) in
+    λ j. record { ident = ident j; ends = ends j }
 
 push-cases : (xs : List Node) (y z : Node) (i : ℕ) → slice_get (xs ++ y ∷ []) i ≡ Some z → (slice_get xs i ≡ Some z) ⊎ ((i ≡ length xs) × (y ≡ z))
 push-cases [] y z zero e = inr (refl, ap (λ o. unwrap_or o y) e)

@@ -1,9 +1,11 @@
 pub mod Matches
 pub mod Backs
+pub mod FlightNumbers
 pub mod ChainLemmas
 pub mod Walks
 pub mod Keepings
 pub mod Distincts
+mod FourLetters
 pub mod RunLemmas
 pub mod PlaceLemmas
 pub mod NearLemmas

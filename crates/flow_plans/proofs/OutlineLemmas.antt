@@ -120,8 +120,3 @@ plan-read number read all p same some within is =
     let inside : number - 1 < length all = omega (arith, some, within) in
     let there : p ≡ get_or all (number - 1) p = rw same at is in
     slice_get-get_or all (number - 1) p inside ∙ ap (λ x. Some x) (sym there)
-
--- a plan to which no regulation applies has no entry
-pub none-there : (o : Option Plan) (f : Plan → Option ℕ) → IfSome o (λ p. f p ≡ None) → IfSome o (λ p. None ≡ f p)
-none-there None f h = tt
-none-there (Some p) f h = sym h

@@ -16,7 +16,7 @@ use Rattle.flow_plans.specs.declared.plan.PlanState.TheVariants as state
 use Rattle.flow_plans.specs.Plans.{Plan, same_key, is_held, is_held_as, is_filed, is_departed, changed_at, with_state}
 use Rattle.flow_plans.specs.Matching.{agrees, is_on, is_candidate, is_gone}
 use Rattle.flow_plans.specs.Searching.{with_one_more, passes_at, IsCounted, IsFreeAt, IsHeldBeside}
-use Rattle.flow_plans.specs.Chains.{Chained, newest, flight_of_key, flight_of_parts, IsReached, here, further, AreLinked, IsNamed, StaysNamed, AreNamed}
+use Rattle.flow_plans.specs.Chains.{Chained, newest, flight_named, flight_of_key, flight_of_parts, IsReached, here, further, AreLinked, IsNamed, StaysNamed, AreNamed}
 use Rattle.flow_plans.specs.Changes.{others}
 use Rattle.flow_plans.proofs.ChainLemmas.{and-left, and-right, below-more}
 use Rattle.flow_plans.proofs.Matches.{counted-more, counted-here, neither-here, passes_at-past, any-none, any-one}
@@ -43,12 +43,12 @@ passing test [] k t = absurd (cc)
 passing test (p ∷ ps) zero t = (p, refl, t)
 passing test (p ∷ ps) (suc k) t = passing test ps k t
 
-texts-same : (p q : FlightName) → bytes_eq p.ident q.ident ≡ true → bytes_eq p.dep q.dep ≡ true → bytes_eq p.dest q.dest ≡ true → p ≡ q
-texts-same p q a b c =
-    let ident : p.ident ≡ q.ident = (bytes_eq-Decides p.ident q.ident).0 a in
-    let dep : p.dep ≡ q.dep = (bytes_eq-Decides p.dep q.dep).0 b in
-    let dest : p.dest ≡ q.dest = (bytes_eq-Decides p.dest q.dest).0 c in
-    λ j. record { ident = ident j; dep = dep j; dest = dest j }
+named-equally : (i d e i' d' e' : List ℕ) → bytes_eq i i' ≡ true → bytes_eq d d' ≡ true → bytes_eq e e' ≡ true → flight_named i d e ≡ flight_named i' d' e'
+named-equally i d e i' d' e' a b c =
+    let ident : i ≡ i' = (bytes_eq-Decides i i').0 a in
+    let dep : d ≡ d' = (bytes_eq-Decides d d').0 b in
+    let dest : e ≡ e' = (bytes_eq-Decides e e').0 c in
+    λ j. flight_named (ident j) (dep j) (dest j)
 
 four-true : (a b c d : Bool) → (a && b && c && d) ≡ true → (a ≡ true) × (b ≡ true) × (c ≡ true)
 four-true a b c d h =
@@ -60,13 +60,13 @@ agreed-flight : (parts : Parts) (key : Key) → agrees parts key ≡ true → fl
 unfolding agrees
 agreed-flight parts key h =
     let t = four-true (bytes_eq key.ident parts.ident) (bytes_eq key.dep parts.dep) (bytes_eq key.dest parts.dest) (is_on parts.day key.day) h in
-    texts-same (flight_of_key key) (flight_of_parts parts) t.0 t.1 t.2
+    named-equally key.ident key.dep key.dest parts.ident parts.dep parts.dest t.0 t.1 t.2
 
 same-flight : (k l : Key) → same_key k l ≡ true → flight_of_key k ≡ flight_of_key l
 unfolding same_key
 same-flight k l h =
     let t = four-true (bytes_eq k.ident l.ident) (bytes_eq k.dep l.dep) (bytes_eq k.dest l.dest) _ h in
-    texts-same (flight_of_key k) (flight_of_key l) t.0 t.1 t.2
+    named-equally k.ident k.dep k.dest l.ident l.dep l.dest t.0 t.1 t.2
 
 module _ (chains : Chained) (ps : List Plan) (named : AreNamed chains ps) where
   named-candidate : (parts : Parts) (k : ℕ) → passes_at (is_candidate parts) ps k ≡ true → IsReached chains.nodes (newest chains.heads (flight_of_parts parts)) k

@@ -1,22 +1,31 @@
 -- How plans are found by identification, departure and destination: from these three a chain of nodes, the newest first, names
 -- the plans that were filed or amended under them. It may name other plans too, and one more than once.
-use Rattle.std.specs.Prelude.{◌≡◌, ℕ, ◌<◌, Bool, ◌&&◌, List, length, Option, Some, IfSome, slice_get}
-use Rattle.std.specs.Str.{bytes_eq}
+use Rattle.std.specs.Prelude.{◌≡◌, ℕ, ◌+◌, ◌*◌, ◌<◌, Bool, ◌==◌, ◌&&◌, List, length, Option, Some, IfSome, slice_get}
+use Rattle.std.specs.List.{fold}
 use Rattle.std.specs.Map.{lookup}
 use Rattle.fpl_message.specs.declared.parts.Parts.{Parts}
 use Rattle.flow_plans.specs.declared.chains.FlightName.{FlightName}
 use Rattle.flow_plans.specs.declared.chains.Node.{Node}
 use Rattle.flow_plans.specs.declared.plan.Key.{Key}
+use Rattle.flow_plans.specs.Places.{letters_of}
 use Rattle.flow_plans.specs.Plans.{Plan}
 
-abbrev pub same_flight : FlightName → FlightName → Bool
-same_flight a b = bytes_eq a.ident b.ident && (bytes_eq a.dep b.dep && bytes_eq a.dest b.dest)
+-- bytes as one number to the base 256
+unfoldable pub base_256 : List ℕ → ℕ
+base_256 bytes = fold (λ number byte. 256 * number + byte) 0 bytes
+
+-- the name of a flight of this identification, departure and destination
+abbrev pub flight_named : List ℕ → List ℕ → List ℕ → FlightName
+flight_named ident dep dest = record { ident = base_256 ident; ends = 4_294_967_296 * letters_of dep + letters_of dest }
 
 abbrev pub flight_of_key : Key → FlightName
-flight_of_key key = record { ident = key.ident; dep = key.dep; dest = key.dest }
+flight_of_key key = flight_named key.ident key.dep key.dest
 
 abbrev pub flight_of_parts : Parts → FlightName
-flight_of_parts parts = record { ident = parts.ident; dep = parts.dep; dest = parts.dest }
+flight_of_parts parts = flight_named parts.ident parts.dep parts.dest
+
+abbrev pub same_flight : FlightName → FlightName → Bool
+same_flight a b = (a.ident == b.ident) && (a.ends == b.ends)
 
 -- a chain that goes on from this node names this place among the plans
 pub data IsReached (nodes : List Node) : Option ℕ → ℕ → Type 0 where

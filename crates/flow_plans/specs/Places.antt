@@ -1,5 +1,5 @@
 -- Sets of places, each kept by one of 64 bits. A set may seem to have a place that it hasn't, never the other way round.
-use Rattle.std.specs.Prelude.{ℕ, ◌+◌, ◌*◌, ◌%◌, Bool, ◌==◌, nat_lt, if◌then◌else◌, List, length, slice_index}
+use Rattle.std.specs.Prelude.{ℕ, ◌+◌, ◌*◌, ◌/◌, ◌%◌, Bool, ◌==◌, nat_lt, if◌then◌else◌, List, [], ◌∷◌, length, slice_index}
 use Rattle.std.specs.Int.{bit_at}
 
 -- the bit of a place, which its second to fourth letter choose; short ones share one
@@ -17,3 +17,7 @@ unfoldable pub letters_of : List ℕ → ℕ
 letters_of place =
     if nat_lt (length place) 4 then 0
     else 16_777_216 * slice_index place 0 + 65_536 * slice_index place 1 + 256 * slice_index place 2 + slice_index place 3
+
+-- the four letters that a number stands for
+unfoldable pub four_of : ℕ → List ℕ
+four_of letters = letters / 16_777_216 ∷ letters / 65_536 % 256 ∷ letters / 256 % 256 ∷ letters % 256 ∷ []

@@ -1,7 +1,8 @@
 //! Finding plans by identification, departure and destination, without a walk over all plans.
-ghost use Rattle.std.specs.Prelude.{◌≡◌, ◌<◌, IfSome, OnOk, length};
-ghost use Rattle.flow_plans.specs.Chains.{flight_of_key, flight_of_parts, newest, AreLinked, IsNamed, StaysNamed};
+ghost use Rattle.std.specs.Prelude.{◌≡◌, ◌<◌, ◌≤◌, IfSome, OnOk, length};
+ghost use Rattle.flow_plans.specs.Chains.{base_256, flight_named, flight_of_key, flight_of_parts, newest, AreLinked, IsNamed, StaysNamed};
 
+use crate::places::letters_of;
 use crate::plan::Key;
 use fpl_message::Parts;
 use fpl_text::Text;
@@ -10,34 +11,51 @@ use std::alloc::{AllocError, Allocator, Global};
 use std::hash::{BuildHasherDefault, FoldHasher};
 use std::marker::Model;
 
-/// What plans of all days of a flight have in common.
-#[derive(Debug, Drop, PartialEq, Eq, Hash)]
+/// What plans of all days of a flight have in common: the identification as one number, and the letters of the departure and the
+/// destination as another. Equal flights have equal names.
+#[derive(Clone, Copy, PartialEq, Eq, Hash)]
 pub(crate) struct FlightName {
-    ident: Text<7>,
-    dep: Text<4>,
-    dest: Text<4>,
+    ident: u64,
+    ends: u64,
 }
 
 impl FlightName {
+    #[inline(always)]
+    fn new(ident: &Text<7>, dep: &Text<4>, dest: &Text<4>) -> FlightName
+        ensures { result ≡ flight_named ident.now dep.now dest.now }
+    {
+        let departure = u64::from(letters_of(dep.as_bytes()));
+        let destination = u64::from(letters_of(dest.as_bytes()));
+        FlightName {
+            ident: number_of(ident.as_bytes()),
+            ends: 4_294_967_296 * departure + destination,
+        }
+    }
+
     pub(crate) fn of_key(key: &Key) -> FlightName
         ensures { result ≡ flight_of_key key.now }
     {
-        FlightName {
-            ident: key.ident.copied(),
-            dep: key.dep.copied(),
-            dest: key.dest.copied(),
-        }
+        FlightName::new(&key.ident, &key.dep, &key.dest)
     }
 
     pub(crate) fn of_parts(parts: &Parts) -> FlightName
         ensures { result ≡ flight_of_parts parts.now }
     {
-        FlightName {
-            ident: parts.ident.copied(),
-            dep: parts.dep.copied(),
-            dest: parts.dest.copied(),
-        }
+        FlightName::new(&parts.ident, &parts.dep, &parts.dest)
     }
+}
+
+/// At most seven bytes as one number to the base 256.
+#[inline(always)]
+fn number_of(bytes: &[u8]) -> u64
+    requires { length bytes.now ≤ 7 }
+    ensures { result ≡ base_256 bytes.now }
+{
+    let mut number = 0;
+    for byte in bytes {
+        number = 256 * number + u64::from(*byte);
+    }
+    number
 }
 
 /// A plan that was filed or amended under a flight name, by its place in the list, and the node before it.

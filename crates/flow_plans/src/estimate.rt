@@ -1,9 +1,9 @@
 //! One estimate of an EET item, as a plan notes it.
-ghost use Rattle.std.specs.Prelude.{◌≡◌, ◌<◌, IfSome};
-ghost use Rattle.flow_plans.specs.Places.{letters_of};
+ghost use Rattle.std.specs.Prelude.{◌≡◌, ◌<◌, IfSome, length};
+ghost use Rattle.flow_plans.specs.Places.{letters_of, four_of};
 
-/// The elapsed time to a place of the way. The place is named in field 18, and the note says where. Its first letters tell it
-/// from most other places without a look at the field.
+/// The elapsed time to a place of the way. The place is named in field 18, and the note says where. A place of four letters is known
+/// by these without a look at the field, and the first four letters of a longer one tell it from most others.
 #[derive(Clone, Copy, Debug)]
 pub(crate) struct Estimate {
     /// The first four letters of the place, as `letters_of` gives them.
@@ -53,18 +53,30 @@ impl Estimate {
         u32::from(self.minutes)
     }
 
+    /// The first four letters of the place, as one number.
+    #[inline(always)]
+    fn letters(&self) -> u32
+        ensures { result ≡ self.now.letters }
+    {
+        self.letters
+    }
+
     /// Whether the estimate, of this field, is for a place, whose letters these are.
     #[inline(always)]
     #[tactic(auto, unfolding(crate::specs::Estimates::is_for))]
     pub(crate) fn is_for(&self, field: &[u8], place: &[u8], letters: u32) -> bool
-        requires { letters ≡ letters_of place.now }
+        requires letters { letters ≡ letters_of place.now }
+        requires four { length place.now ≡ 4 → four_of letters ≡ place.now }
         ensures { result ≡ is_for field.now place.now self.now }
     {
-        if self.letters != letters {
+        if self.letters() != letters {
             return false;
         }
         let start = usize::from(self.start);
         let end = usize::from(self.end);
+        if end == start + 4 {
+            return place.len() == 4;
+        }
         start <= end && end <= field.len() && &field[start..end] == place
     }
 }

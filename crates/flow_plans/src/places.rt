@@ -2,8 +2,8 @@
 //!
 //! Each place has one of 64 bits. A set of places is kept by the bits of those in it: where the bit of a place isn't set, the
 //! place isn't in the set.
-ghost use Rattle.std.specs.Prelude.{◌≡◌, ◌<◌, true, List, ℕ};
-ghost use Rattle.flow_plans.specs.Places.{bit_of, may_have, letters_of};
+ghost use Rattle.std.specs.Prelude.{◌≡◌, ◌<◌, true, List, ℕ, length};
+ghost use Rattle.flow_plans.specs.Places.{bit_of, may_have, letters_of, four_of};
 
 /// The bit of a place, below 64.
 #[inline(always)]
@@ -41,7 +41,8 @@ pub(crate) fn with_place(places: u64, place: &[u8]) -> u64
 #[inline(always)]
 #[tactic(auto, unfolding(crate::specs::Places::letters_of))]
 pub(crate) fn letters_of(place: &[u8]) -> u32
-    ensures { result ≡ letters_of place.now }
+    ensures value { result ≡ letters_of place.now }
+    ensures four { length place.now ≡ 4 → four_of result ≡ place.now }
 {
     if place.len() < 4 {
         return 0;

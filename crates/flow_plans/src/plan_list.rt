@@ -70,6 +70,22 @@ impl<A: Allocator + Copy> PlanList<A> {
         self.outlines[(number - 1) as usize].may_come(spot)
     }
 
+    /// The first number from this one on of a plan whose flight may come to a place, or one more than there are. To the flights of
+    /// the plans before it no regulation of that place applies, at any time.
+    pub(crate) fn next_coming(&self, from: u32, spot: &Spot) -> u32
+        requires some { 0 < from }
+        requires few { length self.now ≤ 20_000 }
+        ensures from { from ≤ result }
+        ensures passed { (n : ℕ) → from ≤ n → n < result → (taxi start end : ℕ) → IfSome (plan_at self.now n) (λ plan. subject taxi spot.now start end plan ≡ None) }
+    {
+        let count = self.plans.len() as u32;
+        let mut number = from;
+        while number <= count && !self.may_come(number, spot) {
+            number += 1;
+        }
+        number
+    }
+
     /// Appends a plan, and names it in the chains. After an `Err` the plans and all chains are as they were.
     pub(crate) fn append(&mut self, chains: &mut Chains<A>, plan: Plan<A>) -> Result<(), AllocError>
         requires { AreNamed chains.old self.old }

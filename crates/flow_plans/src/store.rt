@@ -293,10 +293,17 @@ impl<A: Allocator + Copy> PlanStore<A> {
         requires within { number ≤ length self.now.plans }
         ensures { IfSome (plan_at self.now.plans number) (λ plan. result ≡ subject self.now.taxi spot.now start end plan) }
     {
-        if !self.plans.may_come(number, spot) {
-            return None;
-        }
         self.plans.as_slice()[(number - 1) as usize].subject(self.taxi, spot, start, end)
+    }
+
+    /// The first number from this one on of a plan to whose flight a regulation of that place may apply, or one more than there are.
+    /// To the flights of the plans before it none applies, at any time. It reads 16 bytes a plan.
+    pub fn next_coming(&self, from: u32, spot: &Spot) -> u32
+        requires { 0 < from }
+        ensures from { from ≤ result }
+        ensures passed { (n : ℕ) → from ≤ n → n < result → (start end : ℕ) → IfSome (plan_at self.now.plans n) (λ plan. subject self.now.taxi spot.now start end plan ≡ None) }
+    {
+        self.plans.next_coming(from, spot)
     }
 
     /// The bits of the words in a table that stand in the rows of the places to which the flight of the plan of this number comes:
