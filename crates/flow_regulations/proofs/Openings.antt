@@ -37,6 +37,12 @@ opened-step taxi i n plans l m p e within at made =
     ∙ (ap (λ v. with_lineup v l) (let_in-is (subject_to taxi (regulation_of l) p) n (opened taxi (take i plans) l).lineup)
     ∙ ap (λ ws. with_lineup (let w : Lineup = record { period = l.lineup.period; capacity = l.lineup.capacity; waiting = ws; fixed = [] } in w) l) (sym waits))
 
+-- one more plan, to whose flight the regulation doesn't apply
+pub opened-pass : (taxi i n : ℕ) (plans : List Plan) (l m : Listed) (p : Plan) → n ≡ i + 1 → i < length plans → plan_at plans n ≡ Some p → subject_to taxi (regulation_of l) p ≡ None → m ≡ opened taxi (take i plans) l → m ≡ opened taxi (take (i + 1) plans) l
+opened-pass taxi i n plans l m p e within at none made =
+    let o : Listed = opened taxi (take i plans) l in
+    opened-step taxi i n plans l m p e within at (made ∙ ap (λ (s : Option ℕ). with_lineup (let_in s n o.lineup) o) (sym none))
+
 pub opened-absent : (taxi i n : ℕ) (plans : List Plan) (l : Listed) → n ≡ i + 1 → i ≤ length plans → held_slot (opened taxi (take i plans) l).lineup n ≡ None
 opened-absent taxi i n plans l e h =
     let ws = waiting_from 1 taxi (regulation_of l) [] (take i plans) in

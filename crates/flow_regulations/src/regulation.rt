@@ -102,6 +102,17 @@ impl<A: Allocator + Copy> Regulation<A> {
         let _no_flight_twice = self.list.cells();
     }
 
+    /// The first number from this one on of a plan to whose flight the regulation may apply, or one more than there are. To the
+    /// flights of the plans before it the regulation doesn't apply.
+    pub(crate) fn next_coming(&self, plans: &PlanStore<A>, from: u32) -> u32
+        requires { 0 < from }
+        ensures from { from ≤ result }
+        ensures passed { (n : ℕ) (p : Held) → from ≤ n → n < result → plan_at plans.now.plans n ≡ Some p
+            → subject_to plans.now.taxi (regulation_of self.now) p ≡ None }
+    {
+        plans.next_coming(from, &self.spot)
+    }
+
     /// Lets the flight of the last of the plans so far wait, where the regulation applies to it.
     pub(crate) fn let_in(&mut self, plans: &PlanStore<A>, number: u32)
         requires some { 0 < number }

@@ -490,8 +490,12 @@ fn let_all_in<A: Allocator + Copy>(regulation: &mut Regulation<A>, plans: &PlanS
     requires empty { regulation.old ≡ opened plans.now.taxi [] regulation.old }
     ensures { regulation.new ≡ opened plans.now.taxi plans.now.plans regulation.old }
 {
+    let mut next = regulation.next_coming(plans, 1);
     for index in 0..plans.count() {
-        regulation.let_in(plans, index + 1);
+        if index + 1 == next {
+            regulation.let_in(plans, next);
+            next = regulation.next_coming(plans, next + 1);
+        }
     }
 }
 
