@@ -12,6 +12,7 @@ pub mod JournalBack
 pub mod JournalShown
 pub mod JournalHeld
 pub mod Backs
+pub mod Entering
 pub mod FrozenPairs
 pub mod Comparing
 pub mod ChangedRows

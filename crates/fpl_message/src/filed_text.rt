@@ -1,5 +1,5 @@
 //! The text of a filing.
-ghost use Rattle.std.specs.Prelude.{◌≡◌, ◌≤◌, length, IfOk};
+ghost use Rattle.std.specs.Prelude.{◌≡◌, ◌≤◌, [], length, OnOk, OnErr};
 
 use crate::filing::Edition;
 use std::alloc::{AllocError, Allocator, Global};
@@ -27,30 +27,34 @@ impl<A: Allocator + Copy> Model for FiledText<A> {
 }
 
 impl<A: Allocator + Copy> FiledText<A> {
-    /// A copy of the bytes, in this room. It grows to just their length where it is too small.
-    pub(crate) fn new_in(
-        room: Vec<u8, A>,
-        edition: Edition,
-        bytes: &[u8],
-    ) -> Result<Self, AllocError>
-        requires { length bytes.now ≤ 2000 }
-        ensures { IfOk result (λ text. text ≡ record { edition = edition; bytes = bytes.now }) }
+    /// No bytes, and no memory.
+    pub(crate) fn empty(alloc: A, edition: Edition) -> Self
+        ensures { result ≡ record { edition = edition; bytes = [] } }
     {
-        let mut kept = room;
-        kept.clear();
-        kept.reserve_exact(bytes.len())?;
-        kept.extend_from_slice(bytes)?;
-        Ok(FiledText {
-            bytes: kept,
+        FiledText {
+            bytes: Vec::new(alloc),
             edition,
-        })
+        }
     }
 
-    /// The room of the bytes, for others.
-    pub(crate) fn into_room(self) -> Vec<u8, A>
-        ensures { result.items ≡ self.bytes }
+    /// Copies these bytes over those that were there. The memory grows to just their length where it is too small; if that is
+    /// refused, there are no bytes.
+    pub(crate) fn renew(&mut self, edition: Edition, bytes: &[u8]) -> Result<(), AllocError>
+        requires { length bytes.now ≤ 2000 }
+        ensures ok { OnOk result (self.new ≡ record { edition = edition; bytes = bytes.now }) }
+        ensures err { OnErr result (self.new ≡ record { edition = edition; bytes = [] }) }
     {
-        self.bytes
+        self.clear();
+        self.edition = edition;
+        self.bytes.reserve_exact(bytes.len())?;
+        self.bytes.extend_from_slice(bytes)
+    }
+
+    /// Lets go of the bytes, and not of the memory.
+    pub(crate) fn clear(&mut self)
+        ensures { self.new ≡ record { edition = self.old.edition; bytes = [] } }
+    {
+        self.bytes.clear();
     }
 
     /// The bytes as they were filed, at most 2,000.

@@ -1,11 +1,12 @@
 //! A filing: its bytes, and the reading of them.
-ghost use Rattle.std.specs.Prelude.{◌≡◌, ◌≤◌, ◌<◌, ◌↔◌, length, IfOk, IsErrOf};
+ghost use Rattle.std.specs.Prelude.{◌≡◌, ◌≤◌, ◌<◌, ◌↔◌, [], length, IfOk, OnOk, IsErrOf};
 ghost use Rattle.fpl_message.specs.Reads.{reading_of};
 ghost use Rattle.fpl_message.specs.Said.{said};
 
 use crate::filed_text::FiledText;
 use crate::message::Reading;
 use crate::reading::read;
+use crate::refusal::Refusal;
 use std::alloc::{Allocator, Global};
 use std::marker::Model;
 
@@ -66,44 +67,53 @@ impl<A: Allocator + Copy> Filing<A> {
         ensures value { IfOk result (λ filing. filing ≡ record { edition = edition; bytes = bytes.now }) }
         ensures long { IsErrOf result FilingFault.TooLong ↔ (2000 < length bytes.now) }
     {
-        Filing::read_in(alloc, Vec::new(alloc), Vec::new(alloc), edition, bytes)
+        let mut filing = Filing::empty(alloc, edition);
+        filing.renew_as(alloc, edition, bytes)?;
+        Ok(filing)
     }
 
-    /// A filing of other bytes, read by the rules of today, in the memory of this one. After an `Err` there is none.
-    pub fn renewed(self, alloc: A, bytes: &[u8]) -> Result<Self, FilingFault>
-        ensures value { IfOk result (λ filing. filing ≡ record { edition = Edition.Second; bytes = bytes.now }) }
+    /// Reads other bytes by the rules of today, in the memory of this filing, in place of what it was. After TooLong nothing has
+    /// changed; after OutOfMemory it is a filing of no bytes.
+    pub fn renew(&mut self, alloc: A, bytes: &[u8]) -> Result<(), FilingFault>
+        ensures value { OnOk result (self.new ≡ record { edition = Edition.Second; bytes = bytes.now }) }
         ensures long { IsErrOf result FilingFault.TooLong ↔ (2000 < length bytes.now) }
+        ensures same { IsErrOf result FilingFault.TooLong → self.new ≡ self.old }
+        ensures none { IsErrOf result FilingFault.OutOfMemory → self.new ≡ record { edition = Edition.Second; bytes = [] } }
     {
-        let Filing { text, room, .. } = self;
-        Filing::read_in(alloc, text.into_room(), room, Edition::Second, bytes)
+        self.renew_as(alloc, Edition::Second, bytes)
     }
 
-    /// A filing of these bytes, which are kept in the first room and squeezed in the second.
-    fn read_in(
-        alloc: A,
-        kept: Vec<u8, A>,
-        room: Vec<u8, A>,
-        edition: Edition,
-        bytes: &[u8],
-    ) -> Result<Self, FilingFault>
-        ensures value { IfOk result (λ filing. filing ≡ record { edition = edition; bytes = bytes.now }) }
+    /// A filing of no bytes, and no memory.
+    fn empty(alloc: A, edition: Edition) -> Self
+        ensures { result ≡ record { edition = edition; bytes = [] } }
+    {
+        Filing {
+            text: FiledText::empty(alloc, edition),
+            room: Vec::new(alloc),
+            reading: Reading::Bad(Refusal::Empty),
+        }
+    }
+
+    /// Reads other bytes by the rules of that edition. What the last ones said is let go first, so that its memory serves too.
+    fn renew_as(&mut self, alloc: A, edition: Edition, bytes: &[u8]) -> Result<(), FilingFault>
+        ensures value { OnOk result (self.new ≡ record { edition = edition; bytes = bytes.now }) }
         ensures long { IsErrOf result FilingFault.TooLong ↔ (2000 < length bytes.now) }
+        ensures same { IsErrOf result FilingFault.TooLong → self.new ≡ self.old }
+        ensures none { IsErrOf result FilingFault.OutOfMemory → self.new ≡ record { edition = edition; bytes = [] } }
     {
         if bytes.len() > MAX_BYTES {
             return Err(FilingFault::TooLong);
         }
-        let Ok(text) = FiledText::new_in(kept, edition, bytes) else {
+        self.reading = Reading::Bad(Refusal::Empty);
+        let Ok(()) = self.text.renew(edition, bytes) else {
             return Err(FilingFault::OutOfMemory);
         };
-        let mut room = room;
-        match read(alloc, &mut room, edition, bytes) {
-            Some(reading) => Ok(Filing {
-                text,
-                room,
-                reading,
-            }),
-            None => Err(FilingFault::OutOfMemory),
-        }
+        let Ok(()) = read(alloc, &mut self.room, &mut self.reading, edition, bytes) else {
+            self.text.clear();
+            self.reading = Reading::Bad(Refusal::Empty);
+            return Err(FilingFault::OutOfMemory);
+        };
+        Ok(())
     }
 
     /// The bytes as they were given, at most 2,000.

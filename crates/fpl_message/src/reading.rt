@@ -1,10 +1,10 @@
 //! The reading of bytes.
-ghost use Rattle.std.specs.Prelude.{◌≡◌, ◌≤◌, length, IfSome};
+ghost use Rattle.std.specs.Prelude.{◌≡◌, ◌≤◌, length, OnOk};
 ghost use Rattle.fpl_text.specs.Squeezing.{squeezed_or_fault};
 ghost use Rattle.fpl_text.specs.Fields.{fields_or_fault};
 ghost use Rattle.fpl_message.specs.Refusals.{Gives, by_text};
 ghost use Rattle.fpl_message.specs.Said.{said, said_message};
-ghost use Rattle.fpl_message.specs.Reads.{reading_of, reading_or_refusal, message_of, begins_message};
+ghost use Rattle.fpl_message.specs.Reads.{reading_of, reading_or_refusal, message_of, begins_message, msg};
 
 use crate::fault::{Fault, text_fault};
 use crate::filing::Edition;
@@ -14,45 +14,52 @@ use crate::modification::Chg;
 use crate::order::read_order;
 use crate::short_message::{Cnl, Dep, Dla};
 use fpl_text::{Fields, Squeezed, Title};
-use std::alloc::Allocator;
+use std::alloc::{AllocError, Allocator};
 use std::mem::replace;
 
-/// What at most 2,000 bytes say by the rules of an edition. They are squeezed in this room, which is there for the next text
-/// then, unless the message or a fault keeps it. None where memory ran out.
+/// Reads at most 2,000 bytes by the rules of an edition: what they say takes the place of another reading. They are squeezed in
+/// this room, which is there for the next text then, unless the message or a fault keeps it. Refused where memory is.
 #[tactic(auto, unfolding(crate::specs::Reads::reading_of))]
 pub(crate) fn read<A: Allocator + Copy>(
     alloc: A,
     room: &mut Vec<u8, A>,
+    reading: &mut Reading<A>,
     edition: Edition,
     bytes: &[u8],
-) -> Option<Reading<A>>
+) -> Result<(), AllocError>
     requires { length bytes.now ≤ 2000 }
-    ensures { IfSome result (λ r. said r ≡ reading_of (record { edition = edition; bytes = bytes.now })) }
+    ensures { OnOk result (said reading.new ≡ reading_of (record { edition = edition; bytes = bytes.now })) }
 {
-    match read_filed(alloc, room, edition, bytes) {
-        Ok(reading) => Some(reading),
-        Err(Fault::Refused(refusal)) => Some(Reading::Bad(refusal)),
-        Err(Fault::OutOfMemory) => None,
+    match read_filed(alloc, room, reading, edition, bytes) {
+        Ok(()) => Ok(()),
+        Err(Fault::Refused(refusal)) => {
+            *reading = Reading::Bad(refusal);
+            Ok(())
+        }
+        Err(Fault::OutOfMemory) => Err(AllocError),
     }
 }
 
-/// What bytes say, or why not.
+/// Reads what bytes say, or tells why not.
 fn read_filed<A: Allocator + Copy>(
     alloc: A,
     room: &mut Vec<u8, A>,
+    reading: &mut Reading<A>,
     edition: Edition,
     bytes: &[u8],
-) -> Result<Reading<A>, Fault>
+) -> Result<(), Fault>
     requires { length bytes.now ≤ 2000 }
-    ensures { Gives said result (reading_or_refusal (record { edition = edition; bytes = bytes.now })) }
+    ensures { Gives (λ _. said reading.new) result (reading_or_refusal (record { edition = edition; bytes = bytes.now })) }
 {
     let squeezed = squeezed(replace(room, Vec::new(alloc)), bytes)?;
     if !begins_message(squeezed.as_bytes()) {
         let order = read_order(alloc, edition, squeezed.as_bytes());
         *room = squeezed.into_room();
-        return Ok(Reading::Ord(order?));
+        *reading = Reading::Ord(order?);
+        return Ok(());
     }
-    read_message(alloc, room, fields_of(squeezed)?)
+    *reading = Reading::Msg(read_message(alloc, room, fields_of(squeezed)?)?);
+    Ok(())
 }
 
 /// The squeezed text of bytes in this room, or why there is none.
@@ -93,10 +100,10 @@ fn read_message<A: Allocator + Copy>(
     alloc: A,
     room: &mut Vec<u8, A>,
     fields: Fields<A>,
-) -> Result<Reading<A>, Fault>
-    ensures { Gives said result (message_of fields) }
+) -> Result<Message<A>, Fault>
+    ensures { Gives (λ message. msg (said_message message)) result (message_of fields) }
 {
-    let message = match fields.title() {
+    Ok(match fields.title() {
         Title::Fpl => Message::Fpl(Fpl::read(alloc, fields)?),
         Title::Chg => Message::Chg(Chg::read(alloc, fields)?),
         Title::Dla => {
@@ -114,6 +121,5 @@ fn read_message<A: Allocator + Copy>(
             *room = fields.into_room();
             Message::Dep(departure?)
         }
-    };
-    Ok(Reading::Msg(message))
+    })
 }
