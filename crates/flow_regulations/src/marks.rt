@@ -99,33 +99,29 @@ fn without_place(word: u64, index: usize) -> u64
     with_mark(after << index | before, 63)
 }
 
-/// Makes room for the words of the flights up to the last that there may be, and a word for each up to the last that there is, where
-/// it has none. Each of those may be held in each regulation. Refused where memory is.
-pub(crate) fn make_words<A: Allocator + Copy>(
+/// Makes room for the words of the flights up to the last, where there is none. Each may be held in each regulation.
+/// Refused where memory is.
+pub(crate) fn make_room<A: Allocator + Copy>(
     words: &mut Vec<u64, A>,
+    alloc: A,
     last: u32,
-    most: u32,
 ) -> Result<(), AllocError>
     ensures { (f : ℕ) → word_of words.new.items f ≡ word_of words.old.items f }
 {
-    let room = most as usize + 1;
-    words.reserve_exact(room.saturating_sub(words.len()))?;
-    while words.len() <= last as usize {
-        words.push(u64::MAX)?;
+    if words.is_empty() {
+        *words = vec![in alloc; u64::MAX; last as usize + 1]?;
     }
     Ok(())
 }
 
-/// Sets the word of a flight, where it has one, or is the first that has none and there is room for its word.
-pub(crate) fn set_word<A: Allocator + Copy>(words: &mut Vec<u64, A>, flight: u32, word: u64)
-    ensures others { (f : ℕ) → (f ≡ flight → ⊥) → word_of words.new.items f ≡ word_of words.old.items f }
-    ensures one { Keeps word (word_of words.new.items flight) }
+/// Sets the word of a flight, where it has one.
+pub(crate) fn set_word(words: &mut [u64], flight: u32, word: u64)
+    ensures others { (f : ℕ) → (f ≡ flight → ⊥) → word_of words.new f ≡ word_of words.old f }
+    ensures one { Keeps word (word_of words.new flight) }
 {
     let place = flight as usize;
     if place < words.len() {
         words[place] = word;
-    } else if place == words.len() && place < words.capacity() {
-        words.push_reserved(word);
     }
 }
 

@@ -17,8 +17,8 @@ use crate::advice::advice_of;
 use crate::closed::Closed;
 use crate::fixed_flights::note_fixed;
 use crate::marks::{
-    close_place, make_words, mark_where, may_stand, next_marked, open_last, open_last_row,
-    set_word, word_of,
+    close_place, make_room, mark_where, may_stand, next_marked, open_last, open_last_row, set_word,
+    word_of,
 };
 use crate::notice::{Notice, Told};
 use crate::places::Place;
@@ -109,8 +109,8 @@ impl<A: Allocator + Copy> Regulations<A> {
     {
         let mut regulation = Regulation::new(alloc, id, spot, shape, self.max_plans)?;
         self.regulations.reserve(1)?;
-        make_words(&mut self.words, plans.count(), self.max_plans)?;
-        make_words(&mut self.rows, LAST_ROW, LAST_ROW)?;
+        make_room(&mut self.words, alloc, self.max_plans)?;
+        make_room(&mut self.rows, alloc, LAST_ROW)?;
         let_all_in(&mut regulation, plans);
         settle(&mut regulation, plans, now);
         open_last(&mut self.words, &self.regulations, &regulation);

@@ -6,8 +6,8 @@ use Rattle.flow_plans.specs.Plans.{Plan, plan_at}
 use Rattle.flow_plans.specs.Entries.{subject}
 use Rattle.flow_plans.specs.Near.{row_of, word_at, HasBitsOf}
 use Rattle.flow_regulations.specs.Listing.{Listed, Walked, IsLookedAgain, AreRenewed, HaveCapacity, AreApart, names_in, without_in, pairs_in}
-use Rattle.flow_regulations.specs.Marks.{MarksNear, AreInRows, AreMarked}
-use Rattle.flow_regulations.proofs.Marking.{marked-one, marked-word}
+use Rattle.flow_regulations.specs.Marks.{MarksNear, AreInRows, AreMarked, word_of}
+use Rattle.flow_regulations.proofs.Marking.{marked-one, marked-word, written-marked}
 use Rattle.flow_regulations.proofs.Alls.{room-at, capacity-looked, all-looked, others-looked, alone-looked, names-looked}
 use Rattle.flow_regulations.proofs.Names.{apart-as}
 use Rattle.flow_regulations.proofs.Walks.{written-back}
@@ -23,16 +23,17 @@ invariant_of-self g c =
     let W : List Listed → Type 0 = λ os. Walked (IsLookedAgain c.args.number c.args.plans.now.taxi c.args.now c.args.plans.now.plans) (length ns) os ns in
     let A : List Listed → Type 0 = λ ls. AreApart (names_in ls) in
     let n : ℕ = c.args.number in
-    let ws : List ℕ = c.set_word.new.words.items in
-    let M : List Listed → Type 0 = λ ls. AreMarked ws ls in
+    let ws : List ℕ = c.set_word.new.words in
+    let words : s.words.len ≡ length ws = omega (arith, c.set_word.auto.words, c.deref_mut-2.ensures.len) in
+    let O : List ℕ → Type 0 = λ vs. (f : ℕ) → (f ≡ n → ⊥) → word_of ws f ≡ word_of vs f in
     let alone = alone-looked n c.args.plans.now.taxi c.args.now (length ns) c.args.plans.now.plans s.regulations.items ns refl (subst W c.deref_mut.ensures.value c.look_again_in-word.ensures.walked) in
     let Z : List Listed → Type 0 = λ ls. AreInRows s.rows.items 0 ls in
-    let marked : AreMarked ws ns = marked-one n c.look_again_in-word.result s.words.items ws s.regulations.items ns c.set_word.ensures.others c.set_word.ensures.one alone c.look_again_in-word.ensures.covers c.self.invariant.4 in (
+    let marked : AreMarked ws ns = marked-one n c.look_again_in-word.result s.words.items ws s.regulations.items ns (subst O c.deref_mut-2.ensures.value c.set_word.ensures.others) c.set_word.ensures.one alone c.look_again_in-word.ensures.covers c.self.invariant.4 in (
       c.self.invariant.0,
       c.self.invariant.1,
       subst H (sym (written-back s.regulations.len ns _ len)) (capacity-looked c.args.number c.args.plans.now.taxi c.args.now s.max_plans (length ns) c.args.plans.now.plans s.regulations.items ns refl (subst W c.deref_mut.ensures.value c.look_again_in-word.ensures.walked) c.self.invariant.2),
       subst A (sym (written-back s.regulations.len ns _ len)) (apart-as s.regulations.items ns (names-looked c.args.number c.args.plans.now.taxi c.args.now (length ns) c.args.plans.now.plans s.regulations.items ns refl (subst W c.deref_mut.ensures.value c.look_again_in-word.ensures.walked)) c.self.invariant.3),
-      subst M (sym (written-back s.regulations.len ns _ len)) marked,
+      written-marked s.words.len s.regulations.len ws _ ns _ words len marked,
       subst Z (sym (written-back s.regulations.len ns _ len)) (rows-there s.rows.items 0 s.regulations.items ns (spots-alone n s.regulations.items ns alone) c.self.invariant.5),
     )
 
