@@ -7,8 +7,6 @@ use Rattle.std.proofs.lemmas.List.Folds.{list_all_at}
 use Rattle.std.proofs.lemmas.List.Sums.{prefix_len_is, prefix_len_passes, position_or_len_is, passes_at_first}
 use Rattle.fpl_text.specs.Bytes.{is_letter, is_digit, is_letter_or_digit}
 use Rattle.fpl_items.specs.Kinds.{before_stroke}
-use Rattle.std.specs.Prelude.{Option, Some, None, MatchOption}
-use Rattle.fpl_text.specs.declared.words.Measured.{Measured}
 use Rattle.fpl_text.specs.Words.{lacks, PassesOver}
 use Rattle.fpl_items.specs.Items.{begins_item, items_of}
 
@@ -81,14 +79,8 @@ items-over (word ∷ front) words none =
     let parts = and_parts (lacks 47 word) (list_all (lacks 47) front) none in
     rw (no-item word parts.0) (items-over front words parts.1)
 
-items-passed : (old new : List (List ℕ)) → PassesOver 47 old new → items_of old ≡ items_of new
+pub items-passed : (old new : List (List ℕ)) → PassesOver 47 old new → items_of old ≡ items_of new
 items-passed old new over = ap items_of over.whole ∙ items-over over.front new over.none
 
-passed-length : (old new : List (List ℕ)) → PassesOver 47 old new → length new ≤ length old
+pub passed-length : (old new : List (List ℕ)) → PassesOver 47 old new → length new ≤ length old
 passed-length old new over = omega (arith, ap length over.whole, length-append over.front new)
-
--- the next word behind those that are passed over
-pub next-passed : (old mid new : List (List ℕ)) (found : Option Measured) → PassesOver 47 old mid → MatchOption found ((mid ≡ []) × (new ≡ [])) (λ m. mid ≡ m.word.now ∷ new)
-    → MatchOption found ((items_of old ≡ []) × (new ≡ [])) (λ m. (items_of old ≡ items_of (m.word.now ∷ new)) × (length new < length old))
-next-passed old mid new None over h = (items-passed old mid over ∙ ap items_of h.0, h.1)
-next-passed old mid new (Some m) over h = (items-passed old mid over ∙ ap items_of h, omega (arith, passed-length old mid over, ap length h))

@@ -1,12 +1,17 @@
 -- What the items of field 18 say, one after the other.
-use Rattle.std.proofs.Common.{◌≡◌, ℕ, Bool, true, false, ◌||◌, List, ◌∷◌, refl, ◌∙◌, Option, None}
-use Rattle.std.specs.Prelude.{codes}
+use Rattle.std.proofs.Common.{◌≡◌, ◌≤◌, ◌+◌, ◌-◌, ℕ, zero, suc, Bool, true, false, ◌&&◌, ◌||◌, List, [], ◌∷◌, length, take, drop, refl, ap, ◌∙◌, arith, ⊎_elim, Option, None}
+use Rattle.std.proofs.lemmas.Bool.{cases_Bool, le-leb}
+use Rattle.std.proofs.Math.Dec.{leb-suc-suc, leb-suc-zero}
+use Rattle.std.specs.List.{list_all, prefix_len}
+use Rattle.std.specs.Prelude.{codes, nat_le}
+use Rattle.fpl_text.specs.Bytes.{is_letter_or_digit}
+use Rattle.fpl_text.specs.Times.{elapsed_time}
 use Rattle.fpl_text.specs.Words.{words_of}
 use Rattle.fpl_items.specs.Kinds.{is_text}
 use lib.Pointwise.{bytes_decides}
 use Rattle.std.specs.Prelude.{is_some}
 use Rattle.std.specs.Option.{option_or}
-use Rattle.fpl_items.specs.Items.{Item, begins_item, items_of, field_fault, first_fault, exempts, is_exempt, day_of_items, Say, SaysAfter}
+use Rattle.fpl_items.specs.Items.{Item, begins_item, is_estimate, items_of, field_fault, first_fault, exempts, is_exempt, day_of_items, Say, SaysAfter}
 
 -- what the items before the ones that are left said: the rest of all is what these say
 pub record SaySoFar (day : Option ℕ) (exempt : Bool) (left all : List Item) : Type 0 where
@@ -37,3 +42,22 @@ zero-says = (refl, record { day_is = refl; exempt_is = refl })
 
 pub says-nothing : (field : List ℕ) → is_text (codes "0") field ≡ true → (field_fault field ≡ None) × Say (items_of (words_of field)) None false
 says-nothing field is = rw ((bytes_decides field (codes "0")).0 is) zero-says
+
+-- the front of a text meets a test where as many of its first bytes do
+pub front_all : (p : ℕ → Bool) (xs : List ℕ) (n : ℕ) → n ≤ length xs → nat_le n (prefix_len p xs) ≡ list_all p (take n xs)
+front_all p xs zero h = le-leb 0 _ (omega arith)
+front_all p [] (suc n) h = absurd (omega arith)
+front_all p (x ∷ xs) (suc n) h = ⊎_elim
+    (λ yes. rw yes (ap (nat_le (suc n)) (one_more (prefix_len p xs)) ∙ leb-suc-suc n (prefix_len p xs) ∙ front_all p xs n (omega arith)))
+    (λ no. rw no (leb-suc-zero n))
+    (cases_Bool (p x))
+  where
+    one_more : (m : ℕ) → 1 + m ≡ suc m
+    one_more m = omega arith
+
+-- a word of 5 to 15 bytes of which these many letters and digits stand at the front
+pub estimate-measured : (word : List ℕ) (n : ℕ) → n ≡ prefix_len is_letter_or_digit word → 5 ≤ length word → length word ≤ 15
+    → is_estimate word ≡ (nat_le (length word - 4) n && is_some (elapsed_time (drop (length word - 4) word)))
+unfolding is_estimate
+estimate-measured word n same least most =
+    rw (le-leb 5 (length word) least, le-leb (length word) 15 most, same, front_all is_letter_or_digit word (length word - 4) (omega arith)) refl

@@ -1,6 +1,6 @@
 //! The items of field 18.
 
-ghost use Rattle.std.specs.Prelude.{◌≡◌, ◌<◌, ◌==◌, ◌&&◌, ◌∷◌, ◌++◌, [], nat_le, nat_lt, List, ℕ, true, IsTrue, length, take, slice_index, MatchOption, IfSome};
+ghost use Rattle.std.specs.Prelude.{◌≡◌, ◌≤◌, ◌==◌, ◌&&◌, ◌∷◌, ◌++◌, [], nat_le, nat_lt, List, ℕ, true, IsTrue, length, take, slice_index, MatchOption, IfSome};
 ghost use Rattle.std.specs.Iterator.{YieldsFirst, YieldsFirstRef, item_count};
 ghost use Rattle.std.specs.List.{prefix_len};
 ghost use Rattle.fpl_text.specs.Bytes.{is_letter, is_letter_or_digit};
@@ -34,8 +34,8 @@ pub(crate) fn begins_item(measured: &Measured<'_>) -> bool
 /// The words of an item, which end before the next item.
 #[derive(Drop)]
 pub struct ItemWords<'a> {
-    own: Option<&'a [u8]>,
-    following: Words<'a>,
+    pub(crate) own: Option<&'a [u8]>,
+    pub(crate) following: Words<'a>,
 }
 
 impl<'a> Model for ItemWords<'a> {
@@ -110,23 +110,22 @@ impl<'a> Item<'a> {
     }
 }
 
-/// Takes the next word that has a stroke, and passes over those before it, which begin no item.
+/// Passes over the words before the next that has a stroke, which begin no item.
 #[inline(always)]
-fn next_with_stroke<'a>(words: &mut Words<'a>) -> Option<Measured<'a>>
-    ensures next { MatchOption result ((items_of words.old ≡ []) × (words.new ≡ []))
-        (λ m. (items_of words.old ≡ items_of (m.word.now ∷ words.new)) × (length words.new < length words.old)) }
-    ensures measured { IfSome result (λ m. m.letters_or_digits ≡ prefix_len is_letter_or_digit m.word.now) }
+fn skip_to_stroke(words: &mut Words<'_>)
+    ensures items { items_of words.old ≡ items_of words.new }
+    ensures fewer { length words.new ≤ length words.old }
 {
     words.skip_to(b'/');
-    words.next_measured()
 }
 
-/// Takes the next item off the words, and passes over those before it.
+/// Takes the next item off the words, and passes over those before it. Most items follow on the first word of the one before
+/// them, so a stroke is searched for only where the next word begins no item.
 fn next_item<'a>(words: &mut Words<'a>) -> Option<Item<'a>>
     ensures { MatchOption result ((items_of words.old ≡ []) × (words.new ≡ []))
         (λ item. items_of words.old ≡ item ∷ items_of words.new) }
 {
-    'words: while let Some(measured) = next_with_stroke(words) {
+    'words: while let Some(measured) = words.next_measured() {
         if begins_item(&measured) {
             return Some(Item {
                 first: measured.word,
@@ -134,6 +133,7 @@ fn next_item<'a>(words: &mut Words<'a>) -> Option<Item<'a>>
                 following: words.duplicate(),
             });
         }
+        skip_to_stroke(words);
     }
     None
 }

@@ -1,16 +1,17 @@
 //! Field 18: other information.
 
 ghost use Rattle.std.specs.Prelude.{◌≡◌, false, is_some, slice_index_or, [], None, Some, IfSome, MatchResult};
-ghost use Rattle.std.specs.List.{list_all, list_any};
+ghost use Rattle.std.specs.List.{list_all, list_any, prefix_len};
+ghost use Rattle.fpl_text.specs.Bytes.{is_letter_or_digit};
 ghost use Rattle.fpl_items.specs.Kinds.{is_text};
 ghost use Rattle.fpl_text.specs.Words.{words_of};
-ghost use Rattle.fpl_items.specs.Items.{begins_item, is_estimate, is_day, item_fault, first_fault, items_of, field_fault, items_or_fault, estimate_for, elapsed_to, is_exempt, day_of_words, day_of_items, Say, SaysAfter};
+ghost use Rattle.fpl_items.specs.Items.{begins_item, words_before, is_estimate, is_day, item_fault, first_fault, items_of, field_fault, items_or_fault, estimate_for, elapsed_to, is_exempt, day_of_words, day_of_items, Say, SaysAfter};
 ghost use Rattle.fpl_items.specs.Routes.{Gives};
 
 use crate::fault::ItemFault;
 use crate::item::{Item, ItemWords, Items, begins_item};
 use fpl_text::byte::all_letters_or_digits;
-use fpl_text::{Day, Words, read_elapsed};
+use fpl_text::{Day, Measured, Words, read_elapsed};
 use std::alloc::{Allocator, Global};
 use std::marker::Model;
 
@@ -26,15 +27,46 @@ fn is_estimate(word: &[u8]) -> bool
     all_letters_or_digits(place) && read_elapsed(time).is_some()
 }
 
-fn all_estimates(words: ItemWords<'_>) -> bool
-    ensures { result ≡ list_all is_estimate words.entry }
+/// Whether a measured word is a place and an elapsed time.
+#[inline(always)]
+#[tactic(auto, unfolding(crate::specs::Items::is_estimate))]
+fn is_measured_estimate(measured: &Measured<'_>) -> bool
+    requires { measured.now.letters_or_digits ≡ prefix_len is_letter_or_digit measured.now.word.now }
+    ensures { result ≡ is_estimate measured.now.word.now }
 {
-    for word in words {
-        if !is_estimate(word) {
+    let word = measured.word;
+    if word.len() < 5 || word.len() > 15 {
+        return false;
+    }
+    let (place, time) = word.split_at(word.len() - 4);
+    measured.letters_or_digits >= place.len() && read_elapsed(time).is_some()
+}
+
+/// Whether each of the words before the first item is a place and an elapsed time.
+fn are_estimates_before_item(mut words: Words<'_>) -> bool
+    ensures { result ≡ list_all is_estimate (words_before words.entry) }
+{
+    'words: while let Some(measured) = words.next_measured() {
+        if begins_item(&measured) {
+            return true;
+        }
+        if !is_measured_estimate(&measured) {
             return false;
         }
     }
     true
+}
+
+fn all_estimates(words: ItemWords<'_>) -> bool
+    ensures { result ≡ list_all is_estimate words.entry }
+{
+    let ItemWords { own, following } = words;
+    if let Some(word) = own {
+        if !is_estimate(word) {
+            return false;
+        }
+    }
+    are_estimates_before_item(following)
 }
 
 /// The day of exactly one word, which is a date.
