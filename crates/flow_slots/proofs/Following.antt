@@ -1,12 +1,13 @@
 -- Waiting flights that go on in turn, each to the slot of the next.
-use Rattle.std.proofs.Common.{◌≡◌, ℕ, zero, suc, ◌+◌, ◌<◌, true, false, List, [], ◌∷◌, ◌++◌, length, get_or, take, drop, sym, subst, arith}
+use Rattle.std.proofs.Common.{◌≡◌, ℕ, zero, suc, ◌+◌, ◌-◌, ◌<◌, ◌≤◌, true, false, List, [], ◌∷◌, ◌++◌, length, get_or, take, drop, refl, sym, ◌∙◌, subst, arith}
+use Rattle.std.proofs.lemmas.Bool.{false≢true}
 use Rattle.flow_slots.specs.declared.cell.Planned.{Planned}
 use Rattle.flow_slots.specs.declared.cell.Cell.{Cell}
 use Rattle.flow_slots.specs.declared.cell.Cell.TheVariants.{Empty, Waiting, Fixed}
 use Rattle.flow_slots.specs.Order.{stands_before}
 use Rattle.flow_slots.specs.Row.{NoneBefore, IsSettled, waiting_of}
-use Rattle.flow_slots.specs.Walk.{displace, has_empty, Follows, AllFollow, ComesIn}
-use Rattle.flow_slots.proofs.Steps.{drop_at}
+use Rattle.flow_slots.specs.Walk.{displace, has_empty, waits_before, Follows, AllFollow, ComesIn}
+use Rattle.flow_slots.proofs.Steps.{drop_at, has_empty-within, has_empty-fixed, has_empty-waiting, displace-fixed, displace-earlier}
 
 pub Follows-fixed : (row : List Cell) (k f : ℕ) (x : Planned) → k < length row → Fixed f ≡ get_or row k Empty → Follows x (drop k row) → Follows x (drop (k + 1) row)
 Follows-fixed row k f x h e a = rw (drop_at row k (Fixed f) h e) at a
@@ -46,3 +47,33 @@ ComesIn-empty row from k x same room h e =
 pub ComesIn-later : (row : List Cell) (from k : ℕ) (x w : Planned) → take k row ++ displace x (drop k row) ≡ take from row ++ displace x (drop from row) → has_empty (drop k row) ≡ true → k < length row → Waiting w ≡ get_or row k Empty → stands_before w x ≡ false → AllFollow row → ComesIn row from x k
 ComesIn-later row from k x w same room h e b a =
     record { same = same; follows = subst (Follows x) (sym (drop_at row k (Waiting w) h e)) (b, AllFollow-next k w row e a); room = room }
+
+-- `x`, which comes to the cells from `from` on, comes to those from `k` on
+pub record Passed (row : List Cell) (from : ℕ) (x : Planned) (k : ℕ) : Type 0 where
+  pub same : take k row ++ displace x (drop k row) ≡ take from row ++ displace x (drop from row)
+  pub room : has_empty (drop k row) ≡ true
+
+passed-one : (row : List Cell) (from k : ℕ) (x : Planned) → Passed row from x k → waits_before x (get_or row k Empty) ≡ true → Passed row from x (k + 1)
+passed-one row from k x p h = by (get_or row k Empty) refl h where
+  l : k < length row
+  l = has_empty-within row k p.room
+
+  by : (c : Cell) → c ≡ get_or row k Empty → waits_before x c ≡ true → Passed row from x (k + 1)
+  by Empty e h = absurd (false≢true h)
+  by (Fixed f) e h = absurd (false≢true h)
+  by (Waiting w) e h = record { same = sym (displace-earlier row k w x l e h) ∙ p.same; room = sym (has_empty-waiting row k w l e) ∙ p.room }
+
+passed-count : (row : List Cell) (from k n next : ℕ) (x : Planned) → next ≡ k + n → ((i : ℕ) → k ≤ i → i < next → waits_before x (get_or row i Empty) ≡ true) → Passed row from x k → Passed row from x next
+passed-count row from k zero next x e h p = subst (Passed row from x) (let q : k ≡ next = omega arith in q) p
+passed-count row from k (suc n) next x e h p =
+    let before = passed-count row from k n (k + n) x refl (λ i l m. h i l (omega arith)) p in
+    subst (Passed row from x) (let q : k + n + 1 ≡ next = omega arith in q) (passed-one row from (k + n) x before (h (k + n) (omega arith) (omega arith)))
+
+-- flights that stand before `x` are passed over
+pub passed-earlier : (row : List Cell) (from k next : ℕ) (x : Planned) → k ≤ next → ((i : ℕ) → k ≤ i → i < next → waits_before x (get_or row i Empty) ≡ true) → Passed row from x k → Passed row from x next
+passed-earlier row from k next x l h p = passed-count row from k (next - k) next x (omega arith) h p
+
+pub passed-fixed : (row : List Cell) (from k f : ℕ) (x : Planned) → Fixed f ≡ get_or row k Empty → Passed row from x k → Passed row from x (k + 1)
+passed-fixed row from k f x e p =
+    let l = has_empty-within row k p.room in
+    record { same = sym (displace-fixed row k f x l e) ∙ p.same; room = sym (has_empty-fixed row k f l e) ∙ p.room }

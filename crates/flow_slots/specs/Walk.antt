@@ -15,6 +15,12 @@ displace x (Waiting w ∷ cs) =
     cond (stands_before w x) (Waiting w ∷ displace x cs) (Waiting x ∷ displace w cs)
 displace x (Fixed f ∷ cs) = Fixed f ∷ displace x cs
 
+-- a flight waits in a cell, and stands before `x`
+abbrev pub waits_before : Planned → Cell → Bool
+waits_before x Empty = false
+waits_before x (Waiting w) = stands_before w x
+waits_before x (Fixed f) = false
+
 -- some cell is empty
 abbrev pub has_empty : List Cell → Bool
 has_empty [] = false

@@ -1,11 +1,12 @@
-ghost use Rattle.std.specs.Prelude.{◌≡◌, ℕ, ◌<◌, ◌↔◌, IfOk, IsTrue, length, replicate};
+ghost use Rattle.std.specs.Prelude.{◌≡◌, ℕ, ◌-◌, ◌^◌, ◌<◌, ◌≤◌, true, false, ◌↔◌, IfOk, IsTrue, length, replicate};
 ghost use Rattle.flow_slots.specs.CellRow.{CellRow, written};
 ghost use Rattle.flow_slots.specs.MadeRow.{EndsEmpty};
 ghost use Rattle.flow_slots.specs.PackedCell.{IsStored};
 ghost use Rattle.flow_slots.specs.Row.{cell_at, flight_at};
+ghost use Rattle.flow_slots.specs.Walk.{waits_before};
 ghost use Rattle.flow_slots.specs.declared.cell.Cell.TheVariants.{Empty};
 
-use crate::cell::Cell;
+use crate::cell::{Cell, Planned};
 use crate::made_cells::MadeCells;
 use std::alloc::{AllocError, Allocator, Global};
 use std::marker::Model;
@@ -101,6 +102,18 @@ impl<A: Allocator + Copy> Cells<A> {
         ensures kept { IsStored result }
     {
         self.made.cell(k)
+    }
+
+    /// The first slot from `k` on in which no flight waits that stands before this one.
+    #[inline(always)]
+    pub(crate) fn past_earlier(&self, k: u32, flight: Planned) -> u32
+        requires slot { k ≤ length self.now.row }
+        requires entry { flight.entry < 2 ^ 32 - 1 }
+        ensures from { k ≤ result }
+        ensures passed { (i : ℕ) → k ≤ i → i < result → waits_before flight (cell_at self.now.row i) ≡ true }
+        ensures stops { waits_before flight (cell_at self.now.row result) ≡ false }
+    {
+        self.made.past_earlier(k, flight)
     }
 
     /// Writes a cell, and counts it.

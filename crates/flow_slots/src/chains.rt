@@ -17,18 +17,18 @@ use std::alloc::Allocator;
 pub(crate) fn first_later<A: Allocator + Copy>(cells: &Cells<A>, from: u32, flight: Planned) -> u32
     requires order { AllFollow cells.now.row }
     requires room { has_empty (drop from cells.now.row) ≡ true }
+    requires entry { flight.entry < 2 ^ 32 - 1 }
     ensures { ComesIn cells.now.row from flight result }
 {
-    for k in from..cells.len() {
-        match cells.cell(k) {
-            Cell::Empty => return k,
+    let mut k = from;
+    while k < cells.len() {
+        let next = cells.past_earlier(k, flight);
+        match cells.cell(next) {
+            Cell::Empty => return next,
             Cell::Fixed(_) => {}
-            Cell::Waiting(held) => {
-                if !held.stands_before(flight) {
-                    return k;
-                }
-            }
+            Cell::Waiting(_) => return next,
         }
+        k = next + 1;
     }
     unreachable!()
 }

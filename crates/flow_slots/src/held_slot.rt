@@ -1,7 +1,11 @@
 //! The slot that a flight holds.
-ghost use Rattle.std.specs.Prelude.{◌≡◌, ◌<◌, ◌-◌, ◌^◌, None, Some};
+ghost use Rattle.std.specs.Prelude.{◌≡◌, ◌<◌, ◌≤◌, ◌-◌, ◌^◌, ◌↔◌, ℕ, None, Some, IsSome, IsTrue, length, slice_index_or};
+ghost use Rattle.std.specs.List.{All};
 
 use std::marker::Model;
+
+/// How many slots a search looks at at once.
+const CHUNK: usize = 16;
 
 /// The slot that a flight holds, or none. It takes four bytes, so that a chain writes one word for each flight that it moves.
 #[derive(Clone, Copy, Debug)]
@@ -51,4 +55,51 @@ impl HeldSlot {
             Some(self.after - 1)
         }
     }
+
+    /// Whether it is no slot.
+    #[inline(always)]
+    fn is_none(self) -> bool
+        ensures { IsTrue result ↔ (self ≡ None) }
+    {
+        self.after == 0
+    }
+
+    /// The number after that of the slot, with the bits of another number.
+    #[inline(always)]
+    fn or(self, other: u32) -> u32
+        ensures { (result ≡ 0) ↔ (other ≡ 0) × (self ≡ None) }
+    {
+        other | self.after
+    }
+}
+
+/// Whether none of these is a slot.
+#[inline(always)]
+fn are_none(slots: &[HeldSlot]) -> bool
+    ensures { IsTrue result ↔ All (λ slot. slot ≡ None) slots.now }
+{
+    let mut bits = 0;
+    for slot in slots {
+        bits = slot.or(bits);
+    }
+    bits == 0
+}
+
+/// The first place from this one on where there is a slot, or the first after all.
+pub(crate) fn first_held(slots: &[HeldSlot], from: usize) -> usize
+    requires { from ≤ length slots.now }
+    ensures from { from ≤ result }
+    ensures passed { (k : ℕ) → from ≤ k → k < result → slice_index_or slots.now k None ≡ None }
+    ensures stops { result < length slots.now → IsSome (slice_index_or slots.now result None) }
+    ensures end { result ≤ length slots.now }
+{
+    let mut chunk = from;
+    while chunk + CHUNK <= slots.len() && are_none(&slots[chunk..chunk + CHUNK]) {
+        chunk += CHUNK;
+    }
+    let mut next = chunk;
+    while next < slots.len() && slots[next].is_none() {
+        next += 1;
+    }
+    next
 }

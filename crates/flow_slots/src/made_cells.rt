@@ -1,12 +1,13 @@
 //! The cells of a row, made as they are needed.
-ghost use Rattle.std.specs.Prelude.{◌≡◌, ℕ, ◌+◌, ◌-◌, ◌<◌, ◌≤◌, ◌++◌, ◌^◌, ◌↔◌, IfOk, IsTrue, drop, length, min, replicate, slice_set, vec_len, vec_capacity};
+ghost use Rattle.std.specs.Prelude.{◌≡◌, ℕ, ◌+◌, ◌-◌, ◌<◌, ◌≤◌, ◌++◌, ◌^◌, ◌↔◌, IfOk, IsTrue, true, false, drop, length, max, min, replicate, slice_set, vec_len, vec_capacity};
 ghost use Rattle.flow_slots.specs.CellRow.{one_more};
 ghost use Rattle.flow_slots.specs.MadeRow.{MadeRow, EndsEmpty};
 ghost use Rattle.flow_slots.specs.PackedCell.{IsStored};
 ghost use Rattle.flow_slots.specs.Row.{cell_at};
+ghost use Rattle.flow_slots.specs.Walk.{waits_before};
 ghost use Rattle.flow_slots.specs.declared.cell.Cell.TheVariants.{Empty};
 
-use crate::cell::Cell;
+use crate::cell::{Cell, Planned};
 use crate::packed_cell::PackedCell;
 use std::alloc::{AllocError, Allocator};
 use std::marker::Model;
@@ -46,6 +47,22 @@ fn make<A: Allocator + Copy>(row: &mut Vec<PackedCell, A>, count: u32)
     while row.len() < count as usize {
         row.push_reserved(PackedCell::empty());
     }
+}
+
+/// The first of these cells from a place on in which no flight waits that stands before this one, or the end.
+#[inline(always)]
+fn past_earlier(cells: &[PackedCell], from: usize, flight: Planned) -> usize
+    requires entry { flight.entry < 2 ^ 32 - 1 }
+    ensures from { from ≤ result }
+    ensures most { result ≤ max from (length cells.now) }
+    ensures passed { (i : ℕ) → from ≤ i → i < result → waits_before flight (cell_at cells.now i) ≡ true }
+    ensures stops { waits_before flight (cell_at cells.now result) ≡ false }
+{
+    let mut place = from;
+    while place < cells.len() && cells[place].waits_before(flight) {
+        place += 1;
+    }
+    place
 }
 
 impl<A: Allocator + Copy> MadeCells<A> {
@@ -121,6 +138,18 @@ impl<A: Allocator + Copy> MadeCells<A> {
         ensures kept { IsStored result }
     {
         self.row[k as usize].get()
+    }
+
+    /// The first slot from `k` on in which no flight waits that stands before this one.
+    #[inline(always)]
+    pub(crate) fn past_earlier(&self, k: u32, flight: Planned) -> u32
+        requires slot { k ≤ length self.now.row }
+        requires entry { flight.entry < 2 ^ 32 - 1 }
+        ensures from { k ≤ result }
+        ensures passed { (i : ℕ) → k ≤ i → i < result → waits_before flight (cell_at self.now.row i) ≡ true }
+        ensures stops { waits_before flight (cell_at self.now.row result) ≡ false }
+    {
+        past_earlier(&self.row, k as usize, flight) as u32
     }
 
     /// Makes the cells up to slot `k`, and an empty one at their end where the row has room.

@@ -1,6 +1,7 @@
 //! A cell of the row in eight bytes.
-ghost use Rattle.std.specs.Prelude.{◌≡◌};
+ghost use Rattle.std.specs.Prelude.{◌≡◌, ◌*◌, ◌+◌, ◌-◌, ◌^◌, ◌<◌};
 ghost use Rattle.flow_slots.specs.PackedCell.{IsStored};
+ghost use Rattle.flow_slots.specs.Walk.{waits_before};
 
 use crate::cell::{Cell, Planned};
 use std::marker::Model;
@@ -8,10 +9,10 @@ use std::marker::Model;
 /// What stands in a slot. It takes eight bytes, so that a chain reads and writes little for each flight that it moves.
 #[derive(Clone, Copy, Debug)]
 pub(crate) struct PackedCell {
-    /// The entry of a flight that waits, and the greatest number where none does.
-    entry: u32,
     /// The flight, and 0 for none.
     flight: u32,
+    /// The entry of a flight that waits, and the greatest number where none does.
+    entry: u32,
 }
 
 impl Model for PackedCell {
@@ -32,6 +33,14 @@ impl Model for PackedCell {
 }
 
 const _: () = prove!(size_of::<PackedCell>() <= 8);
+
+/// The place of a flight in the order, as one number: by its entry, ties by its number.
+#[inline(always)]
+fn rank(entry: u32, flight: u32) -> u64
+    ensures { result ≡ 4_294_967_296 * entry + flight }
+{
+    4_294_967_296 * u64::from(entry) + u64::from(flight)
+}
 
 impl PackedCell {
     /// No flight.
@@ -61,6 +70,16 @@ impl PackedCell {
         } else {
             Cell::Fixed(self.flight)
         }
+    }
+
+    /// Whether a flight waits in the slot that stands before this one. An empty slot and a fixed flight have the greatest entry, so
+    /// one comparison of both numbers tells.
+    #[inline(always)]
+    pub(crate) fn waits_before(&self, flight: Planned) -> bool
+        requires { flight.entry < 2 ^ 32 - 1 }
+        ensures { result ≡ waits_before flight self.now }
+    {
+        rank(self.entry, self.flight) < rank(flight.entry, flight.flight)
     }
 
     /// Puts a cell in place of this one, number by number, so that they stay in registers of their own.

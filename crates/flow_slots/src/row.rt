@@ -1,4 +1,4 @@
-ghost use Rattle.std.specs.Prelude.{◌≡◌, ℕ, ◌+◌, ◌<◌, ◌≤◌, ◌++◌, true, length, take, drop, vec_len, IfOk, None, replicate, ◌-◌, ◌^◌};
+ghost use Rattle.std.specs.Prelude.{◌≡◌, ℕ, ◌+◌, ◌<◌, ◌≤◌, ◌++◌, true, length, take, drop, vec_len, IfOk, IsSome, None, replicate, ◌-◌, ◌^◌};
 ghost use Rattle.flow_slots.specs.Changed.{gained};
 ghost use Rattle.flow_slots.specs.Period.{first_slot};
 ghost use Rattle.flow_slots.specs.Row.{cell_at, flight_at, place_at, IsTied, EntriesWithin};
@@ -10,7 +10,7 @@ use crate::cell::{Cell, Planned};
 use crate::cells::Cells;
 use crate::chains::{displace, first_later, vacate};
 use crate::first_slots::FirstSlots;
-use crate::held_slot::HeldSlot;
+use crate::held_slot::{HeldSlot, first_held};
 use std::alloc::{AllocError, Allocator};
 
 /// The row of slots, and for each flight, by its number, the slot in which it stands.
@@ -44,6 +44,22 @@ impl<A: Allocator + Copy> Row<A> {
         } else {
             None
         }
+    }
+
+    /// The first number from this one on of a flight that stands in a slot. Where no later one does, the first number after
+    /// all, or `from` where that is later.
+    pub(crate) fn next_placed(&self, from: u32) -> u32
+        requires { vec_len self.now.places < 2 ^ 32 }
+        ensures from { from ≤ result }
+        ensures passed { (f : ℕ) → from ≤ f → f < result → place_at self.now.places.items f ≡ None }
+        ensures stops { result < vec_len self.now.places → IsSome (place_at self.now.places.items result) }
+        ensures end { from ≤ vec_len self.now.places → result ≤ vec_len self.now.places }
+        ensures late { vec_len self.now.places ≤ from → result ≡ from }
+    {
+        if from as usize >= self.places.len() {
+            return from;
+        }
+        first_held(&self.places, from as usize) as u32
     }
 
     /// Takes `flight` in at slot `from`: it gets the first slot that is empty or held by a later

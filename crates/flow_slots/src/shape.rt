@@ -171,6 +171,14 @@ impl Shape {
         )
     }
 
+    /// The start of the period, and its end, the first minute after it.
+    pub fn period(&self) -> (Minute, Minute)
+        ensures start { result.0 ≡ self.now.start }
+        ensures end { result.1 ≡ self.now.end }
+    {
+        (self.start, self.end)
+    }
+
     /// Whether a moment lies in the period.
     pub fn contains(&self, moment: Minute) -> bool
         ensures { IsTrue result ↔ IsWithin self.now moment }

@@ -118,6 +118,18 @@ impl<A: Allocator + Copy> SlotList<A> {
         self.row.place(flight)
     }
 
+    /// The first number from this one on of a flight that is held. Where no later one is, the first number after `max_plans`, or
+    /// `from` where that is later.
+    pub fn next_held(&self, from: u32) -> u32
+        ensures from { from ≤ result }
+        ensures passed { (f : ℕ) → from ≤ f → f < result → held_slot self.now.lineup f ≡ None }
+        ensures stops { result ≤ self.now.lineup.capacity → IsSome (held_slot self.now.lineup result) }
+        ensures end { from ≤ self.now.lineup.capacity → result ≤ self.now.lineup.capacity + 1 }
+        ensures late { self.now.lineup.capacity < from → result ≡ from }
+    {
+        self.row.next_placed(from)
+    }
+
     /// The entry of a flight that waits, None where it doesn't.
     #[inline(always)]
     pub fn entry_of(&self, flight: u32) -> Option<Minute>

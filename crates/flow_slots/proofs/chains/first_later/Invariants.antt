@@ -1,9 +1,9 @@
-use Rattle.std.proofs.Common.{◌≡◌, true, ◌++◌, take, drop}
-use Rattle.flow_slots.specs.Walk.{displace, has_empty}
+use Rattle.std.proofs.Common.{◌-◌, length}
+use Rattle.flow_slots.proofs.Following.{Passed}
 use Rattle.flow_slots.proofs.chains.first_later.Given as goal
 
 abbrev pub invariant-loop-k : goal.invariant-loop-k
-invariant-loop-k g l = record {
-  same : take l.k l.cells.row ++ displace l.flight (drop l.k l.cells.row) ≡ take l.from l.cells.row ++ displace l.flight (drop l.from l.cells.row);
-  room : has_empty (drop l.k l.cells.row) ≡ true;
-}
+invariant-loop-k g l = Passed l.cells.row l.from l.flight l.k
+
+abbrev pub decreases-loop-k : goal.decreases-loop-k
+decreases-loop-k g l = length l.cells.row - l.k
