@@ -8,6 +8,7 @@ pub mod Distincts
 mod FourLetters
 pub mod RunLemmas
 pub mod PlaceLemmas
+pub mod Longest
 pub mod NearLemmas
 pub mod OutlineLemmas
 pub mod NextBits

@@ -81,7 +81,7 @@ pub some-if : (b : Bool) (o : Option ℕ) → IsSome (cond b o None) → b ≡ t
 some-if true o h = refl
 some-if false o h = absurd (false≢true h)
 
-some-then : (b : Bool) (o : Option ℕ) → IsSome (cond b o None) → IsSome o
+pub some-then : (b : Bool) (o : Option ℕ) → IsSome (cond b o None) → IsSome o
 some-then true o h = h
 some-then false o h = absurd (false≢true h)
 

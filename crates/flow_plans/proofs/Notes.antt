@@ -53,6 +53,14 @@ note-of-word field word place time cut start minutes note cutting front back wit
     let t : elapsed_time (drop (length word - 4) word) ≡ Some note.minutes = cc in
     (λ name. rw (← p) (note-of-place field place name start note within stands s e l four), t)
 
+-- a note of a word whose place has four letters
+pub note-of-four : (field word place time : List ℕ) (cut minutes : ℕ) (note : Estimate) → cut ≡ length word - 4 → place ≡ take cut word → time ≡ drop cut word → length place ≡ 4 → Some minutes ≡ elapsed_time time → note.start ≡ 0 → note.end ≡ 4 → note.minutes ≡ minutes → four_of note.letters ≡ place → IsNoteOf field word note
+unfolding is_for
+note-of-four field word place time cut minutes note cutting front back long told s e m four =
+    let p : place ≡ take (length word - 4) word = cc in
+    let t : elapsed_time (drop (length word - 4) word) ≡ Some note.minutes = cc in
+    (λ name. rw (← p, s, e) (ap (is_text name) four), t)
+
 -- one word noted, of those that are left
 pub word-noted : (field place : List ℕ) (before after : List Estimate) (note : Estimate) (word : List ℕ) (left rest : List (List ℕ)) (all : Option ℕ) → left ≡ word ∷ rest → after ≡ before ++ note ∷ [] → IsNoteOf field word note → option_or (first_for field place before) (estimate_for place left) ≡ all → option_or (first_for field place after) (estimate_for place rest) ≡ all
 word-noted field place before after note word left rest all taken pushed noted kept =

@@ -1,8 +1,9 @@
 -- Outlines of plans, and rows of them.
-use Rattle.std.proofs.Common.{◌≡◌, ℕ, zero, suc, ◌+◌, ◌-◌, ◌<◌, ◌≤◌, arith, get_or, Bool, true, false, not, ◌&&◌, List, [], ◌∷◌, ◌++◌, length, take, Option, Some, None, slice_get, slice_set, unwrap_or, refl, sym, ap, ◌∙◌}
+use Rattle.std.proofs.Common.{◌≡◌, ℕ, zero, suc, ◌+◌, ◌-◌, ◌<◌, ◌≤◌, arith, get_or, Bool, true, false, not, ◌&&◌, nat_le, nat_lt, if◌then◌else◌, List, [], ◌∷◌, ◌++◌, length, take, Option, Some, None, slice_get, slice_set, unwrap_or, refl, sym, ap, ◌∙◌}
 use Rattle.std.specs.Prelude.{IsSome, IfSome, codes}
+use Rattle.std.specs.Option.{option_and_then}
 use Rattle.std.specs.Str.{bytes_eq}
-use Rattle.std.proofs.lemmas.Bool.{false≢true, eq-eqb}
+use Rattle.std.proofs.lemmas.Bool.{false≢true, eq-eqb, and_parts, le-leb, lt-ltb, leb-true, ltb-true}
 use Rattle.std.proofs.lemmas.Nat.Bits.{bit_at_ones}
 use Rattle.std.proofs.lemmas.Option.{slice_get-get_or}
 use lib.Pointwise.{bytes_decides}
@@ -13,8 +14,8 @@ use Rattle.flow_plans.specs.declared.outline.Outline.{Outline}
 use Rattle.flow_plans.specs.Plans.{Plan, is_filed, is_visual, plan_at}
 use Rattle.flow_plans.specs.Places.{bit_of, may_have, letters_of}
 use Rattle.flow_plans.specs.Entries.{take_off, elapsed_at, entry_at, in_period, subject}
-use Rattle.flow_plans.specs.Outlines.{may_be_subject, may_come, IsOutlineOf, AreOutlines}
-use Rattle.flow_plans.proofs.NearLemmas.{bit-below, some-first, some-if, subject-enters}
+use Rattle.flow_plans.specs.Outlines.{may_be_subject, may_come, may_fly, IsOutlineOf, AreOutlines}
+use Rattle.flow_plans.proofs.NearLemmas.{bit-below, some-first, some-if, some-then, subject-enters}
 
 -- a set of all places has each place
 pub all-places : (place : List ℕ) → may_have 18_446_744_073_709_551_615 place ≡ true
@@ -36,18 +37,83 @@ subject-may-be taxi start end spot p h =
 pub outline-of-none : (o : Outline) (p : Plan) → may_be_subject p ≡ false → IsOutlineOf o p
 outline-of-none o p never taxi start end spot h = absurd (false≢true (sym never ∙ subject-may-be taxi start end spot p h))
 
--- an outline with the letters of both ends, and the places of the way
-pub outline-of-all : (o : Outline) (p : Plan) → o.dep ≡ letters_of p.key.dep → o.dest ≡ letters_of p.key.dest
-    → ((place : List ℕ) → IsSome (elapsed_at place p) → may_have o.way place ≡ true) → IsOutlineOf o p
+-- when a flight enters a place in a period
+record EntersIn (taxi start end : ℕ) (spot : Spot) (p : Plan) : Type 0 where
+  moment : ℕ
+  enters : entry_at taxi spot p ≡ Some moment
+  from : start ≤ moment
+  to : moment < end
+
+in-at : (taxi start end : ℕ) (spot : Spot) (p : Plan) (o : Option ℕ) → entry_at taxi spot p ≡ o → IsSome (in_period start end o) → EntersIn taxi start end spot p
+in-at taxi start end spot p None e h = absurd (false≢true h)
+in-at taxi start end spot p (Some m) e h =
+    let both = and_parts _ _ (some-if (nat_le start m && nat_lt m end) (Some m) h) in
+    record { moment = m; enters = e; from = leb-true _ _ both.0; to = ltb-true _ _ both.1 }
+
+subject-in : (taxi start end : ℕ) (spot : Spot) (p : Plan) → IsSome (subject taxi spot start end p) → EntersIn taxi start end spot p
+unfolding subject
+subject-in taxi start end spot p h =
+    in-at taxi start end spot p (entry_at taxi spot p) refl
+    (some-then (is_filed p.state && not (is_visual p.rules) && not (bytes_eq p.key.dep (codes "AFIL")) && not p.exempt) (in_period start end (entry_at taxi spot p)) h)
+
+if-some : (b : Bool) (o : Option ℕ) (m : ℕ) → (if b then o else None) ≡ Some m → o ≡ Some m
+if-some true o m e = e
+if-some false o m e = absurd (cc)
+
+same-moment : (x m : ℕ) → Some x ≡ Some m → x ≡ m
+same-moment x m e = cc
+
+within-is : (x m : ℕ) → moment_within x ≡ Some m → x ≡ m
+unfolding moment_within
+within-is x m e = same-moment x m (if-some (nat_le x 100_000_000) (Some x) m e)
+
+-- no earlier than take-off, and no later than the longest time after it
+abbrev Between : ℕ → ℕ → ℕ → Type 0
+Between take_off longest moment = (take_off ≤ moment) × (moment ≤ take_off + longest)
+
+on-way : (take_off longest moment : ℕ) (o : Option ℕ) → IfSome o (λ minutes. minutes ≤ longest) → option_and_then (λ elapsed. moment_within (take_off + elapsed)) o ≡ Some moment → Between take_off longest moment
+on-way take_off longest moment None low e = absurd (cc)
+on-way take_off longest moment (Some elapsed) low e =
+    let same : take_off + elapsed ≡ moment = within-is (take_off + elapsed) moment e in
+    (omega (arith, same), omega (arith, same, low))
+
+enters-between : (taxi longest moment : ℕ) (spot : Spot) (p : Plan) → p.elapsed ≤ longest → ((place : List ℕ) → IfSome (elapsed_at place p) (λ minutes. minutes ≤ longest))
+    → entry_at taxi spot p ≡ Some moment → Between (take_off taxi p) longest moment
+unfolding entry_at
+enters-between taxi longest moment (Dep place) p arrival way e =
+    let same : take_off taxi p ≡ moment = same-moment _ _ (if-some (bytes_eq p.key.dep place) (Some (take_off taxi p)) moment e) in
+    (omega (arith, same), omega (arith, same))
+enters-between taxi longest moment (Arr place) p arrival way e =
+    let same : take_off taxi p + p.elapsed ≡ moment = within-is _ _ (if-some (bytes_eq p.key.dest place) (moment_within (take_off taxi p + p.elapsed)) moment e) in
+    (omega (arith, same), omega (arith, same, arrival))
+enters-between taxi longest moment (Via place) p arrival way e = on-way (take_off taxi p) longest moment (elapsed_at place p) (way place) e
+
+flies : (taxi start end moment : ℕ) (o : Outline) → Between (o.off_block + taxi) o.longest moment → start ≤ moment → moment < end → may_fly taxi start end o ≡ true
+unfolding may_fly
+flies taxi start end moment o b from to =
+    rw (lt-ltb (o.off_block + taxi) end (omega (arith, b.0, to)), le-leb start (o.off_block + taxi + o.longest) (omega (arith, b.1, from))) refl
+
+-- an outline with the letters of both ends, and the places of the way, comes where its flight does
+outline-comes : (o : Outline) (p : Plan) → o.dep ≡ letters_of p.key.dep → o.dest ≡ letters_of p.key.dest
+    → ((place : List ℕ) → IsSome (elapsed_at place p) → may_have o.way place ≡ true) → (taxi start end : ℕ) (spot : Spot) → IsSome (subject taxi spot start end p) → may_come spot o ≡ true
 unfolding entry_at may_come
-outline-of-all o p dep dest way taxi start end (Dep place) h =
+outline-comes o p dep dest way taxi start end (Dep place) h =
     let same : p.key.dep ≡ place = (bytes_decides p.key.dep place).0 (some-if (bytes_eq p.key.dep place) (Some (take_off taxi p)) (subject-enters taxi start end (Dep place) p h)) in
     eq-eqb _ _ (dep ∙ ap letters_of same)
-outline-of-all o p dep dest way taxi start end (Arr place) h =
+outline-comes o p dep dest way taxi start end (Arr place) h =
     let same : p.key.dest ≡ place = (bytes_decides p.key.dest place).0 (some-if (bytes_eq p.key.dest place) (moment_within (take_off taxi p + p.elapsed)) (subject-enters taxi start end (Arr place) p h)) in
     eq-eqb _ _ (dest ∙ ap letters_of same)
-outline-of-all o p dep dest way taxi start end (Via place) h =
+outline-comes o p dep dest way taxi start end (Via place) h =
     way place (some-first (elapsed_at place p) (λ elapsed. moment_within (take_off taxi p + elapsed)) (subject-enters taxi start end (Via place) p h))
+
+-- with the off-block moment and the longest time it comes when its flight does
+pub outline-of-all : (o : Outline) (p : Plan) → o.dep ≡ letters_of p.key.dep → o.dest ≡ letters_of p.key.dest
+    → ((place : List ℕ) → IsSome (elapsed_at place p) → may_have o.way place ≡ true)
+    → o.off_block ≡ p.off_block → p.elapsed ≤ o.longest → ((place : List ℕ) → IfSome (elapsed_at place p) (λ minutes. minutes ≤ o.longest)) → IsOutlineOf o p
+outline-of-all o p dep dest way off_block arrival minutes taxi start end spot h =
+    let at = subject-in taxi start end spot p h in
+    let between : Between (o.off_block + taxi) o.longest at.moment = rw off_block (enters-between taxi o.longest at.moment spot p arrival minutes at.enters) in
+    rw (outline-comes o p dep dest way taxi start end spot h, flies taxi start end at.moment o between at.from at.to) refl
 
 -- as many outlines as plans
 pub outlines-long : (os : List Outline) (ps : List Plan) → AreOutlines os ps → length os ≡ length ps
@@ -83,15 +149,15 @@ no-entry : (o : Option ℕ) (b : Bool) → b ≡ false → (IsSome o → b ≡ t
 no-entry None b f h = refl
 no-entry (Some m) b f h = absurd (false≢true (sym f ∙ h refl))
 
--- where the outline at a place doesn't come, no regulation applies to the flight
-pub outline-never : (os : List Outline) (ps : List Plan) (i : ℕ) (o : Outline) (spot : Spot) → AreOutlines os ps → slice_get os i ≡ Some o → may_come spot o ≡ false
-    → (taxi start end : ℕ) → IfSome (slice_get ps i) (λ p. subject taxi spot start end p ≡ None)
-outline-never [] ps i o spot h at never taxi start end = absurd (cc)
-outline-never (n ∷ os) [] i o spot h at never taxi start end = absurd h
-outline-never (n ∷ os) (p ∷ ps) zero o spot h at never taxi start end =
-    let same : may_come spot n ≡ false = ap (λ (x : Option Outline). may_come spot (unwrap_or x n)) at ∙ never in
-    no-entry (subject taxi spot start end p) (may_come spot n) same (h.0 taxi start end spot)
-outline-never (n ∷ os) (p ∷ ps) (suc i) o spot h at never taxi start end = outline-never os ps i o spot h.1 at never taxi start end
+-- where the outline at a place doesn't come in a period, no regulation applies to the flight
+pub outline-never : (os : List Outline) (ps : List Plan) (i : ℕ) (o : Outline) (taxi start end : ℕ) (spot : Spot) → AreOutlines os ps → slice_get os i ≡ Some o → (may_come spot o && may_fly taxi start end o) ≡ false
+    → IfSome (slice_get ps i) (λ p. subject taxi spot start end p ≡ None)
+outline-never [] ps i o taxi start end spot h at never = absurd (cc)
+outline-never (n ∷ os) [] i o taxi start end spot h at never = absurd h
+outline-never (n ∷ os) (p ∷ ps) zero o taxi start end spot h at never =
+    let same : (may_come spot n && may_fly taxi start end n) ≡ false = ap (λ (x : Option Outline). may_come spot (unwrap_or x n) && may_fly taxi start end (unwrap_or x n)) at ∙ never in
+    no-entry (subject taxi spot start end p) (may_come spot n && may_fly taxi start end n) same (h.0 taxi start end spot)
+outline-never (n ∷ os) (p ∷ ps) (suc i) o taxi start end spot h at never = outline-never os ps i o taxi start end spot h.1 at never
 
 -- the place of a plan is one of an outline
 pub outline-within : (number len : ℕ) (os : List Outline) (ps all : List Plan) → len ≡ length os → AreOutlines os ps → ps ≡ all → (0 < number) × (number ≤ length all) → number - 1 < len
@@ -107,12 +173,12 @@ outlines-pop m n os ps a b h =
     rw same (outlines-take (n - 1) os ps h)
 
 -- what the outline of the plan of a number says of it
-pub outline-says : (number len : ℕ) (os : List Outline) (ps all : List Plan) (o : Outline) (spot : Spot) (comes : Bool) → len ≡ length os → AreOutlines os ps → ps ≡ all → (0 < number) × (number ≤ length all)
-    → o ≡ get_or os (number - 1) o → comes ≡ may_come spot o → comes ≡ false → (taxi start end : ℕ) → IfSome (plan_at all number) (λ p. subject taxi spot start end p ≡ None)
-outline-says number len os ps all o spot comes l h same within is answer never =
+pub outline-says : (number len : ℕ) (os : List Outline) (ps all : List Plan) (o : Outline) (taxi start end : ℕ) (spot : Spot) → len ≡ length os → AreOutlines os ps → ps ≡ all → (0 < number) × (number ≤ length all)
+    → o ≡ get_or os (number - 1) o → (may_come spot o && may_fly taxi start end o) ≡ false → IfSome (plan_at all number) (λ p. subject taxi spot start end p ≡ None)
+outline-says number len os ps all o taxi start end spot l h same within is never =
     let inside : number - 1 < len = outline-within number len os ps all l h same within in
     let at : slice_get os (number - 1) ≡ Some o = slice_get-get_or os (number - 1) o (omega (arith, l, inside)) ∙ ap (λ x. Some x) (sym is) in
-    rw (← same) (outline-never os ps (number - 1) o spot h at (sym answer ∙ never))
+    rw (← same) (outline-never os ps (number - 1) o taxi start end spot h at never)
 
 -- a plan that is read is the one of its number
 pub plan-read : (number : ℕ) (read all : List Plan) (p : Plan) → read ≡ all → 0 < number → number ≤ length all → p ≡ get_or read (number - 1) p → plan_at all number ≡ Some p

@@ -1,6 +1,6 @@
--- Where a regulation may apply to a flight, in few bytes. An outline may seem to come to a place to which its flight doesn't come,
--- never the other way round.
-use Rattle.std.specs.Prelude.{◌≡◌, ℕ, Bool, true, not, ◌&&◌, ◌==◌, List, IsSome}
+-- Where and when a regulation may apply to a flight, in few bytes. An outline may seem to come to a place to which its flight
+-- doesn't come then, never the other way round.
+use Rattle.std.specs.Prelude.{◌≡◌, ℕ, ◌+◌, Bool, true, not, ◌&&◌, ◌==◌, nat_le, nat_lt, List, IsSome}
 use Rattle.std.specs.List.{AllZip}
 use Rattle.fpl_message.specs.declared.order.Spot.{Spot}
 use Rattle.fpl_message.specs.declared.order.Spot.TheVariants.{Dep, Arr, Via}
@@ -19,10 +19,16 @@ may_come (Dep place) outline = outline.dep == letters_of place
 may_come (Arr place) outline = outline.dest == letters_of place
 may_come (Via place) outline = may_have outline.way place
 
--- wherever a regulation applies to the flight of the plan, at any time, the outline may come there
+-- whether it takes off before the end of a period, and may not yet be over at its start
+unfoldable pub may_fly : ℕ → ℕ → ℕ → Outline → Bool
+may_fly taxi start end outline =
+    nat_lt (outline.off_block + taxi) end && nat_le start (outline.off_block + taxi + outline.longest)
+
+-- wherever and whenever a regulation applies to the flight of the plan, the outline may come there then
 abbrev pub IsOutlineOf : Outline → Plan → Type 0
 IsOutlineOf outline plan =
-    (taxi start end : ℕ) (spot : Spot) → IsSome (subject taxi spot start end plan) → may_come spot outline ≡ true
+    (taxi start end : ℕ) (spot : Spot) → IsSome (subject taxi spot start end plan)
+    → (may_come spot outline && may_fly taxi start end outline) ≡ true
 
 -- as many outlines as plans, each of the plan at its place
 abbrev pub AreOutlines : List Outline → List Plan → Type 0

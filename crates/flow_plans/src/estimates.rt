@@ -1,5 +1,5 @@
 //! The estimates of field 18, noted once.
-ghost use Rattle.std.specs.Prelude.{◌≡◌, ◌≤◌, ◌<◌, ◌+◌, [], true, List, ℕ, length, slice_range, IfOk, IfSome};
+ghost use Rattle.std.specs.Prelude.{◌≡◌, ◌≤◌, ◌<◌, ◌+◌, [], true, false, List, ℕ, length, slice_range, IfOk, IfSome};
 ghost use Rattle.fpl_text.specs.Words.{words_of};
 ghost use Rattle.fpl_items.specs.Items.{items_of, estimate_for, elapsed_to};
 ghost use Rattle.flow_plans.specs.Near.{word_at, HasBitsOf};
@@ -12,6 +12,9 @@ use crate::places::{letters_of, may_have, with_place};
 use fpl_items::{ItemWords, Items};
 use fpl_text::read_elapsed;
 use std::alloc::{AllocError, Allocator, Global};
+
+/// How many notes there is room for at first.
+const FIRST_NOTES: usize = 8;
 
 /// What the EET items of a field 18 say, in order. A field without them takes no memory.
 ///
@@ -76,20 +79,27 @@ impl<A: Allocator + Copy> Estimates<A> {
         }
         self.places
     }
+
+    /// The minutes of the longest of the notes. Those that no elapsed time reaches where they aren't whole.
+    pub(crate) fn longest(&self) -> u32
+        ensures whole { self.now.whole ≡ true → (field place : List ℕ) → IfSome (first_for field place self.now.notes.items) (λ minutes. minutes ≤ result) }
+        ensures other { self.now.whole ≡ false → result ≡ 6000 }
+    {
+        if !self.whole {
+            return 6000;
+        }
+        longest_of(&self.notes)
+    }
 }
 
-/// Makes room for the notes of these words, and for no more.
-fn reserve_notes<A: Allocator + Copy>(
-    notes: &mut Vec<Estimate, A>,
-    words: ItemWords<'_>,
-) -> Result<(), AllocError>
+/// Makes room for the first notes, which is enough for most fields.
+fn reserve_notes<A: Allocator + Copy>(notes: &mut Vec<Estimate, A>) -> Result<(), AllocError>
     ensures { notes.new.items ≡ notes.old.items }
 {
-    let mut count: usize = 0;
-    for _word in words {
-        count = count.saturating_add(1);
+    if notes.is_empty() {
+        return notes.reserve_exact(FIRST_NOTES);
     }
-    notes.reserve_exact(count)
+    Ok(())
 }
 
 /// Where a place stands in a field, from there on.
@@ -108,23 +118,19 @@ fn place_in(field: &[u8], place: &[u8], from: usize) -> Option<usize>
     None
 }
 
-/// The note of a word of a field, which stands there or later.
+/// The note of a word of a field, which stands there or later. A place of four letters is known by these, so it isn't looked for.
 fn note_of(field: &[u8], word: &[u8], from: usize) -> Option<Estimate>
     ensures { IfSome result (λ note. IsNoteOf field.now word.now note) }
 {
     let (place, time) = word.split_at(word.len().saturating_sub(4));
     let minutes = read_elapsed(time)?;
+    if place.len() == 4 {
+        let short = Estimate::new(letters_of(place), 0, 4, minutes)?;
+        return Some(short);
+    }
     let start = place_in(field, place, from)?;
     let note = Estimate::new(letters_of(place), start, start + place.len(), minutes)?;
     Some(note)
-}
-
-/// Where the next note's place stands at the earliest: behind the elapsed time of the last note, and the space after it.
-fn next_start(notes: &[Estimate]) -> usize {
-    match notes.last() {
-        Some(note) => note.end() + 5,
-        None => 0,
-    }
 }
 
 /// Notes the words of an EET item, and answers whether each is an estimate.
@@ -138,10 +144,13 @@ fn note_words<A: Allocator + Copy>(
     ensures notes { IfOk result (λ whole. whole ≡ true → AddsWords field.now notes.old.items notes.new.items words.entry) }
     ensures places { IfOk result (λ whole. HasPlacesOf field.now places.new notes.new.items) }
 {
+    // Where the next word stands at the earliest: behind the elapsed time of the last note, and the space after it.
+    let mut from = 0;
     for word in words {
-        let Some(note) = note_of(field, word, next_start(notes)) else {
+        let Some(note) = note_of(field, word, from) else {
             return Ok(false);
         };
+        from = note.end().max(from).saturating_add(5);
         notes.push(note)?;
         *places = with_place(*places, &word[..word.len().saturating_sub(4)]);
     }
@@ -160,7 +169,7 @@ fn note_items<A: Allocator + Copy>(
 {
     for item in Items::new(field) {
         if item.name() == b"EET".as_slice() {
-            reserve_notes(notes, item.words())?;
+            reserve_notes(notes)?;
             let whole = note_words(notes, places, field, item.words())?;
             if !whole {
                 return Ok(false);
@@ -168,6 +177,17 @@ fn note_items<A: Allocator + Copy>(
         }
     }
     Ok(true)
+}
+
+/// The minutes of the longest of these notes.
+fn longest_of(notes: &[Estimate]) -> u32
+    ensures { (field place : List ℕ) → IfSome (first_for field place notes.now) (λ minutes. minutes ≤ result) }
+{
+    let mut longest = 0;
+    for note in notes {
+        longest = longest.max(note.minutes());
+    }
+    longest
 }
 
 /// The minutes of the first of these notes of a field that is for a place.

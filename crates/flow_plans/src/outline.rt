@@ -1,12 +1,13 @@
-//! Where a regulation may apply to a flight, in few bytes.
+//! Where and when a regulation may apply to a flight, in few bytes.
 //!
-//! Most flights never come to the place of a regulation. Their outlines say so without a look at their plans.
+//! Most flights never come to the place of a regulation, or not while it lasts. Their outlines say so without a look at their plans.
 ghost use Rattle.std.specs.Prelude.{◌≡◌};
-ghost use Rattle.flow_plans.specs.Outlines.{may_come, IsOutlineOf};
+ghost use Rattle.flow_plans.specs.Outlines.{may_come, may_fly, IsOutlineOf};
 
 use crate::places::{letters_of, may_have};
 use crate::plan::Plan;
 use fpl_message::Spot;
+use fpl_text::Minute;
 use std::alloc::Allocator;
 
 /// The places at which a regulation may apply to a flight.
@@ -18,6 +19,10 @@ pub(crate) struct Outline {
     dest: u32,
     /// The set of the places on the way.
     way: u64,
+    /// The off-block moment.
+    off_block: Minute,
+    /// The minutes from take-off to the last place that the flight comes to, or more.
+    longest: u32,
 }
 
 impl Outline {
@@ -30,6 +35,8 @@ impl Outline {
                 dep: 0,
                 dest: 0,
                 way: 0,
+                off_block: Minute::from_minutes(0),
+                longest: 0,
             };
         }
         let key = plan.key();
@@ -37,6 +44,8 @@ impl Outline {
             dep: letters_of(key.dep.as_bytes()),
             dest: letters_of(key.dest.as_bytes()),
             way: plan.way(),
+            off_block: plan.off_block(),
+            longest: plan.longest(),
         }
     }
 
@@ -51,5 +60,24 @@ impl Outline {
             Spot::Arr(place) => self.dest == letters_of(place.as_bytes()),
             Spot::Via(place) => may_have(self.way, place.as_bytes()),
         }
+    }
+
+    /// The minutes from take-off to the last place that the flight comes to, or more.
+    #[inline(always)]
+    fn longest(&self) -> u32
+        ensures { result ≡ self.now.longest }
+    {
+        self.longest
+    }
+
+    /// Whether the flight takes off before the end of a period, and may not yet be over at its start.
+    #[inline(always)]
+    #[tactic(auto, unfolding(crate::specs::Outlines::may_fly))]
+    pub(crate) fn may_fly(&self, taxi: u32, start: Minute, end: Minute) -> bool
+        ensures { result ≡ may_fly taxi start end self.now }
+    {
+        let take_off = u64::from(self.off_block.minutes()) + u64::from(taxi);
+        let last = take_off + u64::from(self.longest());
+        take_off < u64::from(end.minutes()) && u64::from(start.minutes()) <= last
     }
 }

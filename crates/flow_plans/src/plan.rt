@@ -441,6 +441,14 @@ impl<A: Allocator + Copy> Plan<A> {
         self.texts.way()
     }
 
+    /// The minutes from take-off to the last place that the flight comes to, or more.
+    pub(crate) fn longest(&self) -> u32
+        ensures destination { self.now.elapsed ≤ result }
+        ensures way { (place : List ℕ) → IfSome (elapsed_at place self.now) (λ minutes. minutes ≤ result) }
+    {
+        self.texts.longest().max(self.elapsed)
+    }
+
     /// The total elapsed time, in minutes.
     pub fn elapsed_time(&self) -> u32
         ensures { result ≡ self.now.elapsed }

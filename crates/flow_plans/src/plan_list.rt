@@ -1,7 +1,7 @@
 //! Plans, each beside its outline.
 //!
 //! The outlines stand in a dense row of their own, so that a look at which flights may come to a place reads little memory.
-ghost use Rattle.std.specs.Prelude.{◌≡◌, ◌≤◌, ◌<◌, ◌-◌, ◌++◌, ◌∷◌, ℕ, [], None, false, length, take, OnOk, OnErr, IfSome};
+ghost use Rattle.std.specs.Prelude.{◌≡◌, ◌+◌, ◌≤◌, ◌<◌, ◌-◌, ◌++◌, ◌∷◌, ℕ, [], None, false, length, take, OnOk, OnErr, IfSome};
 ghost use Rattle.flow_plans.specs.Chains.{AreNamed, StaysNamed};
 ghost use Rattle.flow_plans.specs.Entries.{subject};
 ghost use Rattle.flow_plans.specs.Plans.{plan_at, with_plan, changed_at, with_state, with_off_block};
@@ -60,27 +60,44 @@ impl<A: Allocator + Copy> PlanList<A> {
         self.plans.len()
     }
 
-    /// Whether the flight of the plan of this number may come to a place. Where it may not, no regulation of that place applies to
-    /// it, at any time.
+    /// Whether the flight of the plan of this number may come to a place in a period. Where it may not, no regulation of that place
+    /// and period applies to it.
     #[inline(always)]
-    pub(crate) fn may_come(&self, number: u32, spot: &Spot) -> bool
+    pub(crate) fn may_come(
+        &self,
+        number: u32,
+        taxi: u32,
+        spot: &Spot,
+        start: Minute,
+        end: Minute,
+    ) -> bool
         requires { (0 < number) × (number ≤ length self.now) }
-        ensures { result ≡ false → (taxi start end : ℕ) → IfSome (plan_at self.now number) (λ plan. subject taxi spot.now start end plan ≡ None) }
+        ensures { result ≡ false → IfSome (plan_at self.now number) (λ plan. subject taxi spot.now start end plan ≡ None) }
     {
-        self.outlines[(number - 1) as usize].may_come(spot)
+        let outline = &self.outlines[(number - 1) as usize];
+        outline.may_come(spot) && outline.may_fly(taxi, start, end)
     }
 
-    /// The first number from this one on of a plan whose flight may come to a place, or one more than there are. To the flights of
-    /// the plans before it no regulation of that place applies, at any time.
-    pub(crate) fn next_coming(&self, from: u32, spot: &Spot) -> u32
+    /// The first number from this one on of a plan whose flight may come to a place in a period, or one more than there are. To the
+    /// flights of the plans before it no regulation of that place and period applies.
+    pub(crate) fn next_coming(
+        &self,
+        from: u32,
+        taxi: u32,
+        spot: &Spot,
+        start: Minute,
+        end: Minute,
+    ) -> u32
         requires some { 0 < from }
         requires few { length self.now ≤ 20_000 }
         ensures from { from ≤ result }
-        ensures passed { (n : ℕ) → from ≤ n → n < result → (taxi start end : ℕ) → IfSome (plan_at self.now n) (λ plan. subject taxi spot.now start end plan ≡ None) }
+        ensures passed { (n : ℕ) → from ≤ n → n < result → IfSome (plan_at self.now n) (λ plan. subject taxi spot.now start end plan ≡ None) }
+        ensures end { length self.now < from → result ≡ from }
+        ensures most { from ≤ length self.now → result ≤ length self.now + 1 }
     {
         let count = self.plans.len() as u32;
         let mut number = from;
-        while number <= count && !self.may_come(number, spot) {
+        while number <= count && !self.may_come(number, taxi, spot, start, end) {
             number += 1;
         }
         number

@@ -296,14 +296,17 @@ impl<A: Allocator + Copy> PlanStore<A> {
         self.plans.as_slice()[(number - 1) as usize].subject(self.taxi, spot, start, end)
     }
 
-    /// The first number from this one on of a plan to whose flight a regulation of that place may apply, or one more than there are.
-    /// To the flights of the plans before it none applies, at any time. It reads 16 bytes a plan.
-    pub fn next_coming(&self, from: u32, spot: &Spot) -> u32
+    /// The first number from this one on of a plan to whose flight a regulation of that place and period may apply; where there is
+    /// none, the first number that no plan has, or `from` where that is later. To the flights of the plans before it none applies.
+    /// It reads 24 bytes a plan.
+    pub fn next_coming(&self, from: u32, spot: &Spot, start: Minute, end: Minute) -> u32
         requires { 0 < from }
         ensures from { from ≤ result }
-        ensures passed { (n : ℕ) → from ≤ n → n < result → (start end : ℕ) → IfSome (plan_at self.now.plans n) (λ plan. subject self.now.taxi spot.now start end plan ≡ None) }
+        ensures passed { (n : ℕ) → from ≤ n → n < result → IfSome (plan_at self.now.plans n) (λ plan. subject self.now.taxi spot.now start end plan ≡ None) }
+        ensures end { length self.now.plans < from → result ≡ from }
+        ensures most { from ≤ length self.now.plans → result ≤ length self.now.plans + 1 }
     {
-        self.plans.next_coming(from, spot)
+        self.plans.next_coming(from, self.taxi, spot, start, end)
     }
 
     /// The bits of the words in a table that stand in the rows of the places to which the flight of the plan of this number comes:

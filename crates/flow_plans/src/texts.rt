@@ -156,4 +156,11 @@ impl<A: Allocator + Copy> Texts<A> {
     {
         self.estimates.way()
     }
+
+    /// The minutes from take-off to the last place of the way, by the EET items of field 18, or more.
+    pub(crate) fn longest(&self) -> u32
+        ensures { (place : List ℕ) → IfSome (elapsed_to place (items_of (words_of self.now.field18))) (λ minutes. minutes ≤ result) }
+    {
+        self.estimates.longest()
+    }
 }

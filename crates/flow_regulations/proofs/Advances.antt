@@ -1,20 +1,21 @@
 -- Time advances: the flights that become due are fixed where they wait, one after the other.
-use Rattle.std.proofs.Common.{◌≡◌, ℕ, ◌+◌, ◌<◌, ◌≤◌, ◌⊎◌, inl, inr, Bool, true, false, ◌||◌, ◌&&◌, cond, eqb, leb, List, [], ◌∷◌, ◌++◌, length, map, take, get_or, Option, Some, None, refl, sym, ap, subst, ◌∙◌, arith}
+use Rattle.std.proofs.Common.{◌≡◌, ℕ, ◌+◌, ◌<◌, ◌≤◌, ◌⊎◌, inl, inr, Bool, true, false, ◌||◌, ◌&&◌, cond, eqb, leb, ltb, List, [], ◌∷◌, ◌++◌, length, map, take, get_or, Option, Some, None, refl, sym, ap, subst, ◌∙◌, arith}
 use Rattle.std.specs.List.{AllByRecursion}
 use Rattle.std.specs.Option.{option_map_or, is_some}
 use mathlib.Core.Logic.{⊎_elim}
-use Rattle.std.proofs.lemmas.Bool.{and_parts, and_from, leb-true, le-leb, lt-ltb, eqb-true, eqb-false, or_parts, true≢false}
+use Rattle.std.proofs.lemmas.Bool.{and_parts, and_from, leb-true, le-leb, lt-ltb, ltb-true, ltb-false, eqb-true, eqb-false, or_parts, true≢false}
 use Rattle.std.proofs.lemmas.Bool.Decides.{nat_tests}
 use Rattle.std.proofs.lemmas.List.{take_more}
 use Rattle.flow_regulations.proofs.Others.{pairs-waiting}
 use Rattle.flow_plans.specs.Plans.{Plan, plan_at, is_filed, is_departed}
 use Rattle.flow_slots.specs.declared.cell.Planned.{Planned}
 use Rattle.flow_slots.specs.Assignment.{Placed, is_in}
-use Rattle.flow_slots.specs.Lineup.{Lineup, held_slot, fixed_slot}
+use Rattle.flow_slots.specs.Lineup.{Lineup, NoneIs, held_slot, fixed_slot}
 use Rattle.flow_slots.specs.ChangeList.{fixed_there}
 use Rattle.flow_regulations.specs.Regulations.{Regulation, subject_to, has_flight, waiting_from}
 use Rattle.flow_regulations.specs.Settling.{is_due, keeps, stays, settled, pairs_of}
 use Rattle.flow_regulations.specs.Listing.{Listed, regulation_of, IsListedIn, IsListed, is_due_flight, IsSettledIn, IsSettled, with_lineup, Walked, IsFixedWaiting, AreRenewed, HaveCapacity, AllStay, NoneDue, IsAdvanced, IsAdvancing, is_below, is_among, fixed_waiting, all_fixed_waiting, with_fixed_waiting, HoldNewlyDue, pairs_in}
+use Rattle.flow_regulations.specs.Marks.{IsOut}
 use Rattle.flow_regulations.proofs.Waiting.{all-with_entry, all-with_entry-back, waiting-from}
 use Rattle.flow_regulations.proofs.FixedOnes.{all-map, all-both}
 use Rattle.flow_regulations.proofs.Fixes.{lined, others, own, more, none, waiting-is, DoesNot, Does, either, is, listed-more, settled-is, settled-done, stay-more, same-fixed}
@@ -64,6 +65,32 @@ advancing-past n done more taxi now plans l m o e a = record {
         undue = b.undue;
       });
 }
+
+-- flights that aren't held are passed over
+none-between : (n k : ℕ) (D : ℕ → Type 0) (ws : List Planned) → ((f : ℕ) → n ≤ f → f < k → NoneIs f ws) → AllByRecursion (λ w. is_below n w.flight ≡ true → D w.flight) ws → AllByRecursion (λ w. is_below k w.flight ≡ true → D w.flight) ws
+none-between n k D [] out h = tt
+none-between n k D (w ∷ ws) out h = (λ q. cases (ltb-true w.flight k q) (ltb w.flight n) refl, none-between n k D ws (λ f a b. (out f a b).1) h.1) where
+  cases : w.flight < k → (b : Bool) → ltb w.flight n ≡ b → D w.flight
+  cases below true q = h.0 q
+  cases below false q = absurd ((out w.flight (ltb-false w.flight n q) below).0 refl)
+
+pub advancing-out : (n k taxi now : ℕ) (plans : List Plan) (l m : Listed) → ((f : ℕ) → n ≤ f → f < k → IsOut f m) → IsAdvancing (is_below n) taxi now plans l m → IsAdvancing (is_below k) taxi now plans l m
+advancing-out n k taxi now plans l m out a = record {
+  capacity = a.capacity;
+  advanced = λ max listed stay.
+      (let b = a.advanced max listed stay in
+      record {
+        regulation = b.regulation;
+        listed = b.listed;
+        stay = b.stay;
+        waiting = none-between n k (λ f. is_due_flight now plans f ≡ false) m.lineup.waiting (λ f low high. (out f low high).1) b.waiting;
+        undue = b.undue;
+      });
+}
+
+-- and fewer are asked of
+pub advancing-fewer : (n k taxi now : ℕ) (plans : List Plan) (l m : Listed) → k ≤ n → IsAdvancing (is_below n) taxi now plans l m → IsAdvancing (is_below k) taxi now plans l m
+advancing-fewer n k taxi now plans l m le a = advancing-out n k taxi now plans l m (λ f low high. absurd (omega (arith, le, low, high))) a
 
 module _ (n : ℕ) (done more_done : ℕ → Bool) (o : OneMore n done more_done) (taxi max now : ℕ) (plans : List Plan) (l m : Listed) (positive : 0 < n) (due : is_due_flight now plans n ≡ true) (b : IsAdvanced done taxi max now plans l m) where
   -- none of the other waiting flights up to this one is due

@@ -1,5 +1,5 @@
 -- The bits of the words that mark where flights may be held.
-use Rattle.std.proofs.Common.{◌≡◌, ℕ, suc, ◌+◌, ◌-◌, ◌*◌, ◌/◌, ◌%◌, ◌^◌, ◌<◌, ◌≤◌, Bool, true, false, cond, eqb, ltb, refl, sym, ap, subst, ◌∙◌, arith}
+use Rattle.std.proofs.Common.{◌≡◌, ℕ, suc, ◌+◌, ◌*◌, ◌/◌, ◌%◌, ◌^◌, ◌<◌, ◌≤◌, Bool, true, false, cond, eqb, ltb, refl, sym, ap, subst, ◌∙◌, arith}
 use Rattle.std.specs.Int.{bit_at, trailing_zeros, w64}
 use Rattle.std.specs.Prelude.{bit_or}
 use Rattle.std.proofs.lemmas.Nat.{pow_pos, one_shl}
@@ -40,13 +40,12 @@ or-second a b i s = by-place (bit_or a b) i (λ h. stands-bit (bit_or a b) i h (
 pub set-stands : (w k : ℕ) → k < 64 → may_stand (bit_or w (1 * 2 ^ k % 18_446_744_073_709_551_616)) k ≡ true
 set-stands w k h = stands-bit (bit_or w (1 * 2 ^ k % 18_446_744_073_709_551_616)) k h (bit_at_set_same w64 w k h)
 
-moved-bit : (w k i : ℕ) → k ≤ i → i < 64 → bit_at ((w / 2 ^ k / 2) * 2 ^ k % 18_446_744_073_709_551_616) i ≡ bit_at w (suc i)
+moved-bit : (w k i : ℕ) → k ≤ i → i < 64 → bit_at ((w / 2 / 2 ^ k) * 2 ^ k % 18_446_744_073_709_551_616) i ≡ bit_at w (suc i)
 moved-bit w k i h l =
-    let v : ℕ = w / 2 ^ k / 2 in
+    let v : ℕ = w / 2 / 2 ^ k in
     let none : v * 2 ^ k + 0 ≡ v * 2 ^ k = omega arith in
-    let next : suc (i - k) ≡ suc i - k = omega arith in
     low-bit (v * 2 ^ k) 64 i l ∙ (ap (λ x. bit_at x i) (sym none) ∙ (bit_at_cat_high v k 0 i (pow_pos k) h
-    ∙ (sym (bit_at-suc (w / 2 ^ k) (i - k)) ∙ (ap (bit_at (w / 2 ^ k)) next ∙ high-bit w k (suc i) (omega arith)))))
+    ∙ (high-bit (w / 2) k i h ∙ sym (bit_at-suc w i))))
 
 pub low-stands : (w k m : ℕ) → k < 64 → m ≡ 2 ^ k → KeepsBelow k w (w % m)
 low-stands w k m h e i l s =
@@ -54,26 +53,26 @@ low-stands w k m h e i l s =
     let first : i < 64 = omega arith in
     stands-bit (w % m) i first (ap (λ v. bit_at (w % v) i) e ∙ (low-bit w k i below ∙ bit-stands w i first s))
 
-pub moved-stands : (w k i : ℕ) → k ≤ i → i < 63 → may_stand w (suc i) ≡ true → may_stand ((w / 2 ^ k / 2) * 2 ^ k % 18_446_744_073_709_551_616) i ≡ true
+pub moved-stands : (w k i : ℕ) → k ≤ i → i < 63 → may_stand w (suc i) ≡ true → may_stand ((w / 2 / 2 ^ k) * 2 ^ k % 18_446_744_073_709_551_616) i ≡ true
 moved-stands w k i h l s =
     let first : i < 64 = omega arith in
-    stands-bit ((w / 2 ^ k / 2) * 2 ^ k % 18_446_744_073_709_551_616) i first (moved-bit w k i h first ∙ bit-stands w (suc i) (omega arith) s)
+    stands-bit ((w / 2 / 2 ^ k) * 2 ^ k % 18_446_744_073_709_551_616) i first (moved-bit w k i h first ∙ bit-stands w (suc i) (omega arith) s)
 
 -- a place after which none is marked
 pub cut-stands : (w k : ℕ) → k < 64 → KeepsBelow k w (w % (1 * 2 ^ k % 18_446_744_073_709_551_616))
 cut-stands w k h = low-stands w k (1 * 2 ^ k % 18_446_744_073_709_551_616) h (one_shl k 64 h)
 
 -- a place that is gone
-pub moved-up : (w k r : ℕ) → k < 64 → Keeps (bit_or ((w / 2 ^ k / 2) * 2 ^ k % 18_446_744_073_709_551_616) (w % (1 * 2 ^ k % 18_446_744_073_709_551_616))) r → may_stand r 63 ≡ true → MovesUp k w r
+pub moved-up : (w k r : ℕ) → k < 64 → Keeps (bit_or ((w / 2 / 2 ^ k) * 2 ^ k % 18_446_744_073_709_551_616) (w % (1 * 2 ^ k % 18_446_744_073_709_551_616))) r → may_stand r 63 ≡ true → MovesUp k w r
 moved-up w k r h keeps last =
-    let high : ℕ = (w / 2 ^ k / 2) * 2 ^ k % 18_446_744_073_709_551_616 in
+    let high : ℕ = (w / 2 / 2 ^ k) * 2 ^ k % 18_446_744_073_709_551_616 in
     let low : ℕ = w % (1 * 2 ^ k % 18_446_744_073_709_551_616) in
     (λ i l s. keeps i (or-second high low i (cut-stands w k h i l s)), λ i l s. later i (ltb-false i k l) s)
   where
     later : (i : ℕ) → k ≤ i → may_stand w (suc i) ≡ true → may_stand r i ≡ true
     later i l s = by-place r i (λ first. cases first (ltb i 63) refl) where
       cases : i < 64 → (b : Bool) → ltb i 63 ≡ b → may_stand r i ≡ true
-      cases first true q = keeps i (or-first ((w / 2 ^ k / 2) * 2 ^ k % 18_446_744_073_709_551_616) (w % (1 * 2 ^ k % 18_446_744_073_709_551_616)) i (moved-stands w k i l (ltb-true i 63 q) s))
+      cases first true q = keeps i (or-first ((w / 2 / 2 ^ k) * 2 ^ k % 18_446_744_073_709_551_616) (w % (1 * 2 ^ k % 18_446_744_073_709_551_616)) i (moved-stands w k i l (ltb-true i 63 q) s))
       cases first false q =
           let past : 63 ≤ i = ltb-false i 63 q in
           let same : 63 ≡ i = omega arith in

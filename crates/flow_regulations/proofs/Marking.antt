@@ -3,7 +3,7 @@ use Rattle.std.proofs.Common.{◌≡◌, ℕ, zero, suc, ◌+◌, ◌<◌, ◌�
 use Rattle.std.specs.List.{remove}
 use Rattle.std.specs.Prelude.{slice_set}
 use Rattle.std.proofs.lemmas.List.{get_or-set_same, get_or-set_other, get_or_past}
-use Rattle.std.proofs.lemmas.Bool.{ltb-true, ltb-false, cases_eq, eqb-true, lt-ltb, le-ltb, true≢false}
+use Rattle.std.proofs.lemmas.Bool.{ltb-true, ltb-false, cases_eq, cases_lt, eqb-true, lt-ltb, le-ltb, true≢false}
 use Rattle.flow_slots.specs.declared.cell.Planned.{Planned}
 use Rattle.flow_slots.specs.Order.{without}
 use Rattle.flow_slots.specs.Assignment.{Placed}
@@ -193,11 +193,39 @@ module _ (R : ℕ → ℕ → ℕ → Type 0) (olds news : List ℕ) (j : ℕ) (
         let N : ℕ → Type 0 = λ x. R f (word_of olds f) x in
         subst N (sym (rest f past)) (subst O (sym none) (ones f))
 
+-- the word of one flight is replaced
+module _ (n v : ℕ) (olds news : List ℕ) (others : (f : ℕ) → (f ≡ n → ⊥) → word_of news f ≡ word_of olds f) (one : Keeps v (word_of news n)) where
+  pub one-keeps : Keeps (word_of olds n) v → (f : ℕ) → Keeps (word_of olds f) (word_of news f)
+  one-keeps more f i s = cases (cases_eq f n) where
+    cases : (f ≡ n) ⊎ (f ≡ n → ⊥) → may_stand (word_of news f) i ≡ true
+    cases (inl e) =
+        let M : ℕ → Type 0 = λ g. may_stand (word_of news g) i ≡ true in
+        let O : ℕ → Type 0 = λ g. may_stand (word_of olds g) i ≡ true in
+        subst M (sym e) (one i (more i (subst O e s)))
+    cases (inr ne) =
+        let M : ℕ → Type 0 = λ w. may_stand w i ≡ true in
+        subst M (sym (others f ne)) s
+
+  pub one-marked : (k m : ℕ) (l : Listed) → may_stand v k ≡ true → ((f : ℕ) → n + 1 ≤ f → f < m → IsOut f l)
+      → ((f : ℕ) → f < n → may_stand (word_of olds f) k ≡ false → IsOut f l) → (f : ℕ) → f < m → may_stand (word_of news f) k ≡ false → IsOut f l
+  one-marked k m l stands out before f high unset = by (cases_eq f n) where
+    apart : (f ≡ n → ⊥) → (f < n) ⊎ (n ≤ f) → IsOut f l
+    apart ne (inl below) =
+        let M : ℕ → Type 0 = λ w. may_stand w k ≡ false in
+        before f below (subst M (others f ne) unset)
+    apart ne (inr above) = out f (omega (arith, ne, above)) high
+
+    by : (f ≡ n) ⊎ (f ≡ n → ⊥) → IsOut f l
+    by (inl e) =
+        let M : ℕ → Type 0 = λ g. may_stand (word_of news g) k ≡ false in
+        absurd (true≢false (sym (one k stands) ∙ subst M e unset))
+    by (inr ne) = apart ne (cases_lt f n)
+
+pub ones-below : (k f : ℕ) → KeepsBelow k 18_446_744_073_709_551_615 18_446_744_073_709_551_615
+ones-below k f = λ i l s. s
+
 pub ones-move : (k f : ℕ) → MovesUp k 18_446_744_073_709_551_615 18_446_744_073_709_551_615
 ones-move k f = (λ i l s. s, λ i l s. ones-stand i)
-
-pub ones-open : (k : ℕ) (l : Listed) (f : ℕ) → IsOpenedTo k l f 18_446_744_073_709_551_615 18_446_744_073_709_551_615
-ones-open k l f = (λ i b s. s, λ e. absurd (true≢false (sym (ones-stand k) ∙ e)))
 
 -- a vector of words and one of regulations that were written back whole
 pub written-marked : (i j : ℕ) (ws vs : List ℕ) (ns ls : List Listed) → i ≡ length ws → j ≡ length ns → AreMarked ws ns → AreMarked (take i (ws ++ vs)) (take j (ns ++ ls))

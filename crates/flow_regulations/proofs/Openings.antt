@@ -1,7 +1,8 @@
 -- A regulation is opened: the flights of the plans are let in one after the other.
-use Rattle.std.proofs.Common.{◌≡◌, ℕ, ◌+◌, ◌-◌, ◌<◌, ◌≤◌, false, List, [], ◌∷◌, ◌++◌, length, take, get_or, Option, Some, None, refl, sym, ap, subst, ◌∙◌, arith}
+use Rattle.std.proofs.Common.{◌≡◌, ℕ, zero, suc, ◌+◌, ◌-◌, ◌<◌, ◌≤◌, Bool, true, false, ltb, List, [], ◌∷◌, ◌++◌, length, take, get_or, Option, Some, None, refl, sym, ap, subst, ◌∙◌, arith}
 use Rattle.std.specs.List.{slice_get}
-use Rattle.std.proofs.lemmas.List.{take_more, length-take-le}
+use Rattle.std.proofs.lemmas.Bool.{ltb-true, ltb-false}
+use Rattle.std.proofs.lemmas.List.{take_more, take_all, length-take-le}
 use Rattle.std.proofs.lemmas.Option.{get_or_from_slice_get}
 use Rattle.flow_plans.specs.Plans.{Plan, plan_at}
 use Rattle.flow_slots.specs.Period.{Period, first_slot}
@@ -12,6 +13,7 @@ use Rattle.flow_regulations.specs.Settling.{settled}
 use Rattle.fpl_message.specs.declared.order.Spot.{Spot}
 use Rattle.flow_regulations.proofs.Waiting.{with_entry-with_entry}
 use Rattle.flow_regulations.proofs.FixedOnes.{all-map}
+use Rattle.flow_regulations.proofs.Looked.{plan-there}
 use Rattle.flow_regulations.proofs.Fixes.{slot-none}
 use Rattle.flow_regulations.proofs.Advances.{below, none-due-below, advanced-settled, advanced-settled_in}
 
@@ -42,6 +44,24 @@ pub opened-pass : (taxi i n : ℕ) (plans : List Plan) (l m : Listed) (p : Plan)
 opened-pass taxi i n plans l m p e within at none made =
     let o : Listed = opened taxi (take i plans) l in
     opened-step taxi i n plans l m p e within at (made ∙ ap (λ (s : Option ℕ). with_lineup (let_in s n o.lineup) o) (sym none))
+
+-- and so more of them
+pub opened-past : (taxi k i j : ℕ) (plans : List Plan) (l m : Listed) → j ≡ i + k → ((n : ℕ) (p : Plan) → i < n → n ≤ j → plan_at plans n ≡ Some p → subject_to taxi (regulation_of l) p ≡ None)
+    → m ≡ opened taxi (take i plans) l → m ≡ opened taxi (take j plans) l
+opened-past taxi zero i j plans l m e none made =
+    let same : i ≡ j = omega (arith, e) in
+    made ∙ ap (λ n. opened taxi (take n plans) l) same
+opened-past taxi (suc k) i j plans l m e none made =
+    cases (λ one. opened-past taxi k (i + 1) j plans l m (omega (arith, e)) (λ n r low high. none n r (omega (arith, low)) high) one) (ltb i (length plans)) refl
+  where
+    cases : (m ≡ opened taxi (take (i + 1) plans) l → m ≡ opened taxi (take j plans) l) → (b : Bool) → ltb i (length plans) ≡ b → m ≡ opened taxi (take j plans) l
+    cases later true q =
+        let within : i < length plans = ltb-true i (length plans) q in
+        let p = plan-there plans (i + 1) (omega arith) (omega (arith, within)) in
+        later (opened-pass taxi i (i + 1) plans l m p.0 refl within p.1 (none (i + 1) p.0 (omega arith) (omega (arith, e)) p.1) made)
+    cases later false q =
+        let all : length plans ≤ i = ltb-false i (length plans) q in
+        made ∙ ap (λ ps. opened taxi ps l) (take_all i plans all ∙ sym (take_all j plans (omega (arith, e, all))))
 
 pub opened-absent : (taxi i n : ℕ) (plans : List Plan) (l : Listed) → n ≡ i + 1 → i ≤ length plans → held_slot (opened taxi (take i plans) l).lineup n ≡ None
 opened-absent taxi i n plans l e h =

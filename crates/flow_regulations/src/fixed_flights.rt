@@ -17,10 +17,13 @@ pub(crate) fn note_fixed<A: Allocator + Copy>(
     ensures all { OnOk result ((n : ℕ) → IsSome (fixed_slot list.now.lineup n) → Contains flights.new.items n) }
 {
     flights.clear();
-    for index in 0..list.max_plans() {
-        if list.is_fixed(index + 1) {
-            flights.push(index + 1)?;
+    let last = list.max_plans();
+    let mut number = list.next_held(1);
+    while number <= last {
+        if list.is_fixed(number) {
+            flights.push(number)?;
         }
+        number = list.next_held(number + 1);
     }
     Ok(())
 }

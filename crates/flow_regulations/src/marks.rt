@@ -88,14 +88,13 @@ fn with_place(word: u64, index: usize, is_held: bool) -> u64
 
 /// The word of a flight where the regulation at this place is closed: the marks of the later ones move up by one. The
 /// 64th place is marked, since nothing is known of the 65th.
+#[inline(always)]
 fn without_place(word: u64, index: usize) -> u64
+    requires { index < 64 }
     ensures { MovesUp index word result }
 {
-    if index >= 64 {
-        return word;
-    }
     let before = word % (1 << index);
-    let after = (word >> index) / 2;
+    let after = word / 2 >> index;
     with_mark(after << index | before, 63)
 }
 
@@ -140,18 +139,34 @@ pub(crate) fn open_last<A: Allocator + Copy>(
 fn open_place<A: Allocator + Copy>(words: &mut [u64], index: usize, regulation: &Regulation<A>)
     ensures { (f : ℕ) → IsOpenedTo index regulation.now f (word_of words.old f) (word_of words.new f) }
 {
-    for (flight, word) in words.iter_mut().enumerate() {
-        *word = with_place(*word, index, holds(regulation, flight));
+    if index >= 64 {
+        return;
+    }
+    clear_from(words, index);
+    mark_held(words, index, regulation);
+}
+
+/// Clears the marks from this place on.
+fn clear_from(words: &mut [u64], index: usize)
+    requires { index < 64 }
+    ensures { (f : ℕ) → KeepsBelow index (word_of words.old f) (word_of words.new f) }
+{
+    for word in words.iter_mut() {
+        *word %= 1 << index;
     }
 }
 
-/// Whether a regulation holds a flight, of any number.
-fn holds<A: Allocator + Copy>(regulation: &Regulation<A>, flight: usize) -> bool
-    ensures { result ≡ false → IsOut flight regulation.now }
+/// Marks the flights that a regulation at this place holds.
+fn mark_held<A: Allocator + Copy>(words: &mut [u64], index: usize, regulation: &Regulation<A>)
+    ensures kept { (f : ℕ) → Keeps (word_of words.old f) (word_of words.new f) }
+    ensures marked { (f : ℕ) → may_stand (word_of words.new f) index ≡ false → IsOut f regulation.now }
 {
-    match u32::try_from(flight) {
-        Ok(number) => regulation.holds(number),
-        Err(_) => true,
+    let last = regulation.last();
+    let mut number = regulation.next_held(0);
+    while number <= last {
+        let word = with_mark(word_of(words, number), index);
+        set_word(words, number, word);
+        number = regulation.next_held(number + 1);
     }
 }
 
@@ -179,6 +194,9 @@ fn open_row(table: &mut [u64], index: usize, own: usize)
 pub(crate) fn close_place(words: &mut [u64], index: usize)
     ensures { (f : ℕ) → MovesUp index (word_of words.old f) (word_of words.new f) }
 {
+    if index >= 64 {
+        return;
+    }
     for word in words.iter_mut() {
         *word = without_place(*word, index);
     }

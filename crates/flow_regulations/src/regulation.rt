@@ -1,5 +1,5 @@
 //! An open regulation.
-ghost use Rattle.std.specs.Prelude.{◌≡◌, ◌<◌, ◌≤◌, ℕ, List, None, Some, true, false, IfSome, IfOk, OnOk, IsTrue, ◌↔◌, length};
+ghost use Rattle.std.specs.Prelude.{◌≡◌, ◌<◌, ◌≤◌, ℕ, List, None, Some, true, false, IfSome, IsSome, IfOk, OnOk, IsTrue, ◌↔◌, length};
 ghost use Rattle.std.specs.List.{All};
 ghost use Rattle.flow_plans.specs.Plans.{Plan as Held, plan_at, is_departed, is_filed};
 ghost use Rattle.flow_plans.specs.Near.{row_of};
@@ -86,11 +86,22 @@ impl<A: Allocator + Copy> Regulation<A> {
         &self.list
     }
 
-    /// Whether it holds a flight.
-    pub(crate) fn holds(&self, number: u32) -> bool
-        ensures { result ≡ false → IsOut number self.now }
+    /// The greatest number of a flight that it may hold.
+    pub(crate) fn last(&self) -> u32
+        ensures most { result ≤ 20_000 }
+        ensures others { (f : ℕ) → result < f → IsOut f self.now }
     {
-        self.list.slot_of(number).is_some()
+        self.list.max_plans()
+    }
+
+    /// The first number from this one on of a flight that it holds, or one past the last, after which it holds none. The flights
+    /// before it aren't held.
+    pub(crate) fn next_held(&self, from: u32) -> u32
+        ensures from { from ≤ result }
+        ensures passed { (f : ℕ) → from ≤ f → f < result → IsOut f self.now }
+        ensures stops { result ≤ self.now.lineup.capacity → IsSome (held_slot self.now.lineup result) }
+    {
+        self.list.next_held(from)
     }
 
     /// No flight stands twice in its slot list, and its period is regular.
@@ -110,7 +121,8 @@ impl<A: Allocator + Copy> Regulation<A> {
         ensures passed { (n : ℕ) (p : Held) → from ≤ n → n < result → plan_at plans.now.plans n ≡ Some p
             → subject_to plans.now.taxi (regulation_of self.now) p ≡ None }
     {
-        plans.next_coming(from, &self.spot)
+        let (start, end) = self.list.shape().period();
+        plans.next_coming(from, &self.spot, start, end)
     }
 
     /// Lets the flight of the last of the plans so far wait, where the regulation applies to it.
@@ -303,10 +315,6 @@ impl<A: Allocator + Copy> Regulation<A> {
         ensures due { is_due_flight now plans.now.plans number ≡ true → IsFixedWaiting number self.old self.new }
         ensures other { is_due_flight now plans.now.plans number ≡ false → self.new ≡ self.old }
     {
-        if !self.holds(number) {
-            self.is_in_order();
-            return;
-        }
         if is_due(plans, number, now) {
             self.fix_waiting(number);
         }

@@ -490,12 +490,11 @@ fn let_all_in<A: Allocator + Copy>(regulation: &mut Regulation<A>, plans: &PlanS
     requires empty { regulation.old ≡ opened plans.now.taxi [] regulation.old }
     ensures { regulation.new ≡ opened plans.now.taxi plans.now.plans regulation.old }
 {
-    let mut next = regulation.next_coming(plans, 1);
-    for index in 0..plans.count() {
-        if index + 1 == next {
-            regulation.let_in(plans, next);
-            next = regulation.next_coming(plans, next + 1);
-        }
+    let count = plans.count();
+    let mut number = regulation.next_coming(plans, 1);
+    while number <= count {
+        regulation.let_in(plans, number);
+        number = regulation.next_coming(plans, number + 1);
     }
 }
 
@@ -503,8 +502,11 @@ fn let_all_in<A: Allocator + Copy>(regulation: &mut Regulation<A>, plans: &PlanS
 fn settle<A: Allocator + Copy>(regulation: &mut Regulation<A>, plans: &PlanStore<A>, now: Minute)
     ensures { IsAdvancing (is_below (length plans.now.plans + 1)) plans.now.taxi now plans.now.plans regulation.old regulation.new }
 {
-    for index in 0..plans.count() {
-        regulation.fix_due(plans, index + 1, now);
+    let count = plans.count();
+    let mut number = regulation.next_held(1);
+    while number <= count {
+        regulation.fix_due(plans, number, now);
+        number = regulation.next_held(number + 1);
     }
 }
 

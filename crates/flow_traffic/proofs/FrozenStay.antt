@@ -1,5 +1,5 @@
 -- Frozen pairs stay through a reading, but for those that it may take away.
-use Rattle.std.proofs.Common.{◌≡◌, ℕ, ◌+◌, ◌-◌, ◌<◌, ◌≤◌, ◌⊎◌, inl, inr, Bool, true, false, not, nat_lt, nat_le, if◌then◌else◌, List, [], ◌∷◌, ◌++◌, map, filter, length, Option, Some, None, Result, Ok, Err, MatchResult, IfSome, refl, sym, ap, subst, ◌∙◌, arith}
+use Rattle.std.proofs.Common.{◌≡◌, ℕ, ◌+◌, ◌-◌, ◌<◌, ◌≤◌, ◌⊎◌, inl, inr, Bool, true, false, not, nat_lt, nat_le, if◌then◌else◌, List, [], ◌∷◌, ◌++◌, map, filter, length, Option, Some, None, Result, Ok, Err, MatchResult, refl, sym, ap, subst, ◌∙◌, arith}
 use mathlib.Core.Logic.{⊎_elim}
 use Rattle.std.specs.List.{AllByRecursion, list_any}
 use Rattle.std.specs.Option.{option_map_or}
@@ -288,10 +288,9 @@ frozen-stay reading old new v all answers id a h = by (asked old reading) refl a
       (subst (λ (w : Verdict). IsFrozenStill reading w (settled_by old x) id a) (sym is.1) (accepted-stays old all id a h reading x e))
   by (Err r) e is = subst (λ (s : Traffic). IsFrozenStill reading v s.regulations id a) (sym is.0) (inl h)
 
--- the same of an answer, where the traffic before is that of settled slot lists
-pub frozen-answer : (v : Option Verdict) (reading : Reading) (taxi max now : ℕ) (plans : List Plan) (lists : List Listed) (told : List (Option Told)) (notices : List Notice) (old new : Traffic)
-    → traffic_of taxi max now plans lists told notices ≡ old → IsSettled taxi now plans lists → IfSome v (Answers reading old new) → IfSome v (FrozenPairsStay reading old new)
-frozen-answer None reading taxi max now plans lists told notices old new was s answers = tt
-frozen-answer (Some v) reading taxi max now plans lists told notices old new was s answers =
+-- the same where the traffic before is that of settled slot lists
+pub frozen-settled : (reading : Reading) (taxi max now : ℕ) (plans : List Plan) (lists : List Listed) (told : List (Option Told)) (notices : List Notice) (old new : Traffic) (v : Verdict)
+    → traffic_of taxi max now plans lists told notices ≡ old → IsSettled taxi now plans lists → Answers reading old new v → FrozenPairsStay reading old new v
+frozen-settled reading taxi max now plans lists told notices old new v was s answers =
     frozen-stay reading old new v
     (subst (λ (t : Traffic). (at : ℕ) → t.now ≤ at → MayStay t.taxi at t.plans t.regulations) was (λ at later. may-stay taxi now at plans lists later s)) answers

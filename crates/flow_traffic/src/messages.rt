@@ -1,5 +1,5 @@
 //! What messages do to the traffic.
-ghost use Rattle.std.specs.Prelude.{◌≡◌, ◌≤◌, ◌<◌, ◌+◌, List, Ok, Some, None, OnSome, IfOk, IfSome, IfNone, OnOk, OnErr, IfErr, MatchOption, length, map, slice_get, option_copied, vec_len, vec_capacity, ◌-◌, ◌&&◌, nat_lt};
+ghost use Rattle.std.specs.Prelude.{◌≡◌, ◌≤◌, ◌<◌, ◌+◌, ◌∷◌, [], List, Ok, Some, None, OnSome, IfOk, IfSome, IfNone, OnOk, OnErr, IfErr, MatchOption, length, map, slice_get, option_copied, vec_len, vec_capacity, ◌-◌, ◌&&◌, nat_lt};
 ghost use Rattle.fpl_message.specs.Said.{said_message};
 ghost use Rattle.fpl_message.specs.Reads.{msg};
 ghost use Rattle.flow_plans.specs.Settings.{IsDeskTime};
@@ -11,15 +11,17 @@ ghost use Rattle.flow_regulations.specs.Awaiting.{Covers};
 ghost use Rattle.flow_regulations.specs.declared.due_queue.Awaited.{Awaited};
 ghost use Rattle.flow_regulations.specs.Listing.{IsListed, IsSettled, AreSameBut, without_in};
 ghost use Rattle.flow_traffic.specs.Traffic.{told_of};
+ghost use Rattle.flow_traffic.specs.Telling.{AreTold};
 ghost use Rattle.flow_traffic.specs.Asked.{changed_by, verdict_on, is_departure};
 ghost use Rattle.flow_traffic.specs.Answers.{Answers, told_to};
+ghost use Rattle.flow_traffic.specs.Frozen.{FrozenPairsStay};
 ghost use Rattle.flow_traffic.specs.Kept.{IsSettledFor};
 
 use crate::traffic::Traffic;
 use crate::undo::{Last, make_room_to_undo, note_one, note_told};
 use crate::verdict::{Kind, Verdict};
 use flow_plans::{Plan, PlanFault, PlanState, PlanStore};
-use flow_regulations::{DueQueue, Notice, Regulations, Told, Window, window_of};
+use flow_regulations::{DueQueue, Notice, Place, Regulations, Told, Window, window_of};
 use fpl_message::{Message, Refusal};
 use fpl_text::{Minute, TimeOfDay};
 use std::alloc::{AllocError, Allocator};
@@ -28,52 +30,42 @@ impl<A: Allocator + Copy> Traffic<A> {
     /// Takes in a message, and answers the verdict on it.
     pub(crate) fn answer_message(&mut self, message: &Message<A>) -> Option<Verdict>
         ensures answers { IfSome result (Answers (msg (said_message message.now)) self.old.traffic self.new.traffic) }
+        ensures frozen { IfSome result (FrozenPairsStay (msg (said_message message.now)) self.old.traffic self.new.traffic) }
         ensures before { OnSome result (self.new.before ≡ Some self.old.traffic) }
         ensures none { IfNone result (self.new ≡ record { traffic = self.old.traffic; before = None }) }
         ensures grow { length self.old.traffic.notices ≤ length self.new.traffic.notices }
         ensures few { length self.new.traffic.notices ≤ length self.old.traffic.notices + 20_000 }
     {
         self.last = Last::Nothing;
-        let Ok(()) = make_room(&mut self.told, &mut self.notices) else {
-            return None;
-        };
-        let Ok(()) = self.queue.reserve() else {
-            return None;
-        };
-        let regulations = self.regulations.count();
-        let Ok(()) = make_room_to_undo(
-            regulations,
+        let Ok(()) = make_room(
+            &self.regulations,
+            &mut self.queue,
+            &mut self.told,
+            &mut self.notices,
             &mut self.places,
             &mut self.changed,
             &mut self.noted,
         ) else {
             return None;
         };
-        let number = match change_plans(&mut self.plans, self.time, message) {
+        let now = self.time;
+        let number = match change_plans(&mut self.plans, now, message) {
             Ok(number) => number,
             Err(fault) => {
-                let Some(verdict) = refused(fault) else {
-                    return None;
-                };
+                let verdict = refused(fault)?;
                 self.last = Last::Refused;
                 return Some(verdict);
             }
         };
         let count = self.plans.count();
         let verdict = verdict_on(&self.told, message, number);
+        let departs = is_departure(message);
         self.regulations.note_places(number, &mut self.places);
-        settle_for(
-            &mut self.regulations,
-            &self.plans,
-            number,
-            is_departure(message),
-            self.time,
-        );
-        note_flight(&mut self.queue, &self.plans, number, self.time);
+        settle_for(&mut self.regulations, &self.plans, number, departs, now);
+        note_flight(&mut self.queue, &self.plans, number, now);
         make_place(count, &mut self.told);
         self.issued = self.notices.len();
-        note_one(number, &mut self.changed);
-        note_told(&self.changed, &self.told, &mut self.noted);
+        note_plan(number, &self.told, &mut self.changed, &mut self.noted);
         self.regulations.tell(
             &self.plans,
             &self.changed,
@@ -85,18 +77,49 @@ impl<A: Allocator + Copy> Traffic<A> {
     }
 }
 
-/// Makes room for what one more plan is told, and for one more notice.
+/// Makes room for what a message adds: to what plans are told, to the notices and to the queue, and to what undoes it.
 fn make_room<A: Allocator + Copy>(
+    regulations: &Regulations<A>,
+    queue: &mut DueQueue<A>,
     told: &mut Vec<Option<Told>, A>,
     notices: &mut Vec<Notice, A>,
+    places: &mut Vec<Place, A>,
+    changed: &mut Vec<u32, A>,
+    noted: &mut Vec<Option<Told>, A>,
 ) -> Result<(), AllocError>
     ensures told { told.new.items ≡ told.old.items }
     ensures notices { notices.new.items ≡ notices.old.items }
+    ensures flights { queue.new.flights ≡ queue.old.flights }
     ensures told_room { OnOk result (vec_len told.new < vec_capacity told.new) }
     ensures notices_room { OnOk result (vec_len notices.new < vec_capacity notices.new) }
+    ensures queue_room { OnOk result (length queue.new.flights < queue.new.room) }
+    ensures places_room { OnOk result (length regulations.now.lists ≤ vec_capacity places.new) }
+    ensures changed_room { OnOk result (1 ≤ vec_capacity changed.new) }
+    ensures noted_room { OnOk result (1 ≤ vec_capacity noted.new) }
 {
     told.reserve(1)?;
-    notices.reserve(1)
+    notices.reserve(1)?;
+    queue.reserve()?;
+    make_room_to_undo(regulations.count(), places, changed, noted)
+}
+
+/// Notes the plan that a message is about, and what it was last told.
+fn note_plan<A: Allocator + Copy>(
+    number: u32,
+    told: &[Option<Told>],
+    changed: &mut Vec<u32, A>,
+    noted: &mut Vec<Option<Told>, A>,
+)
+    requires some { 0 < number }
+    requires within { number ≤ length told.now }
+    requires changed { 1 ≤ vec_capacity changed.old }
+    requires noted { 1 ≤ vec_capacity noted.old }
+    ensures changed { changed.new.items ≡ number ∷ [] }
+    ensures noted { AreTold changed.new.items told.now noted.new.items }
+    ensures each { length noted.new.items ≡ length changed.new.items }
+{
+    note_one(number, changed);
+    note_told(changed, told, noted);
 }
 
 /// Does what a message asks of the plans, and answers the number of the plan that it is about.

@@ -6,6 +6,7 @@ ghost use Rattle.fpl_message.specs.Reads.{ord};
 ghost use Rattle.flow_plans.specs.Settings.{IsDeskTime};
 ghost use Rattle.flow_regulations.specs.Listing.{is_named, IsOpened};
 ghost use Rattle.flow_traffic.specs.Answers.{Answers};
+ghost use Rattle.flow_traffic.specs.Frozen.{FrozenPairsStay};
 ghost use Rattle.flow_traffic.specs.Kept.{AreFixedIn};
 ghost use Rattle.flow_traffic.specs.Opening.{regulation_by};
 
@@ -26,6 +27,7 @@ impl<A: Allocator + Copy> Traffic<A> {
         requires from { IsDeskTime order.now.from }
         requires to { IsDeskTime order.now.to }
         ensures answers { IfSome result (Answers (ord (open_reg order.now)) self.old.traffic self.new.traffic) }
+        ensures frozen { IfSome result (FrozenPairsStay (ord (open_reg order.now)) self.old.traffic self.new.traffic) }
         ensures before { OnSome result (self.new.before ≡ Some self.old.traffic) }
         ensures none { IfNone result (self.new ≡ record { traffic = self.old.traffic; before = None }) }
         ensures grow { length self.old.traffic.notices ≤ length self.new.traffic.notices }
@@ -68,6 +70,7 @@ impl<A: Allocator + Copy> Traffic<A> {
     /// Closes a regulation, and answers the verdict on it.
     pub(crate) fn shut(&mut self, id: &Text<8>) -> Option<Verdict>
         ensures answers { IfSome result (Answers (ord (shut_reg id.now)) self.old.traffic self.new.traffic) }
+        ensures frozen { IfSome result (FrozenPairsStay (ord (shut_reg id.now)) self.old.traffic self.new.traffic) }
         ensures before { OnSome result (self.new.before ≡ Some self.old.traffic) }
         ensures none { IfNone result (self.new ≡ record { traffic = self.old.traffic; before = None }) }
         ensures grow { length self.old.traffic.notices ≤ length self.new.traffic.notices }
@@ -105,6 +108,7 @@ impl<A: Allocator + Copy> Traffic<A> {
     pub(crate) fn set_time(&mut self, at: Minute) -> Option<Verdict>
         requires { IsDeskTime at }
         ensures answers { IfSome result (Answers (ord (set_time at)) self.old.traffic self.new.traffic) }
+        ensures frozen { IfSome result (FrozenPairsStay (ord (set_time at)) self.old.traffic self.new.traffic) }
         ensures before { OnSome result (self.new.before ≡ Some self.old.traffic) }
         ensures none { IfNone result (self.new ≡ record { traffic = self.old.traffic; before = None }) }
         ensures grow { length self.old.traffic.notices ≤ length self.new.traffic.notices }

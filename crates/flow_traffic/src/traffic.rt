@@ -130,8 +130,6 @@ impl<A: Allocator + Copy> Traffic<A> {
         ensures grow { length self.old.traffic.notices ≤ length self.new.traffic.notices }
         ensures few { length self.new.traffic.notices ≤ length self.old.traffic.notices + 20_000 }
     {
-        // No effect at run time. The proof reads what is kept of the frozen pairs from this use of a field.
-        let _ = &self.regulations;
         match reading {
             Reading::Msg(message) => self.answer_message(message),
             Reading::Ord(Order::OpenReg(order)) => self.open(order),

@@ -1,8 +1,12 @@
 use Rattle.std.proofs.Common.{◌≡◌, ℕ, ◌<◌, length, get_or, sym, arith}
 use Rattle.std.proofs.lemmas.Grind.{get_or_default_zero}
 use Rattle.flow_regulations.specs.Marks.{word_of, MovesUp}
+use Rattle.flow_regulations.proofs.MarkBits.{late-moves}
 use Rattle.flow_regulations.proofs.Marking.{words-done, words-rest, words-all, ones-move}
 use Rattle.flow_regulations.proofs.marks.close_place.Goals as goal
+
+pub returns-then-index-ge64 : goal.returns-then-index-ge64
+returns-then-index-ge64 c = λ f. late-moves (word_of c.args.words.now f) c.args.index c.if-index-ge64.true
 
 pub loop-word-preserved : goal.loop-word-preserved
 loop-word-preserved c =

@@ -1,49 +1,58 @@
-use Rattle.std.proofs.Common.{◌≡◌, ℕ, ◌+◌, ◌<◌, ◌≤◌, length, take, refl, sym, ap, ◌∙◌, arith}
+use Rattle.std.proofs.Common.{◌≡◌, ℕ, ◌+◌, ◌-◌, ◌<◌, ◌≤◌, length, take, sym, ap, ◌∙◌, arith}
+use Rattle.std.proofs.lemmas.List.{take_all}
 use Rattle.flow_slots.specs.Lineup.{held_slot}
 use Rattle.flow_regulations.specs.Regulations.{subject_to}
 use Rattle.flow_regulations.specs.Listing.{Listed, regulation_of, with_lineup, let_in, opened}
 use Rattle.flow_regulations.proofs.Looked.{plan-there}
-use Rattle.flow_regulations.proofs.Openings.{opened-step, opened-pass, opened-absent}
+use Rattle.flow_regulations.proofs.Openings.{opened-step, opened-past, opened-absent}
 use Rattle.flow_regulations.proofs.regulations.let_all_in.Goals as goal
-use Rattle.flow_regulations.proofs.regulations.let_all_in.Goals.{then-index-next, else-index-next}
+
+pub loop-number-init : goal.loop-number-init
+loop-number-init g c =
+    let l : Listed = c.args.regulation.now in
+    let next = c.next_coming-number in
+    let k : ℕ = next.result - 1 in
+    let start : k ≡ 0 + k = omega arith in
+    record {
+      some = omega (arith, next.ensures.from);
+      opened_so_far = opened-past c.args.plans.now.taxi k 0 k c.args.plans.now.plans l l start (λ n p low high at. next.ensures.passed n p (omega (arith, low)) (omega (arith, high, next.ensures.from)) at) c.requires.empty;
+    }
 
 pub let_in-requires-clause-absent : goal.let_in-requires-clause-absent
 let_in-requires-clause-absent g c =
     let plans = c.args.plans.now.plans in
-    let i : ℕ = c.loop-index.index in
-    let n : ℕ = c.loop-index.next in
-    let within : i ≤ length plans = omega (arith, c.loop-index-test.true, c.count-index-end.ensures.count) in
-    let last : n ≡ i + 1 = omega (arith, c.if-index-next.true) in
-    ap (λ v. held_slot v.lineup n) c.loop-index.invariant.opened_so_far ∙ opened-absent c.args.plans.now.taxi i n plans c.args.regulation.now last within
+    let n : ℕ = c.loop-number.number in
+    let within : n - 1 ≤ length plans = omega (arith, c.loop-number-test.true, c.count-count.ensures.count) in
+    let last : n ≡ n - 1 + 1 = omega (arith, c.loop-number.invariant.some) in
+    ap (λ v. held_slot v.lineup n) c.loop-number.invariant.opened_so_far ∙ opened-absent c.args.plans.now.taxi (n - 1) n plans c.args.regulation.now last within
 
-pub loop-index-preserved : goal.loop-index-preserved
-loop-index-preserved g c =
+pub loop-number-preserved : goal.loop-number-preserved
+loop-number-preserved g c =
     let plans = c.args.plans.now.plans in
     let taxi = c.args.plans.now.taxi in
     let l : Listed = c.args.regulation.now in
-    let i : ℕ = c.loop-index.index in
-    let n : ℕ = c.loop-index.next in
-    let inv = c.loop-index.invariant in
-    let within : i < length plans = omega (arith, c.loop-index-test.true, c.count-index-end.ensures.count) in
-    elim c.if-index-next.branch [
-      | then-index-next w ↦
-          let last : n ≡ i + 1 = omega (arith, w.if-index-next.true) in
-          let p = plan-there plans n (omega (arith, last)) (omega (arith, last, within)) in
-          let step = ap (λ (v : Listed). with_lineup (let_in (subject_to taxi (regulation_of v) p.0) n v.lineup) v) inv.opened_so_far in
-          let made : w.let_in.new.self ≡ opened taxi (take (i + 1) plans) l = opened-step taxi i n plans l w.let_in.new.self p.0 last within p.1 (w.let_in.ensures p.0 p.1 ∙ step) in
-          record {
-            opened_so_far = w.regulation-is ∙ made;
-            next = omega (arith, last, w.next-is, w.next_coming-next-then-index-next.ensures.from);
-            passed = λ m q low high at.
-                sym (ap (λ (v : Listed). subject_to taxi (regulation_of v) q) made)
-                ∙ w.next_coming-next-then-index-next.ensures.passed m q (omega (arith, last, low)) (omega (arith, high, w.next-is)) at;
-          }
-      | else-index-next w ↦
-          let p = plan-there plans (i + 1) (omega arith) (omega (arith, within)) in
-          let later : i + 1 < n = omega (arith, inv.next, w.if-index-next.false) in
-          record {
-            opened_so_far = w.regulation-is ∙ opened-pass taxi i (i + 1) plans l c.loop-index.regulation p.0 refl within p.1 (inv.passed (i + 1) p.0 (omega arith) later p.1) inv.opened_so_far;
-            next = omega (arith, later, w.next-is);
-            passed = λ m q low high at. inv.passed m q (omega (arith, low)) (omega (arith, high, w.next-is)) at;
-          }
-    ]
+    let x : Listed = c.let_in.new.self in
+    let n : ℕ = c.loop-number.number in
+    let inv = c.loop-number.invariant in
+    let next = c.next_coming-number-in-loop-number in
+    let i : ℕ = n - 1 in
+    let last : n ≡ i + 1 = omega (arith, inv.some) in
+    let within : i < length plans = omega (arith, last, c.loop-number-test.true, c.count-count.ensures.count) in
+    let p = plan-there plans n inv.some (omega (arith, last, within)) in
+    let step = ap (λ (v : Listed). with_lineup (let_in (subject_to taxi (regulation_of v) p.0) n v.lineup) v) inv.opened_so_far in
+    let made : x ≡ opened taxi (take (i + 1) plans) l = opened-step taxi i n plans l x p.0 last within p.1 (c.let_in.ensures p.0 p.1 ∙ step) in
+    let more : next.result - 1 ≡ i + 1 + (next.result - 1 - n) = omega (arith, last, next.ensures.from) in
+    record {
+      some = omega (arith, next.ensures.from);
+      opened_so_far =
+          opened-past taxi (next.result - 1 - n) (i + 1) (next.result - 1) plans l x more
+          (λ m q low high at. sym (ap (λ (v : Listed). subject_to taxi (regulation_of v) q) made)
+          ∙ next.ensures.passed m q (omega (arith, last, low)) (omega (arith, high, next.ensures.from)) at) made;
+    }
+
+pub returns : goal.returns
+returns g c =
+    let plans = c.args.plans.now.plans in
+    let n : ℕ = c.loop-number.number in
+    let past : length plans ≤ n - 1 = omega (arith, c.loop-number-test.false, c.count-count.ensures.count) in
+    c.loop-number.invariant.opened_so_far ∙ ap (λ ps. opened c.args.plans.now.taxi ps c.args.regulation.now) (take_all (n - 1) plans past)

@@ -12,4 +12,4 @@ returns g c =
     outline-of-all _ c.args.plan.now
     (c.letters_of.ensures.value ∙ ap letters_of (c.as_bytes.ensures.value ∙ ap (λ (k : Key). k.dep) c.key-key.ensures))
     (c.letters_of-2.ensures.value ∙ ap letters_of (c.as_bytes-2.ensures.value ∙ ap (λ (k : Key). k.dest) c.key-key.ensures))
-    c.way.ensures
+    c.way.ensures c.off_block.ensures.value c.longest.ensures.destination c.longest.ensures.way

@@ -1,11 +1,7 @@
 use Rattle.std.proofs.Common.{sym, ◌∙◌}
 use Rattle.std.proofs.lemmas.Bool.{true≢false}
 use Rattle.flow_regulations.proofs.Advances.{due-is}
-use Rattle.flow_regulations.proofs.Outs.{out-fixes}
 use Rattle.flow_regulations.proofs.regulation.Regulation.fix_due.Goals as goal
-
-pub returns-then-not-holds-clause-due : goal.returns-then-not-holds-clause-due
-returns-then-not-holds-clause-due g c = λ _. out-fixes c.args.number c.args.self.now (c.holds.ensures c.if-not-holds.true) c.is_in_order.ensures.lined c.is_in_order.ensures.regular
 
 pub returns-then-is_due-clause-due : goal.returns-then-is_due-clause-due
 returns-then-is_due-clause-due g c = λ _. (let e = c.fix_waiting.ensures in record { same = e.fixed; capacity = e.capacity; lined = e.lined; regular = e.regular })

@@ -9,8 +9,9 @@ use Rattle.flow_regulations.proofs.regulation.Regulation.next_coming.Goals as go
 pub returns-clause-passed : goal.returns-clause-passed
 returns-clause-passed g c = λ n p low high at.
     (let s = c.self.inside in
-    let start = s.list.lineup.period.start in
-    let end = s.list.lineup.period.end in
+    let period = s.list.lineup.period in
     let taxi = c.args.plans.now.taxi in
+    let start = c.period-start.ensures.start ∙ ap (λ v. v.start) c.shape.ensures in
+    let end = c.period-start.ensures.end ∙ ap (λ v. v.end) c.shape.ensures in
     ap (λ v. subject_to taxi (regulation_of v) p) (sym c.self.view_is)
-    ∙ if_some (λ plan. subject taxi s.spot start end plan ≡ None) (plan_at c.args.plans.now.plans n) p at (c.next_coming.ensures.passed n low high start end))
+    ∙ rw (start, end) at (if_some (λ plan. subject taxi s.spot c.period-start.result.0 c.period-start.result.1 plan ≡ None) (plan_at c.args.plans.now.plans n) p at (c.next_coming.ensures.passed n low high)))

@@ -16,6 +16,8 @@ use Rattle.flow_traffic.proofs.Rising.{rises-on, few-rising}
 use Rattle.flow_traffic.proofs.Noted.{same-noted}
 use Rattle.flow_traffic.proofs.TakenBack.{was-opened, can-unopen, opened-count, told-back, was-kept, traffic-before, notices-before}
 use Rattle.flow_traffic.proofs.Answered.{refused, opened-map, order-answers}
+use Rattle.flow_traffic.proofs.FrozenStay.{frozen-settled}
+use Rattle.flow_traffic.specs.declared.verdict.Verdict.TheVariants.{Refused}
 use Rattle.flow_traffic.proofs.traffic.Traffic.open.Goals as goal
 
 pub returns-in-Err-clause-answers : goal.returns-in-Err-clause-answers
@@ -122,3 +124,17 @@ returns-clause-few g c =
     let settled = opened-settled s.plans.taxi s.regulations.max_plans s.time s.plans.plans (regulation_by c.args.order.now) s.regulations.lists c.open_and_note.new.regulations.lists opened c.self.invariant.kept.settled_in in
     let within = c.in-Ok-open_and_note.ensures.fixed.numbers s.plans.taxi s.time s.plans.plans settled in
     omega (arith, c.self.invariant.kept.room, c.self.invariant.kept.most, c.tell_and_note.ensures.few, ap (λ (ns : List Notice). length ns) c.open_and_note.ensures.notices, few-rising _ _ c.in-Ok-open_and_note.ensures.fixed.rising within, ap (λ (v : Undoable). length v.traffic.notices) c.self.view_is, ap (λ (ns : List ℕ). length ns) c.deref.ensures.value)
+
+pub returns-in-Err-clause-frozen : goal.returns-in-Err-clause-frozen
+returns-in-Err-clause-frozen g c =
+    let s = c.self.inside in
+    frozen-settled (ord (open_reg c.args.order.now)) s.plans.taxi s.plans.max_plans s.time s.plans.plans s.regulations.lists s.told.items s.notices.items c.args.self.now.traffic
+    (traffic_of s.plans.taxi s.plans.max_plans s.time s.plans.plans s.regulations.lists s.told.items s.notices.items) (Refused c.in-Err.refusal)
+    (ap (λ (v : Undoable). v.traffic) c.self.view_is) c.self.invariant.kept.settled_in (returns-in-Err-clause-answers g c)
+
+pub returns-clause-frozen : goal.returns-clause-frozen
+returns-clause-frozen g c =
+    let s = c.self.inside in
+    frozen-settled (ord (open_reg c.args.order.now)) s.plans.taxi s.plans.max_plans s.time s.plans.plans s.regulations.lists s.told.items s.notices.items c.args.self.now.traffic
+    (traffic_of s.plans.taxi s.plans.max_plans s.time s.plans.plans c.open_and_note.new.regulations.lists c.tell_and_note.new.told.items c.tell_and_note.new.notices.items) c.accepted.result
+    (ap (λ (v : Undoable). v.traffic) c.self.view_is) c.self.invariant.kept.settled_in (returns-clause-answers g c)

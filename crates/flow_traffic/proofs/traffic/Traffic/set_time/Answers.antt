@@ -23,6 +23,9 @@ use Rattle.flow_regulations.proofs.ForTheDesk.{quiet-but-due, kept-slots-settled
 use Rattle.flow_traffic.proofs.Rising.{rises-on, few-rising}
 use Rattle.flow_regulations.proofs.Queues.{became-due, became-within}
 use Rattle.flow_traffic.proofs.Answered.{refused, back-refused, time-asked, order-answers, renewed-count}
+use Rattle.flow_traffic.proofs.FrozenStay.{frozen-settled}
+use Rattle.flow_traffic.specs.declared.verdict.Verdict.TheVariants.{Refused}
+use Rattle.fpl_message.specs.declared.refusal.Refusal.TheVariants as refusal
 use Rattle.flow_traffic.proofs.traffic.Traffic.set_time.Goals as goal
 
 pub returns-then-minutes-clause-answers : goal.returns-then-minutes-clause-answers
@@ -193,3 +196,17 @@ invariant_of-self-in_default-make_room_to_tell g c =
       can = tt;
       was = tt;
     }
+
+pub returns-then-minutes-clause-frozen : goal.returns-then-minutes-clause-frozen
+returns-then-minutes-clause-frozen g c =
+    let s = c.self.inside in
+    frozen-settled (ord (set_time c.args.at)) s.plans.taxi s.plans.max_plans s.time s.plans.plans s.regulations.lists s.told.items s.notices.items c.args.self.now.traffic
+    (traffic_of s.plans.taxi s.plans.max_plans s.time s.plans.plans s.regulations.lists s.told.items s.notices.items) (Refused refusal.TimeBack)
+    (ap (λ (v : Undoable). v.traffic) c.self.view_is) c.self.invariant.kept.settled_in (returns-then-minutes-clause-answers g c)
+
+pub returns-clause-frozen : goal.returns-clause-frozen
+returns-clause-frozen g c =
+    let s = c.self.inside in
+    frozen-settled (ord (set_time c.args.at)) s.plans.taxi s.plans.max_plans s.time s.plans.plans s.regulations.lists s.told.items s.notices.items c.args.self.now.traffic
+    (traffic_of s.plans.taxi s.plans.max_plans c.args.at s.plans.plans c.advance_due.new.self.lists c.tell.new.told.items c.tell.new.notices.items) c.accepted.result
+    (ap (λ (v : Undoable). v.traffic) c.self.view_is) c.self.invariant.kept.settled_in (returns-clause-answers g c)

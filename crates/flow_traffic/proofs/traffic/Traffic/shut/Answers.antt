@@ -18,6 +18,9 @@ use Rattle.flow_traffic.proofs.Rising.{rises-on, few-rising}
 use Rattle.flow_traffic.proofs.Noted.{same-noted}
 use Rattle.flow_traffic.proofs.TakenBack.{was-shut, told-back, was-kept, traffic-before, notices-before}
 use Rattle.flow_traffic.proofs.Answered.{refused, none-refused, shut-asked, order-answers, fewer-named}
+use Rattle.flow_traffic.proofs.FrozenStay.{frozen-settled}
+use Rattle.flow_traffic.specs.declared.verdict.Verdict.TheVariants.{Refused}
+use Rattle.fpl_message.specs.declared.refusal.Refusal.TheVariants as refusal
 use Rattle.flow_traffic.proofs.traffic.Traffic.shut.Goals as goal
 
 pub returns-then-not-is_open-clause-answers : goal.returns-then-not-is_open-clause-answers
@@ -117,3 +120,17 @@ pub returns-clause-few : goal.returns-clause-few
 returns-clause-few g c =
     let within = c.in-Ok.ensures.fixed.numbers c.self.inside.plans.taxi c.self.inside.time c.self.inside.plans.plans c.self.invariant.kept.settled_in in
     omega (arith, c.self.invariant.kept.room, c.self.invariant.kept.most, c.tell_and_note.ensures.few, ap (λ (ns : List Notice). length ns) c.note_to_tell.ensures.notices, few-rising _ _ c.in-Ok.ensures.fixed.rising within, ap (λ (v : Undoable). length v.traffic.notices) c.self.view_is, ap (λ (ns : List ℕ). length ns) c.deref.ensures.value)
+
+pub returns-then-not-is_open-clause-frozen : goal.returns-then-not-is_open-clause-frozen
+returns-then-not-is_open-clause-frozen g c =
+    let s = c.self.inside in
+    frozen-settled (ord (shut_reg c.args.id.now)) s.plans.taxi s.plans.max_plans s.time s.plans.plans s.regulations.lists s.told.items s.notices.items c.args.self.now.traffic
+    (traffic_of s.plans.taxi s.plans.max_plans s.time s.plans.plans s.regulations.lists s.told.items s.notices.items) (Refused refusal.NoRegulation)
+    (ap (λ (v : Undoable). v.traffic) c.self.view_is) c.self.invariant.kept.settled_in (returns-then-not-is_open-clause-answers g c)
+
+pub returns-clause-frozen : goal.returns-clause-frozen
+returns-clause-frozen g c =
+    let s = c.self.inside in
+    frozen-settled (ord (shut_reg c.args.id.now)) s.plans.taxi s.plans.max_plans s.time s.plans.plans s.regulations.lists s.told.items s.notices.items c.args.self.now.traffic
+    (traffic_of s.plans.taxi s.plans.max_plans s.time s.plans.plans c.shut.new.self.lists c.tell_and_note.new.told.items c.tell_and_note.new.notices.items) c.accepted.result
+    (ap (λ (v : Undoable). v.traffic) c.self.view_is) c.self.invariant.kept.settled_in (returns-clause-answers g c)
