@@ -36,15 +36,15 @@ returns-in-Ok-write_bytes-clause-ok g c = λ frame k.
     let s = state_of c.args.core.now in
     let full = c.in-Err-JournalFull.ensures.full (err_is c.in-Err-JournalFull.field-0-is) in (
       ap state_of c.in-Err-JournalFull.ensures.err ∙ sym (served-full s frame (second c.args.bytes.now) k full),
-      rw (said-full s frame (second c.args.bytes.now) k full) c.in-Ok-write_bytes.ensures.ok,
+      rw (said-full s frame (second c.args.bytes.now) k full) (rw c.journal_full.ensures at c.in-Ok-write_bytes.ensures.ok),
     )
 
 pub returns-in-Err-write_bytes-clause-err : goal.returns-in-Err-write_bytes-clause-err
 returns-in-Err-write_bytes-clause-err g c = λ frame k.
     let full = c.in-Err-JournalFull.ensures.full (err_is c.in-Err-JournalFull.field-0-is) in (
       inl (ap state_of c.in-Err-JournalFull.ensures.err),
-      rw (said-full (state_of c.args.core.now) frame (second c.args.bytes.now) k full) c.in-Err-write_bytes.ensures.err,
+      rw (said-full (state_of c.args.core.now) frame (second c.args.bytes.now) k full) (rw c.journal_full.ensures at c.in-Err-write_bytes.ensures.err),
     )
 
 pub returns-in-Err-OutOfMemory-clause-err : goal.returns-in-Err-OutOfMemory-clause-err
-returns-in-Err-OutOfMemory-clause-err g c = λ frame k. none-front (state_of c.args.core.now) (state_of c.file.new.self) frame (g.W.Write.contents c.args.writer.now.device) (ap state_of c.in-Err-OutOfMemory.ensures.err)
+returns-in-Err-OutOfMemory-clause-err g c = λ frame k. none-front (state_of c.args.core.now) (state_of c.file_frame.new.core) frame (g.W.Write.contents c.args.writer.now.device) (ap state_of c.in-Err-OutOfMemory.ensures.err)

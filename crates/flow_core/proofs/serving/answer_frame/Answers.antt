@@ -8,8 +8,8 @@ pub returns-in-Ok-clause-ok : goal.returns-in-Ok-clause-ok
 returns-in-Ok-clause-ok g c = λ frame k.
     let s = state_of c.args.core.now in
     let k' = sym (ap filing_kept c.in_default.ensures) ∙ k in
-    (sym (served-long s frame k'), rw (said-long s frame k') c.in-Ok.ensures.ok)
+    (sym (served-long s frame k'), rw (said-long s frame k') (rw c.too_long.ensures at c.in-Ok.ensures.ok))
 
 pub returns-in-Err-clause-err : goal.returns-in-Err-clause-err
 returns-in-Err-clause-err g c = λ frame k.
-    long-front (state_of c.args.core.now) frame (g.W.Write.contents c.args.writer.now.device) (g.W.Write.contents c.write_bytes.new.writer.device) (sym (ap filing_kept c.in_default.ensures) ∙ k) c.in-Err.ensures.err
+    long-front (state_of c.args.core.now) frame (g.W.Write.contents c.args.writer.now.device) (g.W.Write.contents c.write_bytes.new.writer.device) (sym (ap filing_kept c.in_default.ensures) ∙ k) (rw c.too_long.ensures at c.in-Err.ensures.err)
