@@ -125,16 +125,20 @@ fn next_item<'a>(words: &mut Words<'a>) -> Option<Item<'a>>
     ensures { MatchOption result ((items_of words.old ≡ []) × (words.new ≡ []))
         (λ item. items_of words.old ≡ item ∷ items_of words.new) }
 {
-    'words: while let Some(measured) = words.next_measured() {
+    // The words that are left stay in registers: an item that took them from where they were just written would wait for that.
+    let mut left = words.duplicate();
+    'words: while let Some(measured) = left.next_measured() {
         if begins_item(&measured) {
+            *words = left.duplicate();
             return Some(Item {
                 first: measured.word,
                 stroke: measured.letters_or_digits,
-                following: words.duplicate(),
+                following: left,
             });
         }
-        skip_to_stroke(words);
+        skip_to_stroke(&mut left);
     }
+    *words = left;
     None
 }
 
