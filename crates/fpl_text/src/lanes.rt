@@ -17,6 +17,19 @@ pub(crate) fn load(text: &[u8], at: usize) -> u8x16
     u8x16::from_slice(&text[at..])
 }
 
+/// The bytes of a text of at most 16, and spaces behind them.
+#[inline(always)]
+pub(crate) fn padded(text: &[u8]) -> u8x16
+    requires { length text.now ≤ 16 }
+    ensures long { length result ≡ 16 }
+    ensures front { (k : ℕ) → k < length text.now → slice_index result k ≡ slice_index text.now k }
+    ensures spaces { (k : ℕ) → length text.now ≤ k → k < 16 → slice_index result k ≡ 32 }
+{
+    let mut chunk = [b' '; 16];
+    chunk[..text.len()].copy_from_slice(text);
+    u8x16::from_array(chunk)
+}
+
 /// Which lanes hold this byte.
 #[inline(always)]
 fn equal_to(v: u8x16, byte: u8) -> u8x16
