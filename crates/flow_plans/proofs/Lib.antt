@@ -1,5 +1,6 @@
 pub mod Matches
 pub mod Backs
+pub mod Filings
 pub mod FlightNumbers
 pub mod ChainLemmas
 pub mod Walks

@@ -1,5 +1,5 @@
 -- The longest of some notes.
-use Rattle.std.proofs.Common.{◌≡◌, ℕ, ◌+◌, ◌-◌, ◌*◌, ◌≤◌, ◌⊎◌, inl, inr, arith, max, Bool, true, false, ◌&&◌, ◌==◌, nat_lt, if◌then◌else◌, List, [], ◌∷◌, length, take, drop, Option, Some, None, refl, subst}
+use Rattle.std.proofs.Common.{◌≡◌, ℕ, ◌+◌, ◌-◌, ◌*◌, ◌≤◌, ◌⊎◌, inl, inr, arith, max, Bool, true, false, ◌&&◌, ◌==◌, nat_lt, if◌then◌else◌, List, [], ◌∷◌, ◌++◌, length, take, drop, Option, Some, None, refl, sym, ap, ◌∙◌, subst}
 use Rattle.std.proofs.lemmas.Bool.{cases_Bool, ltb-true}
 use Rattle.std.specs.Prelude.{IfSome, codes}
 use Rattle.std.specs.Option.{option_or}
@@ -17,7 +17,7 @@ abbrev pub longest_after : ℕ → List Estimate → ℕ
 longest_after longest [] = longest
 longest_after longest (e ∷ es) = longest_after (max longest e.minutes) es
 
-longest-grows : (longest : ℕ) (es : List Estimate) → longest ≤ longest_after longest es
+pub longest-grows : (longest : ℕ) (es : List Estimate) → longest ≤ longest_after longest es
 longest-grows longest [] = omega arith
 longest-grows longest (e ∷ es) = omega (arith, longest-grows (max longest e.minutes) es)
 
@@ -32,6 +32,39 @@ longest-found field place longest [] = tt
 longest-found field place longest (e ∷ es) =
     either (λ minutes. minutes ≤ longest_after (max longest e.minutes) es) e.minutes (first_for field place es) (is_for field place e)
     (omega (arith, longest-grows (max longest e.minutes) es)) (longest-found field place (max longest e.minutes) es)
+
+-- what is found in notes one part after the other: in the first part, else in the second
+pub first-of-both : (field place : List ℕ) (few more : List Estimate) → first_for field place (few ++ more) ≡ option_or (first_for field place few) (first_for field place more)
+first-of-both field place [] more = refl
+first-of-both field place (e ∷ few) more = over (is_for field place e) e.minutes _ _ _ (first-of-both field place few more)
+  where
+    over : (b : Bool) (minutes : ℕ) (x y z : Option ℕ) → x ≡ option_or y z → (if b then Some minutes else x) ≡ option_or (if b then Some minutes else y) z
+    over true minutes x y z e = refl
+    over false minutes x y z e = e
+
+-- what is found in the first part is found in both
+pub found-in-both : (field place : List ℕ) (few more all : List Estimate) (minutes : ℕ) → few ++ more ≡ all → Some minutes ≡ first_for field place few → Some minutes ≡ first_for field place all
+found-in-both field place few more all minutes parts first =
+    rw (sym parts) (ap (λ o. option_or o (first_for field place more)) first ∙ sym (first-of-both field place few more))
+
+-- where nothing is found in the first part, what is found in both is found in the second
+pub found-in-rest : (field place : List ℕ) (few more all : List Estimate) (found : Option ℕ) → few ++ more ≡ all → None ≡ first_for field place few → found ≡ first_for field place more → found ≡ first_for field place all
+found-in-rest field place few more all found parts none second = rw (sym parts) (second ∙ sym (first-of-both field place few more ∙ ap (λ o. option_or o (first_for field place more)) (sym none)))
+
+-- what is found in both parts is one of either
+pub found-less : (field place : List ℕ) (few more all : List Estimate) (longest : ℕ) → few ++ more ≡ all
+    → IfSome (first_for field place few) (λ minutes. minutes ≤ longest) → IfSome (first_for field place more) (λ minutes. minutes ≤ longest)
+    → IfSome (first_for field place all) (λ minutes. minutes ≤ longest)
+found-less field place few more all longest parts p q = rw (sym parts, first-of-both field place few more) (by _ _ p q)
+  where
+    by : (x y : Option ℕ) → IfSome x (λ minutes. minutes ≤ longest) → IfSome y (λ minutes. minutes ≤ longest) → IfSome (option_or x y) (λ minutes. minutes ≤ longest)
+    by None y p q = q
+    by (Some m) y p q = p
+
+-- a bound of what is found, raised
+pub below-raised : (o : Option ℕ) (low high : ℕ) → low ≤ high → IfSome o (λ minutes. minutes ≤ low) → IfSome o (λ minutes. minutes ≤ high)
+below-raised None low high l h = tt
+below-raised (Some m) low high l h = omega (arith, l, h)
 
 -- no elapsed time reaches a hundred hours
 elapsed-below : (text : List ℕ) → IfSome (elapsed_time text) (λ minutes. minutes ≤ 6000)

@@ -17,6 +17,22 @@ pub(crate) struct Estimate {
     ghost bound: { minutes < 6000 },
 }
 
+/// A note of no place, for room that isn't used.
+impl Default for Estimate {
+    ghost use Rattle.std.specs.Prelude.{◌≡◌};
+
+    ghost is_default = { λ e. e.minutes ≡ 0 };
+
+    fn default() -> Self {
+        Estimate {
+            letters: 0,
+            start: 0,
+            end: 0,
+            minutes: 0,
+        }
+    }
+}
+
 impl Estimate {
     ghost use Rattle.flow_plans.specs.Estimates.{is_for};
 

@@ -8,15 +8,13 @@ ghost use Rattle.flow_plans.specs.Estimates.{first_for, IsNoteOf, AddsWords, Are
 
 use crate::estimate::Estimate;
 use crate::near::words_on_way;
+use crate::note_list::NoteList;
 use crate::places::{letters_of, may_have, with_place};
 use fpl_items::{ItemWords, Items};
 use fpl_text::read_elapsed;
 use std::alloc::{AllocError, Allocator, Global};
 
-/// How many notes there is room for at first.
-const FIRST_NOTES: usize = 8;
-
-/// What the EET items of a field 18 say, in order. A field without them takes no memory.
+/// What the EET items of a field 18 say, in order. The first eight estimates take no memory of their own.
 ///
 /// Where a word of an EET item is no place with an elapsed time, which no message that was read has, the notes are not whole, and
 /// the field is read instead.
@@ -25,16 +23,16 @@ pub(crate) struct Estimates<A: Allocator + Copy = Global> {
     /// The places of the notes, so that few other places are looked for.
     places: u64,
     whole: bool,
-    notes: Vec<Estimate, A>,
+    notes: NoteList<A>,
 }
 
 impl<A: Allocator + Copy> Estimates<A> {
     /// The estimates of a field.
     pub(crate) fn read(alloc: A, field: &[u8]) -> Result<Self, AllocError>
-        ensures { IfOk result (λ e. AreEstimatesOf field.now e.whole e.places e.notes.items) }
+        ensures { IfOk result (λ e. AreEstimatesOf field.now e.whole e.places e.notes) }
     {
         let mut places = 0;
-        let mut notes = Vec::new(alloc);
+        let mut notes = NoteList::new(alloc);
         let whole = note_items(&mut notes, &mut places, field)?;
         Ok(Estimates {
             whole,
@@ -46,7 +44,7 @@ impl<A: Allocator + Copy> Estimates<A> {
     /// The elapsed time, in minutes, of the first estimate for a place in the field that they are of.
     #[inline(always)]
     pub(crate) fn elapsed(&self, field: &[u8], place: &[u8]) -> Option<u32>
-        requires { AreEstimatesOf field.now self.now.whole self.now.places self.now.notes.items }
+        requires { AreEstimatesOf field.now self.now.whole self.now.places self.now.notes }
         ensures value { result ≡ elapsed_to place.now (items_of (words_of field.now)) }
         ensures bound { IfSome result (λ minutes. minutes < 6000) }
     {
@@ -56,7 +54,14 @@ impl<A: Allocator + Copy> Estimates<A> {
         if !may_have(self.places, place) {
             return None;
         }
-        first_for(&self.notes, field, place)
+        let (few, more) = self.notes.parts();
+        if let Some(minutes) = first_for(few, field, place) {
+            return Some(minutes);
+        }
+        if more.is_empty() {
+            return None;
+        }
+        first_for(more, field, place)
     }
 
     /// The bits of the words in a table that stand in the rows of the places of the notes. Each bit where they aren't whole.
@@ -82,24 +87,15 @@ impl<A: Allocator + Copy> Estimates<A> {
 
     /// The minutes of the longest of the notes. Those that no elapsed time reaches where they aren't whole.
     pub(crate) fn longest(&self) -> u32
-        ensures whole { self.now.whole ≡ true → (field place : List ℕ) → IfSome (first_for field place self.now.notes.items) (λ minutes. minutes ≤ result) }
+        ensures whole { self.now.whole ≡ true → (field place : List ℕ) → IfSome (first_for field place self.now.notes) (λ minutes. minutes ≤ result) }
         ensures other { self.now.whole ≡ false → result ≡ 6000 }
     {
         if !self.whole {
             return 6000;
         }
-        longest_of(&self.notes)
+        let (few, more) = self.notes.parts();
+        longest_of(more, longest_of(few, 0))
     }
-}
-
-/// Makes room for the first notes, which is enough for most fields.
-fn reserve_notes<A: Allocator + Copy>(notes: &mut Vec<Estimate, A>) -> Result<(), AllocError>
-    ensures { notes.new.items ≡ notes.old.items }
-{
-    if notes.is_empty() {
-        return notes.reserve_exact(FIRST_NOTES);
-    }
-    Ok(())
 }
 
 /// Where a place stands in a field, from there on.
@@ -135,14 +131,14 @@ fn note_of(field: &[u8], word: &[u8], from: usize) -> Option<Estimate>
 
 /// Notes the words of an EET item, and answers whether each is an estimate.
 fn note_words<A: Allocator + Copy>(
-    notes: &mut Vec<Estimate, A>,
+    notes: &mut NoteList<A>,
     places: &mut u64,
     field: &[u8],
     words: ItemWords<'_>,
 ) -> Result<bool, AllocError>
-    requires { HasPlacesOf field.now places.old notes.old.items }
-    ensures notes { IfOk result (λ whole. whole ≡ true → AddsWords field.now notes.old.items notes.new.items words.entry) }
-    ensures places { IfOk result (λ whole. HasPlacesOf field.now places.new notes.new.items) }
+    requires { HasPlacesOf field.now places.old notes.old }
+    ensures notes { IfOk result (λ whole. whole ≡ true → AddsWords field.now notes.old notes.new words.entry) }
+    ensures places { IfOk result (λ whole. HasPlacesOf field.now places.new notes.new) }
 {
     // Where the next word stands at the earliest: behind the elapsed time of the last note, and the space after it.
     let mut from = 0;
@@ -159,17 +155,16 @@ fn note_words<A: Allocator + Copy>(
 
 /// Notes the EET items of a field, and answers whether each of their words is an estimate.
 fn note_items<A: Allocator + Copy>(
-    notes: &mut Vec<Estimate, A>,
+    notes: &mut NoteList<A>,
     places: &mut u64,
     field: &[u8],
 ) -> Result<bool, AllocError>
-    requires { notes.old.items ≡ [] }
-    ensures notes { IfOk result (λ whole. AreNotesOf field.now whole notes.new.items) }
-    ensures places { IfOk result (λ whole. HasPlacesOf field.now places.new notes.new.items) }
+    requires { notes.old ≡ [] }
+    ensures notes { IfOk result (λ whole. AreNotesOf field.now whole notes.new) }
+    ensures places { IfOk result (λ whole. HasPlacesOf field.now places.new notes.new) }
 {
     for item in Items::new(field) {
         if item.name() == b"EET".as_slice() {
-            reserve_notes(notes)?;
             let whole = note_words(notes, places, field, item.words())?;
             if !whole {
                 return Ok(false);
@@ -179,11 +174,12 @@ fn note_items<A: Allocator + Copy>(
     Ok(true)
 }
 
-/// The minutes of the longest of these notes.
-fn longest_of(notes: &[Estimate]) -> u32
-    ensures { (field place : List ℕ) → IfSome (first_for field place notes.now) (λ minutes. minutes ≤ result) }
+/// The minutes of the longest of these notes, or others where these are more.
+fn longest_of(notes: &[Estimate], other: u32) -> u32
+    ensures notes { (field place : List ℕ) → IfSome (first_for field place notes.now) (λ minutes. minutes ≤ result) }
+    ensures other { other ≤ result }
 {
-    let mut longest = 0;
+    let mut longest = other;
     for note in notes {
         longest = longest.max(note.minutes());
     }

@@ -9,6 +9,7 @@ mod fault;
 pub mod laws;
 mod matching;
 mod near;
+mod note_list;
 mod outline;
 mod places;
 mod plan;

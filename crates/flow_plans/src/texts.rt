@@ -40,7 +40,7 @@ impl<A: Allocator + Copy> Model for Texts<A> {
     } };
 
     ghost invariant = { λ t. (t.end8 ≤ t.end9) × (t.end9 ≤ t.end10) × (t.end10 ≤ t.end15) × (t.end15 ≤ length t.bytes.items)
-        × AreEstimatesOf (slice_range t.bytes.items t.end15 (length t.bytes.items)) t.estimates.whole t.estimates.places t.estimates.notes.items };
+        × AreEstimatesOf (slice_range t.bytes.items t.end15 (length t.bytes.items)) t.estimates.whole t.estimates.places t.estimates.notes };
 }
 
 /// Appends a text, and answers where it ends.

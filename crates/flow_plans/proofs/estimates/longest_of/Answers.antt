@@ -1,9 +1,14 @@
 use Rattle.std.proofs.Common.{◌∙◌, ap, sym}
 use Rattle.std.proofs.lemmas.List.{drop_all}
-use Rattle.flow_plans.proofs.Longest.{longest_after, longest-found}
+use Rattle.flow_plans.proofs.Longest.{longest_after, longest-grows, longest-found}
 use Rattle.flow_plans.proofs.estimates.longest_of.Goals as goal
 
-pub returns : goal.returns
-returns c = λ field place.
+pub returns-clause-notes : goal.returns-clause-notes
+returns-clause-notes c = λ field place.
     (let last = ap (longest_after c.loop-note.longest) (drop_all c.loop-note.note-index c.args.notes.now c.loop-note-test.false) in
-    rw (sym last ∙ c.loop-note.invariant) (longest-found field place 0 c.args.notes.now))
+    rw (sym last ∙ c.loop-note.invariant) (longest-found field place c.args.other c.args.notes.now))
+
+pub returns-clause-other : goal.returns-clause-other
+returns-clause-other c =
+    let last = ap (longest_after c.loop-note.longest) (drop_all c.loop-note.note-index c.args.notes.now c.loop-note-test.false) in
+    rw (sym last ∙ c.loop-note.invariant) (longest-grows c.args.other c.args.notes.now)

@@ -8,6 +8,6 @@ use Rattle.flow_plans.proofs.estimates.note_items.Given as goal
 abbrev pub invariant-loop-item : goal.invariant-loop-item
 invariant-loop-item g l =
     ((place : List ℕ)
-    → option_or (first_for l.field place l.notes.items) (elapsed_to place l.item-iterator)
+    → option_or (first_for l.field place l.notes) (elapsed_to place l.item-iterator)
     ≡ elapsed_to place (items_of (words_of l.field)))
-    × HasPlacesOf l.field l.places l.notes.items
+    × HasPlacesOf l.field l.places l.notes

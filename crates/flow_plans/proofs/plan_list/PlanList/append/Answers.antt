@@ -21,3 +21,8 @@ returns-clause-named g c =
     let last : IsNamed c.push.new.self (flight_of_key c.args.plan.key) (length plans) = rw (at, name) at c.in_ok-push.ensures.named in
     let named : AreNamed c.args.chains.now plans = rw (sym c.self.view_is) at c.requires in
     rw items (named-push c.args.chains.now c.push.new.self c.in_ok-push.ensures.kept plans c.args.plan named last)
+
+pub returns-in_err-push-clause-named : goal.returns-in_err-push-clause-named
+returns-in_err-push-clause-named g c = λ place plan there.
+    (let named : AreNamed c.args.chains.now c.self.inside.plans.items = rw (sym c.self.view_is) at c.requires in
+    c.in_err-push.ensures.kept (flight_of_key plan.key) place (named place plan (rw c.in_ok-reserve.ensures.items at there)))

@@ -11,4 +11,4 @@ returns g c = λ place some.
     let field : List ℕ = slice_range s.bytes.items s.end15 (length s.bytes.items) in
     let S : List ℕ → Type 0 = λ v. IsSome (elapsed_to place (items_of (words_of v))) in
     let there = subst S (sym (ap (λ t. t.field18) c.self.view_is)) some in
-    c.near.ensures place (λ whole. has-place field place s.estimates.whole s.estimates.places s.estimates.notes.items c.self.invariant.4 there whole))
+    c.near.ensures place (λ whole. has-place field place s.estimates.whole s.estimates.places s.estimates.notes c.self.invariant.4 there whole))
