@@ -1,10 +1,10 @@
--- One more node in the chains.
-use Rattle.std.proofs.Common.{◌≡◌, ℕ, zero, suc, ◌<◌, ◌≤◌, ◌+◌, Bool, true, false, ◌==◌, ◌&&◌, cond, ◌⊎◌, inl, inr, List, [], ◌∷◌, ◌++◌, length, Option, Some, None, IfSome, slice_get, unwrap_or, refl, ap, ◌∙◌, arith}
+-- One more plan named in the chains.
+use Rattle.std.proofs.Common.{◌≡◌, ℕ, zero, suc, ◌<◌, ◌≤◌, ◌+◌, Bool, true, false, ◌==◌, ◌&&◌, cond, ◌⊎◌, inl, inr, List, [], ◌∷◌, ◌++◌, length, Option, Some, None, IfSome, slice_get, unwrap_or, refl, sym, ap, ◌∙◌, arith}
 use Rattle.std.proofs.lemmas.Bool.Decides.{Decides-eqb}
 use Rattle.std.proofs.lemmas.List.{length_push}
 use Rattle.flow_plans.specs.declared.chains.FlightName.{FlightName}
 use Rattle.flow_plans.specs.declared.chains.Node.{Node}
-use Rattle.flow_plans.specs.Chains.{Chained, newest, same_flight, IsReached, here, further, AreLinked, AreHeads, IsNamed, StaysNamed}
+use Rattle.flow_plans.specs.Chains.{Chained, newest, node_before, same_flight, IsReached, here, further, GoesBelow, AreLinked, AreHeads, IsNamed, StaysNamed}
 
 pub and-left : (a b : Bool) → (a && b) ≡ true → a ≡ true
 and-left true b h = refl
@@ -37,42 +37,85 @@ push-last : (xs : List Node) (y : Node) → slice_get (xs ++ y ∷ []) (length x
 push-last [] y = refl
 push-last (x ∷ xs) y = push-last xs y
 
-reached-old : (nodes : List Node) (node : Node) (next : Option ℕ) (place : ℕ) → IsReached nodes next place → IsReached (nodes ++ node ∷ []) next place
-reached-old nodes node _ _ (here next at place own e s p) = here next at place own e (push-old nodes node own at s) p
-reached-old nodes node _ _ (further next at place own e s r) =
-    further next at place own e (push-old nodes node own at s) (reached-old nodes node own.previous place r)
+-- nothing is reached from nowhere
+pub reached-none : (nodes : List Node) (next : Option Node) (place : ℕ) → next ≡ None → IsReached nodes next place → ⊥
+reached-none nodes _ _ n (here next place node e p) = absurd (cc)
+reached-none nodes _ _ n (further next place node e r) = absurd (cc)
 
-pub below-more : (o : Option ℕ) (n m : ℕ) → n ≤ m → IfSome o (λ at. at < n) → IfSome o (λ at. at < m)
+-- what is reached in a list, with one more node before those that it had
+before-old : (nodes : List Node) (node : Node) (o : Option ℕ) (place : ℕ) → IsReached nodes (node_before nodes o) place → IsReached (nodes ++ node ∷ []) (node_before nodes o) place → IsReached (nodes ++ node ∷ []) (node_before (nodes ++ node ∷ []) o) place
+before-old nodes node None place r m = m
+before-old nodes node (Some at) place r m = split (slice_get nodes at) refl where
+  split : (o : Option Node) → slice_get nodes at ≡ o → IsReached (nodes ++ node ∷ []) (slice_get (nodes ++ node ∷ []) at) place
+  split None e = absurd (reached-none nodes (slice_get nodes at) place e r)
+  split (Some own) e = rw (push-old nodes node own at e, ← e) m
+
+reached-old : (nodes : List Node) (node : Node) (next : Option Node) (place : ℕ) → IsReached nodes next place → IsReached (nodes ++ node ∷ []) next place
+reached-old nodes node _ _ (here next place own e p) = here next place own e p
+reached-old nodes node _ _ (further next place own e r) =
+    further next place own e (before-old nodes node own.previous place r (reached-old nodes node (node_before nodes own.previous) place r))
+
+below-more : (o : Option ℕ) (n m : ℕ) → n ≤ m → IfSome o (λ at. at < n) → IfSome o (λ at. at < m)
 below-more None n m h s = tt
 below-more (Some at) n m h s = omega (arith, h, s)
 
-module _ (chains : Chained) (later : List (FlightName × ℕ)) (name : FlightName) (node : Node)
-    (older : node.previous ≡ newest chains.heads name)
-    (updates : (q : FlightName) → newest later q ≡ cond (same_flight name q) (Some (length chains.nodes)) (newest chains.heads q)) where
-  pub pushed-linked : AreLinked chains.nodes → AreHeads chains.heads chains.nodes → AreLinked (chains.nodes ++ node ∷ [])
-  pushed-linked linked are at own e =
-      elim (push-cases chains.nodes node own at e) as (λ s. IfSome own.previous (λ p. p < at)) [
-        | inl h ↦ linked at own h
-        | inr h ↦ rw (h.0, ← h.1, older) (are name)
-      ]
-
-  pub pushed-heads : AreHeads chains.heads chains.nodes → AreHeads later (chains.nodes ++ node ∷ [])
-  pushed-heads are q =
-      rw (updates q, length_push chains.nodes node)
-      (elim (same_flight name q) as (λ b. IfSome (cond b (Some (length chains.nodes)) (newest chains.heads q)) (λ at. at < length chains.nodes + 1)) [
-        | true ↦ omega arith
-        | false ↦ below-more (newest chains.heads q) (length chains.nodes) (length chains.nodes + 1) (omega arith) (are q)
+-- a first plan of a flight
+module _ (chains : Chained) (later : List (FlightName × Node)) (name : FlightName) (node : Node)
+    (none : newest chains.heads name ≡ None) (last : node.previous ≡ None)
+    (updates : (q : FlightName) → newest later q ≡ cond (same_flight name q) (Some node) (newest chains.heads q)) where
+  pub first-heads : AreHeads chains.heads chains.nodes → AreHeads later chains.nodes
+  first-heads are q =
+      rw (updates q)
+      (elim (same_flight name q) as (λ b. IfSome (cond b (Some node) (newest chains.heads q)) (λ n. GoesBelow n (length chains.nodes))) [
+        | true ↦ rw last tt
+        | false ↦ are q
       ])
 
-  pub pushed-kept : StaysNamed chains (record { heads = later; nodes = chains.nodes ++ node ∷ [] })
-  pushed-kept q place r = rw (updates q) (split (same_flight name q) refl) where
-    split : (b : Bool) → same_flight name q ≡ b → IsReached (chains.nodes ++ node ∷ []) (cond b (Some (length chains.nodes)) (newest chains.heads q)) place
-    split false e = reached-old chains.nodes node (newest chains.heads q) place r
+  pub first-kept : StaysNamed chains (record { heads = later; nodes = chains.nodes })
+  first-kept q place r = rw (updates q) (split (same_flight name q) refl) where
+    split : (b : Bool) → same_flight name q ≡ b → IsReached chains.nodes (cond b (Some node) (newest chains.heads q)) place
+    split false e = r
     split true e =
         let same : name ≡ q = same_flight-same name q e in
-        let chain : node.previous ≡ newest chains.heads q = older ∙ ap (λ n. newest chains.heads n) same in
-        further (Some (length chains.nodes)) (length chains.nodes) place node refl (push-last chains.nodes node)
-        (reached-old chains.nodes node node.previous place (rw chain r))
+        let chain : newest chains.heads q ≡ None = sym (ap (λ n. newest chains.heads n) same) ∙ none in
+        absurd (reached-none chains.nodes (newest chains.heads q) place chain r)
 
-  pub pushed-named : newest later name ≡ Some (length chains.nodes) → IsNamed (record { heads = later; nodes = chains.nodes ++ node ∷ [] }) name node.place
-  pushed-named e = here (newest later name) (length chains.nodes) node.place node e (push-last chains.nodes node) refl
+-- one more plan of a flight: the node that was its newest goes into the list
+module _ (chains : Chained) (later : List (FlightName × Node)) (name : FlightName) (older node : Node)
+    (head : newest chains.heads name ≡ Some older) (previous : node.previous ≡ Some (length chains.nodes))
+    (updates : (q : FlightName) → newest later q ≡ cond (same_flight name q) (Some node) (newest chains.heads q)) where
+  pub further-linked : AreLinked chains.nodes → AreHeads chains.heads chains.nodes → AreLinked (chains.nodes ++ older ∷ [])
+  further-linked linked are at own e =
+      elim (push-cases chains.nodes older own at e) as (λ s. GoesBelow own at) [
+        | inl h ↦ linked at own h
+        | inr h ↦ rw (h.0, ← h.1) (rw head at (are name))
+      ]
+
+  pub further-heads : AreHeads chains.heads chains.nodes → AreHeads later (chains.nodes ++ older ∷ [])
+  further-heads are q =
+      rw (updates q, length_push chains.nodes older)
+      (elim (same_flight name q) as (λ b. IfSome (cond b (Some node) (newest chains.heads q)) (λ n. GoesBelow n (length chains.nodes + 1))) [
+        | true ↦ rw previous (omega arith)
+        | false ↦ more (newest chains.heads q) (are q)
+      ]) where
+        more : (o : Option Node) → IfSome o (λ n. GoesBelow n (length chains.nodes)) → IfSome o (λ n. GoesBelow n (length chains.nodes + 1))
+        more None h = tt
+        more (Some n) h = below-more n.previous (length chains.nodes) (length chains.nodes + 1) (omega arith) h
+
+  pub further-kept : StaysNamed chains (record { heads = later; nodes = chains.nodes ++ older ∷ [] })
+  further-kept q place r = rw (updates q) (split (same_flight name q) refl) where
+    split : (b : Bool) → same_flight name q ≡ b → IsReached (chains.nodes ++ older ∷ []) (cond b (Some node) (newest chains.heads q)) place
+    split false e = reached-old chains.nodes older (newest chains.heads q) place r
+    split true e =
+        let same : name ≡ q = same_flight-same name q e in
+        let chain : newest chains.heads q ≡ Some older = sym (ap (λ n. newest chains.heads n) same) ∙ head in
+        let old : IsReached (chains.nodes ++ older ∷ []) (Some older) place = rw chain at (reached-old chains.nodes older (newest chains.heads q) place r) in
+        further (Some node) place node refl (rw (previous, push-last chains.nodes older) old)
+
+-- two changes of one name leave the later
+pub twice-updated : (name : FlightName) (first node : Node) (heads between later : List (FlightName × Node)) → ((q : FlightName) → newest between q ≡ cond (same_flight name q) (Some first) (newest heads q)) → ((q : FlightName) → newest later q ≡ cond (same_flight name q) (Some node) (newest between q)) → (q : FlightName) → newest later q ≡ cond (same_flight name q) (Some node) (newest heads q)
+twice-updated name first node heads between later a b q = b q ∙ ap (λ o. cond (same_flight name q) (Some node) o) (a q) ∙ elim (same_flight name q) as (λ s. cond s (Some node) (cond s (Some first) (newest heads q)) ≡ cond s (Some node) (newest heads q)) [ true ↦ refl | false ↦ refl ]
+
+-- the newest node names its place
+pub head-named : (chains : Chained) (name : FlightName) (node : Node) → newest chains.heads name ≡ Some node → IsNamed chains name node.place
+head-named chains name node e = here (newest chains.heads name) node.place node e refl

@@ -16,26 +16,19 @@ use Rattle.flow_plans.specs.declared.plan.PlanState.TheVariants as state
 use Rattle.flow_plans.specs.Plans.{Plan, same_key, is_held, is_held_as, is_filed, is_departed, changed_at, with_state}
 use Rattle.flow_plans.specs.Matching.{agrees, is_on, is_candidate, is_gone}
 use Rattle.flow_plans.specs.Searching.{with_one_more, passes_at, IsCounted, IsFreeAt, IsHeldBeside}
-use Rattle.flow_plans.specs.Chains.{Chained, newest, flight_named, flight_of_key, flight_of_parts, IsReached, here, further, AreLinked, IsNamed, StaysNamed, AreNamed}
+use Rattle.flow_plans.specs.Chains.{Chained, newest, node_before, flight_named, flight_of_key, flight_of_parts, IsReached, here, further, AreLinked, IsNamed, StaysNamed, AreNamed}
 use Rattle.flow_plans.specs.Changes.{others}
-use Rattle.flow_plans.proofs.ChainLemmas.{and-left, and-right, below-more}
+use Rattle.flow_plans.proofs.ChainLemmas.{and-left, and-right, reached-none}
 use Rattle.flow_plans.proofs.Matches.{counted-more, counted-here, neither-here, passes_at-past, any-none, any-one}
 
 -- one node on
-pub reached-step : (nodes : List Node) (next : Option ℕ) (at place : ℕ) (node : Node) → next ≡ Some at → slice_get nodes at ≡ Some node → IsReached nodes next place → IsReached nodes node.previous place ⊎ (place ≡ node.place)
-reached-step nodes _ at _ node n s (here next at' place node' e s' p) =
-    let ats : at' ≡ at = ap (λ o. unwrap_or o at') (sym e ∙ n) in
-    let same : node' ≡ node = ap (λ o. unwrap_or o node') (sym s' ∙ ap (λ k. slice_get nodes k) ats ∙ s) in
+reached-step : (nodes : List Node) (next : Option Node) (place : ℕ) (node : Node) → next ≡ Some node → IsReached nodes next place → IsReached nodes (node_before nodes node.previous) place ⊎ (place ≡ node.place)
+reached-step nodes _ _ node n (here next place own e p) =
+    let same : own ≡ node = ap (λ o. unwrap_or o own) (sym e ∙ n) in
     inr (sym p ∙ ap (λ (m : Node). m.place) same)
-reached-step nodes _ at _ node n s (further next at' place node' e s' r) =
-    let ats : at' ≡ at = ap (λ o. unwrap_or o at') (sym e ∙ n) in
-    let same : node' ≡ node = ap (λ o. unwrap_or o node') (sym s' ∙ ap (λ k. slice_get nodes k) ats ∙ s) in
-    inl (subst (λ (m : Node). IsReached nodes m.previous place) same r)
-
--- nothing is reached from nowhere
-pub reached-none : (nodes : List Node) (next : Option ℕ) (place : ℕ) → next ≡ None → IsReached nodes next place → ⊥
-reached-none nodes _ _ n (here next at place node e s p) = absurd (cc)
-reached-none nodes _ _ n (further next at place node e s r) = absurd (cc)
+reached-step nodes _ _ node n (further next place own e r) =
+    let same : own ≡ node = ap (λ o. unwrap_or o own) (sym e ∙ n) in
+    inl (subst (λ (m : Node). IsReached nodes (node_before nodes m.previous) place) same r)
 
 -- the plan that passes at a place
 passing : (test : Plan → Bool) (ps : List Plan) (k : ℕ) → passes_at test ps k ≡ true → (p : Plan) × (slice_get ps k ≡ Some p) × (test p ≡ true)
@@ -102,19 +95,29 @@ module _ (chains : Chained) (ps : List Plan) (named : AreNamed chains ps) where
     split true t = c k (named-held key k t) apart
     split false t = t
 
-pub previous-within : (nodes : List Node) (at : ℕ) (node : Node) → AreLinked nodes → at < length nodes → slice_get nodes at ≡ Some node → IfSome node.previous (λ p. p < length nodes)
-previous-within nodes at node linked h s = below-more node.previous at (length nodes) (omega (arith, h)) (linked at node s)
+-- how many nodes a chain may still have, from this one on
+abbrev pub rank : Option Node → ℕ
+rank next = option_map_or (λ n. option_map_or (λ at. at + 1) n.previous 0 + 1) next 0
 
-pub rank-smaller : (o : Option ℕ) (at : ℕ) → IfSome o (λ p. p < at) → suc (option_map_or (λ x. x + 1) o 0) ≤ at + 1
-rank-smaller None at h = omega arith
-rank-smaller (Some p) at h = omega (arith, h)
+pub rank-smaller : (nodes : List Node) (next : Option Node) (node : Node) → AreLinked nodes → next ≡ Some node → suc (rank (node_before nodes node.previous)) ≤ rank next
+rank-smaller nodes next node linked n = rw n (by node.previous) where
+  below : (at : ℕ) (o : Option Node) → slice_get nodes at ≡ o → suc (rank o) ≤ at + 1 + 1
+  below at None e = omega arith
+  below at (Some own) e = goes own.previous (linked at own e) where
+    goes : (p : Option ℕ) → IfSome p (λ before. before < at) → suc (option_map_or (λ k. k + 1) p 0 + 1) ≤ at + 1 + 1
+    goes None h = omega arith
+    goes (Some k) h = omega (arith, h)
+
+  by : (o : Option ℕ) → suc (rank (node_before nodes o)) ≤ option_map_or (λ at. at + 1) o 0 + 1
+  by None = omega arith
+  by (Some at) = below at (slice_get nodes at) refl
 
 -- one more place is counted
-pub walked-counted : (test gone : Plan → Bool) (ps : List Plan) (f : Found) (nodes : List Node) (start next : Option ℕ) (at : ℕ) (node : Node) → next ≡ Some at → slice_get nodes at ≡ Some node → ((k : ℕ) → IsReached nodes start k → IsReached nodes next k ⊎ IsCounted test gone ps f k) → (k : ℕ) → IsReached nodes start k → IsReached nodes node.previous k ⊎ IsCounted test gone ps (with_one_more (passes_at test ps node.place) (passes_at gone ps node.place) node.place f) k
-walked-counted test gone ps f nodes start next at node n s h k r = split (h k r) where
-  split : IsReached nodes next k ⊎ IsCounted test gone ps f k → IsReached nodes node.previous k ⊎ IsCounted test gone ps (with_one_more (passes_at test ps node.place) (passes_at gone ps node.place) node.place f) k
+pub walked-counted : (test gone : Plan → Bool) (ps : List Plan) (f : Found) (nodes : List Node) (start next : Option Node) (node : Node) → next ≡ Some node → ((k : ℕ) → IsReached nodes start k → IsReached nodes next k ⊎ IsCounted test gone ps f k) → (k : ℕ) → IsReached nodes start k → IsReached nodes (node_before nodes node.previous) k ⊎ IsCounted test gone ps (with_one_more (passes_at test ps node.place) (passes_at gone ps node.place) node.place f) k
+walked-counted test gone ps f nodes start next node n h k r = split (h k r) where
+  split : IsReached nodes next k ⊎ IsCounted test gone ps f k → IsReached nodes (node_before nodes node.previous) k ⊎ IsCounted test gone ps (with_one_more (passes_at test ps node.place) (passes_at gone ps node.place) node.place f) k
   split (inr counted) = inr (counted-more test gone ps f node.place k _ _ counted)
-  split (inl reached) = elim (reached-step nodes next at k node n s reached) as (λ s. IsReached nodes node.previous k ⊎ IsCounted test gone ps (with_one_more (passes_at test ps node.place) (passes_at gone ps node.place) node.place f) k)
+  split (inl reached) = elim (reached-step nodes next k node n reached) as (λ s. IsReached nodes (node_before nodes node.previous) k ⊎ IsCounted test gone ps (with_one_more (passes_at test ps node.place) (passes_at gone ps node.place) node.place f) k)
       [ inl on ↦ inl on | inr same ↦ inr (rw same (counted-here test gone ps f node.place _ _ refl refl)) ]
 
 free-of : (place but : ℕ) (b : Bool) → (not (place == but) && b) ≡ false → (place ≡ but → ⊥) → b ≡ false
@@ -122,11 +125,11 @@ free-of place but true h apart = absurd (apart (grind (arith, nat_tests, h)))
 free-of place but false h apart = refl
 
 -- one more place is free
-pub walked-free : (key : Key) (ps : List Plan) (but : ℕ) (nodes : List Node) (start next : Option ℕ) (at : ℕ) (node : Node) → next ≡ Some at → slice_get nodes at ≡ Some node → (not (node.place == but) && passes_at (is_held_as key) ps node.place) ≡ false → ((k : ℕ) → IsReached nodes start k → IsReached nodes next k ⊎ IsFreeAt key ps but k) → (k : ℕ) → IsReached nodes start k → IsReached nodes node.previous k ⊎ IsFreeAt key ps but k
-walked-free key ps but nodes start next at node n s b h k r = split (h k r) where
-  split : IsReached nodes next k ⊎ IsFreeAt key ps but k → IsReached nodes node.previous k ⊎ IsFreeAt key ps but k
+pub walked-free : (key : Key) (ps : List Plan) (but : ℕ) (nodes : List Node) (start next : Option Node) (node : Node) → next ≡ Some node → (not (node.place == but) && passes_at (is_held_as key) ps node.place) ≡ false → ((k : ℕ) → IsReached nodes start k → IsReached nodes next k ⊎ IsFreeAt key ps but k) → (k : ℕ) → IsReached nodes start k → IsReached nodes (node_before nodes node.previous) k ⊎ IsFreeAt key ps but k
+walked-free key ps but nodes start next node n b h k r = split (h k r) where
+  split : IsReached nodes next k ⊎ IsFreeAt key ps but k → IsReached nodes (node_before nodes node.previous) k ⊎ IsFreeAt key ps but k
   split (inr free) = inr free
-  split (inl reached) = elim (reached-step nodes next at k node n s reached) as (λ s. IsReached nodes node.previous k ⊎ IsFreeAt key ps but k)
+  split (inl reached) = elim (reached-step nodes next k node n reached) as (λ s. IsReached nodes (node_before nodes node.previous) k ⊎ IsFreeAt key ps but k)
       [ inl on ↦ inl on | inr same ↦ inr (rw same (free-of node.place but (passes_at (is_held_as key) ps node.place) b)) ]
 
 pub held-beside : (key : Key) (ps : List Plan) (place but : ℕ) → (not (place == but) && passes_at (is_held_as key) ps place) ≡ true → IsHeldBeside key ps but
@@ -136,7 +139,7 @@ held-beside key ps place but h = (place, apart (place == but) refl (and-left (no
   apart false e n same = absurd (grind (arith, nat_tests, e, same))
 
 -- at the end of a chain all is counted
-pub walked-all : (P : ℕ → Type 0) (nodes : List Node) (start next : Option ℕ) → next ≡ None → ((k : ℕ) → IsReached nodes start k → IsReached nodes next k ⊎ P k) → (k : ℕ) → IsReached nodes start k → P k
+pub walked-all : (P : ℕ → Type 0) (nodes : List Node) (start next : Option Node) → next ≡ None → ((k : ℕ) → IsReached nodes start k → IsReached nodes next k ⊎ P k) → (k : ℕ) → IsReached nodes start k → P k
 walked-all P nodes start next n h k r = elim (h k r) as (λ s. P k) [ inl reached ↦ absurd (reached-none nodes next k n reached) | inr done ↦ done ]
 
 -- what the search in a chain says of all plans

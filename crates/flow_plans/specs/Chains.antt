@@ -1,6 +1,7 @@
 -- How plans are found by identification, departure and destination: from these three a chain of nodes, the newest first, names
--- the plans that were filed or amended under them. It may name other plans too, and one more than once.
-use Rattle.std.specs.Prelude.{◌≡◌, ℕ, ◌+◌, ◌*◌, ◌<◌, Bool, ◌==◌, ◌&&◌, List, length, Option, Some, IfSome, slice_get}
+-- the plans that were filed or amended under them. It may name other plans too, and one more than once. The newest node of each
+-- chain stands in the map itself, those before it in a list.
+use Rattle.std.specs.Prelude.{◌≡◌, ℕ, ◌+◌, ◌*◌, ◌<◌, Bool, ◌==◌, ◌&&◌, List, length, Option, Some, None, IfSome, slice_get}
 use Rattle.std.specs.List.{fold}
 use Rattle.std.specs.Map.{lookup}
 use Rattle.fpl_message.specs.declared.parts.Parts.{Parts}
@@ -27,26 +28,35 @@ flight_of_parts parts = flight_named parts.ident parts.dep parts.dest
 abbrev pub same_flight : FlightName → FlightName → Bool
 same_flight a b = (a.ident == b.ident) && (a.ends == b.ends)
 
--- a chain that goes on from this node names this place among the plans
-pub data IsReached (nodes : List Node) : Option ℕ → ℕ → Type 0 where
-  here : (next : Option ℕ) (at place : ℕ) (node : Node) → next ≡ Some at → slice_get nodes at ≡ Some node → node.place ≡ place → IsReached nodes next place
-  further : (next : Option ℕ) (at place : ℕ) (node : Node) → next ≡ Some at → slice_get nodes at ≡ Some node → IsReached nodes node.previous place → IsReached nodes next place
+-- the node in the list at this place, where there is one
+abbrev pub node_before : List Node → Option ℕ → Option Node
+node_before nodes None = None
+node_before nodes (Some at) = slice_get nodes at
 
--- all chains: from each flight its newest node, and the nodes
+-- a chain that goes on from this node names this place among the plans
+pub data IsReached (nodes : List Node) : Option Node → ℕ → Type 0 where
+  here : (next : Option Node) (place : ℕ) (node : Node) → next ≡ Some node → node.place ≡ place → IsReached nodes next place
+  further : (next : Option Node) (place : ℕ) (node : Node) → next ≡ Some node → IsReached nodes (node_before nodes node.previous) place → IsReached nodes next place
+
+-- all chains: from each flight its newest node, and the nodes before these
 pub record Chained : Type 0 where
-  pub heads : List (FlightName × ℕ)
+  pub heads : List (FlightName × Node)
   pub nodes : List Node
 
-abbrev pub newest : List (FlightName × ℕ) → FlightName → Option ℕ
+abbrev pub newest : List (FlightName × Node) → FlightName → Option Node
 newest heads name = lookup (same_flight name) heads
 
--- each node goes on to an older one
-abbrev pub AreLinked : List Node → Type 0
-AreLinked nodes = (at : ℕ) (node : Node) → slice_get nodes at ≡ Some node → IfSome node.previous (λ older. older < at)
+-- a node goes on to one that stands before this place in the list, or to none
+abbrev pub GoesBelow : Node → ℕ → Type 0
+GoesBelow node at = IfSome node.previous (λ before. before < at)
 
--- each flight's newest node is there
-abbrev pub AreHeads : List (FlightName × ℕ) → List Node → Type 0
-AreHeads heads nodes = (name : FlightName) → IfSome (newest heads name) (λ at. at < length nodes)
+-- each node in the list goes on to one before it
+abbrev pub AreLinked : List Node → Type 0
+AreLinked nodes = (at : ℕ) (node : Node) → slice_get nodes at ≡ Some node → GoesBelow node at
+
+-- each flight's newest node goes on to one in the list
+abbrev pub AreHeads : List (FlightName × Node) → List Node → Type 0
+AreHeads heads nodes = (name : FlightName) → IfSome (newest heads name) (λ node. GoesBelow node (length nodes))
 
 -- the chain of this flight names this place
 abbrev pub IsNamed : Chained → FlightName → ℕ → Type 0

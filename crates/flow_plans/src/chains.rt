@@ -1,5 +1,5 @@
 //! Finding plans by identification, departure and destination, without a walk over all plans.
-ghost use Rattle.std.specs.Prelude.{◌≡◌, ◌<◌, ◌≤◌, IfSome, OnOk, length};
+ghost use Rattle.std.specs.Prelude.{◌≡◌, ◌≤◌, OnOk, length};
 ghost use Rattle.flow_plans.specs.Chains.{base_256, flight_named, flight_of_key, flight_of_parts, newest, AreLinked, IsNamed, StaysNamed};
 
 use crate::places::letters_of;
@@ -58,18 +58,20 @@ fn number_of(bytes: &[u8]) -> u64
     number
 }
 
-/// A plan that was filed or amended under a flight name, by its place in the list, and the node before it.
+/// A plan that was filed or amended under a flight name, by its place in the list of plans, and the place of the node before it
+/// among the older nodes.
 #[derive(Clone, Copy)]
 pub(crate) struct Node {
-    pub(crate) place: usize,
-    pub(crate) previous: Option<usize>,
+    pub(crate) place: u32,
+    pub(crate) previous: Option<u32>,
 }
 
-/// From a flight name to the newest node of its chain. Nothing is ever taken out: a node counts only where its plan has the
-/// name now.
+/// From a flight name to the newest node of its chain, which stands in the map itself: most flights have one plan, and are found
+/// with no look at another node. Nothing is ever taken out: a node counts only where its plan has the name now.
 #[derive(Drop)]
 pub(crate) struct Chains<A: Allocator + Copy = Global> {
-    heads: IndexMap<FlightName, usize, BuildHasherDefault<FoldHasher>, A>,
+    heads: IndexMap<FlightName, Node, BuildHasherDefault<FoldHasher>, A>,
+    /// The older nodes.
     nodes: Vec<Node, A>,
 }
 
@@ -93,14 +95,13 @@ impl<A: Allocator + Copy> Chains<A> {
     }
 
     /// The newest node of a chain.
-    pub(crate) fn newest(&self, name: &FlightName) -> Option<usize>
-        ensures value { result ≡ newest self.now.heads name.now }
-        ensures within { IfSome result (λ at. at < length self.now.nodes) }
+    pub(crate) fn newest(&self, name: &FlightName) -> Option<Node>
+        ensures { result ≡ newest self.now.heads name.now }
     {
         self.heads.get(name).copied()
     }
 
-    /// The nodes.
+    /// The older nodes.
     pub(crate) fn nodes(&self) -> &[Node]
         ensures value { result.now ≡ self.now.nodes }
         ensures linked { AreLinked result.now }
@@ -109,7 +110,7 @@ impl<A: Allocator + Copy> Chains<A> {
     }
 
     /// Names a place in the chain of a new key, unless that of the old one serves. After an `Err` all chains are as they were.
-    pub(crate) fn rename(&mut self, old: &Key, new: &Key, place: usize) -> Result<(), AllocError>
+    pub(crate) fn rename(&mut self, old: &Key, new: &Key, place: u32) -> Result<(), AllocError>
         requires { IsNamed self.old (flight_of_key old.now) place }
         ensures kept { StaysNamed self.old self.new }
         ensures named { OnOk result (IsNamed self.new (flight_of_key new.now) place) }
@@ -122,18 +123,32 @@ impl<A: Allocator + Copy> Chains<A> {
     }
 
     /// Names a place in the chain of a flight. After an `Err` all chains are as they were.
-    pub(crate) fn push(&mut self, name: FlightName, place: usize) -> Result<(), AllocError>
+    pub(crate) fn push(&mut self, name: FlightName, place: u32) -> Result<(), AllocError>
         ensures kept { StaysNamed self.old self.new }
         ensures named { OnOk result (IsNamed self.new name place) }
     {
         self.nodes.reserve(1)?;
-        let at = self.nodes.as_slice().len();
-        match self.heads.insert(name, at) {
-            Ok(previous) => {
-                self.nodes.push_reserved(Node { place, previous });
-                Ok(())
-            }
-            Err(_) => Err(AllocError),
-        }
+        let Ok(at) = u32::try_from(self.nodes.len()) else {
+            return Err(AllocError);
+        };
+        let first = Node {
+            place,
+            previous: None,
+        };
+        let older = match self.heads.insert(name, first) {
+            Ok(None) => return Ok(()),
+            Ok(Some(older)) => older,
+            Err(_) => return Err(AllocError),
+        };
+        let newest = Node {
+            place,
+            previous: Some(at),
+        };
+        // The name is in the map, so this takes no memory.
+        let Ok(_) = self.heads.insert(name, newest) else {
+            return Err(AllocError);
+        };
+        self.nodes.push_reserved(older);
+        Ok(())
     }
 }

@@ -1,10 +1,10 @@
 //! Finding the plan that a message is about.
-ghost use Rattle.std.specs.Prelude.{◌≡◌, ◌≤◌, ◌<◌, ℕ, true, false, not, ◌&&◌, ◌==◌, Some, slice_get, length, IfOk, IfSome};
+ghost use Rattle.std.specs.Prelude.{◌≡◌, ◌≤◌, ◌<◌, ℕ, true, false, not, ◌&&◌, ◌==◌, length, IfOk, IfSome};
 ghost use Rattle.std.specs.List.{list_any};
 ghost use Rattle.flow_plans.specs.Plans.{plan_at, is_held_as};
 ghost use Rattle.flow_plans.specs.Matching.{is_candidate, is_gone, matching};
 ghost use Rattle.flow_plans.specs.Searching.{with_candidate, with_gone, with_one_more, passes_at, IsSound, IsCounted, IsFreeAt, IsHeldBeside};
-ghost use Rattle.flow_plans.specs.Chains.{IsReached, AreLinked, AreNamed};
+ghost use Rattle.flow_plans.specs.Chains.{node_before, IsReached, AreLinked, AreNamed};
 ghost use Rattle.flow_plans.specs.Changes.{Answers, others};
 
 use crate::chains::{Chains, FlightName, Node};
@@ -72,32 +72,32 @@ fn with_place<A: Allocator + Copy>(
     }
 }
 
-/// The node at a place.
-fn node_at(nodes: &[Node], at: usize) -> Node
-    requires { at < length nodes.now }
-    ensures { slice_get nodes.now at ≡ Some result }
+/// The older node to which another goes on.
+fn node_before(nodes: &[Node], previous: Option<u32>) -> Option<Node>
+    ensures { result ≡ node_before nodes.now previous }
 {
-    nodes[at]
+    match previous {
+        Some(at) => nodes.get(at as usize).copied(),
+        None => None,
+    }
 }
 
 /// What the plans of a chain give.
 fn found_in<A: Allocator + Copy>(
     plans: &[Plan<A>],
     nodes: &[Node],
-    newest: Option<usize>,
+    newest: Option<Node>,
     parts: &Parts,
 ) -> Found
-    requires linked { AreLinked nodes.now }
-    requires within { IfSome newest (λ at. at < length nodes.now) }
+    requires { AreLinked nodes.now }
     ensures sound { IsSound (is_candidate parts.now) (is_gone parts.now) plans.now result }
     ensures all { (place : ℕ) → IsReached nodes.now newest place → IsCounted (is_candidate parts.now) (is_gone parts.now) plans.now result place }
 {
     let mut found = Found::Nothing;
     let mut next = newest;
-    while let Some(at) = next {
-        let node = node_at(nodes, at);
-        found = with_place(found, plans, node.place, parts);
-        next = node.previous;
+    while let Some(node) = next {
+        found = with_place(found, plans, node.place as usize, parts);
+        next = node_before(nodes, node.previous);
     }
     found
 }
@@ -149,22 +149,20 @@ fn is_held_beside<A: Allocator + Copy>(
 fn is_held_in<A: Allocator + Copy>(
     plans: &[Plan<A>],
     nodes: &[Node],
-    newest: Option<usize>,
+    newest: Option<Node>,
     key: &Key,
     but: usize,
 ) -> bool
-    requires linked { AreLinked nodes.now }
-    requires within { IfSome newest (λ at. at < length nodes.now) }
+    requires { AreLinked nodes.now }
     ensures found { result ≡ true → IsHeldBeside key.now plans.now but }
     ensures none { result ≡ false → (place : ℕ) → IsReached nodes.now newest place → IsFreeAt key.now plans.now but place }
 {
     let mut next = newest;
-    while let Some(at) = next {
-        let node = node_at(nodes, at);
-        if is_held_beside(plans, node.place, key, but) {
+    while let Some(node) = next {
+        if is_held_beside(plans, node.place as usize, key, but) {
             return true;
         }
-        next = node.previous;
+        next = node_before(nodes, node.previous);
     }
     false
 }

@@ -105,7 +105,8 @@ impl<A: Allocator + Copy> PlanList<A> {
 
     /// Appends a plan, and names it in the chains. After an `Err` the plans and all chains are as they were.
     pub(crate) fn append(&mut self, chains: &mut Chains<A>, plan: Plan<A>) -> Result<(), AllocError>
-        requires { AreNamed chains.old self.old }
+        requires few { length self.old ≤ 20_000 }
+        requires named { AreNamed chains.old self.old }
         ensures ok { OnOk result (self.new ≡ self.old ++ plan ∷ []) }
         ensures err { OnErr result (self.new ≡ self.old) }
         ensures named { AreNamed chains.new self.new }
@@ -114,7 +115,7 @@ impl<A: Allocator + Copy> PlanList<A> {
         self.plans.reserve(1)?;
         self.outlines.reserve(1)?;
         let name = FlightName::of_key(plan.key());
-        chains.push(name, self.plans.len())?;
+        chains.push(name, self.plans.len() as u32)?;
         self.outlines.push_reserved(Outline::of(&plan));
         self.plans.push_reserved(plan);
         Ok(())

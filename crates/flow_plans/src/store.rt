@@ -344,8 +344,7 @@ fn amend_plan<A: Allocator + Copy>(
     ensures before { IfOk result (λ r. IsNamed chains.new (flight_of_key r.1.key) (r.0 - 1)) }
 {
     let (number, plan) = amended(alloc, plans.as_slice(), chains, message, now)?;
-    let place = (number - 1) as usize;
-    let Ok(()) = rename(plans.as_slice(), chains, place, &plan) else {
+    let Ok(()) = rename(plans.as_slice(), chains, number - 1, &plan) else {
         return Err(PlanFault::OutOfMemory);
     };
     let held = plans.replace(number, plan);
@@ -356,7 +355,7 @@ fn amend_plan<A: Allocator + Copy>(
 fn rename<A: Allocator + Copy>(
     plans: &[Plan<A>],
     chains: &mut Chains<A>,
-    place: usize,
+    place: u32,
     plan: &Plan<A>,
 ) -> Result<(), AllocError>
     requires place { place < length plans.now }
@@ -364,7 +363,7 @@ fn rename<A: Allocator + Copy>(
     ensures kept { StaysNamed chains.old chains.new }
     ensures named { OnOk result (IsNamed chains.new (flight_of_key plan.now.key) place) }
 {
-    let held = &plans[place];
+    let held = &plans[place as usize];
     chains.rename(held.key(), plan.key(), place)
 }
 

@@ -11,7 +11,7 @@ pub returns-in-Nothing-clause-answer : goal.returns-in-Nothing-clause-answer
 unfolding matching
 returns-in-Nothing-clause-answer g c =
     let head : c.newest-newest.result ≡ newest c.args.chains.now.heads (flight_of_parts c.args.parts.now) =
-    c.newest-newest.ensures.value ∙ ap (λ (n : FlightName). newest c.args.chains.now.heads n) c.of_parts.ensures in
+    c.newest-newest.ensures ∙ ap (λ (n : FlightName). newest c.args.chains.now.heads n) c.of_parts.ensures in
     let all : (k : ℕ) → IsReached c.args.chains.now.nodes (newest c.args.chains.now.heads (flight_of_parts c.args.parts.now)) k → IsCounted (is_candidate c.args.parts.now) (is_gone c.args.parts.now) c.args.plans.now c.found_in.result k =
     rw (c.nodes.ensures.value, head) at c.found_in.ensures.all in
     rw c.in-Nothing.is at (the_one-found _ _ _ _ c.found_in.ensures.sound (counted-everywhere c.args.chains.now c.args.plans.now c.requires.named c.args.parts.now _ all))
@@ -20,7 +20,7 @@ pub returns-in-Gone-clause-answer : goal.returns-in-Gone-clause-answer
 unfolding matching
 returns-in-Gone-clause-answer g c =
     let head : c.newest-newest.result ≡ newest c.args.chains.now.heads (flight_of_parts c.args.parts.now) =
-    c.newest-newest.ensures.value ∙ ap (λ (n : FlightName). newest c.args.chains.now.heads n) c.of_parts.ensures in
+    c.newest-newest.ensures ∙ ap (λ (n : FlightName). newest c.args.chains.now.heads n) c.of_parts.ensures in
     let all : (k : ℕ) → IsReached c.args.chains.now.nodes (newest c.args.chains.now.heads (flight_of_parts c.args.parts.now)) k → IsCounted (is_candidate c.args.parts.now) (is_gone c.args.parts.now) c.args.plans.now c.found_in.result k =
     rw (c.nodes.ensures.value, head) at c.found_in.ensures.all in
     rw c.in-Gone.is at (the_one-found _ _ _ _ c.found_in.ensures.sound (counted-everywhere c.args.chains.now c.args.plans.now c.requires.named c.args.parts.now _ all))
@@ -29,7 +29,7 @@ pub returns-in-One-clause-answer : goal.returns-in-One-clause-answer
 unfolding matching
 returns-in-One-clause-answer g c =
     let head : c.newest-newest.result ≡ newest c.args.chains.now.heads (flight_of_parts c.args.parts.now) =
-    c.newest-newest.ensures.value ∙ ap (λ (n : FlightName). newest c.args.chains.now.heads n) c.of_parts.ensures in
+    c.newest-newest.ensures ∙ ap (λ (n : FlightName). newest c.args.chains.now.heads n) c.of_parts.ensures in
     let all : (k : ℕ) → IsReached c.args.chains.now.nodes (newest c.args.chains.now.heads (flight_of_parts c.args.parts.now)) k → IsCounted (is_candidate c.args.parts.now) (is_gone c.args.parts.now) c.args.plans.now c.found_in.result k =
     rw (c.nodes.ensures.value, head) at c.found_in.ensures.all in
     rw c.in-One.is at (the_one-found _ _ _ _ c.found_in.ensures.sound (counted-everywhere c.args.chains.now c.args.plans.now c.requires.named c.args.parts.now _ all))
@@ -38,7 +38,7 @@ pub returns-in-Several-clause-answer : goal.returns-in-Several-clause-answer
 unfolding matching
 returns-in-Several-clause-answer g c =
     let head : c.newest-newest.result ≡ newest c.args.chains.now.heads (flight_of_parts c.args.parts.now) =
-    c.newest-newest.ensures.value ∙ ap (λ (n : FlightName). newest c.args.chains.now.heads n) c.of_parts.ensures in
+    c.newest-newest.ensures ∙ ap (λ (n : FlightName). newest c.args.chains.now.heads n) c.of_parts.ensures in
     let all : (k : ℕ) → IsReached c.args.chains.now.nodes (newest c.args.chains.now.heads (flight_of_parts c.args.parts.now)) k → IsCounted (is_candidate c.args.parts.now) (is_gone c.args.parts.now) c.args.plans.now c.found_in.result k =
     rw (c.nodes.ensures.value, head) at c.found_in.ensures.all in
     rw c.in-Several.is at (the_one-found _ _ _ _ c.found_in.ensures.sound (counted-everywhere c.args.chains.now c.args.plans.now c.requires.named c.args.parts.now _ all))

@@ -8,7 +8,7 @@ use Rattle.flow_plans.proofs.matching.others_hold_key.Goals as goal
 pub returns : goal.returns
 returns g c =
     let head : c.newest-newest.result ≡ newest c.args.chains.now.heads (flight_of_key c.args.key.now) =
-    c.newest-newest.ensures.value ∙ ap (λ (n : FlightName). newest c.args.chains.now.heads n) c.of_key.ensures in
+    c.newest-newest.ensures ∙ ap (λ (n : FlightName). newest c.args.chains.now.heads n) c.of_key.ensures in
     let none : c.is_held_in.result ≡ false → (k : ℕ) → IsReached c.args.chains.now.nodes (newest c.args.chains.now.heads (flight_of_key c.args.key.now)) k → IsFreeAt c.args.key.now c.args.plans.now (c.args.number - 1) k =
     rw (c.nodes.ensures.value, head) at c.is_held_in.ensures.none in
     others-searched c.args.key.now c.args.number c.args.plans.now c.is_held_in.result c.requires.number.0 c.requires.number.1 c.is_held_in.ensures.found

@@ -19,7 +19,7 @@ returns-clause-named g c =
     let at : c.len.result ≡ length plans = c.len.ensures ∙ c.in_ok-reserve.ensures.len ∙ c.self.inside.plans.ok.0 in
     let name : c.of_key-name.result ≡ flight_of_key c.args.plan.key = c.of_key-name.ensures ∙ ap (λ (k : Key). flight_of_key k) c.key.ensures in
     let last : IsNamed c.push.new.self (flight_of_key c.args.plan.key) (length plans) = rw (at, name) at c.in_ok-push.ensures.named in
-    let named : AreNamed c.args.chains.now plans = rw (sym c.self.view_is) at c.requires in
+    let named : AreNamed c.args.chains.now plans = rw (sym c.self.view_is) at c.requires.named in
     rw items (named-push c.args.chains.now c.push.new.self c.in_ok-push.ensures.kept plans c.args.plan named last)
 
 pub returns-in_err-push-clause-named : goal.returns-in_err-push-clause-named
