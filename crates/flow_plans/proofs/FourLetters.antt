@@ -46,9 +46,9 @@ is-four place n same = cases (length place == 4) refl where
   cases false q = sym (false_from_ne_true _ (λ is. false≢true (sym q ∙ (Decides-eqb (length place) 4).1 (sym (ap length ((bytes_decides _ _).0 is)) ∙ long-four n))))
 
 -- a test of two ways, both of which fail
-pub neither : (b x l m n r : Bool) → x ≡ false → l ≡ false → false ≡ (if b then x else (l && m && n && r))
-neither true x l m n r e f = sym e
-neither false x l m n r e f = rw f refl
+pub neither : (b x l m r : Bool) → x ≡ false → l ≡ false → false ≡ (if b then x else (l && m && r))
+neither true x l m r e f = sym e
+neither false x l m r e f = rw f refl
 
 -- and of which the first holds
 pub first-way : (b x y : Bool) → b ≡ true → (if b then x else y) ≡ x

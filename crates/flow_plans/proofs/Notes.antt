@@ -9,7 +9,7 @@ use Rattle.fpl_text.specs.Times.{elapsed_time}
 use Rattle.fpl_items.specs.Items.{estimate_for}
 use Rattle.flow_plans.specs.declared.estimate.Estimate.{Estimate}
 use Rattle.flow_plans.specs.Places.{may_have, letters_of, four_of}
-use Rattle.flow_plans.specs.Estimates.{is_for, first_for, IsNoteOf, HasPlacesOf}
+use Rattle.flow_plans.specs.Estimates.{start_of, length_of, is_for, first_for, IsNoteOf, HasPlacesOf}
 
 -- either way of a test, the two sides agree
 note-is-word : (b c : Bool) (time : Option ℕ) (minutes : ℕ) (rest : Option ℕ) → b ≡ c → time ≡ Some minutes → option_or (if b then Some minutes else None) rest ≡ (if c then time else rest)
@@ -25,11 +25,11 @@ pub one-more : (field place : List ℕ) (notes : List Estimate) (note : Estimate
 one-more field place [] note word words h = note-is-word _ _ _ _ _ (h.0 place) h.1
 one-more field place (n ∷ ns) note word words h = if-or (is_for field place n) n.minutes _ _ _ _ (one-more field place ns note word words h)
 
--- a test of two bounds, a third thing, and one that follows from it
-all-hold : (l a b c d : Bool) → (d ≡ true → l ≡ true) → a ≡ true → b ≡ true → c ≡ d → (l && a && b && c) ≡ d
-all-hold l a b c true k e f h = rw (k refl, e, f) h
-all-hold true a b c false k e f h = rw (e, f) h
-all-hold false a b c false k e f h = refl
+-- a test of a bound, a second thing, and one that follows from it
+all-hold : (l a c d : Bool) → (d ≡ true → l ≡ true) → a ≡ true → c ≡ d → (l && a && c) ≡ d
+all-hold l a c true k e h = rw (k refl, e) h
+all-hold true a c false k e h = rw e h
+all-hold false a c false k e h = refl
 
 -- either way of a test, the same
 either-way : (b x y z : Bool) → (b ≡ true → x ≡ z) → y ≡ z → (if b then x else y) ≡ z
@@ -37,29 +37,28 @@ either-way true x y z t f = t refl
 either-way false x y z t f = f
 
 -- a note of where a place stands is for that place
-pub note-of-place : (field place name : List ℕ) (start : ℕ) (note : Estimate) → start + length place ≤ length field → slice_range field start (start + length place) ≡ place → note.start ≡ start → note.end ≡ start + length place → note.letters ≡ letters_of place → (length place ≡ 4 → four_of note.letters ≡ place) → is_for field name note ≡ is_text name place
+pub note-of-place : (field place name : List ℕ) (start : ℕ) (note : Estimate) → start + length place ≤ length field → slice_range field start (start + length place) ≡ place → start_of note ≡ start → length_of note ≡ length place → note.letters ≡ letters_of place → (length place ≡ 4 → four_of note.letters ≡ place) → is_for field name note ≡ is_text name place
 unfolding is_for
 note-of-place field place name start note within stands s e l four =
-    let low : nat_le note.start note.end ≡ true = grind (arith, nat_tests, s, e) in
-    let high : nat_le note.end (length field) ≡ true = grind (arith, nat_tests, within, e) in
+    let high : nat_le (start_of note + length_of note) (length field) ≡ true = grind (arith, nat_tests, within, s, e) in
     let same : is_text name place ≡ true → (note.letters == letters_of name) ≡ true = λ is. (Decides-eqb note.letters (letters_of name)).1 (l ∙ ap letters_of ((bytes_decides _ _).0 is)) in
-    let long : (note.end == note.start + 4) ≡ true → length place ≡ 4 = λ is. (let eq : note.end ≡ note.start + 4 = (Decides-eqb _ _).0 is in omega (arith, eq, s, e)) in
-    either-way _ _ _ _ (λ is. ap (is_text name) (four (long is))) (all-hold _ _ _ _ _ same low high (rw (s, e, stands) refl))
+    let long : (length_of note == 4) ≡ true → length place ≡ 4 = λ is. sym e ∙ (Decides-eqb _ _).0 is in
+    either-way _ _ _ _ (λ is. ap (is_text name) (four (long is))) (all-hold _ _ _ _ same high (rw (s, e, stands) refl))
 
 -- a note of a word whose place and time stand there
-pub note-of-word : (field word place time : List ℕ) (cut start minutes : ℕ) (note : Estimate) → cut ≡ length word - 4 → place ≡ take cut word → time ≡ drop cut word → start + length place ≤ length field → slice_range field start (start + length place) ≡ place → Some minutes ≡ elapsed_time time → note.start ≡ start → note.end ≡ start + length place → note.minutes ≡ minutes → note.letters ≡ letters_of place → (length place ≡ 4 → four_of note.letters ≡ place) → IsNoteOf field word note
+pub note-of-word : (field word place time : List ℕ) (cut start minutes : ℕ) (note : Estimate) → cut ≡ length word - 4 → place ≡ take cut word → time ≡ drop cut word → start + length place ≤ length field → slice_range field start (start + length place) ≡ place → Some minutes ≡ elapsed_time time → start_of note ≡ start → length_of note ≡ length place → note.minutes ≡ minutes → note.letters ≡ letters_of place → (length place ≡ 4 → four_of note.letters ≡ place) → IsNoteOf field word note
 note-of-word field word place time cut start minutes note cutting front back within stands told s e m l four =
     let p : place ≡ take (length word - 4) word = cc in
     let t : elapsed_time (drop (length word - 4) word) ≡ Some note.minutes = cc in
     (λ name. rw (← p) (note-of-place field place name start note within stands s e l four), t)
 
 -- a note of a word whose place has four letters
-pub note-of-four : (field word place time : List ℕ) (cut minutes : ℕ) (note : Estimate) → cut ≡ length word - 4 → place ≡ take cut word → time ≡ drop cut word → length place ≡ 4 → Some minutes ≡ elapsed_time time → note.start ≡ 0 → note.end ≡ 4 → note.minutes ≡ minutes → four_of note.letters ≡ place → IsNoteOf field word note
+pub note-of-four : (field word place time : List ℕ) (cut minutes : ℕ) (note : Estimate) → cut ≡ length word - 4 → place ≡ take cut word → time ≡ drop cut word → length place ≡ 4 → Some minutes ≡ elapsed_time time → length_of note ≡ 4 → note.minutes ≡ minutes → four_of note.letters ≡ place → IsNoteOf field word note
 unfolding is_for
-note-of-four field word place time cut minutes note cutting front back long told s e m four =
+note-of-four field word place time cut minutes note cutting front back long told e m four =
     let p : place ≡ take (length word - 4) word = cc in
     let t : elapsed_time (drop (length word - 4) word) ≡ Some note.minutes = cc in
-    (λ name. rw (← p, s, e) (ap (is_text name) four), t)
+    (λ name. rw (← p, e) (ap (is_text name) four), t)
 
 -- one word noted, of those that are left
 pub word-noted : (field place : List ℕ) (before after : List Estimate) (note : Estimate) (word : List ℕ) (left rest : List (List ℕ)) (all : Option ℕ) → left ≡ word ∷ rest → after ≡ before ++ note ∷ [] → IsNoteOf field word note → option_or (first_for field place before) (estimate_for place left) ≡ all → option_or (first_for field place after) (estimate_for place rest) ≡ all

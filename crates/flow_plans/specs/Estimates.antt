@@ -1,5 +1,5 @@
 -- What a plan notes of the EET items of its field 18 (ICAO Doc 4444, appendix 3, field type 18), so that the field is read once.
-use Rattle.std.specs.Prelude.{◌≡◌, ℕ, ◌+◌, ◌-◌, Bool, true, false, ◌&&◌, ◌==◌, nat_le, if◌then◌else◌, List, [], ◌∷◌, length, take, drop, slice_range, Option, Some, None}
+use Rattle.std.specs.Prelude.{◌≡◌, ℕ, ◌+◌, ◌-◌, ◌/◌, ◌%◌, Bool, true, false, ◌&&◌, ◌==◌, nat_le, if◌then◌else◌, List, [], ◌∷◌, length, take, drop, slice_range, Option, Some, None}
 use Rattle.std.specs.Option.{option_or}
 use Rattle.fpl_text.specs.Times.{elapsed_time}
 use Rattle.fpl_text.specs.Words.{words_of}
@@ -8,11 +8,18 @@ use Rattle.fpl_items.specs.Items.{items_of, estimate_for, elapsed_to}
 use Rattle.flow_plans.specs.declared.estimate.Estimate.{Estimate}
 use Rattle.flow_plans.specs.Places.{may_have, letters_of, four_of}
 
+-- where the place of a note begins in the field, and its length
+abbrev pub start_of : Estimate → ℕ
+start_of e = e.stand / 16
+
+abbrev pub length_of : Estimate → ℕ
+length_of e = e.stand % 16
+
 -- whether a note is for a place: a place of four letters is known by these, another one stands where the note says
 unfoldable pub is_for : List ℕ → List ℕ → Estimate → Bool
 is_for field place e =
-    if e.end == e.start + 4 then is_text place (four_of e.letters)
-    else (e.letters == letters_of place) && nat_le e.start e.end && nat_le e.end (length field) && is_text place (slice_range field e.start e.end)
+    if length_of e == 4 then is_text place (four_of e.letters)
+    else (e.letters == letters_of place) && nat_le (start_of e + length_of e) (length field) && is_text place (slice_range field (start_of e) (start_of e + length_of e))
 
 -- the minutes of the first of these notes that is for a place
 abbrev pub first_for : List ℕ → List ℕ → List Estimate → Option ℕ

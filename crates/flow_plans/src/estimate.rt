@@ -1,17 +1,15 @@
 //! One estimate of an EET item, as a plan notes it.
-ghost use Rattle.std.specs.Prelude.{◌≡◌, ◌<◌, IfSome, length};
+ghost use Rattle.std.specs.Prelude.{◌≡◌, ◌<◌, ◌+◌, IfSome, length};
 ghost use Rattle.flow_plans.specs.Places.{letters_of, four_of};
 
-/// The elapsed time to a place of the way. The place is named in field 18, and the note says where. A place of four letters is known
-/// by these without a look at the field, and the first four letters of a longer one tell it from most others.
+/// The elapsed time to a place of the way, in eight bytes. The place is named in field 18, and the note says where. A place of four
+/// letters is known by these without a look at the field, and the first four letters of a longer one tell it from most others.
 #[derive(Clone, Copy, Debug)]
 pub(crate) struct Estimate {
     /// The first four letters of the place, as `letters_of` gives them.
     letters: u32,
-    /// Where the place begins in the field.
-    start: u16,
-    /// Where it ends.
-    end: u16,
+    /// 16 times where the place begins in the field, and its length, which is below 16.
+    stand: u16,
     /// From take-off to the place, in minutes.
     minutes: u16,
     ghost bound: { minutes < 6000 },
@@ -26,39 +24,54 @@ impl Default for Estimate {
     fn default() -> Self {
         Estimate {
             letters: 0,
-            start: 0,
-            end: 0,
+            stand: 0,
             minutes: 0,
         }
     }
 }
 
 impl Estimate {
-    ghost use Rattle.flow_plans.specs.Estimates.{is_for};
+    ghost use Rattle.flow_plans.specs.Estimates.{start_of, length_of, is_for};
 
-    /// An estimate for the place of these letters that begins and ends there in the field. None where a number is too large for a
-    /// note.
-    pub(crate) fn new(letters: u32, start: usize, end: usize, minutes: u32) -> Option<Estimate>
+    /// An estimate for the place of these letters that begins there in the field and has that length. None where a number is too large
+    /// for a note.
+    pub(crate) fn new(letters: u32, start: usize, length: usize, minutes: u32) -> Option<Estimate>
         requires { minutes < 6000 }
-        ensures { IfSome result (λ e. (e.start ≡ start) × (e.end ≡ end) × (e.minutes ≡ minutes) × (e.letters ≡ letters)) }
+        ensures { IfSome result (λ e. (start_of e ≡ start) × (length_of e ≡ length) × (e.minutes ≡ minutes) × (e.letters ≡ letters)) }
     {
-        if start > 65_535 || end > 65_535 {
+        if start >= 4096 || length >= 16 {
             return None;
         }
         Some(Estimate {
             letters,
-            start: start as u16,
-            end: end as u16,
+            stand: (16 * start + length) as u16,
             minutes: minutes as u16,
         })
     }
 
+    /// Where the place begins in the field.
+    #[inline(always)]
+    fn start(&self) -> usize
+        ensures value { result ≡ start_of self.now }
+        ensures bound { result < 4096 }
+    {
+        usize::from(self.stand / 16)
+    }
+
+    /// Its length.
+    #[inline(always)]
+    fn length(&self) -> usize
+        ensures value { result ≡ length_of self.now }
+        ensures bound { result < 16 }
+    {
+        usize::from(self.stand % 16)
+    }
+
     /// Where the place ends in the field.
     pub(crate) fn end(&self) -> usize
-        ensures value { result ≡ self.now.end }
-        ensures bound { result < 65_536 }
+        ensures { result ≡ start_of self.now + length_of self.now }
     {
-        usize::from(self.end)
+        self.start() + self.length()
     }
 
     /// The minutes from take-off to the place.
@@ -88,11 +101,12 @@ impl Estimate {
         if self.letters() != letters {
             return false;
         }
-        let start = usize::from(self.start);
-        let end = usize::from(self.end);
-        if end == start + 4 {
+        let length = self.length();
+        if length == 4 {
             return place.len() == 4;
         }
-        start <= end && end <= field.len() && &field[start..end] == place
+        let start = self.start();
+        let end = start + length;
+        end <= field.len() && &field[start..end] == place
     }
 }

@@ -125,7 +125,7 @@ fn note_of(field: &[u8], word: &[u8], from: usize) -> Option<Estimate>
         return Some(short);
     }
     let start = place_in(field, place, from)?;
-    let note = Estimate::new(letters_of(place), start, start + place.len(), minutes)?;
+    let note = Estimate::new(letters_of(place), start, place.len(), minutes)?;
     Some(note)
 }
 

@@ -133,7 +133,7 @@ fn is_place(aerodrome: &[u8], place: &[u8]) -> bool
 /// A flight plan as the desk holds it.
 ///
 /// What says where the flight enters a place stands together, since opening a regulation looks at it in each plan whose flight may
-/// come there: from the key to the places of the estimates, with which the texts begin.
+/// come there: from the key to the first notes of the estimates, with which the texts begin.
 #[derive(Drop)]
 pub struct Plan<A: Allocator + Copy = Global> {
     alternates: Alternates,
