@@ -29,6 +29,8 @@ pub(crate) struct Outline {
     is_filed: bool,
 }
 
+const _: () = prove!(size_of::<Outline>() <= 24);
+
 /// This many minutes, or `LONGEST_TOLD` where they are more.
 fn told(minutes: u32) -> u16
     ensures { result ≡ min minutes 65_535 }
