@@ -1,9 +1,9 @@
 -- Outlines of plans, and rows of them.
-use Rattle.std.proofs.Common.{◌≡◌, ℕ, zero, suc, ◌+◌, ◌-◌, ◌<◌, ◌≤◌, arith, get_or, Bool, true, false, not, ◌&&◌, nat_le, nat_lt, if◌then◌else◌, List, [], ◌∷◌, ◌++◌, length, take, Option, Some, None, slice_get, slice_set, unwrap_or, refl, sym, ap, ◌∙◌}
+use Rattle.std.proofs.Common.{◌≡◌, ℕ, zero, suc, ◌+◌, ◌-◌, ◌<◌, ◌≤◌, ◌⊎◌, inl, inr, min, arith, get_or, Bool, true, false, not, ◌&&◌, ◌||◌, ◌==◌, nat_le, nat_lt, if◌then◌else◌, List, [], ◌∷◌, ◌++◌, length, take, Option, Some, None, slice_get, slice_set, unwrap_or, refl, sym, ap, ◌∙◌}
 use Rattle.std.specs.Prelude.{IsSome, IfSome, codes}
 use Rattle.std.specs.Option.{option_and_then}
 use Rattle.std.specs.Str.{bytes_eq}
-use Rattle.std.proofs.lemmas.Bool.{false≢true, eq-eqb, and_parts, le-leb, lt-ltb, leb-true, ltb-true}
+use Rattle.std.proofs.lemmas.Bool.{false≢true, eq-eqb, and_parts, le-leb, lt-ltb, leb-true, ltb-true, cases_lt}
 use Rattle.std.proofs.lemmas.Nat.Bits.{bit_at_ones}
 use Rattle.std.proofs.lemmas.Option.{slice_get-get_or}
 use lib.Pointwise.{bytes_decides}
@@ -11,10 +11,10 @@ use Rattle.fpl_text.specs.Moments.{moment_within}
 use Rattle.fpl_message.specs.declared.order.Spot.{Spot}
 use Rattle.fpl_message.specs.declared.order.Spot.TheVariants.{Dep, Arr, Via}
 use Rattle.flow_plans.specs.declared.outline.Outline.{Outline}
-use Rattle.flow_plans.specs.Plans.{Plan, is_filed, is_visual, plan_at}
+use Rattle.flow_plans.specs.Plans.{Plan, is_filed, is_visual, plan_at, filed_moment, filed_off_block}
 use Rattle.flow_plans.specs.Places.{bit_of, may_have, letters_of}
 use Rattle.flow_plans.specs.Entries.{take_off, elapsed_at, entry_at, in_period, subject}
-use Rattle.flow_plans.specs.Outlines.{may_be_subject, may_come, may_fly, IsOutlineOf, AreOutlines}
+use Rattle.flow_plans.specs.Outlines.{may_be_subject, may_come, may_fly, outlined_moment, IsOutlineOf, AreOutlines}
 use Rattle.flow_plans.proofs.NearLemmas.{bit-below, some-first, some-if, some-then, subject-enters}
 
 -- a set of all places has each place
@@ -33,9 +33,13 @@ subject-may-be taxi start end spot p h =
       but-third true false c d e = absurd (false≢true e)
       but-third false b c d e = absurd (false≢true e)
 
--- any outline is of a plan to which no regulation applies
-pub outline-of-none : (o : Outline) (p : Plan) → may_be_subject p ≡ false → IsOutlineOf o p
-outline-of-none o p never taxi start end spot h = absurd (false≢true (sym never ∙ subject-may-be taxi start end spot p h))
+-- any outline comes where the flight of a plan does to which no regulation applies
+pub outline-of-none : (o : Outline) (p : Plan) → o.is_filed ≡ is_filed p.state → o.off_block ≡ p.off_block → may_be_subject p ≡ false → IsOutlineOf o p
+outline-of-none o p is off_block never = record {
+  is_filed = is;
+  off_block = off_block;
+  comes = λ taxi start end spot h. absurd (false≢true (sym never ∙ subject-may-be taxi start end spot p h));
+}
 
 -- when a flight enters a place in a period
 record EntersIn (taxi start end : ℕ) (spot : Spot) (p : Plan) : Type 0 where
@@ -88,10 +92,17 @@ enters-between taxi longest moment (Arr place) p arrival way e =
     (omega (arith, same), omega (arith, same, arrival))
 enters-between taxi longest moment (Via place) p arrival way e = on-way (take_off taxi p) longest moment (elapsed_at place p) (way place) e
 
-flies : (taxi start end moment : ℕ) (o : Outline) → Between (o.off_block + taxi) o.longest moment → start ≤ moment → moment < end → may_fly taxi start end o ≡ true
+or-right : (a b : Bool) → b ≡ true → (a || b) ≡ true
+or-right true b e = refl
+or-right false b e = e
+
+flies : (taxi start end moment longest : ℕ) (o : Outline) → o.longest ≡ min longest 65_535 → Between (o.off_block + taxi) longest moment → start ≤ moment → moment < end → may_fly taxi start end o ≡ true
 unfolding may_fly
-flies taxi start end moment o b from to =
-    rw (lt-ltb (o.off_block + taxi) end (omega (arith, b.0, to)), le-leb start (o.off_block + taxi + o.longest) (omega (arith, b.1, from))) refl
+flies taxi start end moment longest o told b from to =
+    rw (lt-ltb (o.off_block + taxi) end (omega (arith, b.0, to))) (by (cases_lt longest 65_535)) where
+      by : (longest < 65_535) ⊎ (65_535 ≤ longest) → (nat_le start (o.off_block + taxi + o.longest) || (o.longest == 65_535)) ≡ true
+      by (inl short) = rw (le-leb start (o.off_block + taxi + o.longest) (omega (arith, told, short, b.1, from))) refl
+      by (inr long) = or-right (nat_le start (o.off_block + taxi + o.longest)) (o.longest == 65_535) (eq-eqb _ _ (omega (arith, told, long)))
 
 -- an outline with the letters of both ends, and the places of the way, comes where its flight does
 outline-comes : (o : Outline) (p : Plan) → o.dep ≡ letters_of p.key.dep → o.dest ≡ letters_of p.key.dest
@@ -107,13 +118,17 @@ outline-comes o p dep dest way taxi start end (Via place) h =
     way place (some-first (elapsed_at place p) (λ elapsed. moment_within (take_off taxi p + elapsed)) (subject-enters taxi start end (Via place) p h))
 
 -- with the off-block moment and the longest time it comes when its flight does
-pub outline-of-all : (o : Outline) (p : Plan) → o.dep ≡ letters_of p.key.dep → o.dest ≡ letters_of p.key.dest
+pub outline-of-all : (o : Outline) (p : Plan) (longest : ℕ) → o.is_filed ≡ is_filed p.state → o.off_block ≡ p.off_block → o.dep ≡ letters_of p.key.dep → o.dest ≡ letters_of p.key.dest
     → ((place : List ℕ) → IsSome (elapsed_at place p) → may_have o.way place ≡ true)
-    → o.off_block ≡ p.off_block → p.elapsed ≤ o.longest → ((place : List ℕ) → IfSome (elapsed_at place p) (λ minutes. minutes ≤ o.longest)) → IsOutlineOf o p
-outline-of-all o p dep dest way off_block arrival minutes taxi start end spot h =
-    let at = subject-in taxi start end spot p h in
-    let between : Between (o.off_block + taxi) o.longest at.moment = rw off_block (enters-between taxi o.longest at.moment spot p arrival minutes at.enters) in
-    rw (outline-comes o p dep dest way taxi start end spot h, flies taxi start end at.moment o between at.from at.to) refl
+    → o.longest ≡ min longest 65_535 → p.elapsed ≤ longest → ((place : List ℕ) → IfSome (elapsed_at place p) (λ minutes. minutes ≤ longest)) → IsOutlineOf o p
+outline-of-all o p longest is off_block dep dest way told arrival minutes = record {
+  is_filed = is;
+  off_block = off_block;
+  comes = λ taxi start end spot h.
+      (let at = subject-in taxi start end spot p h in
+      let between : Between (o.off_block + taxi) longest at.moment = rw off_block (enters-between taxi longest at.moment spot p arrival minutes at.enters) in
+      rw (outline-comes o p dep dest way taxi start end spot h, flies taxi start end at.moment longest o told between at.from at.to) refl);
+}
 
 -- as many outlines as plans
 pub outlines-long : (os : List Outline) (ps : List Plan) → AreOutlines os ps → length os ≡ length ps
@@ -156,8 +171,26 @@ outline-never [] ps i o taxi start end spot h at never = absurd (cc)
 outline-never (n ∷ os) [] i o taxi start end spot h at never = absurd h
 outline-never (n ∷ os) (p ∷ ps) zero o taxi start end spot h at never =
     let same : (may_come spot n && may_fly taxi start end n) ≡ false = ap (λ (x : Option Outline). may_come spot (unwrap_or x n) && may_fly taxi start end (unwrap_or x n)) at ∙ never in
-    no-entry (subject taxi spot start end p) (may_come spot n && may_fly taxi start end n) same (h.0 taxi start end spot)
+    no-entry (subject taxi spot start end p) (may_come spot n && may_fly taxi start end n) same (h.0.comes taxi start end spot)
 outline-never (n ∷ os) (p ∷ ps) (suc i) o taxi start end spot h at never = outline-never os ps i o taxi start end spot h.1 at never
+
+-- an outline says whether its plan is filed, and its off-block moment
+outlined-same : (o : Outline) (p : Plan) → IsOutlineOf o p → outlined_moment o ≡ filed_moment p
+outlined-same o p h = rw (h.is_filed, h.off_block) refl
+
+-- so does that at a place
+outlined-at : (os : List Outline) (ps : List Plan) (i : ℕ) → AreOutlines os ps → option_and_then outlined_moment (slice_get os i) ≡ option_and_then filed_moment (slice_get ps i)
+outlined-at [] [] i h = refl
+outlined-at [] (p ∷ ps) i h = absurd h
+outlined-at (o ∷ os) [] i h = absurd h
+outlined-at (o ∷ os) (p ∷ ps) zero h = outlined-same o p h.0
+outlined-at (o ∷ os) (p ∷ ps) (suc i) h = outlined-at os ps i h.1
+
+-- and that of a number
+pub outlined-number : (os read : List Outline) (ps all : List Plan) (number : ℕ) (o : Option Outline) → AreOutlines os ps → ps ≡ all → read ≡ os → o ≡ slice_get read (number - 1) → option_and_then outlined_moment o ≡ filed_off_block all number
+outlined-number os read ps all number o h same all_read at =
+    ap (option_and_then outlined_moment) (at ∙ ap (λ (xs : List Outline). slice_get xs (number - 1)) all_read)
+    ∙ outlined-at os ps (number - 1) h ∙ ap (λ (qs : List Plan). filed_off_block qs number) same
 
 -- the place of a plan is one of an outline
 pub outline-within : (number len : ℕ) (os : List Outline) (ps all : List Plan) → len ≡ length os → AreOutlines os ps → ps ≡ all → (0 < number) × (number ≤ length all) → number - 1 < len

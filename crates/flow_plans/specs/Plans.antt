@@ -1,6 +1,6 @@
 -- Flight plans as the desk holds them.
 use Rattle.std.specs.Prelude.{ℕ, ◌-◌, Bool, true, false, ◌&&◌, ◌==◌, if◌then◌else◌, List, slice_get, slice_set, Option, Some, None}
-use Rattle.std.specs.Option.{option_map, option_map_or}
+use Rattle.std.specs.Option.{option_map, option_map_or, option_and_then}
 use Rattle.std.specs.Str.{bytes_eq}
 use Rattle.fpl_text.specs.declared.craft.FlightRules.{FlightRules}
 use Rattle.fpl_text.specs.declared.craft.FlightRules.TheVariants as rules
@@ -71,6 +71,14 @@ text_of field texts =
 -- the plan of this number, where plan n is the n-th
 abbrev pub plan_at : List Plan → ℕ → Option Plan
 plan_at plans number = slice_get plans (number - 1)
+
+-- the off-block moment of a plan, where it is filed
+abbrev pub filed_moment : Plan → Option ℕ
+filed_moment plan = if is_filed plan.state then Some plan.off_block else None
+
+-- that of the plan of this number: none where there is no such plan, or where it has departed or was cancelled
+abbrev pub filed_off_block : List Plan → ℕ → Option ℕ
+filed_off_block plans number = option_and_then filed_moment (plan_at plans number)
 
 -- where a plan stands, and its off-block moment
 abbrev pub status_of : Plan → Status

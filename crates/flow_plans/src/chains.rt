@@ -66,6 +66,8 @@ pub(crate) struct Node {
     pub(crate) previous: Option<u32>,
 }
 
+const _: () = prove!(size_of::<Node>() <= 12);
+
 /// From a flight name to the newest node of its chain, which stands in the map itself: most flights have one plan, and are found
 /// with no look at another node. Nothing is ever taken out: a node counts only where its plan has the name now.
 #[derive(Drop)]

@@ -1,8 +1,8 @@
-//! Where and when a regulation may apply to a flight, in few bytes.
+//! Where and when a regulation may apply to a flight, and whether its plan is filed, in few bytes.
 //!
 //! Most flights never come to the place of a regulation, or not while it lasts. Their outlines say so without a look at their plans.
-ghost use Rattle.std.specs.Prelude.{◌≡◌};
-ghost use Rattle.flow_plans.specs.Outlines.{may_come, may_fly, IsOutlineOf};
+ghost use Rattle.std.specs.Prelude.{◌≡◌, min};
+ghost use Rattle.flow_plans.specs.Outlines.{may_come, may_fly, outlined_moment, IsOutlineOf};
 
 use crate::places::{letters_of, may_have};
 use crate::plan::Plan;
@@ -10,7 +10,10 @@ use fpl_message::Spot;
 use fpl_text::Minute;
 use std::alloc::Allocator;
 
-/// The places at which a regulation may apply to a flight.
+/// The longest time that an outline tells, in minutes, which stands for any longer one too.
+const LONGEST_TOLD: u16 = 65_535;
+
+/// The places at which a regulation may apply to a flight and when, and whether its plan is filed.
 #[derive(Clone, Copy, Debug)]
 pub(crate) struct Outline {
     /// The letters of the departure, as `letters_of` gives them.
@@ -21,8 +24,22 @@ pub(crate) struct Outline {
     way: u64,
     /// The off-block moment.
     off_block: Minute,
-    /// The minutes from take-off to the last place that the flight comes to, or more.
-    longest: u32,
+    /// The minutes from take-off to the last place that the flight comes to, or more. Any longer time is `LONGEST_TOLD`.
+    longest: u16,
+    is_filed: bool,
+}
+
+const _: () = prove!(size_of::<Outline>() <= 24);
+
+/// This many minutes, or `LONGEST_TOLD` where they are more.
+fn told(minutes: u32) -> u16
+    ensures { result ≡ min minutes 65_535 }
+{
+    if minutes < 65_535 {
+        minutes as u16
+    } else {
+        LONGEST_TOLD
+    }
 }
 
 impl Outline {
@@ -30,13 +47,16 @@ impl Outline {
     pub(crate) fn of<A: Allocator + Copy>(plan: &Plan<A>) -> Outline
         ensures { IsOutlineOf result plan.now }
     {
+        let off_block = plan.off_block();
+        let is_filed = plan.is_filed();
         if !plan.may_be_subject() {
             return Outline {
                 dep: 0,
                 dest: 0,
                 way: 0,
-                off_block: Minute::from_minutes(0),
+                off_block,
                 longest: 0,
+                is_filed,
             };
         }
         let key = plan.key();
@@ -44,8 +64,9 @@ impl Outline {
             dep: letters_of(key.dep.as_bytes()),
             dest: letters_of(key.dest.as_bytes()),
             way: plan.way(),
-            off_block: plan.off_block(),
-            longest: plan.longest(),
+            off_block,
+            longest: told(plan.longest()),
+            is_filed,
         }
     }
 
@@ -62,9 +83,21 @@ impl Outline {
         }
     }
 
+    /// The off-block moment, where the plan is filed.
+    #[inline(always)]
+    pub(crate) fn filed_off_block(&self) -> Option<Minute>
+        ensures { result ≡ outlined_moment self.now }
+    {
+        if self.is_filed {
+            Some(self.off_block)
+        } else {
+            None
+        }
+    }
+
     /// The minutes from take-off to the last place that the flight comes to, or more.
     #[inline(always)]
-    fn longest(&self) -> u32
+    fn longest(&self) -> u16
         ensures { result ≡ self.now.longest }
     {
         self.longest
@@ -78,6 +111,7 @@ impl Outline {
     {
         let take_off = u64::from(self.off_block.minutes()) + u64::from(taxi);
         let last = take_off + u64::from(self.longest());
-        take_off < u64::from(end.minutes()) && u64::from(start.minutes()) <= last
+        take_off < u64::from(end.minutes())
+            && (u64::from(start.minutes()) <= last || self.longest() == LONGEST_TOLD)
     }
 }

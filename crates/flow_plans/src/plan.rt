@@ -238,7 +238,7 @@ impl<A: Allocator + Copy> Plan<A> {
 
     /// Whether the plan was filed, and neither departed nor was cancelled.
     #[inline]
-    fn is_filed(&self) -> bool
+    pub(crate) fn is_filed(&self) -> bool
         ensures { result ≡ is_filed self.now.state }
     {
         matches!(self.state, PlanState::Filed)

@@ -4,7 +4,7 @@
 ghost use Rattle.std.specs.Prelude.{◌≡◌, ◌+◌, ◌≤◌, ◌<◌, ◌-◌, ◌++◌, ◌∷◌, ℕ, [], None, false, length, take, OnOk, OnErr, IfSome};
 ghost use Rattle.flow_plans.specs.Chains.{AreNamed, StaysNamed};
 ghost use Rattle.flow_plans.specs.Entries.{subject};
-ghost use Rattle.flow_plans.specs.Plans.{plan_at, with_plan, changed_at, with_state, with_off_block};
+ghost use Rattle.flow_plans.specs.Plans.{plan_at, filed_off_block, with_plan, changed_at, with_state, with_off_block};
 
 use crate::chains::{Chains, FlightName};
 use crate::outline::Outline;
@@ -58,6 +58,18 @@ impl<A: Allocator + Copy> PlanList<A> {
         ensures { result ≡ length self.now }
     {
         self.plans.len()
+    }
+
+    /// The off-block moment of the plan of this number, where it is filed.
+    #[inline(always)]
+    pub(crate) fn filed_off_block(&self, number: u32) -> Option<Minute>
+        requires { 0 < number }
+        ensures { result ≡ filed_off_block self.now number }
+    {
+        match self.outlines.get((number - 1) as usize) {
+            Some(outline) => outline.filed_off_block(),
+            None => None,
+        }
     }
 
     /// Whether the flight of the plan of this number may come to a place in a period. Where it may not, no regulation of that place

@@ -5,7 +5,7 @@ ghost use Rattle.flow_plans.specs.Settings.{IsDeskTime};
 ghost use Rattle.flow_plans.specs.Entries.{take_off, entry_at, subject};
 ghost use Rattle.flow_plans.specs.Undoing.{undone, IsOf};
 ghost use Rattle.flow_plans.specs.Chains.{flight_of_key, IsNamed, AreNamed, StaysNamed};
-ghost use Rattle.flow_plans.specs.Plans.{is_held_as, plan_at, status_at, with_plan, changed_at, with_state, with_off_block};
+ghost use Rattle.flow_plans.specs.Plans.{is_held_as, plan_at, filed_off_block, status_at, with_plan, changed_at, with_state, with_off_block};
 ghost use Rattle.fpl_message.specs.declared.order.Spot.{Spot};
 ghost use Rattle.flow_plans.specs.Near.{row_of, word_at, HasBitsOf};
 ghost use Rattle.flow_plans.specs.Matching.{matching};
@@ -272,6 +272,15 @@ impl<A: Allocator + Copy> PlanStore<A> {
         ensures { IfSome (plan_at self.now.plans number) (λ plan. result ≡ take_off self.now.taxi plan) }
     {
         self.plans.as_slice()[(number - 1) as usize].take_off(self.taxi)
+    }
+
+    /// The off-block moment of the plan of this number, where it is filed. It reads its outline alone.
+    #[inline(always)]
+    pub fn filed_off_block(&self, number: u32) -> Option<Minute>
+        requires { 0 < number }
+        ensures { result ≡ filed_off_block self.now.plans number }
+    {
+        self.plans.filed_off_block(number)
     }
 
     /// The moment at which the plan of this number enters a place: its take-off at the departure, and later by the elapsed

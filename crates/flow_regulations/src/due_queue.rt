@@ -8,7 +8,7 @@ ghost use Rattle.flow_plans.specs.Plans.{Plan as Held, plan_at, is_filed};
 ghost use Rattle.flow_regulations.specs.Awaiting.{Covers, awaits, BecameDue, AreHeld, earlier_first};
 ghost use Rattle.flow_regulations.specs.Listing.{HoldNewlyDue};
 
-use flow_plans::{PlanState, PlanStore};
+use flow_plans::PlanStore;
 use fpl_text::Minute;
 use std::alloc::{AllocError, Allocator, Global};
 use std::cmp::Reverse;
@@ -164,13 +164,11 @@ fn awaits<A: Allocator + Copy>(plans: &PlanStore<A>, flight: &Awaited, earlier: 
     requires { 0 < flight.now.number }
     ensures { result ≡ awaits earlier plans.now.plans flight.now }
 {
-    let Some(plan) = plans.plan(flight.number) else {
+    let Some(moment) = plans.filed_off_block(flight.number) else {
         return false;
     };
-    let off_block = plan.off_block().minutes();
-    matches!(plan.state(), PlanState::Filed)
-        && off_block == flight.off_block
-        && earlier.minutes() + 120 < off_block
+    let off_block = moment.minutes();
+    off_block == flight.off_block && earlier.minutes() + 120 < off_block
 }
 
 /// Takes out all flights whose off-block moment is at most two hours after `now`, and appends those that have become due.
