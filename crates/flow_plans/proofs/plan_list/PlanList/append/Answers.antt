@@ -24,5 +24,5 @@ returns-clause-named g c =
 
 pub returns-in_err-push-clause-named : goal.returns-in_err-push-clause-named
 returns-in_err-push-clause-named g c = λ place plan there.
-    (let named : AreNamed c.args.chains.now c.self.inside.plans.items = rw (sym c.self.view_is) at c.requires in
+    (let named : AreNamed c.args.chains.now c.self.inside.plans.items = rw (sym c.self.view_is) at c.requires.named in
     c.in_err-push.ensures.kept (flight_of_key plan.key) place (named place plan (rw c.in_ok-reserve.ensures.items at there)))
