@@ -1,12 +1,12 @@
 -- What the operations on vectors of 16 bytes hold at each lane.
-use Rattle.std.proofs.Common.{zero, suc, ◌+◌, ◌≡◌, ◌↔◌, ℕ, ◌%◌, ◌^◌, ◌<◌, ◌≤◌, List, [], ◌∷◌, Bool, true, false, cond, not, leb, eqb, ◌&&◌, ◌||◌, length, get_or, map, replicate, refl, sym, ap, ◌∙◌, arith, w8, w64, bit_and, bit_or, ⊎_elim, inl, inr, shr-shr, ◌/◌}
+use Rattle.std.proofs.Common.{zero, suc, ◌+◌, ◌≡◌, ◌↔◌, ℕ, ◌%◌, ◌^◌, ◌<◌, ◌≤◌, ◌-◌, List, [], ◌∷◌, Bool, true, false, cond, not, leb, eqb, ◌&&◌, ◌||◌, length, get_or, map, replicate, refl, sym, ap, ◌∙◌, arith, w8, w64, bit_and, bit_or, ⊎_elim, inl, inr, shr-shr, ◌/◌}
 use Rattle.std.specs.Int.{bit_at, trailing_ones, trailing_zeros}
 use Rattle.std.specs.Int.RustNames.{count_ones}
 use Rattle.std.specs.List.{count_by}
 use Rattle.std.specs.Simd.Lanes.{zip2, sel_l, mask_l, top}
 use Rattle.std.proofs.lemmas.Simd.{bitmask_splat, ones-mask_l, length-zip2, get_or-zip2, get_or-replicate, length-sel_l, get_or-sel_l, bit_mask_l, tops_compared, mask_l-mod, mask_l-lt}
 use Rattle.std.proofs.lemmas.Nat.Bits.{bit_at-trailing_ones, bit_at-trailing_zeros, bit_at-pow_same, bit_at-pow_other, bit_at_or, bit_at_and, bit_at-lt}
-use Rattle.std.proofs.lemmas.Nat.{and_le_l}
+use Rattle.std.proofs.lemmas.Nat.{and_le_l, shr_le}
 use lib.Bits.{or_add_and}
 use Rattle.std.specs.Prelude.{◌⊎◌, max, min}
 use Rattle.std.proofs.lemmas.Bool.{cases_lt, leb-true, leb-false}
@@ -136,12 +136,6 @@ mask-tops v long = record {
   small = rw (length-map v is_set, long) at (mask_l-lt (map is_set v));
 }
 
--- how many of the lowest bits of a mask are set
-pub record IsFront (v : List ℕ) (n : ℕ) : Type 0 where
-  pub bound : n ≤ 16
-  pub set : (p : ℕ → Bool) → HasFlags v p → (k : ℕ) → k < n → p k ≡ true
-  pub stops : (p : ℕ → Bool) → HasFlags v p → n < 16 → p n ≡ false
-
 set_flag : (p : Bool) → 128 ≤ flag p → p ≡ true
 set_flag true h = refl
 set_flag false h = absurd (omega arith)
@@ -150,15 +144,35 @@ unset_flag : (p : Bool) → (128 ≤ flag p → ⊥) → p ≡ false
 unset_flag true h = absurd (h (omega arith))
 unset_flag false h = refl
 
-pub front-mask : (v : List ℕ) (m : ℕ) → length v ≡ 16 → ((k : ℕ) → (bit_at m k ≡ 1) ↔ (128 ≤ get_or v k 0)) → m < 65536 → IsFront v (trailing_ones w64 m)
-front-mask v m long bits small =
-    let t = bit_at-trailing_ones w64 m (omega arith) in
-    let n = trailing_ones w64 m in
-    let bound : n ≤ 16 = ⊎_elim (λ h. let past : 128 ≤ 0 = rw (get_or_past v 16 0 (omega arith)) at ((bits 16).0 (t.2 16 h)) in absurd (omega arith)) (λ h. h) (cases_lt 16 n) in
+-- how many bits of a mask are set from a place on
+pub record IsFrontFrom (v : List ℕ) (place n : ℕ) : Type 0 where
+  pub bound : place + n ≤ 16
+  pub set : (p : ℕ → Bool) → HasFlags v p → (k : ℕ) → k < n → p (place + k) ≡ true
+  pub stops : (p : ℕ → Bool) → HasFlags v p → place + n < 16 → p (place + n) ≡ false
+
+pub front-from : (v : List ℕ) (m place : ℕ) → length v ≡ 16 → place ≤ 16 → ((k : ℕ) → (bit_at m k ≡ 1) ↔ (128 ≤ get_or v k 0)) → m < 65536
+    → IsFrontFrom v place (trailing_ones w64 (m / 2 ^ place))
+front-from v m place long few bits small =
+    let low : m / 2 ^ place ≤ m = shr_le m place in
+    let t = bit_at-trailing_ones w64 (m / 2 ^ place) (omega arith) in
+    let n = trailing_ones w64 (m / 2 ^ place) in
+    let shifted : (k : ℕ) → bit_at (m / 2 ^ place) k ≡ bit_at m (place + k) = (λ k. ap (λ x. x % 2) (shr-shr m place k)) in
+    let inside : (k : ℕ) → k < n → 128 ≤ get_or v (place + k) 0 = (λ k l. (bits (place + k)).0 (sym (shifted k) ∙ t.2 k l)) in
+    let bound : place + n ≤ 16 =
+    ⊎_elim
+    (λ h.
+    let last : place + (16 - place) ≡ 16 = omega arith in
+    let past : 128 ≤ 0 = rw (last, get_or_past v 16 0 (omega arith)) at (inside (16 - place) (omega arith)) in
+    absurd (omega arith))
+    (λ h. h)
+    (cases_lt 16 (place + n)) in
     record {
       bound = bound;
-      set = λ p h k l. set_flag (p k) (rw (h.each k (omega arith)) at ((bits k).0 (t.2 k l)));
-      stops = λ p h l. unset_flag (p n) (λ high. let one = (bits n).1 (rw (h.each n l) high) in absurd (omega (arith, t.1, one)));
+      set = λ p h k l. set_flag (p (place + k)) (rw (h.each (place + k) (omega arith)) at (inside k l));
+      stops = λ p h l.
+          unset_flag (p (place + n)) (λ high.
+          let one = (bits (place + n)).1 (rw (h.each (place + n) l) high) in
+          absurd (omega (arith, t.1, shifted n, one)));
     }
 
 flag_is : (p : Bool) (x : ℕ) → (x ≡ 1) ↔ (128 ≤ flag p) → x < 2 → eqb x 1 ≡ p

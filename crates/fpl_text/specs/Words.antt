@@ -1,22 +1,20 @@
 -- The words of a squeezed text, which stand between its spaces.
-use Rattle.std.specs.Prelude.{◌≡◌, ◌<◌, ℕ, Bool, true, not, ◌==◌, if◌then◌else◌, List, [], ◌++◌, length, slice_index, Option, Some, None}
+use Rattle.std.specs.Prelude.{◌≡◌, ◌≤◌, ◌<◌, ◌+◌, ℕ, Bool, true, not, ◌==◌, nat_le, if◌then◌else◌, List, [], ◌++◌, length, slice_index, drop}
 use Rattle.std.specs.List.{slice_split, list_all}
-use Rattle.std.specs.Borrow.{Bor}
 
 -- what stands between the spaces of a text; an empty text has no word
 unfoldable pub words_of : List ℕ → List (List ℕ)
 words_of text = if length text == 0 then [] else slice_split (λ b. b == 32) text
 
--- the words that are left
-abbrev pub words_left : Option (Bor (List ℕ)) → List (List ℕ)
-words_left None = []
-words_left (Some rest) = slice_split (λ b. b == 32) rest.now
+-- the words from a place on, of which there is none behind the end of the text
+abbrev pub words_from : List ℕ → ℕ → List (List ℕ)
+words_from text from = if nat_le from (length text) then slice_split (λ b. b == 32) (drop from text) else []
 
--- lanes that begin with the bytes of a word and a space behind it
-pub record HoldWord (lanes word : List ℕ) : Type 0 where
-  pub short : length word < 16
-  pub same : (k : ℕ) → k < length word → slice_index lanes k ≡ slice_index word k
-  pub space : slice_index lanes (length word) ≡ 32
+-- the lanes from a place on hold a word and the space behind it, or the word up to the last lane
+pub record HoldWord (lanes : List ℕ) (place : ℕ) (word : List ℕ) : Type 0 where
+  pub inside : place + length word ≤ 16
+  pub same : (k : ℕ) → k < length word → slice_index lanes (place + k) ≡ slice_index word k
+  pub space : place + length word < 16 → slice_index lanes (place + length word) ≡ 32
 
 -- a text has no such byte
 abbrev pub lacks : ℕ → List ℕ → Bool

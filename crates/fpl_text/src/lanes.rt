@@ -17,19 +17,6 @@ pub(crate) fn load(text: &[u8], at: usize) -> u8x16
     u8x16::from_slice(&text[at..])
 }
 
-/// The bytes of a text of at most 16, and spaces behind them.
-#[inline(always)]
-pub(crate) fn padded(text: &[u8]) -> u8x16
-    requires { length text.now ≤ 16 }
-    ensures long { length result ≡ 16 }
-    ensures front { (k : ℕ) → k < length text.now → slice_index result k ≡ slice_index text.now k }
-    ensures spaces { (k : ℕ) → length text.now ≤ k → k < 16 → slice_index result k ≡ 32 }
-{
-    let mut chunk = [b' '; 16];
-    chunk[..text.len()].copy_from_slice(text);
-    u8x16::from_array(chunk)
-}
-
 /// Which lanes hold this byte.
 #[inline(always)]
 fn equal_to(v: u8x16, byte: u8) -> u8x16
@@ -161,14 +148,15 @@ pub(crate) fn plain_lanes(v: u8x16) -> u8x16
     either(between(v, b'A', b'Z'), digit_or_mark_lanes(v))
 }
 
-/// How many of the first lanes are set.
+/// How many of the lanes from a place on are set.
 #[inline(always)]
-pub(crate) fn set_lanes(flags: u8x16) -> usize
-    ensures bound { result ≤ 16 }
-    ensures set { (p : ℕ → Bool) → HasFlags flags p → (k : ℕ) → k < result → p k ≡ true }
-    ensures stops { (p : ℕ → Bool) → HasFlags flags p → result < 16 → p result ≡ false }
+pub(crate) fn set_lanes_from(flags: u8x16, place: usize) -> usize
+    requires { place ≤ 16 }
+    ensures bound { place + result ≤ 16 }
+    ensures set { (p : ℕ → Bool) → HasFlags flags p → (k : ℕ) → k < result → p (place + k) ≡ true }
+    ensures stops { (p : ℕ → Bool) → HasFlags flags p → place + result < 16 → p (place + result) ≡ false }
 {
-    top_bits(flags).trailing_ones() as usize
+    (top_bits(flags) >> place).trailing_ones() as usize
 }
 
 /// The lanes that hold a border: bit k for lane k.
