@@ -1,9 +1,9 @@
 -- Outlines of plans, and rows of them.
-use Rattle.std.proofs.Common.{◌≡◌, ℕ, zero, suc, ◌+◌, ◌-◌, ◌<◌, ◌≤◌, ◌⊎◌, inl, inr, min, arith, get_or, Bool, true, false, not, ◌&&◌, ◌||◌, ◌==◌, nat_le, nat_lt, if◌then◌else◌, List, [], ◌∷◌, ◌++◌, length, take, Option, Some, None, slice_get, slice_set, unwrap_or, refl, sym, ap, ◌∙◌}
+use Rattle.std.proofs.Common.{◌≡◌, ℕ, zero, suc, ◌+◌, ◌-◌, ◌<◌, ◌≤◌, arith, get_or, Bool, true, false, not, ◌&&◌, nat_le, nat_lt, if◌then◌else◌, List, [], ◌∷◌, ◌++◌, length, take, Option, Some, None, slice_get, slice_set, unwrap_or, refl, sym, ap, ◌∙◌}
 use Rattle.std.specs.Prelude.{IsSome, IfSome, codes}
 use Rattle.std.specs.Option.{option_and_then}
 use Rattle.std.specs.Str.{bytes_eq}
-use Rattle.std.proofs.lemmas.Bool.{false≢true, eq-eqb, and_parts, le-leb, lt-ltb, leb-true, ltb-true, cases_lt}
+use Rattle.std.proofs.lemmas.Bool.{false≢true, eq-eqb, and_parts, le-leb, lt-ltb, leb-true, ltb-true}
 use Rattle.std.proofs.lemmas.Nat.Bits.{bit_at_ones}
 use Rattle.std.proofs.lemmas.Option.{slice_get-get_or}
 use lib.Pointwise.{bytes_decides}
@@ -92,17 +92,10 @@ enters-between taxi longest moment (Arr place) p arrival way e =
     (omega (arith, same), omega (arith, same, arrival))
 enters-between taxi longest moment (Via place) p arrival way e = on-way (take_off taxi p) longest moment (elapsed_at place p) (way place) e
 
-or-right : (a b : Bool) → b ≡ true → (a || b) ≡ true
-or-right true b e = refl
-or-right false b e = e
-
-flies : (taxi start end moment longest : ℕ) (o : Outline) → o.longest ≡ min longest 65_535 → Between (o.off_block + taxi) longest moment → start ≤ moment → moment < end → may_fly taxi start end o ≡ true
+flies : (taxi start end moment : ℕ) (o : Outline) → Between (o.off_block + taxi) o.longest moment → start ≤ moment → moment < end → may_fly taxi start end o ≡ true
 unfolding may_fly
-flies taxi start end moment longest o told b from to =
-    rw (lt-ltb (o.off_block + taxi) end (omega (arith, b.0, to))) (by (cases_lt longest 65_535)) where
-      by : (longest < 65_535) ⊎ (65_535 ≤ longest) → (nat_le start (o.off_block + taxi + o.longest) || (o.longest == 65_535)) ≡ true
-      by (inl short) = rw (le-leb start (o.off_block + taxi + o.longest) (omega (arith, told, short, b.1, from))) refl
-      by (inr long) = or-right (nat_le start (o.off_block + taxi + o.longest)) (o.longest == 65_535) (eq-eqb _ _ (omega (arith, told, long)))
+flies taxi start end moment o b from to =
+    rw (lt-ltb (o.off_block + taxi) end (omega (arith, b.0, to)), le-leb start (o.off_block + taxi + o.longest) (omega (arith, b.1, from))) refl
 
 -- an outline with the letters of both ends, and the places of the way, comes where its flight does
 outline-comes : (o : Outline) (p : Plan) → o.dep ≡ letters_of p.key.dep → o.dest ≡ letters_of p.key.dest
@@ -118,16 +111,16 @@ outline-comes o p dep dest way taxi start end (Via place) h =
     way place (some-first (elapsed_at place p) (λ elapsed. moment_within (take_off taxi p + elapsed)) (subject-enters taxi start end (Via place) p h))
 
 -- with the off-block moment and the longest time it comes when its flight does
-pub outline-of-all : (o : Outline) (p : Plan) (longest : ℕ) → o.is_filed ≡ is_filed p.state → o.off_block ≡ p.off_block → o.dep ≡ letters_of p.key.dep → o.dest ≡ letters_of p.key.dest
+pub outline-of-all : (o : Outline) (p : Plan) → o.is_filed ≡ is_filed p.state → o.off_block ≡ p.off_block → o.dep ≡ letters_of p.key.dep → o.dest ≡ letters_of p.key.dest
     → ((place : List ℕ) → IsSome (elapsed_at place p) → may_have o.way place ≡ true)
-    → o.longest ≡ min longest 65_535 → p.elapsed ≤ longest → ((place : List ℕ) → IfSome (elapsed_at place p) (λ minutes. minutes ≤ longest)) → IsOutlineOf o p
-outline-of-all o p longest is off_block dep dest way told arrival minutes = record {
+    → p.elapsed ≤ o.longest → ((place : List ℕ) → IfSome (elapsed_at place p) (λ minutes. minutes ≤ o.longest)) → IsOutlineOf o p
+outline-of-all o p is off_block dep dest way arrival minutes = record {
   is_filed = is;
   off_block = off_block;
   comes = λ taxi start end spot h.
       (let at = subject-in taxi start end spot p h in
-      let between : Between (o.off_block + taxi) longest at.moment = rw off_block (enters-between taxi longest at.moment spot p arrival minutes at.enters) in
-      rw (outline-comes o p dep dest way taxi start end spot h, flies taxi start end at.moment longest o told between at.from at.to) refl);
+      let between : Between (o.off_block + taxi) o.longest at.moment = rw off_block (enters-between taxi o.longest at.moment spot p arrival minutes at.enters) in
+      rw (outline-comes o p dep dest way taxi start end spot h, flies taxi start end at.moment o between at.from at.to) refl);
 }
 
 -- as many outlines as plans

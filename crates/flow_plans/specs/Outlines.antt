@@ -1,6 +1,6 @@
 -- Where and when a regulation may apply to a flight, in few bytes. An outline may seem to come to a place to which its flight
 -- doesn't come then, never the other way round. Whether the plan is filed, and its off-block moment, it says just as they are.
-use Rattle.std.specs.Prelude.{◌≡◌, ℕ, ◌+◌, Bool, true, not, ◌&&◌, ◌||◌, ◌==◌, nat_le, nat_lt, if◌then◌else◌, List, Option, Some, None, IsSome}
+use Rattle.std.specs.Prelude.{◌≡◌, ℕ, ◌+◌, Bool, true, not, ◌&&◌, ◌==◌, nat_le, nat_lt, if◌then◌else◌, List, Option, Some, None, IsSome}
 use Rattle.std.specs.List.{AllZip}
 use Rattle.fpl_message.specs.declared.order.Spot.{Spot}
 use Rattle.fpl_message.specs.declared.order.Spot.TheVariants.{Dep, Arr, Via}
@@ -19,11 +19,10 @@ may_come (Dep place) outline = outline.dep == letters_of place
 may_come (Arr place) outline = outline.dest == letters_of place
 may_come (Via place) outline = may_have outline.way place
 
--- whether it takes off before the end of a period, and may not yet be over at its start. 65,535 minutes stand for any longer time.
+-- whether it takes off before the end of a period, and may not yet be over at its start
 unfoldable pub may_fly : ℕ → ℕ → ℕ → Outline → Bool
 may_fly taxi start end outline =
-    nat_lt (outline.off_block + taxi) end
-    && (nat_le start (outline.off_block + taxi + outline.longest) || (outline.longest == 65_535))
+    nat_lt (outline.off_block + taxi) end && nat_le start (outline.off_block + taxi + outline.longest)
 
 -- the off-block moment, where the plan is filed
 abbrev pub outlined_moment : Outline → Option ℕ

@@ -1,7 +1,7 @@
 //! Where and when a regulation may apply to a flight, and whether its plan is filed, in few bytes.
 //!
 //! Most flights never come to the place of a regulation, or not while it lasts. Their outlines say so without a look at their plans.
-ghost use Rattle.std.specs.Prelude.{◌≡◌, min};
+ghost use Rattle.std.specs.Prelude.{◌≡◌};
 ghost use Rattle.flow_plans.specs.Outlines.{may_come, may_fly, outlined_moment, IsOutlineOf};
 
 use crate::places::{letters_of, may_have};
@@ -9,9 +9,6 @@ use crate::plan::Plan;
 use fpl_message::Spot;
 use fpl_text::Minute;
 use std::alloc::Allocator;
-
-/// The longest time that an outline tells, in minutes, which stands for any longer one too.
-const LONGEST_TOLD: u16 = 65_535;
 
 /// The places at which a regulation may apply to a flight and when, and whether its plan is filed.
 #[derive(Clone, Copy, Debug)]
@@ -24,23 +21,12 @@ pub(crate) struct Outline {
     way: u64,
     /// The off-block moment.
     off_block: Minute,
-    /// The minutes from take-off to the last place that the flight comes to, or more. Any longer time is `LONGEST_TOLD`.
+    /// The minutes from take-off to the last place that the flight comes to, or more.
     longest: u16,
     is_filed: bool,
 }
 
 const _: () = prove!(size_of::<Outline>() <= 24);
-
-/// This many minutes, or `LONGEST_TOLD` where they are more.
-fn told(minutes: u32) -> u16
-    ensures { result ≡ min minutes 65_535 }
-{
-    if minutes < 65_535 {
-        minutes as u16
-    } else {
-        LONGEST_TOLD
-    }
-}
 
 impl Outline {
     /// The outline of a plan. It comes nowhere where no regulation applies to the flight, wherever it is.
@@ -65,7 +51,7 @@ impl Outline {
             dest: letters_of(key.dest.as_bytes()),
             way: plan.way(),
             off_block,
-            longest: told(plan.longest()),
+            longest: plan.longest(),
             is_filed,
         }
     }
@@ -111,7 +97,6 @@ impl Outline {
     {
         let take_off = u64::from(self.off_block.minutes()) + u64::from(taxi);
         let last = take_off + u64::from(self.longest());
-        take_off < u64::from(end.minutes())
-            && (u64::from(start.minutes()) <= last || self.longest() == LONGEST_TOLD)
+        take_off < u64::from(end.minutes()) && u64::from(start.minutes()) <= last
     }
 }

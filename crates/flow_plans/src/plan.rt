@@ -36,6 +36,9 @@ pub struct Status {
     pub off_block: Minute,
 }
 
+/// No elapsed time to a place of the way is longer, in minutes.
+const LONGEST_ON_WAY: u32 = 6000;
+
 /// What names a plan: two held plans never have the same key.
 #[derive(Debug, Drop, PartialEq, Eq, Hash)]
 pub struct Key {
@@ -140,7 +143,8 @@ pub struct Plan<A: Allocator + Copy = Global> {
     key: Key,
     state: PlanState,
     off_block: Minute,
-    elapsed: u32,
+    /// The total elapsed time, in minutes.
+    elapsed: u16,
     rules: FlightRules,
     exempt: bool,
     texts: Texts<A>,
@@ -167,12 +171,16 @@ impl<A: Allocator + Copy> Model for Plan<A> {
 }
 
 impl<A: Allocator + Copy> Plan<A> {
-    /// The plan that a flight plan message files, with this off-block moment.
+    /// The plan that a flight plan message files, with this off-block moment. Refused where memory is, and with an elapsed time
+    /// of more than 65,535 minutes, which no message that was read has.
     #[tactic(auto, unfolding(crate::specs::Changes::plan_of))]
     pub(crate) fn new(alloc: A, message: &Fpl<A>, off_block: Minute) -> Result<Self, AllocError>
         requires { off_block < 67_855_680 }
         ensures { IfOk result (λ p. p ≡ plan_of off_block message.now) }
     {
+        let Ok(elapsed) = u16::try_from(message.elapsed()) else {
+            return Err(AllocError);
+        };
         let texts = Texts::new(
             alloc,
             message.field(2),
@@ -185,7 +193,7 @@ impl<A: Allocator + Copy> Plan<A> {
             key: key_of(message, off_block),
             state: PlanState::Filed,
             off_block,
-            elapsed: message.elapsed(),
+            elapsed,
             alternates: message.destination().alternates.copied(),
             rules: message.rules().rules,
             exempt: message.other().exempt(),
@@ -193,7 +201,7 @@ impl<A: Allocator + Copy> Plan<A> {
         })
     }
 
-    /// The plan with the amendments of a message made, with that key and that off-block moment.
+    /// The plan with the amendments of a message made, with that key and that off-block moment. Refused as a new plan is.
     #[tactic(auto, unfolding(crate::specs::Changes::amended_plan))]
     pub(crate) fn amended(
         &self,
@@ -206,12 +214,16 @@ impl<A: Allocator + Copy> Plan<A> {
         requires off_block { off_block < 67_855_680 }
         ensures { IfOk result (λ p. p ≡ amended_plan off_block message.now self.now) }
     {
+        let minutes = elapsed_after(self.elapsed_time(), message.destination());
+        let Ok(elapsed) = u16::try_from(minutes) else {
+            return Err(AllocError);
+        };
         let texts = self.texts.amended(alloc, message)?;
         Ok(Plan {
             key,
             state: self.state,
             off_block,
-            elapsed: elapsed_after(self.elapsed, message.destination()),
+            elapsed,
             alternates: alternates_after(&self.alternates, message.destination()),
             rules: rules_after(self.rules, message.rules()),
             exempt: exempt_after(self.exempt, message.other()),
@@ -369,7 +381,7 @@ impl<A: Allocator + Copy> Plan<A> {
             }
             Spot::Arr(place) => {
                 if is_place(self.key.dest.as_bytes(), place.as_bytes()) {
-                    self.take_off(taxi).plus(self.elapsed)
+                    self.take_off(taxi).plus(u32::from(self.elapsed))
                 } else {
                     None
                 }
@@ -442,18 +454,19 @@ impl<A: Allocator + Copy> Plan<A> {
     }
 
     /// The minutes from take-off to the last place that the flight comes to, or more.
-    pub(crate) fn longest(&self) -> u32
+    pub(crate) fn longest(&self) -> u16
         ensures destination { self.now.elapsed ≤ result }
         ensures way { (place : List ℕ) → IfSome (elapsed_at place self.now) (λ minutes. minutes ≤ result) }
     {
-        self.texts.longest().max(self.elapsed)
+        let way = self.texts.longest().min(LONGEST_ON_WAY) as u16;
+        way.max(self.elapsed)
     }
 
     /// The total elapsed time, in minutes.
     pub fn elapsed_time(&self) -> u32
         ensures { result ≡ self.now.elapsed }
     {
-        self.elapsed
+        u32::from(self.elapsed)
     }
 
     /// The flight rules.
