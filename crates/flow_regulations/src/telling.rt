@@ -63,13 +63,15 @@ fn tell_plan<A: Allocator + Copy>(
     ensures few { length notices.new.items ≤ length notices.old.items + 1 }
     ensures capacity { vec_capacity notices.new ≡ vec_capacity notices.old }
 {
+    // Few are told anything, and only their plans are read.
+    let Some(said) = says(told, &advice) else {
+        return;
+    };
     if plan.state() == PlanState::Departed {
         return;
     }
-    if let Some(said) = says(told, &advice) {
-        notices.push_reserved(notice_to(plan, said));
-        *told = advice;
-    }
+    notices.push_reserved(notice_to(plan, said));
+    *told = advice;
 }
 
 /// Tells the plan of this number its advice.
