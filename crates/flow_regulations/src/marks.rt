@@ -146,11 +146,15 @@ fn open_place<A: Allocator + Copy>(words: &mut [u64], index: usize, regulation: 
     mark_held(words, index, regulation);
 }
 
-/// Clears the marks from this place on.
+/// Clears the marks from this place on, where all flights have the first of them. No flight has the number 0, so its word tells:
+/// it has the marks that all flights were given when the words were made or a regulation was closed, and no others.
 fn clear_from(words: &mut [u64], index: usize)
     requires { index < 64 }
     ensures { (f : ℕ) → KeepsBelow index (word_of words.old f) (word_of words.new f) }
 {
+    if !may_stand(word_of(words, 0), index) {
+        return;
+    }
     for word in words.iter_mut() {
         *word %= 1 << index;
     }
