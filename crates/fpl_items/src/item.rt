@@ -51,6 +51,7 @@ impl<'a> Iterator for ItemWords<'a> {
 
     ghost remaining = { item_count (λ w. w) };
 
+    #[inline(always)]
     #[tactic(auto, unfolding(fpl_text::specs::Words::words_of))]
     fn next(&mut self) -> Option<&'a [u8]> {
         if let Some(own) = self.own {
@@ -121,6 +122,7 @@ fn skip_to_stroke(words: &mut Words<'_>)
 
 /// Takes the next item off the words, and passes over those before it. Most items follow on the first word of the one before
 /// them, so a stroke is searched for only where the next word begins no item.
+#[inline(always)]
 fn next_item<'a>(words: &mut Words<'a>) -> Option<Item<'a>>
     ensures { MatchOption result ((items_of words.old ≡ []) × (words.new ≡ []))
         (λ item. items_of words.old ≡ item ∷ items_of words.new) }
@@ -175,6 +177,7 @@ impl<'a> Iterator for Items<'a> {
 
     ghost remaining = { item_count (λ i. i) };
 
+    #[inline(always)]
     fn next(&mut self) -> Option<Item<'a>> {
         next_item(&mut self.words)
     }
