@@ -103,6 +103,18 @@ fn change_between(number: u32, before: Option<Row>, after: Option<Row>) -> Optio
     Some(Change { plan: number, row })
 }
 
+/// Whether the plan of this number was last told this. None is told nothing.
+fn is_told<A: Allocator + Copy>(traffic: &Traffic<A>, number: u32, told: &Option<Told>) -> bool
+    requires { 0 < number }
+    ensures value { result ≡ same_told told.now (told_of traffic.now.traffic.told number) }
+    ensures each { length traffic.now.traffic.told ≡ length traffic.now.traffic.plans }
+{
+    match traffic.told(number) {
+        Some(now) => same_told(told, now),
+        None => same_told(told, &None),
+    }
+}
+
 /// The change of the plan of this number, which was told this before the last reading.
 fn change_at<A: Allocator + Copy>(
     traffic: &Traffic<A>,
@@ -115,6 +127,10 @@ fn change_at<A: Allocator + Copy>(
     requires told { IfSome traffic.now.before (λ before. told.now ≡ told_of before.told number) }
     ensures { IfSome traffic.now.before (λ before. result ≡ change_at (rows_in before) (rows_in traffic.now.traffic) number) }
 {
+    // Most plans that became due stand where they did and are told what they were: their rows aren't built.
+    if !traffic.may_have_moved_plans() && is_told(traffic, number, told) {
+        return None;
+    }
     let before = row_before(traffic, number, told);
     change_between(number, before, row_at(traffic, number))
 }

@@ -276,3 +276,14 @@ status-stays (reading.Message n) time store lists places changed closed noted to
 status-stays (reading.Time earlier) time store lists places changed closed noted told notices issued ne r number h = h
 status-stays reading.Open time store lists places changed closed noted told notices issued ne r number h = h
 status-stays reading.Shut time store lists places changed closed noted told notices issued ne r number h = h
+
+-- and then all are what they were
+pub plans-stay : (l : last.Last) (time : ℕ) (store : Store) (lists : List Listed) (places : List Place) (changed : List ℕ) (closed : Option Closing) (noted told : List (Option Told)) (notices : List Notice) (issued : ℕ)
+    → ((n : ℕ) → l ≡ reading.Message n → ⊥)
+    → IfSome (undone l time store lists places changed closed noted told notices issued) (λ before. before.plans ≡ store.plans)
+plans-stay reading.Nothing time store lists places changed closed noted told notices issued ne = tt
+plans-stay reading.Refused time store lists places changed closed noted told notices issued ne = refl
+plans-stay (reading.Message n) time store lists places changed closed noted told notices issued ne = absurd (ne n refl)
+plans-stay (reading.Time earlier) time store lists places changed closed noted told notices issued ne = refl
+plans-stay reading.Open time store lists places changed closed noted told notices issued ne = refl
+plans-stay reading.Shut time store lists places changed closed noted told notices issued ne = refl

@@ -1,5 +1,5 @@
 //! What the last reading changed of plans.
-ghost use Rattle.std.specs.Prelude.{◌≡◌, ◌≤◌, ◌<◌, IfSome, IsSome, length, map};
+ghost use Rattle.std.specs.Prelude.{◌≡◌, ◌≤◌, ◌<◌, IfSome, IsSome, false, length, map};
 ghost use Rattle.std.specs.List.{All};
 ghost use Rattle.std.specs.List.Sorted.{IsStrictlyIncreasing};
 ghost use Rattle.flow_plans.specs.Plans.{status_at};
@@ -41,6 +41,17 @@ impl<A: Allocator + Copy> Traffic<A> {
         match self.last {
             Last::Message { .. } => self.plans.previous(number),
             _ => status_at(&self.plans, number),
+        }
+    }
+
+    /// Whether the last reading may have changed where plans stand, or their off-block moments. A message may, and where it
+    /// was none the plans are what they were.
+    pub fn may_have_moved_plans(&self) -> bool
+        ensures { result ≡ false → IfSome self.now.before (λ before. before.plans ≡ self.now.traffic.plans) }
+    {
+        match self.last {
+            Last::Message { .. } => true,
+            _ => false,
         }
     }
 }
