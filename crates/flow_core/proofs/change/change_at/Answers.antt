@@ -1,4 +1,4 @@
-use Rattle.std.proofs.Common.{◌≡◌, ◌∙◌, sym}
+use Rattle.std.proofs.Common.{◌∙◌, sym}
 use Rattle.flow_core.specs.Changes.{rows_in}
 use Rattle.flow_core.proofs.ChangedRows.{if-change, if-still, if-otherwise}
 use Rattle.flow_core.proofs.change.change_at.Goals as goal
