@@ -65,29 +65,24 @@ unchanged before after numbers h each_before each n some out =
     ∙ row-was before n (told_of before.told n) (status_at before.plans n) each_before refl refl in
     ap (option_and_then (change_to n (slice_get (rows_in before) (n - 1)))) same ∙ no-change n (slice_get (rows_in before) (n - 1))
 
--- a plan that stands where it stood has none either if it is told the same, and has one if it isn't
-told-alike : (t u : Option Told) (s : Status) → same_row (row_with t s) (row_with u s) ≡ same_told t u
+-- nor has one that stands where it stood and is told the same
+alike : (t u : Option Told) (s : Status) → same_told t u ≡ true → same_row (row_with t s) (row_with u s) ≡ true
 unfolding same_row
-told-alike t u s = rw (state-same s.state, eq-eqb s.off_block s.off_block refl) refl
+alike t u s same = rw (state-same s.state, eq-eqb s.off_block s.off_block refl, same) refl
 
 still : (n : ℕ) (t u : Option Told) (status : Option Status) → same_told t u ≡ true → option_and_then (change_to n (option_map (row_with t) status)) (option_map (row_with u) status) ≡ None
 still n t u None same = refl
-still n t u (Some s) same = rw (told-alike t u s, same) refl
+still n t u (Some s) same = rw (alike t u s same) refl
 
-otherwise : (n : ℕ) (t u : Option Told) (status : Option Status) → same_told t u ≡ false
-    → option_and_then (change_to n (option_map (row_with t) status)) (option_map (row_with u) status) ≡ option_and_then (change_to n None) (option_map (row_with u) status)
-otherwise n t u None apart = refl
-otherwise n t u (Some s) apart = rw (told-alike t u s, apart) refl
-
--- the change of a plan that stands where it stood, by what it was told and is told
-by-told : (before after : Traffic) (n : ℕ) (told : Option Told) → before.plans ≡ after.plans → length before.told ≡ length before.plans → length after.told ≡ length after.plans → told ≡ told_of before.told n
-    → option_and_then (change_to n (option_map (row_with told) (status_at after.plans n))) (option_map (row_with (told_of after.told n)) (status_at after.plans n)) ≡ change_at (rows_in before) (rows_in after) n
-by-told before after n told plans each_before each told_is =
+stands-still : (before after : Traffic) (n : ℕ) (told : Option Told) → before.plans ≡ after.plans → length before.told ≡ length before.plans → length after.told ≡ length after.plans
+    → told ≡ told_of before.told n → same_told told (told_of after.told n) ≡ true → None ≡ change_at (rows_in before) (rows_in after) n
+stands-still before after n told plans each_before each told_is same =
     let status : Option Status = status_at after.plans n in
     let was : option_map (row_with told) status ≡ slice_get (rows_in before) (n - 1) =
     row-was before n told status each_before told_is (ap (λ (ps : List Plan). status_at ps n) (sym plans)) in
     let is : option_map (row_with (told_of after.told n)) status ≡ slice_get (rows_in after) (n - 1) = row-was after n (told_of after.told n) status each refl refl in
-    ap (λ (o : Option Row). option_and_then (change_to n o) (option_map (row_with (told_of after.told n)) status)) was
+    sym (still n told (told_of after.told n) status same)
+    ∙ ap (λ (o : Option Row). option_and_then (change_to n o) (option_map (row_with (told_of after.told n)) status)) was
     ∙ ap (λ (o : Option Row). option_and_then (change_to n (slice_get (rows_in before) (n - 1))) o) is
 
 -- ---- the numbers of the changed plans, one by one
@@ -231,18 +226,7 @@ pub if-still : (o : Option Traffic) (after : Traffic) (number : ℕ) (told : Opt
     → length after.told ≡ length after.plans → IfSome o (λ b. told ≡ told_of b.told number) → same_told told (told_of after.told number) ≡ true
     → IfSome o (λ b. None ≡ change_at (rows_in b) (rows_in after) number)
 if-still None after number told plans each_before each told_is same = tt
-if-still (Some b) after number told plans each_before each told_is same =
-    sym (still number told (told_of after.told number) (status_at after.plans number) same) ∙ by-told b after number told plans each_before each told_is
-
-pub if-otherwise : (o : Option Traffic) (after : Traffic) (number : ℕ) (told : Option Told) (row : Option Row) → IfSome o (λ b. b.plans ≡ after.plans) → IfSome o (λ b. length b.told ≡ length b.plans)
-    → length after.told ≡ length after.plans → IfSome o (λ b. told ≡ told_of b.told number) → same_told told (told_of after.told number) ≡ false → row ≡ slice_get (rows_in after) (number - 1)
-    → IfSome o (λ b. option_and_then (change_to number None) row ≡ change_at (rows_in b) (rows_in after) number)
-if-otherwise None after number told row plans each_before each told_is apart here = tt
-if-otherwise (Some b) after number told row plans each_before each told_is apart here =
-    let status : Option Status = status_at after.plans number in
-    ap (λ (o : Option Row). option_and_then (change_to number None) o) (here ∙ sym (row-was after number (told_of after.told number) status each refl refl))
-    ∙ sym (otherwise number told (told_of after.told number) status apart)
-    ∙ by-told b after number told plans each_before each told_is
+if-still (Some b) after number told plans each_before each told_is same = stands-still b after number told plans each_before each told_is same
 
 get-map : (f : ℕ → Option Told) (ns : List ℕ) (j : ℕ) (t : Option Told) → j < length ns → get_or (map f ns) j t ≡ f (get_or ns j 0)
 get-map f [] j t h = absurd (omega (arith, h))

@@ -127,12 +127,9 @@ fn change_at<A: Allocator + Copy>(
     requires told { IfSome traffic.now.before (λ before. told.now ≡ told_of before.told number) }
     ensures { IfSome traffic.now.before (λ before. result ≡ change_at (rows_in before) (rows_in traffic.now.traffic) number) }
 {
-    // Where no plan moved, all depends on what it is told: most plans that became due are told what they were.
-    if !traffic.may_have_moved_plans() {
-        if is_told(traffic, number, told) {
-            return None;
-        }
-        return change_between(number, None, row_at(traffic, number));
+    // Most plans that became due stand where they did and are told what they were: their rows aren't built.
+    if !traffic.may_have_moved_plans() && is_told(traffic, number, told) {
+        return None;
     }
     let before = row_before(traffic, number, told);
     change_between(number, before, row_at(traffic, number))

@@ -1,6 +1,6 @@
 use Rattle.std.proofs.Common.{◌∙◌, sym}
 use Rattle.flow_core.specs.Changes.{rows_in}
-use Rattle.flow_core.proofs.ChangedRows.{if-change, if-still, if-otherwise}
+use Rattle.flow_core.proofs.ChangedRows.{if-change, if-still}
 use Rattle.flow_core.proofs.change.change_at.Goals as goal
 
 pub returns-then-is_told : goal.returns-then-is_told
@@ -9,13 +9,6 @@ returns-then-is_told g c =
     (c.may_have_moved_plans.ensures c.if-not-may_have_moved_plans.true) c.requires.each c.is_told.ensures.each c.requires.told
     (sym c.is_told.ensures.value ∙ c.if-is_told.true)
 
-pub returns-then-not-may_have_moved_plans : goal.returns-then-not-may_have_moved_plans
-returns-then-not-may_have_moved_plans g c =
-    rw c.change_between.ensures
-    (if-otherwise c.args.traffic.now.before c.args.traffic.now.traffic c.args.number c.args.told.now c.row_at.result
-    (c.may_have_moved_plans.ensures c.if-not-may_have_moved_plans.true) c.requires.each c.is_told.ensures.each c.requires.told
-    (sym c.is_told.ensures.value ∙ c.if-is_told.false) c.row_at.ensures)
-
 pub returns : goal.returns
 returns g c =
-    rw c.change_between-2.ensures (if-change c.args.traffic.now.before (rows_in c.args.traffic.now.traffic) c.args.number c.row_before-before.result c.row_at-2.result c.row_at-2.ensures c.row_before-before.ensures)
+    rw c.change_between.ensures (if-change c.args.traffic.now.before (rows_in c.args.traffic.now.traffic) c.args.number c.row_before-before.result c.row_at.result c.row_at.ensures c.row_before-before.ensures)
