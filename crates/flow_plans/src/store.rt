@@ -82,11 +82,14 @@ impl<A: Allocator + Copy> PlanStore<A> {
         self.plans.len() as u32
     }
 
-    /// The plan of this number.
+    /// The plan of this number, from 1. None where no plan has it.
     pub fn plan(&self, number: u32) -> Option<&Plan<A>>
-        requires { 0 < number }
-        ensures { option_copied result ≡ slice_get self.now.plans (number - 1) }
+        ensures plan { 0 < number → option_copied result ≡ slice_get self.now.plans (number - 1) }
+        ensures zero { number ≡ 0 → result ≡ None }
     {
+        if number == 0 {
+            return None;
+        }
         self.plans.as_slice().get((number - 1) as usize)
     }
 
