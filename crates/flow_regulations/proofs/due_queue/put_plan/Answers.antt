@@ -9,7 +9,7 @@ use Rattle.flow_regulations.proofs.due_queue.put_plan.Goals as goal
 
 pub returns-clause-held : goal.returns-clause-held
 returns-clause-held g c = λ p at.
-    (let same : Some c.in-Some.plan.now ≡ Some p = c.in-Some.ensures ∙ at in
+    (let same : Some c.in-Some.plan.now ≡ Some p = c.in-Some.ensures.plan c.requires.some ∙ at in
     let plan : c.in-Some.plan.now ≡ p = cc in
     let flight : Awaited = record { off_block = c.minutes-off_block.result; number = c.args.number } in
     let first : Reverse Awaited = record { 0 = flight } in
