@@ -1,5 +1,5 @@
 -- How many plans a desk holds: one more after an accepted flight plan, and never more than the setup allows.
-use Rattle.std.proofs.Common.{◌≡◌, ◌≤◌, ◌<◌, ◌+◌, ◌∙◌, ℕ, zero, suc, Bool, true, false, List, [], ◌∷◌, ◌++◌, length, length-map, Option, Some, None, Result, Ok, Err, refl, sym, ap, subst, arith}
+use Rattle.std.proofs.Common.{◌≡◌, ◌≤◌, ◌<◌, ◌+◌, ◌∙◌, ℕ, zero, suc, Bool, true, false, List, [], ◌∷◌, ◌++◌, length, Option, Some, None, Result, Ok, Err, refl, sym, ap, subst, arith}
 use Rattle.std.specs.Prelude.{nat_le}
 use Rattle.std.proofs.lemmas.Bool.{leb-false}
 use Rattle.fpl_message.specs.declared.refusal.Refusal.{Refusal}
@@ -128,11 +128,11 @@ step-more s i holds = answered-more s i (asked s.traffic (reading_of i.text)) re
 
 record HoldsAfter (setup : Settings) (s : State) : Type 0 where
   pub holds : Holds s
-  pub setup : s.setup ≡ setup
+  pub same : s.setup ≡ setup
 
 steps-hold : (setup : Settings) (s : State) (filed : List Input) → Holds s → s.setup ≡ setup → HoldsAfter setup (steps s filed)
 unfolding steps
-steps-hold setup s [] holds e = record { holds = holds; setup = e }
+steps-hold setup s [] holds e = record { holds = holds; same = e }
 steps-hold setup s (i ∷ is) holds e =
     let m = step-more s i holds in steps-hold setup (step s i) is m.holds (m.setup ∙ e)
 
@@ -151,7 +151,7 @@ pub rows-few : (setup : Settings) (filed : List Input) → length (rows_in (run 
 rows-few setup filed =
     let t = (run setup filed).traffic in
     let h = run-holds setup filed in
-    let limit : t.max_plans ≡ setup.max_plans = h.holds.limit ∙ ap (λ (s : Settings). s.max_plans) h.setup in
+    let limit : t.max_plans ≡ setup.max_plans = h.holds.limit ∙ ap (λ (s : Settings). s.max_plans) h.same in
     omega (arith, rows-count t.plans t.told h.holds.each, h.holds.room, limit)
 
 -- they are no fewer after one more filing
