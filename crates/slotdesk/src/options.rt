@@ -8,14 +8,25 @@ use flow_plans::{MAX_PLANS, MAX_TAXI};
 use std::alloc::{AllocError, Global};
 
 const ABOUT: &str = "A flight plan desk with departure slots.\n\n\
-    Reads ICAO flight plan messages (FPL, DLA, CHG, CNL, DEP) and the orders OPEN, SHUT and TIME \
-    from standard input, and writes a line for each, with the slot notices that it causes.";
+    Reads ICAO flight plan messages (FPL, DLA, CHG, CNL, DEP) and the orders OPEN, SHUT and TIME from\n\
+    standard input, and writes a line for each, with the slot notices that it causes.";
+
+/// The version of the program, and of the journals that it writes.
+const VERSION: &str = "0.1.0 (journal version 2)";
+
+const USAGE: &str = "slotdesk <--start <yymmddhhmm>|--resume> [OPTIONS] < FILE";
 
 /// How many feeders there are at most.
 const MAX_FEEDERS: u64 = 64;
 
-const AFTER: &str = "Times are UTC. Example:\n  \
-    echo '(FPL-AAA1-IS-A320/M-SDFG/LB1-LIML0800-N0450F350 DCT-EDDF0150-0)' | slotdesk --start 2409010500";
+const AFTER: &str =
+    "With --resume the taxi time and the number of plans are those of the journal.\n\n\
+    Exit status: 0 at the end of the input; 1 where reading or writing failed, or the input of --resume\n\
+    begins with no journal; 2 for a bad command line, a bad start, or where memory is refused.\n\n\
+    Times are UTC. A day, the same with its journal, and going on from that journal:\n  \
+    slotdesk --start 2409010500 < day.txt\n  \
+    slotdesk --start 2409010500 --journal < day.txt | sed -n '/^SLOTDESK JOURNAL/,$p' > journal.txt\n  \
+    cat journal.txt later.txt | slotdesk --resume";
 
 /// What the words of the command line ask for.
 #[derive(Clone, Copy)]
@@ -39,7 +50,7 @@ fn start_argument<'a>(alloc: Global) -> Result<Arg<'a>, AllocError> {
     Arg::new(alloc, "start")
         .long("start")
         .value_name("yymmddhhmm")
-        .help("The desk's time at the start, from 0001010000 to 9812312359 (years 2000 to 2098)")
+        .help("The desk's time at the start, 0001010000 to 9812312359 (2000 to 2098)")
         .required_unless_present("resume")
 }
 
@@ -49,7 +60,7 @@ fn taxi_argument<'a>(alloc: Global) -> Arg<'a> {
         .value_name("MIN")
         .default_value("10")
         .value_parser(ValueParser::unsigned(0, MAX_TAXI as u64))
-        .help("Minutes from off-block to take-off at every aerodrome, 0 to 120")
+        .help("Minutes from off-block to take-off, everywhere, 0 to 120")
 }
 
 fn plans_argument<'a>(alloc: Global) -> Arg<'a> {
@@ -58,7 +69,7 @@ fn plans_argument<'a>(alloc: Global) -> Arg<'a> {
         .value_name("N")
         .default_value("1000")
         .value_parser(ValueParser::unsigned(1, MAX_PLANS as u64))
-        .help("How many flight plans are accepted in all, cancelled ones counted, 1 to 20000")
+        .help("Flight plans accepted, cancelled ones too, 1 to 20000")
 }
 
 fn feeders_argument<'a>(alloc: Global) -> Arg<'a> {
@@ -81,15 +92,15 @@ fn resume_argument<'a>(alloc: Global) -> Result<Arg<'a>, AllocError> {
     Arg::new(alloc, "resume")
         .long("resume")
         .action(ArgAction::SetTrue)
-        .help(
-            "Goes on with the desk whose journal the input begins with; --taxi and --plans then have no effect",
-        )
+        .help("Goes on with the desk whose journal the input begins with")
         .conflicts_with("start")
 }
 
 fn command<'a>(alloc: Global) -> Result<Command<'a>, AllocError> {
     Command::new(alloc, "slotdesk")
         .about(ABOUT)
+        .version(VERSION)
+        .override_usage(USAGE)
         .after_help(AFTER)
         .arg(start_argument(alloc)?)?
         .arg(taxi_argument(alloc))?
