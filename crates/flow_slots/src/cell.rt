@@ -1,8 +1,9 @@
 ghost use Rattle.std.specs.Prelude.{◌≡◌};
 ghost use Rattle.flow_slots.specs.Order.{stands_before};
 
-/// A flight that waits for a slot, with its entry in minutes from 1970-01-01 00:00 UTC.
-#[derive(Clone, Copy, Debug, PartialEq, Eq)]
+/// A flight that waits for a slot, with its entry in minutes from 1970-01-01 00:00 UTC. Flights are in the order of their entries,
+/// ties by the lower number.
+#[derive(Clone, Copy, Debug, PartialEq, Eq, PartialOrd, Ord)]
 pub struct Planned {
     pub entry: u32,
     pub flight: u32,
