@@ -1,9 +1,10 @@
 ghost use Rattle.std.specs.Prelude.{◌≡◌};
-ghost use Rattle.flow_slots.specs.Order.{stands_before};
+ghost use Rattle.flow_slots.specs.Order.{rank, stands_before};
 
-/// A flight that waits for a slot, with its entry in minutes from 1970-01-01 00:00 UTC. Flights are in the order of their entries,
-/// ties by the lower number.
-#[derive(Clone, Copy, Debug, PartialEq, Eq, PartialOrd, Ord)]
+use crate::packed_cell::rank;
+
+/// A flight that waits for a slot, with its entry in minutes from 1970-01-01 00:00 UTC.
+#[derive(Clone, Copy, Debug, PartialEq, Eq)]
 pub struct Planned {
     pub entry: u32,
     pub flight: u32,
@@ -15,6 +16,14 @@ impl Planned {
         ensures { result ≡ stands_before self other }
     {
         self.entry < other.entry || (self.entry == other.entry && self.flight < other.flight)
+    }
+
+    /// The place of this flight in the order, as one number.
+    #[inline(always)]
+    pub fn rank(self) -> u64
+        ensures { result ≡ rank self }
+    {
+        rank(self.entry, self.flight)
     }
 }
 
