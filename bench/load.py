@@ -9,13 +9,17 @@ NAME is one of
   chains   SIZE flights at one regulation at departure, filed from the last entry to the first, so that each displaces all
   text     SIZE long flight plans, of which the first 20,000 are accepted
   journal  SIZE short filings: times, refused orders and messages, delays
+  openings SIZE flights, and then 64 regulations of their departure
+  reopened a regulation of the departure of 5,000 flights, opened and shut SIZE times
+  delays   SIZE flights at 64 regulations of one place, and a delay of each
 The same name and size always give the same bytes. Run the program with --start 2409010000 --plans 20000.
 """
 import datetime
 import random
 import sys
 
-SIZES = {"day": 20_000, "chains": 20_000, "text": 200_000, "journal": 1_000_000}
+SIZES = {"day": 20_000, "chains": 20_000, "text": 200_000, "journal": 1_000_000,
+         "openings": 20_000, "reopened": 2_000, "delays": 2_000}
 MIDNIGHT = datetime.datetime(2024, 9, 1)
 AERODROMES = "EGLL LFPG EHAM EDDF LEMD EDDM LEBL LIRF EGKK LSZH EKCH LOWW ENGM ESSA EIDW EBBR LIMC EDDL EFHK LPPT".split()
 SECTORS = "EGTT EISN LFFF LFEE LFMM LFBB EBUR EHAA EDGG EDMM EDWW EDUU EDYY EKDK ESAA LKAA LOVV LSAS LIMM LIRR".split()
@@ -95,10 +99,44 @@ def journal(size):
         ])
 
 
+def departure(number, off_block):
+    return "(FPL-C%d-IS-A320/M-S/L-LIML%s-N0450F350 DCT-EDDF0100-DOF/240901)" % (number, clock(off_block))
+
+
+def opening(number, rate):
+    return "OPEN R%d DEP LIML %s %s %d" % (number, stamp(120), stamp(1440), rate)
+
+
+def off_blocks(seed, size):
+    rng = random.Random(seed)
+    return [rng.randrange(130, 1400) for _ in range(size)]
+
+
+def openings(size):
+    yield from map(departure, range(size), off_blocks(4, size))
+    yield from (opening(number, 20 + number) for number in range(64))
+
+
+def reopened(size):
+    yield from map(departure, range(5_000), off_blocks(5, 5_000))
+    for _ in range(size):
+        yield opening(0, 60)
+        yield "SHUT R0"
+
+
+def delays(size):
+    filed = off_blocks(6, size)
+    yield from (opening(number, 240) for number in range(64))
+    yield from map(departure, range(size), filed)
+    for number, off_block in enumerate(filed):
+        yield "(DLA-C%d-LIML%s-EDDF-DOF/240901)" % (number, clock(off_block + 1 + number % 30))
+
+
 def main():
     name = sys.argv[1]
     size = int(sys.argv[2]) if len(sys.argv) > 2 else SIZES[name]
-    for filing in {"day": day, "chains": chains, "text": text, "journal": journal}[name](size):
+    loads = [day, chains, text, journal, openings, reopened, delays]
+    for filing in {load.__name__: load for load in loads}[name](size):
         sys.stdout.write(filing + "\n")
 
 

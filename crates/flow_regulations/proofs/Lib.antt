@@ -2,6 +2,7 @@ pub mod Advances
 pub mod Advised
 pub mod Alls
 pub mod Closings
+pub mod Coming
 pub mod Delays
 pub mod Firsts
 pub mod FixedNoted

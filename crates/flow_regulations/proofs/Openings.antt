@@ -2,73 +2,74 @@
 use Rattle.std.proofs.Common.{◌≡◌, ℕ, zero, suc, ◌+◌, ◌-◌, ◌<◌, ◌≤◌, Bool, true, false, ltb, List, [], ◌∷◌, ◌++◌, length, take, get_or, Option, Some, None, refl, sym, ap, subst, ◌∙◌, arith}
 use Rattle.std.specs.List.{slice_get}
 use Rattle.std.proofs.lemmas.Bool.{ltb-true, ltb-false}
-use Rattle.std.proofs.lemmas.List.{take_more, take_all, length-take-le}
+use Rattle.std.proofs.lemmas.List.{append-nil, take_more, take_all, length-take-le}
 use Rattle.std.proofs.lemmas.Option.{get_or_from_slice_get}
 use Rattle.flow_plans.specs.Plans.{Plan, plan_at}
-use Rattle.flow_slots.specs.Period.{Period, first_slot}
-use Rattle.flow_slots.specs.Lineup.{Lineup, held_slot}
-use Rattle.flow_regulations.specs.Regulations.{Regulation, subject_to, with_entry, waiting_from}
-use Rattle.flow_regulations.specs.Listing.{Listed, regulation_of, with_lineup, let_in, opened, with_no_flights, IsListedIn, IsSettledIn, IsAdvanced, IsAdvancing, is_below}
+use Rattle.flow_slots.specs.declared.cell.Planned.{Planned}
+use Rattle.flow_slots.specs.Period.{Period}
+use Rattle.flow_regulations.specs.Regulations.{Regulation, subject_to, entering, coming_from}
+use Rattle.flow_regulations.specs.Listing.{Listed, regulation_of, opened, with_no_flights, IsListedIn, IsSettledIn, IsAdvanced, IsAdvancing, is_below}
 use Rattle.flow_regulations.specs.Settling.{settled}
 use Rattle.fpl_message.specs.declared.order.Spot.{Spot}
-use Rattle.flow_regulations.proofs.Waiting.{with_entry-with_entry}
-use Rattle.flow_regulations.proofs.FixedOnes.{all-map}
 use Rattle.flow_regulations.proofs.Looked.{plan-there}
-use Rattle.flow_regulations.proofs.Fixes.{slot-none}
-use Rattle.flow_regulations.proofs.Advances.{below, none-due-below, advanced-settled, advanced-settled_in}
+use Rattle.flow_regulations.proofs.Advances.{none-due-below, advanced-settled, advanced-settled_in}
 
 -- one more plan, the last
-waiting-append : (n k taxi : ℕ) (r : Regulation) (ps : List Plan) (p : Plan) → n ≡ k + length ps → waiting_from k taxi r [] (ps ++ p ∷ []) ≡ with_entry (subject_to taxi r p) false n (waiting_from k taxi r [] ps)
-waiting-append n k taxi r [] p e = (let same : k ≡ n = omega (arith, e) in ap (λ m. with_entry (subject_to taxi r p) false m []) same)
-waiting-append n k taxi r (q ∷ ps) p e =
-    ap (with_entry (subject_to taxi r q) false k) (waiting-append n (k + 1) taxi r ps p (omega (arith, e)))
-    ∙ with_entry-with_entry (subject_to taxi r q) (subject_to taxi r p) false false k n (waiting_from (k + 1) taxi r [] ps) (λ s. omega (arith, e, s))
+coming-append : (n k taxi : ℕ) (r : Regulation) (ps : List Plan) (p : Plan) → n ≡ k + length ps → coming_from k taxi r (ps ++ p ∷ []) ≡ coming_from k taxi r ps ++ entering (subject_to taxi r p) n []
+coming-append n k taxi r [] p e = (let same : k ≡ n = omega (arith, e) in ap (λ m. entering (subject_to taxi r p) m []) same)
+coming-append n k taxi r (q ∷ ps) p e =
+    ap (entering (subject_to taxi r q) k) (coming-append n (k + 1) taxi r ps p (omega (arith, e)))
+    ∙ entering-append (subject_to taxi r q) k (coming_from (k + 1) taxi r ps) (entering (subject_to taxi r p) n [])
+  where
+    entering-append : (o : Option ℕ) (f : ℕ) (ws vs : List Planned) → entering o f (ws ++ vs) ≡ entering o f ws ++ vs
+    entering-append None f ws vs = refl
+    entering-append (Some e) f ws vs = refl
 
-let_in-is : (o : Option ℕ) (n : ℕ) (l : Lineup) → let_in o n l ≡ record { period = l.period; capacity = l.capacity; waiting = with_entry o false n l.waiting; fixed = l.fixed }
-let_in-is None n l = refl
-let_in-is (Some e) n l = refl
-
-pub opened-step : (taxi i n : ℕ) (plans : List Plan) (l m : Listed) (p : Plan) → n ≡ i + 1 → i < length plans → plan_at plans n ≡ Some p → m ≡ with_lineup (let_in (subject_to taxi (regulation_of (opened taxi (take i plans) l)) p) n (opened taxi (take i plans) l).lineup) (opened taxi (take i plans) l) → m ≡ opened taxi (take (i + 1) plans) l
-opened-step taxi i n plans l m p e within at made =
+pub coming-step : (taxi i n : ℕ) (r : Regulation) (plans : List Plan) (p : Plan) → n ≡ i + 1 → i < length plans → plan_at plans n ≡ Some p → coming_from 1 taxi r (take (i + 1) plans) ≡ coming_from 1 taxi r (take i plans) ++ entering (subject_to taxi r p) n []
+coming-step taxi i n r plans p e within at =
     let found : get_or plans i p ≡ p = get_or_from_slice_get plans i p p (ap (slice_get plans) (let same : i ≡ n - 1 = omega (arith, e) in same) ∙ at) in
     let more : take (i + 1) plans ≡ take i plans ++ p ∷ [] = take_more plans i p within ∙ ap (λ v. take i plans ++ v ∷ []) found in
     let len : length (take i plans) ≡ i = length-take-le i plans (omega (arith, within)) in
-    let waits : waiting_from 1 taxi (regulation_of l) [] (take (i + 1) plans) ≡ with_entry (subject_to taxi (regulation_of l) p) false n (waiting_from 1 taxi (regulation_of l) [] (take i plans)) =
-    ap (waiting_from 1 taxi (regulation_of l) []) more ∙ waiting-append n 1 taxi (regulation_of l) (take i plans) p (omega (arith, e, len)) in
-    made
-    ∙ (ap (λ v. with_lineup v l) (let_in-is (subject_to taxi (regulation_of l) p) n (opened taxi (take i plans) l).lineup)
-    ∙ ap (λ ws. with_lineup (let w : Lineup = record { period = l.lineup.period; capacity = l.lineup.capacity; waiting = ws; fixed = [] } in w) l) (sym waits))
+    ap (coming_from 1 taxi r) more ∙ coming-append n 1 taxi r (take i plans) p (omega (arith, e, len))
 
 -- one more plan, to whose flight the regulation doesn't apply
-pub opened-pass : (taxi i n : ℕ) (plans : List Plan) (l m : Listed) (p : Plan) → n ≡ i + 1 → i < length plans → plan_at plans n ≡ Some p → subject_to taxi (regulation_of l) p ≡ None → m ≡ opened taxi (take i plans) l → m ≡ opened taxi (take (i + 1) plans) l
-opened-pass taxi i n plans l m p e within at none made =
-    let o : Listed = opened taxi (take i plans) l in
-    opened-step taxi i n plans l m p e within at (made ∙ ap (λ (s : Option ℕ). with_lineup (let_in s n o.lineup) o) (sym none))
+coming-pass : (taxi i n : ℕ) (r : Regulation) (plans : List Plan) (p : Plan) → n ≡ i + 1 → i < length plans → plan_at plans n ≡ Some p → subject_to taxi r p ≡ None → coming_from 1 taxi r (take (i + 1) plans) ≡ coming_from 1 taxi r (take i plans)
+coming-pass taxi i n r plans p e within at none =
+    coming-step taxi i n r plans p e within at ∙ (ap (λ o. coming_from 1 taxi r (take i plans) ++ entering o n []) none ∙ append-nil (coming_from 1 taxi r (take i plans)))
 
 -- and so more of them
-pub opened-past : (taxi k i j : ℕ) (plans : List Plan) (l m : Listed) → j ≡ i + k → ((n : ℕ) (p : Plan) → i < n → n ≤ j → plan_at plans n ≡ Some p → subject_to taxi (regulation_of l) p ≡ None)
-    → m ≡ opened taxi (take i plans) l → m ≡ opened taxi (take j plans) l
-opened-past taxi zero i j plans l m e none made =
-    let same : i ≡ j = omega (arith, e) in
-    made ∙ ap (λ n. opened taxi (take n plans) l) same
-opened-past taxi (suc k) i j plans l m e none made =
-    cases (λ one. opened-past taxi k (i + 1) j plans l m (omega (arith, e)) (λ n r low high. none n r (omega (arith, low)) high) one) (ltb i (length plans)) refl
+pub coming-past : (taxi k i j : ℕ) (r : Regulation) (plans : List Plan) → j ≡ i + k → ((n : ℕ) (p : Plan) → i < n → n ≤ j → plan_at plans n ≡ Some p → subject_to taxi r p ≡ None) → coming_from 1 taxi r (take j plans) ≡ coming_from 1 taxi r (take i plans)
+coming-past taxi zero i j r plans e none =
+    let same : j ≡ i = omega (arith, e) in
+    ap (λ n. coming_from 1 taxi r (take n plans)) same
+coming-past taxi (suc k) i j r plans e none =
+    cases (coming-past taxi k (i + 1) j r plans (omega (arith, e)) (λ n p low high. none n p (omega (arith, low)) high)) (ltb i (length plans)) refl
   where
-    cases : (m ≡ opened taxi (take (i + 1) plans) l → m ≡ opened taxi (take j plans) l) → (b : Bool) → ltb i (length plans) ≡ b → m ≡ opened taxi (take j plans) l
+    cases : coming_from 1 taxi r (take j plans) ≡ coming_from 1 taxi r (take (i + 1) plans) → (b : Bool) → ltb i (length plans) ≡ b → coming_from 1 taxi r (take j plans) ≡ coming_from 1 taxi r (take i plans)
     cases later true q =
         let within : i < length plans = ltb-true i (length plans) q in
         let p = plan-there plans (i + 1) (omega arith) (omega (arith, within)) in
-        later (opened-pass taxi i (i + 1) plans l m p.0 refl within p.1 (none (i + 1) p.0 (omega arith) (omega (arith, e)) p.1) made)
+        later ∙ coming-pass taxi i (i + 1) r plans p.0 refl within p.1 (none (i + 1) p.0 (omega arith) (omega (arith, e)) p.1)
     cases later false q =
         let all : length plans ≤ i = ltb-false i (length plans) q in
-        made ∙ ap (λ ps. opened taxi ps l) (take_all i plans all ∙ sym (take_all j plans (omega (arith, e, all))))
+        ap (coming_from 1 taxi r) (take_all j plans (omega (arith, e, all)) ∙ sym (take_all i plans all))
 
-pub opened-absent : (taxi i n : ℕ) (plans : List Plan) (l : Listed) → n ≡ i + 1 → i ≤ length plans → held_slot (opened taxi (take i plans) l).lineup n ≡ None
-opened-absent taxi i n plans l e h =
-    let ws = waiting_from 1 taxi (regulation_of l) [] (take i plans) in
-    let len : length (take i plans) ≡ i = length-take-le i plans h in
-    slot-none (λ e. first_slot l.lineup.period e) [] n ws
-    (all-map (λ w. w.flight < n) (λ w. w.flight ≡ n → ⊥) ws (λ w h q. omega (arith, h, q)) (below 1 taxi (regulation_of l) [] (take i plans) n (omega (arith, e, len))))
+-- a turn of the noting: the flight of plan `n`, where the regulation applies to it, and those up to the next one that may come
+pub coming-on : (taxi i n next : ℕ) (r : Regulation) (plans : List Plan) (p : Plan) (o : Option ℕ) (noted now : List Planned) → n ≡ i + 1 → n ≤ length plans → n + 1 ≤ next → plan_at plans n ≡ Some p → o ≡ subject_to taxi r p → noted ≡ coming_from 1 taxi r (take i plans) → now ≡ noted ++ entering o n []
+    → ((m : ℕ) (q : Plan) → n + 1 ≤ m → m < next → plan_at plans m ≡ Some q → subject_to taxi r q ≡ None) → now ≡ coming_from 1 taxi r (take (next - 1) plans)
+coming-on taxi i n next r plans p o noted now e within after at is so_far made passed =
+    let more : next - 1 ≡ i + 1 + (next - 1 - n) = omega (arith, e, after) in
+    let past = coming-past taxi (next - 1 - n) (i + 1) (next - 1) r plans more (λ m q low high. passed m q (omega (arith, e, low)) (omega (arith, high, after))) in
+    let step = coming-step taxi i n r plans p e (omega (arith, e, within)) at in
+    made ∙ (ap (λ v. v ++ entering o n []) so_far ∙ (ap (λ s. coming_from 1 taxi r (take i plans) ++ entering s n []) is ∙ sym (past ∙ step)))
+
+-- no more flights than plans
+pub coming-few : (k taxi : ℕ) (r : Regulation) (ps : List Plan) → length (coming_from k taxi r ps) ≤ length ps
+coming-few k taxi r [] = omega arith
+coming-few k taxi r (p ∷ ps) = by (coming-few (k + 1) taxi r ps) (subject_to taxi r p) where
+  by : length (coming_from (k + 1) taxi r ps) ≤ length ps → (o : Option ℕ) → length (entering o k (coming_from (k + 1) taxi r ps)) ≤ length (p ∷ ps)
+  by again None = omega (arith, again)
+  by again (Some e) = omega (arith, again)
 
 -- an opened regulation, settled
 pub opened-settled : (taxi max now : ℕ) (plans : List Plan) (id : List ℕ) (spot : Spot) (period : Period) (o m : Listed) → o ≡ opened taxi plans (with_no_flights id spot period max) → IsAdvancing (is_below (length plans + 1)) taxi now plans o m

@@ -200,11 +200,6 @@ HoldNewlyDue earlier now plans flights =
 abbrev pub with_no_flights : List ℕ → Spot → Period → ℕ → Listed
 with_no_flights id spot period max = record { id = id; spot = spot; lineup = record { period = period; capacity = max; waiting = []; fixed = [] } }
 
--- a flight waits from its entry on, if it has one
-abbrev pub let_in : Option ℕ → ℕ → Lineup → Lineup
-let_in None flight l = l
-let_in (Some entry) flight l = with_waiting (record { entry = entry; flight = flight }) l
-
 -- it with the flights of these plans waiting
 abbrev pub opened : ℕ → List Plan → Listed → Listed
 opened taxi plans l =

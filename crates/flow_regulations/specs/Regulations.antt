@@ -36,6 +36,16 @@ waiting_from n taxi r fixed [] = []
 waiting_from n taxi r fixed (p ∷ ps) =
     with_entry (subject_to taxi r p) (has_flight n fixed) n (waiting_from (n + 1) taxi r fixed ps)
 
+-- one more flight, where it enters
+abbrev pub entering : Option ℕ → ℕ → List Planned → List Planned
+entering None flight others = others
+entering (Some entry) flight others = record { entry = entry; flight = flight } ∷ others
+
+-- of the plans numbered from n, those that the regulation applies to, by number
+abbrev pub coming_from : ℕ → ℕ → Regulation → List Plan → List Planned
+coming_from n taxi r [] = []
+coming_from n taxi r (p ∷ ps) = entering (subject_to taxi r p) n (coming_from (n + 1) taxi r ps)
+
 -- what the slot list of a regulation stands for
 abbrev pub lineup_of : ℕ → ℕ → List Plan → Regulation → Lineup
 lineup_of taxi max plans r = record { period = r.period; capacity = max; waiting = waiting_from 1 taxi r r.fixed plans; fixed = r.fixed }

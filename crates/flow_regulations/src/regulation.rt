@@ -3,17 +3,17 @@ ghost use Rattle.std.specs.Prelude.{◌≡◌, ◌<◌, ◌≤◌, ℕ, List, No
 ghost use Rattle.std.specs.List.{All};
 ghost use Rattle.flow_plans.specs.Plans.{Plan as Held, plan_at, is_departed, is_filed};
 ghost use Rattle.flow_plans.specs.Near.{row_of};
-ghost use Rattle.flow_slots.specs.Lineup.{held_slot, fixed_slot, without_flight, waiting_entry, len_of, IsLineup};
+ghost use Rattle.flow_slots.specs.Lineup.{held_slot, fixed_slot, without_flight, waiting_entry, len_of, with_all_waiting, MayFill, IsLineup};
 ghost use Rattle.flow_slots.specs.Period.{IsWithin, IsRegular};
 ghost use Rattle.flow_regulations.specs.Places.{IsPlaceOf, MayStand, stood};
 ghost use Rattle.flow_regulations.specs.Marks.{IsOut, IsInOrder};
 ghost use Rattle.flow_regulations.specs.Regulations.{subject_to};
 ghost use Rattle.flow_regulations.specs.Settling.{is_due, pairs_of};
-ghost use Rattle.flow_regulations.specs.Listing.{Listed, regulation_of, with_lineup, without_in, released_in, keeps_slot, placed, with_no_flights, let_in, is_named, fixed_waiting, IsListedIn, IsSettledBut, AreSameBut, IsRenewed, IsFixedWaiting, IsLookedAgain, is_due_flight};
+ghost use Rattle.flow_regulations.specs.Listing.{Listed, regulation_of, with_lineup, without_in, released_in, keeps_slot, placed, with_no_flights, is_named, fixed_waiting, IsListedIn, IsSettledBut, AreSameBut, IsRenewed, IsFixedWaiting, IsLookedAgain, is_due_flight};
 
 use crate::places::Place;
 use flow_plans::{Plan, PlanState, PlanStore, row_of};
-use flow_slots::{Shape, SlotList};
+use flow_slots::{Planned, Shape, SlotList};
 use fpl_message::Spot;
 use fpl_text::{Minute, Text};
 use std::alloc::{AllocError, Allocator, Global};
@@ -125,23 +125,17 @@ impl<A: Allocator + Copy> Regulation<A> {
         plans.next_coming(from, &self.spot, start, end)
     }
 
-    /// Lets the flight of the last of the plans so far wait, where the regulation applies to it.
-    pub(crate) fn let_in(&mut self, plans: &PlanStore<A>, number: u32)
-        requires some { 0 < number }
-        requires within { number ≤ length plans.now.plans }
-        requires room { number ≤ self.old.lineup.capacity }
-        requires absent { held_slot self.old.lineup number ≡ None }
-        ensures { (p : Held) → plan_at plans.now.plans number ≡ Some p
-            → self.new ≡ with_lineup (let_in (subject_to plans.now.taxi (regulation_of self.old) p) number self.old.lineup) self.old }
+    /// Takes flights into the slot list, in which there are none yet.
+    pub(crate) fn fill(&mut self, flights: &[Planned])
+        requires { MayFill flights.now self.old.lineup }
+        ensures { self.new ≡ with_lineup (with_all_waiting flights.now self.old.lineup) self.old }
     {
-        if let Some(entry) = self.subject(plans, number) {
-            self.list.insert(number, entry);
-        }
+        self.list.fill(flights);
     }
 
     /// The entry of the plan of this number, where the regulation applies to it.
     #[inline(always)]
-    fn subject(&self, plans: &PlanStore<A>, number: u32) -> Option<Minute>
+    pub(crate) fn subject(&self, plans: &PlanStore<A>, number: u32) -> Option<Minute>
         requires some { 0 < number }
         requires within { number ≤ length plans.now.plans }
         ensures { (p : Held) → plan_at plans.now.plans number ≡ Some p → result ≡ subject_to plans.now.taxi (regulation_of self.now) p }

@@ -8,6 +8,7 @@ ghost use Rattle.flow_regulations.specs.Advice.{advice};
 ghost use Rattle.flow_regulations.specs.Awaiting.{HaveBecomeDue};
 ghost use Rattle.flow_regulations.specs.Listing.{Listed, Walked, without_in, IsLookedAgain, IsListed, AreSettledBut, AreSameBut, AreRenewed, IsFixedWaiting, AreFrozen, IsSettled, IsAdvancing, is_below, is_among, with_fixed_waiting, AreDue, HoldNewlyDue, HaveCapacity, names_in, IsReleased, IsOpened, opened, is_named, without_named, lineup_named, keeps_slot_in, IsNamedAt, MayReopen, pairs_in, regulation_of};
 ghost use Rattle.flow_regulations.specs.Marks.{may_stand, Keeps, Covers, AreMarked, AreInRows, MarksNear};
+ghost use Rattle.flow_regulations.specs.Regulations.{coming_from};
 ghost use Rattle.flow_regulations.specs.Settling.{pairs_of};
 ghost use Rattle.flow_regulations.specs.Notices.{notices_from, told_from};
 ghost use Rattle.flow_regulations.specs.Places.{ArePlaces};
@@ -25,7 +26,7 @@ use crate::places::Place;
 use crate::regulation::{Regulation, are_in_order};
 use crate::telling::tell;
 use flow_plans::PlanStore;
-use flow_slots::{Shape, SlotList};
+use flow_slots::{Planned, Shape, SlotList};
 use fpl_message::Spot;
 use fpl_text::{Minute, Text};
 use std::alloc::{AllocError, Allocator, Global};
@@ -43,6 +44,8 @@ pub struct Regulations<A: Allocator + Copy = Global> {
     words: Vec<u64, A>,
     // for each row of places, the word that marks the regulations there
     rows: Vec<u64, A>,
+    // the flights that come into a regulation when it is opened, in memory that is kept for this
+    coming: Vec<Planned, A>,
 }
 
 impl<A: Allocator + Copy> Model for Regulations<A> {
@@ -72,6 +75,7 @@ impl<A: Allocator + Copy> Regulations<A> {
             regulations: Vec::new(alloc),
             words: Vec::new(alloc),
             rows: Vec::new(alloc),
+            coming: Vec::new(alloc),
         }
     }
 
@@ -111,7 +115,7 @@ impl<A: Allocator + Copy> Regulations<A> {
         self.regulations.reserve(1)?;
         make_room(&mut self.words, alloc, self.max_plans)?;
         make_room(&mut self.rows, alloc, LAST_ROW)?;
-        let_all_in(&mut regulation, plans);
+        let_all_in(&mut regulation, plans, &mut self.coming)?;
         settle(&mut regulation, plans, now);
         open_last(&mut self.words, &self.regulations, &regulation);
         open_last_row(&mut self.rows, &self.regulations, &regulation);
@@ -484,16 +488,45 @@ fn release_in<A: Allocator + Copy>(
     }
 }
 
-/// Lets the flights that a new regulation applies to wait in it.
-fn let_all_in<A: Allocator + Copy>(regulation: &mut Regulation<A>, plans: &PlanStore<A>)
+/// Lets the flights that a new regulation applies to wait in it: they are noted in memory that is kept, sorted, and taken in at once.
+/// Refused where memory is.
+fn let_all_in<A: Allocator + Copy>(
+    regulation: &mut Regulation<A>,
+    plans: &PlanStore<A>,
+    coming: &mut Vec<Planned, A>,
+) -> Result<(), AllocError>
     requires room { length plans.now.plans ≤ regulation.old.lineup.capacity }
     requires empty { regulation.old ≡ opened plans.now.taxi [] regulation.old }
-    ensures { regulation.new ≡ opened plans.now.taxi plans.now.plans regulation.old }
+    ensures { OnOk result (regulation.new ≡ opened plans.now.taxi plans.now.plans regulation.old) }
+{
+    coming.clear();
+    coming.reserve(plans.count() as usize)?;
+    note_coming(regulation, plans, coming);
+    coming.sort_unstable_by_key(|planned| planned.rank());
+    regulation.fill(coming);
+    Ok(())
+}
+
+/// Notes the flights that a regulation applies to, by number.
+fn note_coming<A: Allocator + Copy>(
+    regulation: &Regulation<A>,
+    plans: &PlanStore<A>,
+    coming: &mut Vec<Planned, A>,
+)
+    requires none { coming.old.items ≡ [] }
+    requires room { length plans.now.plans ≤ vec_capacity coming.old }
+    ensures { coming.new.items ≡ coming_from 1 plans.now.taxi (regulation_of regulation.now) plans.now.plans }
 {
     let count = plans.count();
     let mut number = regulation.next_coming(plans, 1);
     while number <= count {
-        regulation.let_in(plans, number);
+        if let Some(entry) = regulation.subject(plans, number) {
+            let entry = entry.minutes();
+            coming.push_reserved(Planned {
+                entry,
+                flight: number,
+            });
+        }
         number = regulation.next_coming(plans, number + 1);
     }
 }

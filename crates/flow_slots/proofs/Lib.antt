@@ -4,6 +4,7 @@ pub mod Changes
 pub mod Displacing
 pub mod Examples
 pub mod Filled
+pub mod Filling
 pub mod Fixing
 pub mod Following
 pub mod Fresh

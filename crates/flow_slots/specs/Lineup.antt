@@ -134,3 +134,16 @@ entry_in flight (w ∷ ws) = if w.flight == flight then Some w.entry else entry_
 
 abbrev pub waiting_entry : Lineup → ℕ → Option ℕ
 waiting_entry l flight = entry_in flight l.waiting
+
+-- a lineup with these flights waiting and none fixed
+abbrev pub with_all_waiting : List Planned → Lineup → Lineup
+with_all_waiting ws l = record { period = l.period; capacity = l.capacity; waiting = ws; fixed = [] }
+
+-- flights that an empty list may take in at once: they stand in the order, none twice, with numbers from 1 to `capacity` and
+-- entries in the period
+pub record MayFill (ws : List Planned) (l : Lineup) : Type 0 where
+  pub none_waiting : l.waiting ≡ []
+  pub none_fixed : l.fixed ≡ []
+  pub lined : IsLineup (with_all_waiting ws l)
+  pub numbers : AllByRecursion (λ w. (0 < w.flight) × (w.flight ≤ l.capacity)) ws
+  pub entries : AllWithin l.period ws

@@ -1,5 +1,7 @@
 ghost use Rattle.std.specs.Prelude.{◌≡◌};
-ghost use Rattle.flow_slots.specs.Order.{stands_before};
+ghost use Rattle.flow_slots.specs.Order.{rank, stands_before};
+
+use crate::packed_cell::rank;
 
 /// A flight that waits for a slot, with its entry in minutes from 1970-01-01 00:00 UTC.
 #[derive(Clone, Copy, Debug, PartialEq, Eq)]
@@ -14,6 +16,14 @@ impl Planned {
         ensures { result ≡ stands_before self other }
     {
         self.entry < other.entry || (self.entry == other.entry && self.flight < other.flight)
+    }
+
+    /// The place of this flight in the order, as one number.
+    #[inline(always)]
+    pub fn rank(self) -> u64
+        ensures { result ≡ rank self }
+    {
+        rank(self.entry, self.flight)
     }
 }
 

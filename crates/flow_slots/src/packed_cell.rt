@@ -36,7 +36,7 @@ const _: () = prove!(size_of::<PackedCell>() <= 8);
 
 /// The place of a flight in the order, as one number: by its entry, ties by its number.
 #[inline(always)]
-fn rank(entry: u32, flight: u32) -> u64
+pub(crate) fn rank(entry: u32, flight: u32) -> u64
     ensures { result ≡ 4_294_967_296 * entry + flight }
 {
     4_294_967_296 * u64::from(entry) + u64::from(flight)

@@ -1,7 +1,8 @@
-ghost use Rattle.std.specs.Prelude.{◌≡◌, ℕ, ◌+◌, ◌<◌, ◌≤◌, ◌++◌, true, length, take, drop, vec_len, IfOk, IsSome, None, replicate, ◌-◌, ◌^◌};
+ghost use Rattle.std.specs.Prelude.{◌≡◌, ℕ, [], ◌+◌, ◌<◌, ◌≤◌, ◌++◌, true, length, take, drop, vec_len, IfOk, IsSome, None, replicate, ◌-◌, ◌^◌};
 ghost use Rattle.flow_slots.specs.Changed.{gained};
 ghost use Rattle.flow_slots.specs.Period.{first_slot};
-ghost use Rattle.flow_slots.specs.Row.{cell_at, flight_at, place_at, IsTied, EntriesWithin};
+ghost use Rattle.flow_slots.specs.Lineup.{IsKept, MayFill};
+ghost use Rattle.flow_slots.specs.Row.{cell_at, flight_at, place_at, waiting_of, fixed_of, IsTied, EntriesWithin};
 ghost use Rattle.flow_slots.specs.declared.cell.Cell.TheVariants.{Empty};
 ghost use Rattle.flow_slots.specs.declared.cell.Planned.{Planned};
 ghost use Rattle.flow_slots.specs.Walk.{displace, has_empty, close, push, AllFollow};
@@ -82,6 +83,30 @@ impl<A: Allocator + Copy> Row<A> {
         let k = first_later(&self.cells, from, flight);
         let cells = self.cells.take_from(k);
         self.cells = Cells::from_made(displace(cells, self.places.as_mut_slice(), k, flight));
+    }
+
+    /// Takes flights, which stand in the order, into an empty row: each gets the later of the first slot of its entry and the
+    /// slot after that of the flight before it.
+    pub(crate) fn fill(&mut self, shape: &FirstSlots<A>, flights: &[Planned])
+        requires kept { IsKept shape.now (length self.old.places.items - 1) self.old.cells.row self.old.places.items }
+        requires may { MayFill flights.now (record {
+          period = shape.now;
+          capacity = length self.old.places.items - 1;
+          waiting = waiting_of self.old.cells.row;
+          fixed = fixed_of 0 self.old.cells.row;
+        }) }
+        ensures kept { IsKept shape.now (length self.old.places.items - 1) self.new.cells.row self.new.places.items }
+        ensures waiting { waiting_of self.new.cells.row ≡ flights.now }
+        ensures fixed { fixed_of 0 self.new.cells.row ≡ [] }
+        ensures writes { self.new.cells.writes ≤ self.old.cells.writes + length flights.now }
+    {
+        let mut next = 0;
+        for planned in flights {
+            let k = shape.at(planned.entry).max(next);
+            self.cells.write(k, Cell::Waiting(*planned));
+            self.places[planned.flight as usize] = HeldSlot::of(k);
+            next = k + 1;
+        }
     }
 
     /// Takes `flight` out of slot `k`: flights move up into the hole that it leaves.

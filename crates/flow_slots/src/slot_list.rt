@@ -4,7 +4,7 @@ ghost use Rattle.flow_slots.specs.Changed.{moved_flights};
 ghost use Rattle.flow_slots.specs.Delay.{HasLeastDelay, Rise, waiting_slots};
 ghost use Rattle.flow_slots.specs.FirstServed.{IsFirstServed};
 ghost use Rattle.flow_slots.specs.Row.{flight_at};
-ghost use Rattle.flow_slots.specs.Lineup.{len_of, held_slot, held_flight, fixed_slot, with_waiting, with_fixed, without_flight, fixed_at, IsLineup, waiting_entry};
+ghost use Rattle.flow_slots.specs.Lineup.{len_of, held_slot, held_flight, fixed_slot, with_waiting, with_fixed, without_flight, fixed_at, IsLineup, waiting_entry, with_all_waiting, MayFill};
 
 use crate::cell::{Cell, Planned};
 use crate::cells::Cells;
@@ -180,6 +180,18 @@ impl<A: Allocator + Copy> SlotList<A> {
         let entry = entry.minutes();
         let from = self.first_slots.at(entry);
         self.row.displace(from, Planned { entry, flight });
+    }
+
+    /// Takes flights into a list that holds none, in one pass. They stand in the order of their entries, ties by the lower number,
+    /// none twice; their numbers are from 1 to `max_plans`, and their entries lie in the period. All of them wait then, as if they
+    /// had been inserted one by one: each takes the later of the first slot not before its entry and the slot after that of the
+    /// flight before it. A flight costs one write.
+    pub fn fill(&mut self, flights: &[Planned])
+        requires { MayFill flights.now self.old.lineup }
+        ensures lineup { self.new.lineup ≡ with_all_waiting flights.now self.old.lineup }
+        ensures writes { self.new.writes ≤ self.old.writes + length flights.now }
+    {
+        self.row.fill(&self.first_slots, flights);
     }
 
     /// Takes out a flight that is held, fixed or not; later flights move up.

@@ -1,58 +1,36 @@
-use Rattle.std.proofs.Common.{◌≡◌, ℕ, ◌+◌, ◌-◌, ◌<◌, ◌≤◌, length, take, sym, ap, ◌∙◌, arith}
-use Rattle.std.proofs.lemmas.List.{take_all}
-use Rattle.flow_slots.specs.Lineup.{held_slot}
-use Rattle.flow_regulations.specs.Regulations.{subject_to}
-use Rattle.flow_regulations.specs.Listing.{Listed, regulation_of, with_lineup, let_in, opened}
-use Rattle.flow_regulations.proofs.Looked.{plan-there}
-use Rattle.flow_regulations.proofs.Openings.{opened-step, opened-past, opened-absent}
+use Rattle.std.proofs.Common.{◌≡◌, ◌≤◌, List, [], length, rules, sym, ap, subst, ◌∙◌, arith}
+use Rattle.std.specs.List.Sorted.{IsNonDecreasingBy}
+use Rattle.std.proofs.lemmas.List.Sorted.{IsNonDecreasingBy-from_sort_by_key}
+use Rattle.flow_plans.specs.Plans.{Plan}
+use Rattle.flow_slots.specs.declared.cell.Planned.{Planned}
+use Rattle.flow_slots.specs.Order.{rank}
+use Rattle.flow_slots.specs.Lineup.{MayFill, with_all_waiting}
+use Rattle.flow_regulations.specs.Regulations.{Regulation}
+use Rattle.flow_regulations.specs.Listing.{Listed, regulation_of, with_lineup}
+use Rattle.flow_regulations.proofs.Coming.{sorted-waiting, may-fill}
 use Rattle.flow_regulations.proofs.regulations.let_all_in.Goals as goal
 
-pub loop-number-init : goal.loop-number-init
-loop-number-init g c =
-    let l : Listed = c.args.regulation.now in
-    let next = c.next_coming-number in
-    let k : ℕ = next.result - 1 in
-    let start : k ≡ 0 + k = omega arith in
-    record {
-      some = omega (arith, next.ensures.from);
-      opened_so_far = opened-past c.args.plans.now.taxi k 0 k c.args.plans.now.plans l l start (λ n p low high at. next.ensures.passed n p (omega (arith, low)) (omega (arith, high, next.ensures.from)) at) c.requires.empty;
-    }
-
-pub let_in-requires-clause-absent : goal.let_in-requires-clause-absent
-let_in-requires-clause-absent g c =
-    let plans = c.args.plans.now.plans in
-    let n : ℕ = c.loop-number.number in
-    let within : n - 1 ≤ length plans = omega (arith, c.loop-number-test.true, c.count-count.ensures.count) in
-    let last : n ≡ n - 1 + 1 = omega (arith, c.loop-number.invariant.some) in
-    ap (λ v. held_slot v.lineup n) c.loop-number.invariant.opened_so_far ∙ opened-absent c.args.plans.now.taxi (n - 1) n plans c.args.regulation.now last within
-
-pub loop-number-preserved : goal.loop-number-preserved
-loop-number-preserved g c =
-    let plans = c.args.plans.now.plans in
+pub fill-requires : goal.fill-requires
+fill-requires g c =
+    let plans : List Plan = c.args.plans.now.plans in
     let taxi = c.args.plans.now.taxi in
     let l : Listed = c.args.regulation.now in
-    let x : Listed = c.let_in.new.self in
-    let n : ℕ = c.loop-number.number in
-    let inv = c.loop-number.invariant in
-    let next = c.next_coming-number-in-loop-number in
-    let i : ℕ = n - 1 in
-    let last : n ≡ i + 1 = omega (arith, inv.some) in
-    let within : i < length plans = omega (arith, last, c.loop-number-test.true, c.count-count.ensures.count) in
-    let p = plan-there plans n inv.some (omega (arith, last, within)) in
-    let step = ap (λ (v : Listed). with_lineup (let_in (subject_to taxi (regulation_of v) p.0) n v.lineup) v) inv.opened_so_far in
-    let made : x ≡ opened taxi (take (i + 1) plans) l = opened-step taxi i n plans l x p.0 last within p.1 (c.let_in.ensures p.0 p.1 ∙ step) in
-    let more : next.result - 1 ≡ i + 1 + (next.result - 1 - n) = omega (arith, last, next.ensures.from) in
-    record {
-      some = omega (arith, next.ensures.from);
-      opened_so_far =
-          opened-past taxi (next.result - 1 - n) (i + 1) (next.result - 1) plans l x more
-          (λ m q low high at. sym (ap (λ (v : Listed). subject_to taxi (regulation_of v) q) made)
-          ∙ next.ensures.passed m q (omega (arith, last, low)) (omega (arith, high, next.ensures.from)) at) made;
-    }
+    let r : Regulation = regulation_of l in
+    let few : length plans ≤ 20000 = omega (arith, c.count.ensures.count, c.count.ensures.bound) in
+    let up : IsNonDecreasingBy rank c.sort_unstable_by_key.new.self.items = IsNonDecreasingBy-from_sort_by_key rank _ c.sort_unstable_by_key.ensures.sorted (λ a r q k. search rules) in
+    let sorted = sorted-waiting taxi 20000 r plans c.note_coming.new.coming.items c.sort_unstable_by_key.new.self.items few (omega arith) c.note_coming.ensures c.sort_unstable_by_key.ensures.permutation up in
+    let none : l.lineup.waiting ≡ [] = ap (λ v. v.lineup.waiting) c.requires.empty in
+    let unfixed : l.lineup.fixed ≡ [] = ap (λ v. v.lineup.fixed) c.requires.empty in
+    let M : List Planned → Type 0 = λ ws. MayFill ws l.lineup in
+    subst M (sym (c.deref.ensures.value ∙ sorted)) (may-fill taxi r plans l.lineup none unfixed (search rules) c.requires.room)
 
 pub returns : goal.returns
 returns g c =
-    let plans = c.args.plans.now.plans in
-    let n : ℕ = c.loop-number.number in
-    let past : length plans ≤ n - 1 = omega (arith, c.loop-number-test.false, c.count-count.ensures.count) in
-    c.loop-number.invariant.opened_so_far ∙ ap (λ ps. opened c.args.plans.now.taxi ps c.args.regulation.now) (take_all (n - 1) plans past)
+    let plans : List Plan = c.args.plans.now.plans in
+    let taxi = c.args.plans.now.taxi in
+    let l : Listed = c.args.regulation.now in
+    let r : Regulation = regulation_of l in
+    let few : length plans ≤ 20000 = omega (arith, c.count.ensures.count, c.count.ensures.bound) in
+    let up : IsNonDecreasingBy rank c.sort_unstable_by_key.new.self.items = IsNonDecreasingBy-from_sort_by_key rank _ c.sort_unstable_by_key.ensures.sorted (λ a r q k. search rules) in
+    let sorted = sorted-waiting taxi 20000 r plans c.note_coming.new.coming.items c.sort_unstable_by_key.new.self.items few (omega arith) c.note_coming.ensures c.sort_unstable_by_key.ensures.permutation up in
+    c.fill.ensures ∙ ap (λ ws. with_lineup (with_all_waiting ws l.lineup) l) (c.deref.ensures.value ∙ sorted)
