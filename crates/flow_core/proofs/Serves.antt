@@ -1,7 +1,7 @@
 -- Answering frames, one after the other.
 use Rattle.std.proofs.Common.{◌≡◌, ℕ, ◌⊎◌, inl, inr, Bool, true, false, cond, List, [], ◌∷◌, ◌++◌, length, take, refl, sym, ap, ◌∙◌, subst, Option, Some, None, append_assoc, ltb, leb, codes, IfSome, Result, Err, IsErrOf}
 use Rattle.std.proofs.lemmas.List.{append-nil}
-use Rattle.std.specs.Io.KnownBytes.{Appends}
+use Rattle.std.specs.Io.KnownBytes.{Appends, Keeps}
 use Rattle.std.proofs.KnownBytes.{Appends-nil, Appends-trans, Consumes-nil}
 use Rattle.fpl_message.specs.Filings.{FilingText}
 use Rattle.flow_intake.specs.Frames.{frames}
@@ -122,7 +122,32 @@ Serving-start s begun ahead input e =
       appended = subst (λ (bs : List ℕ). Appends begun begun bs) (sym (output-nil s)) (Appends-nil begun);
     }
 
+Appends-kept : (begun written kept : Option (List ℕ)) (bytes : List ℕ) → Appends begun written bytes → Keeps written kept → Appends begun kept bytes
+Appends-kept None written kept bytes a k = tt
+Appends-kept (Some b) None kept bytes a k = absurd a
+Appends-kept (Some b) (Some w) None bytes a k = absurd k
+Appends-kept (Some b) (Some w) (Some v) bytes a k = k ∙ a
+
+-- what was written is handed on
+pub Serving-kept : (first now : State) (begun written kept : Option (List ℕ)) (ahead : Ahead) (input mid : Option (List ℕ))
+    → Serving first now begun written ahead input mid → Keeps written kept → Serving first now begun kept ahead input mid
+Serving-kept first now begun written kept ahead input mid s k =
+    record { done = s.done; cutting = s.cutting; state = s.state; appended = Appends-kept begun written kept (output first s.done) s.appended k }
+
 module _ (first now : State) (begun written : Option (List ℕ)) (old : Ahead) (input mid : Option (List ℕ)) (s : Serving first now begun written old input mid) where
+  -- where handing on failed, nothing more was read
+  pub Stopped-here : Stopped first now begun written input mid
+  Stopped-here =
+      let cut = s.cutting in
+      record {
+        read = cut.read;
+        consumed = cut.consumed;
+        count = length s.done;
+        state = s.state ∙ ap (after first) (sym (ap (take (length s.done)) cut.whole ∙ take-front s.done (frames old.unread)));
+        front = AppendsFront-whole begun written (output first s.done) (output (after first s.done) (frames old.unread)) (output first (frames cut.read)) s.appended
+            (sym (ap (output first) cut.whole ∙ output-append first s.done (frames old.unread)));
+      }
+
   -- where reading stopped, the frames that were served are the first of what was read
   pub Stopped-none : (rest : Option (List ℕ)) → old.ended ≡ false → Came mid rest → Stopped first now begun written input rest
   Stopped-none rest going m =

@@ -1,5 +1,5 @@
 //! An input in pieces, from any reader, however it cuts the bytes.
-ghost use Rattle.std.specs.Prelude.{◌≡◌, ◌≢◌, ◌≤◌, ◌<◌, ◌+◌, ◌-◌, ◌^◌, [], false, min, length, drop, slice_get, IfOk, OnOk, OnErr, IsErrOf, Err, IsTrue};
+ghost use Rattle.std.specs.Prelude.{◌≡◌, ◌≢◌, ◌≤◌, ◌<◌, ◌+◌, ◌-◌, ◌^◌, [], false, true, min, length, drop, slice_get, IfOk, OnOk, OnErr, IsErrOf, Err, IsTrue};
 ghost use Rattle.std.specs.List.{position};
 ghost use Rattle.flow_intake.specs.Frames.{is_text};
 ghost use Rattle.std.specs.Io.KnownBytes.{Consumes};
@@ -9,7 +9,7 @@ ghost use Rattle.flow_intake.specs.Until.{stops_at};
 use crate::counted::Counted;
 use crate::intake::IntakeFault;
 use crate::kept::Kept;
-use memchr::memchr2;
+use memchr::{memchr2, memrchr2};
 use std::alloc::{AllocError, Allocator, Global};
 use std::io::Read;
 use std::marker::Model;
@@ -48,6 +48,14 @@ fn stop_in(bytes: &[u8], until: Until) -> Option<usize>
     }
 }
 
+/// Behind the last of two bytes, or 0 where neither is there.
+fn behind_last(byte: u8, other: u8, bytes: &[u8]) -> usize {
+    match memrchr2(byte, other, bytes) {
+        Some(at) => at.saturating_add(1),
+        None => 0,
+    }
+}
+
 /// The piece of the input that was read last, and how much of it was taken.
 #[derive(Drop)]
 pub struct Pieces<A: Allocator = Global> {
@@ -56,6 +64,10 @@ pub struct Pieces<A: Allocator = Global> {
     end: usize,
     total: u64,
     ended: bool,
+    /// Behind the piece's last bracket: a message that begins before that bracket ends in the piece.
+    brackets: usize,
+    /// Behind the piece's last byte that ends an order.
+    order_ends: usize,
 }
 
 impl<A: Allocator> Model for Pieces<A> {
@@ -82,7 +94,24 @@ impl<A: Allocator> Pieces<A> {
             end: 0,
             total: 0,
             ended: false,
+            brackets: 0,
+            order_ends: 0,
         })
+    }
+
+    /// Whether the next frame may have to be waited for, since it doesn't end in the bytes that were read.
+    pub fn may_wait(&self) -> bool
+        ensures { self.now.unread ≡ [] → result ≡ true }
+    {
+        let unread = self.unread();
+        let Some(blanks) = text_in(unread) else {
+            return true;
+        };
+        let ends = match unread.get(blanks) {
+            Some(b'(') => self.brackets,
+            _ => self.order_ends,
+        };
+        ends <= self.at.saturating_add(blanks).saturating_add(1)
     }
 
     /// The bytes that were read and not yet taken.
@@ -144,6 +173,8 @@ impl<A: Allocator> Pieces<A> {
                 self.total += n as u64;
                 self.at = 0;
                 self.end = n;
+                self.brackets = behind_last(b'(', b')', &self.piece[..n]);
+                self.order_ends = behind_last(b'\n', b'(', &self.piece[..n]);
                 Ok(())
             }
         }

@@ -2,7 +2,7 @@ use Rattle.std.proofs.Common.{◌≡◌, ◌∙◌, refl}
 use Rattle.flow_intake.specs.NextFrame.{filing_kept}
 use Rattle.flow_core.specs.declared.serving.ServeFault.TheVariants as serve
 use Rattle.flow_core.specs.History.{state_of}
-use Rattle.flow_core.proofs.Serves.{Serving-start, Serving-one, Served-output, Served-state, Stopped-start, Stopped-none, Stopped-part, Starved-read, Overrun-read, err_is}
+use Rattle.flow_core.proofs.Serves.{Serving-start, Serving-one, Served-output, Served-state, Serving-kept, Stopped-here, Stopped-start, Stopped-none, Stopped-part, Starved-read, Overrun-read, err_is}
 use Rattle.flow_core.proofs.serving.serve.Goals as goal
 
 pub returns-in_default-clause-fault : goal.returns-in_default-clause-fault
@@ -21,43 +21,48 @@ frames-init g c = record {
 
 pub returns-in-Err-clause-fault : goal.returns-in-Err-clause-fault
 returns-in-Err-clause-fault g c =
-    Stopped-none (state_of c.args.core.now) (state_of c.frames.core) (g.W.Write.contents c.args.writer.now.device) (g.W.Write.contents c.frames.writer.device) c.frames.pieces (g.R.Read.remaining c.args.reader.now.device) (g.R.Read.remaining c.frames.reader.device)
-    c.frames.invariant.serving (g.R.Read.remaining c.cut_frame.new.reader.device) c.in-Err.ensures.going c.in-Err.ensures.err
+    Stopped-here (state_of c.args.core.now) (state_of c.frames.core) (g.W.Write.contents c.args.writer.now.device) (g.W.Write.contents c.hand_on.new.writer.device) c.frames.pieces (g.R.Read.remaining c.args.reader.now.device) (g.R.Read.remaining c.frames.reader.device)
+    (Serving-kept (state_of c.args.core.now) (state_of c.frames.core) (g.W.Write.contents c.args.writer.now.device) (g.W.Write.contents c.frames.writer.device) (g.W.Write.contents c.hand_on.new.writer.device) c.frames.pieces (g.R.Read.remaining c.args.reader.now.device) (g.R.Read.remaining c.frames.reader.device) c.frames.invariant.serving c.hand_on.ensures.keeps)
 
-pub returns-in-Err-clause-starved : goal.returns-in-Err-clause-starved
-returns-in-Err-clause-starved g c = λ e.
+pub returns-in-Err-cut_frame-clause-fault : goal.returns-in-Err-cut_frame-clause-fault
+returns-in-Err-cut_frame-clause-fault g c =
+    Stopped-none (state_of c.args.core.now) (state_of c.frames.core) (g.W.Write.contents c.args.writer.now.device) (g.W.Write.contents c.hand_on.new.writer.device) c.frames.pieces (g.R.Read.remaining c.args.reader.now.device) (g.R.Read.remaining c.frames.reader.device)
+    (Serving-kept (state_of c.args.core.now) (state_of c.frames.core) (g.W.Write.contents c.args.writer.now.device) (g.W.Write.contents c.frames.writer.device) (g.W.Write.contents c.hand_on.new.writer.device) c.frames.pieces (g.R.Read.remaining c.args.reader.now.device) (g.R.Read.remaining c.frames.reader.device) c.frames.invariant.serving c.hand_on.ensures.keeps) (g.R.Read.remaining c.cut_frame.new.reader.device) c.in-Err-cut_frame.ensures.going c.in-Err-cut_frame.ensures.err
+
+pub returns-in-Err-cut_frame-clause-starved : goal.returns-in-Err-cut_frame-clause-starved
+returns-in-Err-cut_frame-clause-starved g c = λ e.
     let read : c.why_no_frame.result ≡ serve.Read = cc in
-    Starved-read (state_of c.args.core.now) (state_of c.frames.core) (g.W.Write.contents c.args.writer.now.device) (g.W.Write.contents c.frames.writer.device) c.frames.pieces (g.R.Read.remaining c.args.reader.now.device) (g.R.Read.remaining c.frames.reader.device)
-    c.frames.invariant.serving (g.R.Read.remaining c.cut_frame.new.reader.device) c.in-Err.ensures.going (c.in-Err.ensures.read (err_is (c.why_no_frame.ensures.read read)))
+    Starved-read (state_of c.args.core.now) (state_of c.frames.core) (g.W.Write.contents c.args.writer.now.device) (g.W.Write.contents c.hand_on.new.writer.device) c.frames.pieces (g.R.Read.remaining c.args.reader.now.device) (g.R.Read.remaining c.frames.reader.device)
+    (Serving-kept (state_of c.args.core.now) (state_of c.frames.core) (g.W.Write.contents c.args.writer.now.device) (g.W.Write.contents c.frames.writer.device) (g.W.Write.contents c.hand_on.new.writer.device) c.frames.pieces (g.R.Read.remaining c.args.reader.now.device) (g.R.Read.remaining c.frames.reader.device) c.frames.invariant.serving c.hand_on.ensures.keeps) (g.R.Read.remaining c.cut_frame.new.reader.device) c.in-Err-cut_frame.ensures.going (c.in-Err-cut_frame.ensures.read (err_is (c.why_no_frame.ensures.read read)))
 
-pub returns-in-Err-clause-much : goal.returns-in-Err-clause-much
-returns-in-Err-clause-much g c = λ e.
+pub returns-in-Err-cut_frame-clause-much : goal.returns-in-Err-cut_frame-clause-much
+returns-in-Err-cut_frame-clause-much g c = λ e.
     let much : c.why_no_frame.result ≡ serve.TooMuch = cc in
-    Overrun-read (state_of c.args.core.now) (state_of c.frames.core) (g.W.Write.contents c.args.writer.now.device) (g.W.Write.contents c.frames.writer.device) c.frames.pieces (g.R.Read.remaining c.args.reader.now.device) (g.R.Read.remaining c.frames.reader.device)
-    c.frames.invariant.serving (g.R.Read.remaining c.cut_frame.new.reader.device) (c.in-Err.ensures.much (err_is (c.why_no_frame.ensures.much much)))
+    Overrun-read (state_of c.args.core.now) (state_of c.frames.core) (g.W.Write.contents c.args.writer.now.device) (g.W.Write.contents c.hand_on.new.writer.device) c.frames.pieces (g.R.Read.remaining c.args.reader.now.device) (g.R.Read.remaining c.frames.reader.device)
+    (Serving-kept (state_of c.args.core.now) (state_of c.frames.core) (g.W.Write.contents c.args.writer.now.device) (g.W.Write.contents c.frames.writer.device) (g.W.Write.contents c.hand_on.new.writer.device) c.frames.pieces (g.R.Read.remaining c.args.reader.now.device) (g.R.Read.remaining c.frames.reader.device) c.frames.invariant.serving c.hand_on.ensures.keeps) (g.R.Read.remaining c.cut_frame.new.reader.device) (c.in-Err-cut_frame.ensures.much (err_is (c.why_no_frame.ensures.much much)))
 
 pub returns-then-not-found-clause-served : goal.returns-then-not-found-clause-served
 returns-then-not-found-clause-served g c =
-    Served-output (state_of c.args.core.now) (state_of c.frames.core) (g.W.Write.contents c.args.writer.now.device) (g.W.Write.contents c.frames.writer.device) c.frames.pieces (g.R.Read.remaining c.args.reader.now.device) (g.R.Read.remaining c.frames.reader.device)
-    c.frames.invariant.serving c.cut_frame.new.pieces (g.R.Read.remaining c.cut_frame.new.reader.device) (rw c.if-not-found.true at c.in-Ok-cut_frame.ensures.cuts) c.in-Ok-cut_frame.ensures.agrees
+    Served-output (state_of c.args.core.now) (state_of c.frames.core) (g.W.Write.contents c.args.writer.now.device) (g.W.Write.contents c.hand_on.new.writer.device) c.frames.pieces (g.R.Read.remaining c.args.reader.now.device) (g.R.Read.remaining c.frames.reader.device)
+    (Serving-kept (state_of c.args.core.now) (state_of c.frames.core) (g.W.Write.contents c.args.writer.now.device) (g.W.Write.contents c.frames.writer.device) (g.W.Write.contents c.hand_on.new.writer.device) c.frames.pieces (g.R.Read.remaining c.args.reader.now.device) (g.R.Read.remaining c.frames.reader.device) c.frames.invariant.serving c.hand_on.ensures.keeps) c.cut_frame.new.pieces (g.R.Read.remaining c.cut_frame.new.reader.device) (rw c.if-not-found.true at c.in-Ok-cut_frame.ensures.cuts) c.in-Ok-cut_frame.ensures.agrees
 
 pub returns-then-not-found-clause-state : goal.returns-then-not-found-clause-state
 returns-then-not-found-clause-state g c =
-    Served-state (state_of c.args.core.now) (state_of c.frames.core) (g.W.Write.contents c.args.writer.now.device) (g.W.Write.contents c.frames.writer.device) c.frames.pieces (g.R.Read.remaining c.args.reader.now.device) (g.R.Read.remaining c.frames.reader.device)
-    c.frames.invariant.serving c.cut_frame.new.pieces (g.R.Read.remaining c.cut_frame.new.reader.device) (rw c.if-not-found.true at c.in-Ok-cut_frame.ensures.cuts) c.in-Ok-cut_frame.ensures.agrees
+    Served-state (state_of c.args.core.now) (state_of c.frames.core) (g.W.Write.contents c.args.writer.now.device) (g.W.Write.contents c.hand_on.new.writer.device) c.frames.pieces (g.R.Read.remaining c.args.reader.now.device) (g.R.Read.remaining c.frames.reader.device)
+    (Serving-kept (state_of c.args.core.now) (state_of c.frames.core) (g.W.Write.contents c.args.writer.now.device) (g.W.Write.contents c.frames.writer.device) (g.W.Write.contents c.hand_on.new.writer.device) c.frames.pieces (g.R.Read.remaining c.args.reader.now.device) (g.R.Read.remaining c.frames.reader.device) c.frames.invariant.serving c.hand_on.ensures.keeps) c.cut_frame.new.pieces (g.R.Read.remaining c.cut_frame.new.reader.device) (rw c.if-not-found.true at c.in-Ok-cut_frame.ensures.cuts) c.in-Ok-cut_frame.ensures.agrees
 
 pub returns-in-Err-answer_frame-clause-fault : goal.returns-in-Err-answer_frame-clause-fault
 returns-in-Err-answer_frame-clause-fault g c =
-    Stopped-part (state_of c.args.core.now) (state_of c.frames.core) (g.W.Write.contents c.args.writer.now.device) (g.W.Write.contents c.frames.writer.device) c.frames.pieces (g.R.Read.remaining c.args.reader.now.device) (g.R.Read.remaining c.frames.reader.device)
-    c.frames.invariant.serving c.cut_frame.new.pieces (g.R.Read.remaining c.cut_frame.new.reader.device) (filing_kept c.cut_frame.new.kept) (rw c.if-not-found.false at c.in-Ok-cut_frame.ensures.cuts)
+    Stopped-part (state_of c.args.core.now) (state_of c.frames.core) (g.W.Write.contents c.args.writer.now.device) (g.W.Write.contents c.hand_on.new.writer.device) c.frames.pieces (g.R.Read.remaining c.args.reader.now.device) (g.R.Read.remaining c.frames.reader.device)
+    (Serving-kept (state_of c.args.core.now) (state_of c.frames.core) (g.W.Write.contents c.args.writer.now.device) (g.W.Write.contents c.frames.writer.device) (g.W.Write.contents c.hand_on.new.writer.device) c.frames.pieces (g.R.Read.remaining c.args.reader.now.device) (g.R.Read.remaining c.frames.reader.device) c.frames.invariant.serving c.hand_on.ensures.keeps) c.cut_frame.new.pieces (g.R.Read.remaining c.cut_frame.new.reader.device) (filing_kept c.cut_frame.new.kept) (rw c.if-not-found.false at c.in-Ok-cut_frame.ensures.cuts)
     (state_of c.answer_frame.new.core) (g.W.Write.contents c.answer_frame.new.writer.device) c.in-Err-answer_frame.ensures.err
 
 pub frames-preserved : goal.frames-preserved
 frames-preserved g c = record {
   agrees = c.in-Ok-cut_frame.ensures.agrees;
-  serving = Serving-one (state_of c.args.core.now) (state_of c.frames.core) (g.W.Write.contents c.args.writer.now.device) (g.W.Write.contents c.frames.writer.device) c.frames.pieces (g.R.Read.remaining c.args.reader.now.device) (g.R.Read.remaining c.frames.reader.device)
-      c.frames.invariant.serving c.cut_frame.new.pieces (g.R.Read.remaining c.cut_frame.new.reader.device) (filing_kept c.cut_frame.new.kept) (rw c.if-not-found.false at c.in-Ok-cut_frame.ensures.cuts)
+  serving = Serving-one (state_of c.args.core.now) (state_of c.frames.core) (g.W.Write.contents c.args.writer.now.device) (g.W.Write.contents c.hand_on.new.writer.device) c.frames.pieces (g.R.Read.remaining c.args.reader.now.device) (g.R.Read.remaining c.frames.reader.device)
+      (Serving-kept (state_of c.args.core.now) (state_of c.frames.core) (g.W.Write.contents c.args.writer.now.device) (g.W.Write.contents c.frames.writer.device) (g.W.Write.contents c.hand_on.new.writer.device) c.frames.pieces (g.R.Read.remaining c.args.reader.now.device) (g.R.Read.remaining c.frames.reader.device) c.frames.invariant.serving c.hand_on.ensures.keeps) c.cut_frame.new.pieces (g.R.Read.remaining c.cut_frame.new.reader.device) (filing_kept c.cut_frame.new.kept) (rw c.if-not-found.false at c.in-Ok-cut_frame.ensures.cuts)
       (state_of c.answer_frame.new.core) (g.W.Write.contents c.answer_frame.new.writer.device) c.in_default-answer_frame.ensures.ok;
   reader_calm = c.in-Ok-cut_frame.ensures.calm ∙ c.frames.invariant.reader_calm;
-  writer_calm = c.in_default-answer_frame.ensures.calm ∙ c.frames.invariant.writer_calm;
+  writer_calm = c.in_default-answer_frame.ensures.calm ∙ (c.in_default-hand_on.ensures.calm ∙ c.frames.invariant.writer_calm);
 }
