@@ -3,6 +3,7 @@
 
     bench/measure.py PROGRAM [PEER] [--loads day,chains,text,journal] [--runs N]
 
+A load is named as in bench/load.py, with its size behind a colon where it isn't the usual one, as in toandfro:20000.
 The programs run in turn; of the runs of each the shortest counts. Prints for each load and program the wall and user
 seconds and the peak memory in MiB, and whether the outputs are the same.
 """
@@ -43,7 +44,7 @@ def main():
         for name in args.loads.split(","):
             load = os.path.join(folder, name)
             with open(load, "wb") as sink:
-                subprocess.run([sys.executable, str(HERE / "load.py"), name], stdout=sink, check=True)
+                subprocess.run([sys.executable, str(HERE / "load.py"), *name.split(":")], stdout=sink, check=True)
             best = {}
             digests = set()
             for _ in range(args.runs):
