@@ -16,3 +16,7 @@ pub mod Entering
 pub mod FrozenPairs
 pub mod Comparing
 pub mod ChangedRows
+pub mod Filed
+pub mod Growing
+pub mod Boards
+pub mod TakenIn

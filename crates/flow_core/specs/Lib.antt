@@ -3,6 +3,7 @@ pub mod KeptEntries
 pub mod Steps
 pub mod History
 pub mod Changes
+pub mod Boards
 pub mod CoreView
 pub mod Comparing
 pub mod Output

@@ -18,6 +18,18 @@ pub struct Change {
     pub row: Row,
 }
 
+impl Change {
+    /// A copy. It takes no memory.
+    pub fn copied(&self) -> Change
+        ensures { result ≡ self.now }
+    {
+        Change {
+            plan: self.plan,
+            row: self.row.copied(),
+        }
+    }
+}
+
 /// Whether this is the same state.
 fn same_state(state: PlanState, other: PlanState) -> bool
     ensures { result ≡ same_state state other }

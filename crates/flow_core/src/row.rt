@@ -16,6 +16,23 @@ pub struct Row {
     pub told: Option<Told>,
 }
 
+impl Row {
+    /// A copy. It takes no memory.
+    pub fn copied(&self) -> Row
+        ensures { result ≡ self.now }
+    {
+        let told = match &self.told {
+            Some(told) => Some(told.copied()),
+            None => None,
+        };
+        Row {
+            state: self.state,
+            off_block: self.off_block,
+            told,
+        }
+    }
+}
+
 /// The row of a plan that was last told this.
 fn row_of<A: Allocator + Copy>(plan: &Plan<A>, told: &Option<Told>) -> Row
     ensures { result ≡ row_of plan.now told.now }

@@ -80,7 +80,8 @@ impl<A: Allocator + Copy> SlotList<A> {
 
     /// How many slots the list has: those before the end, and `max_plans` more.
     pub fn len(&self) -> u32
-        ensures { result ≡ len_of self.now.lineup }
+        ensures value { result ≡ len_of self.now.lineup }
+        ensures most { result ≤ 30_000 }
     {
         self.row.cells.len()
     }

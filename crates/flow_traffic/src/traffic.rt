@@ -87,10 +87,10 @@ impl<A: Allocator + Copy> Traffic<A> {
         self.time
     }
 
-    /// The plan of this number, from 1.
+    /// The plan of this number, from 1. None where no plan has it.
     pub fn plan(&self, number: u32) -> Option<&Plan<A>>
-        requires { 0 < number }
-        ensures { option_copied result ≡ slice_get self.now.traffic.plans (number - 1) }
+        ensures plan { 0 < number → option_copied result ≡ slice_get self.now.traffic.plans (number - 1) }
+        ensures zero { number ≡ 0 → result ≡ None }
     {
         self.plans.plan(number)
     }

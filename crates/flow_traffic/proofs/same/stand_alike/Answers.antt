@@ -13,8 +13,8 @@ returns-then-not-stands_as g c =
     let qs : List Plan = c.args.others.now.plans in
     let i : ℕ = c.loop-index.index in
     let at : i + 1 - 1 ≡ i = omega arith in
-    let mine : option_map standing_of (option_copied c.plan.result) ≡ standing_at ps i = ap (option_map standing_of) (c.plan.ensures ∙ ap (slice_get ps) at) in
-    let theirs : option_map standing_of (option_copied c.plan-in-loop-index.result) ≡ standing_at qs i = ap (option_map standing_of) (c.plan-in-loop-index.ensures ∙ ap (slice_get qs) at) in
+    let mine : option_map standing_of (option_copied c.plan.result) ≡ standing_at ps i = ap (option_map standing_of) (c.plan.ensures.plan (omega arith) ∙ ap (slice_get ps) at) in
+    let theirs : option_map standing_of (option_copied c.plan-in-loop-index.result) ≡ standing_at qs i = ap (option_map standing_of) (c.plan-in-loop-index.ensures.plan (omega arith) ∙ ap (slice_get qs) at) in
     ((λ h. absurd (false≢true h)), (λ e. absurd (false≢true (sym c.if-not-stands_as.true ∙ c.stands_as.ensures.1 (mine ∙ (alike-at ps qs i e ∙ sym theirs))))))
 
 pub loop-index-preserved : goal.loop-index-preserved
@@ -23,6 +23,6 @@ loop-index-preserved g c =
     let qs : List Plan = c.args.others.now.plans in
     let i : ℕ = c.loop-index.index in
     let at : i + 1 - 1 ≡ i = omega arith in
-    let mine : option_map standing_of (option_copied c.plan.result) ≡ standing_at ps i = ap (option_map standing_of) (c.plan.ensures ∙ ap (slice_get ps) at) in
-    let theirs : option_map standing_of (option_copied c.plan-in-loop-index.result) ≡ standing_at qs i = ap (option_map standing_of) (c.plan-in-loop-index.ensures ∙ ap (slice_get qs) at) in
+    let mine : option_map standing_of (option_copied c.plan.result) ≡ standing_at ps i = ap (option_map standing_of) (c.plan.ensures.plan (omega arith) ∙ ap (slice_get ps) at) in
+    let theirs : option_map standing_of (option_copied c.plan-in-loop-index.result) ≡ standing_at qs i = ap (option_map standing_of) (c.plan-in-loop-index.ensures.plan (omega arith) ∙ ap (slice_get qs) at) in
     alike-more ps qs i c.loop-index.invariant (sym mine ∙ (c.stands_as.ensures.0 c.if-not-stands_as.false ∙ theirs))
