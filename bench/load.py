@@ -12,6 +12,10 @@ NAME is one of
   openings SIZE flights, and then 64 regulations of their departure
   reopened a regulation of the departure of 5,000 flights, opened and shut SIZE times
   delays   SIZE flights at 64 regulations of one place, and a delay of each
+  toandfro one flight whose destination is amended SIZE times, to and fro between two places
+  onward   one flight whose destination is amended SIZE times, each time to another place
+  again    one flight that is filed and cancelled SIZE times
+  visits   SIZE flights of one identification, each of which is amended to one destination and back
 The same name and size always give the same bytes. Run the program with --start 2409010000 --plans 20000.
 """
 import datetime
@@ -19,7 +23,8 @@ import random
 import sys
 
 SIZES = {"day": 20_000, "chains": 20_000, "text": 200_000, "journal": 1_000_000,
-         "openings": 20_000, "reopened": 2_000, "delays": 2_000}
+         "openings": 20_000, "reopened": 2_000, "delays": 2_000,
+         "toandfro": 60_000, "onward": 60_000, "again": 20_000, "visits": 10_000}
 MIDNIGHT = datetime.datetime(2024, 9, 1)
 AERODROMES = "EGLL LFPG EHAM EDDF LEMD EDDM LEBL LIRF EGKK LSZH EKCH LOWW ENGM ESSA EIDW EBBR LIMC EDDL EFHK LPPT".split()
 SECTORS = "EGTT EISN LFFF LFEE LFMM LFBB EBUR EHAA EDGG EDMM EDWW EDUU EDYY EKDK ESAA LKAA LOVV LSAS LIMM LIRR".split()
@@ -132,10 +137,49 @@ def delays(size):
         yield "(DLA-C%d-LIML%s-EDDF-DOF/240901)" % (number, clock(off_block + 1 + number % 30))
 
 
+def filed(ident, start, end):
+    return "(FPL-%s-IS-A320/M-S/L-%s0800-N0450F350 DCT-%s0150-0)" % (ident, start, end)
+
+
+def amended(ident, start, end, later):
+    return "(CHG-%s-%s0800-%s-16/%s0150)" % (ident, start, end, later)
+
+
+def place(number):
+    return "".join(chr(ord("A") + number // 26 ** at % 26) for at in (3, 2, 1, 0))
+
+
+def toandfro(size):
+    yield filed("AAA1", "LIML", "EDDF")
+    for number in range(size):
+        ends = ("EDDF", "EDDN") if number % 2 == 0 else ("EDDN", "EDDF")
+        yield amended("AAA1", "LIML", *ends)
+
+
+def onward(size):
+    yield filed("AAA1", "LIML", place(0))
+    for number in range(size):
+        yield amended("AAA1", "LIML", place(number), place(number + 1))
+
+
+def again(size):
+    for _ in range(size):
+        yield filed("AAA1", "LIML", "EDDF")
+        yield "(CNL-AAA1-LIML0800-EDDF)"
+
+
+def visits(size):
+    for number in range(size):
+        yield filed("AAA1", "LIML", place(number))
+    for number in range(size):
+        yield amended("AAA1", "LIML", place(number), "EDDF")
+        yield amended("AAA1", "LIML", "EDDF", place(number))
+
+
 def main():
     name = sys.argv[1]
     size = int(sys.argv[2]) if len(sys.argv) > 2 else SIZES[name]
-    loads = [day, chains, text, journal, openings, reopened, delays]
+    loads = [day, chains, text, journal, openings, reopened, delays, toandfro, onward, again, visits]
     for filing in {load.__name__: load for load in loads}[name](size):
         sys.stdout.write(filing + "\n")
 

@@ -3,8 +3,7 @@
 
     bench/measure.py PROGRAM [PEER] [--loads day,chains,text,journal] [--runs N]
 
-A load is a name of bench/load.py, or NAME:SIZE.
-
+A load is named as in bench/load.py, with its size behind a colon where it isn't the usual one, as in toandfro:20000.
 The programs run in turn; of the runs of each the shortest counts. Prints for each load and program the wall and user
 seconds and the peak memory in MiB, and whether the outputs are the same.
 """

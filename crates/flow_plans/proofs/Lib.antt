@@ -2,6 +2,7 @@ pub mod Matches
 pub mod Backs
 pub mod Filings
 pub mod FlightNumbers
+pub mod LastNumbers
 pub mod ChainLemmas
 pub mod Walks
 pub mod Keepings
@@ -16,3 +17,4 @@ pub mod NextBits
 pub mod Notes
 pub mod Amendments
 pub mod Previous
+pub mod ChainMoves

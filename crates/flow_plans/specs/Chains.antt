@@ -1,15 +1,15 @@
--- How plans are found by identification, departure and destination: from these three a chain of nodes, the newest first, names
--- the plans that were filed or amended under them. It may name other plans too, and one more than once. The newest node of each
--- chain stands in the map itself, those before it in a list.
-use Rattle.std.specs.Prelude.{◌≡◌, ℕ, ◌+◌, ◌*◌, ◌<◌, Bool, ◌==◌, ◌&&◌, List, length, Option, Some, None, IfSome, slice_get}
+-- How plans are found by identification, departure and destination, which name a flight. For each flight there is a chain of the
+-- plans that are held under its name, the newest first: the number of the newest stands in a map, and beside each plan that of
+-- the next older one. Where there is none, the number is 0.
+use Rattle.std.specs.Prelude.{◌≡◌, ℕ, zero, suc, ◌+◌, ◌*◌, ◌<◌, ◌≤◌, Bool, true, ◌==◌, ◌&&◌, if◌then◌else◌, List, length, cond, Some, None, unwrap_or, slice_index}
 use Rattle.std.specs.List.{fold}
 use Rattle.std.specs.Map.{lookup}
 use Rattle.fpl_message.specs.declared.parts.Parts.{Parts}
 use Rattle.flow_plans.specs.declared.chains.FlightName.{FlightName}
-use Rattle.flow_plans.specs.declared.chains.Node.{Node}
 use Rattle.flow_plans.specs.declared.plan.Key.{Key}
 use Rattle.flow_plans.specs.Places.{letters_of}
-use Rattle.flow_plans.specs.Plans.{Plan}
+use Rattle.flow_plans.specs.Plans.{Plan, is_held}
+use Rattle.flow_plans.specs.Searching.{passes_at}
 
 -- bytes as one number to the base 256
 unfoldable pub base_256 : List ℕ → ℕ
@@ -28,44 +28,65 @@ flight_of_parts parts = flight_named parts.ident parts.dep parts.dest
 abbrev pub same_flight : FlightName → FlightName → Bool
 same_flight a b = (a.ident == b.ident) && (a.ends == b.ends)
 
--- the node in the list at this place, where there is one
-abbrev pub node_before : List Node → Option ℕ → Option Node
-node_before nodes None = None
-node_before nodes (Some at) = slice_get nodes at
+-- a plan that was filed and not cancelled, and has this name now
+abbrev pub is_held_under : FlightName → Plan → Bool
+is_held_under name plan = is_held plan.state && same_flight name (flight_of_key plan.key)
 
--- a chain that goes on from this node names this place among the plans
-pub data IsReached (nodes : List Node) : Option Node → ℕ → Type 0 where
-  here : (next : Option Node) (place : ℕ) (node : Node) → next ≡ Some node → node.place ≡ place → IsReached nodes next place
-  further : (next : Option Node) (place : ℕ) (node : Node) → next ≡ Some node → IsReached nodes (node_before nodes node.previous) place → IsReached nodes next place
+-- whether the plan at a place is held under a name
+abbrev pub is_held_there : FlightName → List Plan → ℕ → Bool
+is_held_there name plans place = passes_at (is_held_under name) plans place
 
--- all chains: from each flight its newest node, and the nodes before these
+-- one more than the last of the first n places that pass a test, or 0
+unfoldable pub last_number : (ℕ → Bool) → ℕ → ℕ
+last_number test zero = 0
+last_number test (suc n) = if test n then n + 1 else last_number test n
+
+-- the number of the newest of the first n plans that are held under a name
+abbrev pub newest_held : FlightName → List Plan → ℕ → ℕ
+newest_held name plans n = last_number (is_held_there name plans) n
+
+-- all chains: from each flight the number of its newest plan, from each plan that of the next older, and for how many more
+-- flights there is room
 pub record Chained : Type 0 where
-  pub heads : List (FlightName × Node)
-  pub nodes : List Node
+  pub heads : List (FlightName × ℕ)
+  pub older : List ℕ
+  pub room : ℕ
 
-abbrev pub newest : List (FlightName × Node) → FlightName → Option Node
-newest heads name = lookup (same_flight name) heads
+abbrev pub newest : List (FlightName × ℕ) → FlightName → ℕ
+newest heads name = unwrap_or (lookup (same_flight name) heads) 0
 
--- a node goes on to one that stands before this place in the list, or to none
-abbrev pub GoesBelow : Node → ℕ → Type 0
-GoesBelow node at = IfSome node.previous (λ before. before < at)
+-- the newest plan of one flight has this number now, those of the others stayed
+abbrev pub IsUpdated : List (FlightName × ℕ) → List (FlightName × ℕ) → FlightName → ℕ → Type 0
+IsUpdated heads later name number =
+    (q : FlightName) → lookup (same_flight q) later ≡ cond (same_flight name q) (Some number) (lookup (same_flight q) heads)
 
--- each node in the list goes on to one before it
-abbrev pub AreLinked : List Node → Type 0
-AreLinked nodes = (at : ℕ) (node : Node) → slice_get nodes at ≡ Some node → GoesBelow node at
+-- from each plan the chain goes on to one before it, or ends
+abbrev pub GoDown : List ℕ → Type 0
+GoDown older = (place : ℕ) → slice_index older place ≤ place
 
--- each flight's newest node goes on to one in the list
-abbrev pub AreHeads : List (FlightName × Node) → List Node → Type 0
-AreHeads heads nodes = (name : FlightName) → IfSome (newest heads name) (λ node. GoesBelow node (length nodes))
+-- from each place that passes a test the chain goes on to the last before it that does
+abbrev pub AreLinks : (ℕ → Bool) → List ℕ → Type 0
+AreLinks test older = (place : ℕ) → test place ≡ true → slice_index older place ≡ last_number test place
 
--- the chain of this flight names this place
-abbrev pub IsNamed : Chained → FlightName → ℕ → Type 0
-IsNamed chains name place = IsReached chains.nodes (newest chains.heads name) place
+-- the place of this number passes a test
+abbrev pub IsNewest : (ℕ → Bool) → ℕ → Type 0
+IsNewest test number = (place : ℕ) → number ≡ place + 1 → test place ≡ true
 
--- all that was named is still named
-abbrev pub StaysNamed : Chained → Chained → Type 0
-StaysNamed chains later = (name : FlightName) (place : ℕ) → IsNamed chains name place → IsNamed later name place
+-- the chains have, for each flight, the plans that are held under its name, all of them and no others
+pub record AreChained (chains : Chained) (plans : List Plan) : Type 0 where
+  pub count : length chains.older ≡ length plans
+  pub heads : (name : FlightName) → newest chains.heads name ≡ newest_held name plans (length plans)
+  pub links : (name : FlightName) → AreLinks (is_held_there name plans) chains.older
 
--- each plan is named by the chain of its flight
-abbrev pub AreNamed : Chained → List Plan → Type 0
-AreNamed chains plans = (place : ℕ) (plan : Plan) → slice_get plans place ≡ Some plan → IsNamed chains (flight_of_key plan.key) place
+-- a plan can be put into the chain of this flight with no more memory
+abbrev pub HasRoomFor : Chained → FlightName → Type 0
+HasRoomFor chains name = lookup (same_flight name) chains.heads ≡ None → 0 < chains.room
+
+-- no flight is forgotten, and there is as much room
+abbrev pub KeepNames : Chained → Chained → Type 0
+KeepNames chains later =
+    ((name : FlightName) → lookup (same_flight name) later.heads ≡ None → lookup (same_flight name) chains.heads ≡ None) × (chains.room ≤ later.room)
+
+-- nothing changed, but there may be more room
+abbrev pub StayChained : Chained → Chained → Type 0
+StayChained chains later = (later.heads ≡ chains.heads) × (later.older ≡ chains.older) × (chains.room ≤ later.room)

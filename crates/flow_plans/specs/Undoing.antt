@@ -1,10 +1,10 @@
 -- What undoes the last change of a store.
-use Rattle.std.specs.Prelude.{ℕ, ◌-◌, ◌<◌, ◌≤◌, List, length, take, Option, Some, None}
+use Rattle.std.specs.Prelude.{◌≡◌, ℕ, ◌-◌, ◌<◌, ◌≤◌, List, length, take, Option, Some, None, true, IfSome}
 use Rattle.flow_plans.specs.declared.undo.LastChange as last_change
 use Rattle.flow_plans.specs.declared.undo.LastChange.TheVariants as change
 use Rattle.flow_plans.specs.declared.plan.PlanState.TheVariants as state
-use Rattle.flow_plans.specs.Chains.{Chained, flight_of_key, IsNamed, AreNamed}
-use Rattle.flow_plans.specs.Plans.{Plan, changed_at, with_plan, with_state, with_off_block}
+use Rattle.flow_plans.specs.Chains.{Chained, flight_of_key, AreChained, HasRoomFor}
+use Rattle.flow_plans.specs.Plans.{Plan, is_held, plan_at, changed_at, with_plan, with_state, with_off_block}
 
 -- the plans before this change, where it can be taken back
 abbrev pub undone : {A : Type 0} → List Plan → last_change.LastChange A → Option (List Plan)
@@ -14,23 +14,24 @@ undone plans (change.Delayed number moment) = Some (changed_at (with_off_block m
 undone plans (change.Ended number) = Some (changed_at (with_state state.Filed) number plans)
 undone plans (change.Amended number plan) = Some (with_plan plans number plan)
 
--- the change is one of these plans
+-- the change is one of these plans; an amended plan is held, and was
 abbrev pub IsOf : {A : Type 0} → last_change.LastChange A → List Plan → Type 0
 IsOf change.Nothing plans = Unit {0}
 IsOf change.Filed plans = 0 < length plans
 IsOf (change.Delayed number moment) plans = (0 < number) × (number ≤ length plans) × (moment < 67_855_680)
 IsOf (change.Ended number) plans = (0 < number) × (number ≤ length plans)
-IsOf (change.Amended number plan) plans = (0 < number) × (number ≤ length plans)
+IsOf (change.Amended number plan) plans =
+    (0 < number) × (number ≤ length plans) × (is_held plan.state ≡ true) × IfSome (plan_at plans number) (λ p. is_held p.state ≡ true)
 
--- the chains name a plan that the change replaced, too
-abbrev pub IsNamedBefore : {A : Type 0} → Chained → last_change.LastChange A → Type 0
-IsNamedBefore chains change.Nothing = Unit {0}
-IsNamedBefore chains change.Filed = Unit {0}
-IsNamedBefore chains (change.Delayed number moment) = Unit {0}
-IsNamedBefore chains (change.Ended number) = Unit {0}
-IsNamedBefore chains (change.Amended number plan) = IsNamed chains (flight_of_key plan.key) (number - 1)
+-- the chains can have the plan again that the change took out, with no more memory
+abbrev pub CanReturn : {A : Type 0} → Chained → last_change.LastChange A → List Plan → Type 0
+CanReturn chains change.Nothing plans = Unit {0}
+CanReturn chains change.Filed plans = Unit {0}
+CanReturn chains (change.Delayed number moment) plans = Unit {0}
+CanReturn chains (change.Ended number) plans = IfSome (plan_at plans number) (λ p. HasRoomFor chains (flight_of_key p.key))
+CanReturn chains (change.Amended number plan) plans = HasRoomFor chains (flight_of_key plan.key)
 
 -- what a store keeps to
 abbrev pub IsKept : {A : Type 0} → ℕ → ℕ → List Plan → Chained → last_change.LastChange A → Type 0
 IsKept max_plans taxi plans chains change =
-    (length plans ≤ max_plans) × (max_plans ≤ 20_000) × (taxi ≤ 120) × IsOf change plans × AreNamed chains plans × IsNamedBefore chains change
+    (length plans ≤ max_plans) × (max_plans ≤ 20_000) × (taxi ≤ 120) × IsOf change plans × AreChained chains plans × CanReturn chains change plans

@@ -1,9 +1,13 @@
 //! Finding plans by identification, departure and destination, without a walk over all plans.
-ghost use Rattle.std.specs.Prelude.{◌≡◌, ◌≤◌, OnOk, length};
-ghost use Rattle.flow_plans.specs.Chains.{base_256, flight_named, flight_of_key, flight_of_parts, newest, AreLinked, IsNamed, StaysNamed};
+ghost use Rattle.std.specs.Prelude.{◌≡◌, ◌≤◌, ◌<◌, ◌+◌, ◌-◌, ◌++◌, ◌∷◌, [], ℕ, Bool, true, None, if◌then◌else◌, OnOk, OnErr, IfSome, length, take, slice_index};
+ghost use Rattle.std.specs.Map.{lookup};
+ghost use Rattle.indexmap.specs.IndexMap.{spare};
+ghost use Rattle.flow_plans.specs.Plans.{is_held, plan_at};
+ghost use Rattle.flow_plans.specs.Changes.{others};
+ghost use Rattle.flow_plans.specs.Chains.{base_256, flight_named, flight_of_key, flight_of_parts, same_flight, newest, GoDown, AreLinks, IsNewest, AreChained, HasRoomFor, IsUpdated, KeepNames, StayChained};
 
 use crate::places::letters_of;
-use crate::plan::Key;
+use crate::plan::{Key, Plan};
 use fpl_message::Parts;
 use fpl_text::Text;
 use indexmap::IndexMap;
@@ -58,99 +62,183 @@ fn number_of(bytes: &[u8]) -> u64
     number
 }
 
-/// A plan that was filed or amended under a flight name, by its place in the list of plans, and the place of the node before it
-/// among the older nodes.
-#[derive(Clone, Copy)]
-pub(crate) struct Node {
-    pub(crate) place: u32,
-    pub(crate) previous: Option<u32>,
-}
-
-const _: () = prove!(size_of::<Node>() <= 12);
-
-/// From a flight name to the newest node of its chain, which stands in the map itself: most flights have one plan, and are found
-/// with no look at another node. Nothing is ever taken out: a node counts only where its plan has the name now.
+/// From a flight name to the number of the newest plan that is held under it, and beside each plan the number of the next older
+/// one; 0 where there is none. So a chain has the held plans of one name, from the newest to the oldest, and no others: a plan
+/// that is cancelled or gets another name is taken out.
 #[derive(Drop)]
 pub(crate) struct Chains<A: Allocator + Copy = Global> {
-    heads: IndexMap<FlightName, Node, BuildHasherDefault<FoldHasher>, A>,
-    /// The older nodes.
-    nodes: Vec<Node, A>,
+    heads: Heads<A>,
+    older: Vec<u32, A>,
 }
 
+type Heads<A> = IndexMap<FlightName, u32, BuildHasherDefault<FoldHasher>, A>;
+
 impl<A: Allocator + Copy> Model for Chains<A> {
-    ghost use Rattle.flow_plans.specs.Chains.{Chained, AreLinked, AreHeads};
+    ghost use Rattle.indexmap.specs.IndexMap.{spare};
+    ghost use Rattle.flow_plans.specs.Chains.{Chained, GoDown};
 
     ghost Value = { Chained };
 
-    ghost view = { λ c. record { heads = c.heads.entries; nodes = c.nodes.items } };
+    ghost view = { λ c. record { heads = c.heads.entries; older = c.older.items; room = spare c.heads } };
 
-    ghost invariant = { λ c. AreLinked c.nodes.items × AreHeads c.heads.entries c.nodes.items };
+    ghost invariant = { λ c. GoDown c.older.items };
 }
 
 impl<A: Allocator + Copy> Chains<A> {
     /// No chains.
-    pub(crate) fn new(alloc: A) -> Self {
+    pub(crate) fn new(alloc: A) -> Self
+        ensures { AreChained result [] }
+    {
         Chains {
             heads: IndexMap::new(alloc),
-            nodes: Vec::new(alloc),
+            older: Vec::new(alloc),
         }
     }
 
-    /// The newest node of a chain.
-    pub(crate) fn newest(&self, name: &FlightName) -> Option<Node>
+    /// The number of the newest plan that is held under a name.
+    pub(crate) fn newest(&self, name: &FlightName) -> u32
         ensures { result ≡ newest self.now.heads name.now }
     {
-        self.heads.get(name).copied()
+        self.heads.get(name).copied().unwrap_or(0)
     }
 
-    /// The older nodes.
-    pub(crate) fn nodes(&self) -> &[Node]
-        ensures value { result.now ≡ self.now.nodes }
-        ensures linked { AreLinked result.now }
+    /// Beside each plan the number of the next older one.
+    pub(crate) fn older(&self) -> &[u32]
+        ensures value { result.now ≡ self.now.older }
+        ensures down { GoDown result.now }
     {
-        &self.nodes
+        &self.older
     }
 
-    /// Names a place in the chain of a new key, unless that of the old one serves. After an `Err` all chains are as they were.
-    pub(crate) fn rename(&mut self, old: &Key, new: &Key, place: u32) -> Result<(), AllocError>
-        requires { IsNamed self.old (flight_of_key old.now) place }
-        ensures kept { StaysNamed self.old self.new }
-        ensures named { OnOk result (IsNamed self.new (flight_of_key new.now) place) }
+    /// Makes room for the names of as many flights. After an `Err` all chains are as they were.
+    pub(crate) fn reserve(&mut self, flights: usize) -> Result<(), AllocError>
+        ensures kept { StayChained self.old self.new }
+        ensures ok { OnOk result (flights ≤ self.new.room) }
     {
-        let name = FlightName::of_key(new);
-        if name == FlightName::of_key(old) {
-            return Ok(());
-        }
-        self.push(name, place)
+        self.heads.reserve(flights)
     }
 
-    /// Names a place in the chain of a flight. After an `Err` all chains are as they were.
-    pub(crate) fn push(&mut self, name: FlightName, place: u32) -> Result<(), AllocError>
-        ensures kept { StaysNamed self.old self.new }
-        ensures named { OnOk result (IsNamed self.new name place) }
+    /// Puts a plan behind these at the front of its chain. After an `Err` all chains are as they were.
+    pub(crate) fn append(&mut self, plans: &[Plan<A>], plan: &Plan<A>) -> Result<(), AllocError>
+        requires few { length plans.now ≤ 20_000 }
+        requires held { is_held plan.now.state ≡ true }
+        requires chained { AreChained self.old plans.now }
+        ensures ok { OnOk result (AreChained self.new (plans.now ++ plan.now ∷ [])) }
+        ensures err { OnErr result (StayChained self.old self.new) }
     {
-        self.nodes.reserve(1)?;
-        let Ok(at) = u32::try_from(self.nodes.len()) else {
-            return Err(AllocError);
-        };
-        let first = Node {
-            place,
-            previous: None,
-        };
-        let older = match self.heads.insert(name, first) {
-            Ok(None) => return Ok(()),
-            Ok(Some(older)) => older,
-            Err(_) => return Err(AllocError),
-        };
-        let newest = Node {
-            place,
-            previous: Some(at),
-        };
-        // The name is in the map, so this takes no memory.
-        let Ok(_) = self.heads.insert(name, newest) else {
-            return Err(AllocError);
-        };
-        self.nodes.push_reserved(older);
+        self.older.reserve(1)?;
+        self.heads.reserve(1)?;
+        let name = FlightName::of_key(plan.key());
+        let older = self.newest(&name);
+        put_newest(&mut self.heads, name, plans.len() as u32 + 1);
+        self.older.push_reserved(older);
         Ok(())
     }
+
+    /// Takes the plan of this number out of its chain. It takes no memory.
+    pub(crate) fn leave(&mut self, plans: &[Plan<A>], number: u32)
+        requires number { (0 < number) × (number ≤ length plans.now) }
+        requires chained { AreChained self.old plans.now }
+        ensures chained { AreChained self.new (others number plans.now) }
+        ensures kept { KeepNames self.old self.new }
+    {
+        let place = (number - 1) as usize;
+        let name = FlightName::of_key(plans[place].key());
+        let newest = self.newest(&name);
+        if newest < number {
+            return;
+        }
+        if newest == number {
+            set_newest(&mut self.heads, &name, self.older[place]);
+            return;
+        }
+        let later = later_than(&self.older, newest, number);
+        if self.older[later] == number {
+            self.older[later] = self.older[place];
+        }
+    }
+
+    /// Puts the plan of this number into its chain, which has room for it.
+    pub(crate) fn join(&mut self, plans: &[Plan<A>], number: u32)
+        requires number { (0 < number) × (number ≤ length plans.now) }
+        requires held { IfSome (plan_at plans.now number) (λ p. is_held p.state ≡ true) }
+        requires room { IfSome (plan_at plans.now number) (λ p. HasRoomFor self.old (flight_of_key p.key)) }
+        requires chained { AreChained self.old (others number plans.now) }
+        ensures chained { AreChained self.new plans.now }
+        ensures room { self.old.room ≤ self.new.room + 1 }
+    {
+        let place = (number - 1) as usize;
+        let name = FlightName::of_key(plans[place].key());
+        let newest = self.newest(&name);
+        if newest < number {
+            self.older[place] = newest;
+            put_newest(&mut self.heads, name, number);
+            return;
+        }
+        let later = later_than(&self.older, newest, number);
+        self.older[place] = self.older[later];
+        self.older[later] = number;
+    }
+
+    /// Takes the last of these plans out of its chain, and forgets its flight where no other plan is held under that name. It takes
+    /// no memory.
+    pub(crate) fn pop(&mut self, plans: &[Plan<A>])
+        requires some { 0 < length plans.now }
+        requires few { length plans.now ≤ 20_000 }
+        requires chained { AreChained self.old plans.now }
+        ensures chained { AreChained self.new (take (length plans.now - 1) plans.now) }
+    {
+        let name = FlightName::of_key(plans[plans.len() - 1].key());
+        self.leave(plans, plans.len() as u32);
+        self.older.pop();
+        self.forget(&name);
+    }
+
+    /// Forgets a flight under whose name no plan is held.
+    pub(crate) fn forget(&mut self, name: &FlightName)
+        ensures heads { (q : FlightName) → newest self.new.heads q ≡ newest self.old.heads q }
+        ensures older { self.new.older ≡ self.old.older }
+        ensures room { self.old.room ≤ self.new.room }
+    {
+        if self.newest(name) == 0 {
+            self.heads.swap_remove(name);
+        }
+    }
+}
+
+/// Sets the number of the newest plan of a flight that is in the map.
+fn set_newest<A: Allocator + Copy>(heads: &mut Heads<A>, name: &FlightName, number: u32)
+    requires { lookup (same_flight name.now) heads.old.entries ≡ None → ⊥ }
+    ensures heads { IsUpdated heads.old.entries heads.new.entries name.now number }
+    ensures room { spare heads.new ≡ spare heads.old }
+{
+    if let Some(newest) = heads.get_mut(name) {
+        *newest = number;
+    }
+}
+
+/// Sets the number of the newest plan of a flight, for which there is room in the map.
+fn put_newest<A: Allocator + Copy>(heads: &mut Heads<A>, name: FlightName, number: u32)
+    requires { lookup (same_flight name) heads.old.entries ≡ None → 0 < spare heads.old }
+    ensures heads { IsUpdated heads.old.entries heads.new.entries name number }
+    ensures room { spare heads.old ≤ spare heads.new + 1 }
+{
+    heads.insert(name, number).unwrap();
+}
+
+/// The place of the plan from which the chain that begins with this newest one goes on below a number, or to it.
+fn later_than(older: &[u32], newest: u32, number: u32) -> usize
+    requires down { GoDown older.now }
+    requires within { newest ≤ length older.now }
+    requires later { number < newest }
+    ensures within { result < length older.now }
+    ensures later { number ≤ result }
+    ensures next { slice_index older.now result ≤ number }
+    ensures held { (test : ℕ → Bool) → AreLinks test older.now → IsNewest test newest → test result ≡ true }
+{
+    let mut later = (newest - 1) as usize;
+    while older[later] > number {
+        later = (older[later] - 1) as usize;
+    }
+    later
 }

@@ -4,10 +4,10 @@ ghost use Rattle.std.specs.List.{list_any};
 ghost use Rattle.flow_plans.specs.Plans.{plan_at, is_held_as};
 ghost use Rattle.flow_plans.specs.Matching.{is_candidate, is_gone, matching};
 ghost use Rattle.flow_plans.specs.Searching.{with_candidate, with_gone, with_one_more, passes_at, IsSound, IsCounted, IsFreeAt, IsHeldBeside};
-ghost use Rattle.flow_plans.specs.Chains.{node_before, IsReached, AreLinked, AreNamed};
+ghost use Rattle.flow_plans.specs.Chains.{AreChained};
 ghost use Rattle.flow_plans.specs.Changes.{Answers, others};
 
-use crate::chains::{Chains, FlightName, Node};
+use crate::chains::{Chains, FlightName};
 use crate::fault::PlanFault;
 use crate::plan::{Key, Plan, PlanState};
 use fpl_message::Parts;
@@ -72,32 +72,19 @@ fn with_place<A: Allocator + Copy>(
     }
 }
 
-/// The older node to which another goes on.
-fn node_before(nodes: &[Node], previous: Option<u32>) -> Option<Node>
-    ensures { result ≡ node_before nodes.now previous }
-{
-    match previous {
-        Some(at) => nodes.get(at as usize).copied(),
-        None => None,
-    }
-}
-
-/// What the plans of a chain give.
-fn found_in<A: Allocator + Copy>(
-    plans: &[Plan<A>],
-    nodes: &[Node],
-    newest: Option<Node>,
-    parts: &Parts,
-) -> Found
-    requires { AreLinked nodes.now }
+/// What the plans give that are held under the name of the flight that a message is about, the newest first.
+fn found_in<A: Allocator + Copy>(plans: &[Plan<A>], chains: &Chains<A>, parts: &Parts) -> Found
+    requires { AreChained chains.now plans.now }
     ensures sound { IsSound (is_candidate parts.now) (is_gone parts.now) plans.now result }
-    ensures all { (place : ℕ) → IsReached nodes.now newest place → IsCounted (is_candidate parts.now) (is_gone parts.now) plans.now result place }
+    ensures all { (place : ℕ) → IsCounted (is_candidate parts.now) (is_gone parts.now) plans.now result place }
 {
+    let older = chains.older();
+    let mut number = chains.newest(&FlightName::of_parts(parts));
     let mut found = Found::Nothing;
-    let mut next = newest;
-    while let Some(node) = next {
-        found = with_place(found, plans, node.place as usize, parts);
-        next = node_before(nodes, node.previous);
+    while number > 0 {
+        let place = (number - 1) as usize;
+        found = with_place(found, plans, place, parts);
+        number = older[place];
     }
     found
 }
@@ -109,13 +96,12 @@ pub(crate) fn matching<A: Allocator + Copy>(
     parts: &Parts,
 ) -> Result<u32, PlanFault>
     requires few { length plans.now ≤ 20_000 }
-    requires named { AreNamed chains.now plans.now }
+    requires chained { AreChained chains.now plans.now }
     ensures answer { Answers result (matching plans.now parts.now) }
     ensures within { IfOk result (λ n. (0 < n) × (n ≤ length plans.now)) }
     ensures filed { IfOk result (λ n. IfSome (plan_at plans.now n) (λ p. p.state ≡ PlanState.Filed)) }
 {
-    let newest = chains.newest(&FlightName::of_parts(parts));
-    match found_in(plans, chains.nodes(), newest, parts) {
+    match found_in(plans, chains, parts) {
         Found::Nothing => Err(PlanFault::NoPlan),
         Found::Gone => Err(PlanFault::AlreadyDeparted),
         Found::One(place) => Ok(place as u32 + 1),
@@ -145,24 +131,25 @@ fn is_held_beside<A: Allocator + Copy>(
     place != but && is_held_at(plans, place, key)
 }
 
-/// Whether a plan of a chain, but the one at a place, is held with this key.
+/// Whether a plan, but the one at a place, is held with this key, looked for among those held under the name of its flight.
 fn is_held_in<A: Allocator + Copy>(
     plans: &[Plan<A>],
-    nodes: &[Node],
-    newest: Option<Node>,
+    chains: &Chains<A>,
     key: &Key,
     but: usize,
 ) -> bool
-    requires { AreLinked nodes.now }
+    requires { AreChained chains.now plans.now }
     ensures found { result ≡ true → IsHeldBeside key.now plans.now but }
-    ensures none { result ≡ false → (place : ℕ) → IsReached nodes.now newest place → IsFreeAt key.now plans.now but place }
+    ensures none { result ≡ false → (place : ℕ) → IsFreeAt key.now plans.now but place }
 {
-    let mut next = newest;
-    while let Some(node) = next {
-        if is_held_beside(plans, node.place as usize, key, but) {
+    let older = chains.older();
+    let mut number = chains.newest(&FlightName::of_key(key));
+    while number > 0 {
+        let place = (number - 1) as usize;
+        if is_held_beside(plans, place, key, but) {
             return true;
         }
-        next = node_before(nodes, node.previous);
+        number = older[place];
     }
     false
 }
@@ -173,11 +160,10 @@ pub(crate) fn holds_key<A: Allocator + Copy>(
     chains: &Chains<A>,
     key: &Key,
 ) -> bool
-    requires { AreNamed chains.now plans.now }
+    requires { AreChained chains.now plans.now }
     ensures { result ≡ list_any (is_held_as key.now) plans.now }
 {
-    let newest = chains.newest(&FlightName::of_key(key));
-    is_held_in(plans, chains.nodes(), newest, key, plans.len())
+    is_held_in(plans, chains, key, plans.len())
 }
 
 /// Whether a plan but that one is held with this key.
@@ -188,9 +174,8 @@ pub(crate) fn others_hold_key<A: Allocator + Copy>(
     key: &Key,
 ) -> bool
     requires number { (0 < number) × (number ≤ length plans.now) }
-    requires named { AreNamed chains.now plans.now }
+    requires chained { AreChained chains.now plans.now }
     ensures { result ≡ list_any (is_held_as key.now) (others number plans.now) }
 {
-    let newest = chains.newest(&FlightName::of_key(key));
-    is_held_in(plans, chains.nodes(), newest, key, (number - 1) as usize)
+    is_held_in(plans, chains, key, (number - 1) as usize)
 }

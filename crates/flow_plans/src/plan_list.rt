@@ -1,12 +1,12 @@
 //! Plans, each beside its outline.
 //!
 //! The outlines stand in a dense row of their own, so that a look at which flights may come to a place reads little memory.
-ghost use Rattle.std.specs.Prelude.{◌≡◌, ◌+◌, ◌≤◌, ◌<◌, ◌-◌, ◌++◌, ◌∷◌, ℕ, [], None, false, length, take, OnOk, OnErr, IfSome};
-ghost use Rattle.flow_plans.specs.Chains.{AreNamed, StaysNamed};
+ghost use Rattle.std.specs.Prelude.{◌≡◌, ◌+◌, ◌≤◌, ◌<◌, ◌-◌, ◌++◌, ◌∷◌, ℕ, [], None, true, false, length, take, OnOk, OnErr, IfSome};
+ghost use Rattle.flow_plans.specs.Chains.{AreChained, StayChained};
 ghost use Rattle.flow_plans.specs.Entries.{subject};
-ghost use Rattle.flow_plans.specs.Plans.{plan_at, filed_off_block, with_plan, changed_at, with_state, with_off_block};
+ghost use Rattle.flow_plans.specs.Plans.{is_held, plan_at, filed_off_block, with_plan, changed_at, with_state, with_off_block};
 
-use crate::chains::{Chains, FlightName};
+use crate::chains::Chains;
 use crate::outline::Outline;
 use crate::plan::{Plan, PlanState};
 use fpl_message::Spot;
@@ -115,19 +115,19 @@ impl<A: Allocator + Copy> PlanList<A> {
         number
     }
 
-    /// Appends a plan, and names it in the chains. After an `Err` the plans and all chains are as they were.
+    /// Appends a plan, also to the chain of its flight. After an `Err` the plans and all chains are as they were.
     pub(crate) fn append(&mut self, chains: &mut Chains<A>, plan: Plan<A>) -> Result<(), AllocError>
         requires few { length self.old ≤ 20_000 }
-        requires named { AreNamed chains.old self.old }
+        requires held { is_held plan.state ≡ true }
+        requires chained { AreChained chains.old self.old }
         ensures ok { OnOk result (self.new ≡ self.old ++ plan ∷ []) }
         ensures err { OnErr result (self.new ≡ self.old) }
-        ensures named { AreNamed chains.new self.new }
-        ensures kept { StaysNamed chains.old chains.new }
+        ensures chained { AreChained chains.new self.new }
+        ensures kept { OnErr result (StayChained chains.old chains.new) }
     {
         self.plans.reserve(1)?;
         self.outlines.reserve(1)?;
-        let name = FlightName::of_key(plan.key());
-        chains.push(name, self.plans.len() as u32)?;
+        chains.append(self.plans.as_slice(), &plan)?;
         self.outlines.push_reserved(Outline::of(&plan));
         self.plans.push_reserved(plan);
         Ok(())

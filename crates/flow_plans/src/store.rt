@@ -1,11 +1,11 @@
 //! The plans by number.
-ghost use Rattle.std.specs.Prelude.{◌≡◌, ◌≤◌, ◌<◌, ◌+◌, ◌-◌, ◌*◌, ◌++◌, ◌∷◌, ℕ, [], Ok, Err, Some, None, IfOk, IfErr, IfNone, OnOk, OnErr, IfSome, IsSome, IsTrue, ◌↔◌, MatchOption, length, slice_get, option_copied};
+ghost use Rattle.std.specs.Prelude.{◌≡◌, ◌≤◌, ◌<◌, ◌+◌, ◌-◌, ◌*◌, ◌++◌, ◌∷◌, ℕ, [], Ok, Err, Some, None, IfOk, IfErr, IfNone, OnOk, OnErr, IfSome, IsSome, IsTrue, ◌↔◌, MatchOption, true, length, slice_get, option_copied};
 ghost use Rattle.std.specs.List.{list_any};
 ghost use Rattle.flow_plans.specs.Settings.{IsDeskTime};
 ghost use Rattle.flow_plans.specs.Entries.{take_off, entry_at, subject};
-ghost use Rattle.flow_plans.specs.Undoing.{undone, IsOf};
-ghost use Rattle.flow_plans.specs.Chains.{flight_of_key, IsNamed, AreNamed, StaysNamed};
-ghost use Rattle.flow_plans.specs.Plans.{is_held_as, plan_at, filed_off_block, status_at, with_plan, changed_at, with_state, with_off_block};
+ghost use Rattle.flow_plans.specs.Undoing.{undone, IsOf, CanReturn};
+ghost use Rattle.flow_plans.specs.Chains.{flight_of_key, AreChained, HasRoomFor, KeepNames, StayChained};
+ghost use Rattle.flow_plans.specs.Plans.{is_held, is_held_as, plan_at, filed_off_block, status_at, with_plan, changed_at, with_state, with_off_block};
 ghost use Rattle.fpl_message.specs.declared.order.Spot.{Spot};
 ghost use Rattle.flow_plans.specs.Near.{row_of, word_at, HasBitsOf};
 ghost use Rattle.flow_plans.specs.Matching.{matching};
@@ -13,7 +13,7 @@ ghost use Rattle.flow_plans.specs.Times.{first_from, delayed_to};
 ghost use Rattle.flow_plans.specs.Changes.{plan_of, moment_of, filed, cancelled, departed, delayed, amended, IsRefusal, IsJustRefusal, Answers};
 
 use crate::amending::amended;
-use crate::chains::Chains;
+use crate::chains::{Chains, FlightName};
 use crate::fault::PlanFault;
 use crate::matching::{holds_key, matching};
 use crate::plan::{Plan, PlanState, Status, key_of};
@@ -156,7 +156,7 @@ impl<A: Allocator + Copy> PlanStore<A> {
     {
         let number = end_plan(
             &mut self.plans,
-            &self.chains,
+            &mut self.chains,
             &message.parts,
             PlanState::Cancelled,
         )?;
@@ -179,7 +179,7 @@ impl<A: Allocator + Copy> PlanStore<A> {
     {
         let number = end_plan(
             &mut self.plans,
-            &self.chains,
+            &mut self.chains,
             &message.parts,
             PlanState::Departed,
         )?;
@@ -265,7 +265,7 @@ impl<A: Allocator + Copy> PlanStore<A> {
         ensures taxi { self.new.taxi ≡ self.old.taxi }
     {
         let last = mem::replace(&mut self.last, LastChange::Nothing);
-        undo(&mut self.plans, last);
+        undo(&mut self.plans, &mut self.chains, last);
     }
 
     /// The moment of take-off of the plan of this number: its off-block moment and the taxi time.
@@ -344,63 +344,99 @@ fn amend_plan<A: Allocator + Copy>(
 ) -> Result<(u32, Plan<A>), PlanFault>
     requires now { IsDeskTime now }
     requires few { length plans.old ≤ 20_000 }
-    requires named { AreNamed chains.old plans.old }
+    requires chained { AreChained chains.old plans.old }
     ensures ok { IfOk result (λ r. amended now plans.old message.now ≡ Ok (record { plans = plans.new; number = r.0 })) }
     ensures within { IfOk result (λ r. (0 < r.0) × (r.0 ≤ length plans.new)) }
     ensures back { IfOk result (λ r. with_plan plans.new r.0 r.1 ≡ plans.old) }
     ensures refused { IfErr result (λ e. IsRefusal e (amended now plans.old message.now)) }
     ensures count { length plans.new ≡ length plans.old }
     ensures err { OnErr result (plans.new ≡ plans.old) }
-    ensures named { AreNamed chains.new plans.new }
-    ensures kept { StaysNamed chains.old chains.new }
-    ensures before { IfOk result (λ r. IsNamed chains.new (flight_of_key r.1.key) (r.0 - 1)) }
+    ensures chained { AreChained chains.new plans.new }
+    ensures held { IfOk result (λ r. (is_held r.1.state ≡ true) × IfSome (plan_at plans.new r.0) (λ p. is_held p.state ≡ true)) }
+    ensures room { OnOk result (0 < chains.new.room) }
+    ensures kept { OnErr result (StayChained chains.old chains.new) }
 {
     let (number, plan) = amended(alloc, plans.as_slice(), chains, message, now)?;
-    let Ok(()) = rename(plans.as_slice(), chains, number - 1, &plan) else {
+    // For the name of its flight now, and for the one that it had, should that be taken back.
+    let Ok(()) = chains.reserve(2) else {
         return Err(PlanFault::OutOfMemory);
     };
-    let held = plans.replace(number, plan);
+    let held = exchange(plans, chains, number, plan);
     Ok((number, held))
 }
 
-/// Names the plan that is to stand at a place in the chains.
-fn rename<A: Allocator + Copy>(
-    plans: &[Plan<A>],
+/// Puts a plan in the place of that number and into the chain of its flight, which has room for it, and answers the plan that
+/// stood there. It takes no memory.
+fn exchange<A: Allocator + Copy>(
+    plans: &mut PlanList<A>,
     chains: &mut Chains<A>,
-    place: u32,
-    plan: &Plan<A>,
-) -> Result<(), AllocError>
-    requires place { place < length plans.now }
-    requires named { AreNamed chains.old plans.now }
-    ensures kept { StaysNamed chains.old chains.new }
-    ensures named { OnOk result (IsNamed chains.new (flight_of_key plan.now.key) place) }
+    number: u32,
+    plan: Plan<A>,
+) -> Plan<A>
+    requires number { (0 < number) × (number ≤ length plans.old) }
+    requires held { (is_held plan.state ≡ true) × IfSome (plan_at plans.old number) (λ p. is_held p.state ≡ true) }
+    requires room { HasRoomFor chains.old (flight_of_key plan.key) }
+    requires chained { AreChained chains.old plans.old }
+    ensures changed { plans.new ≡ with_plan plans.old number plan }
+    ensures back { with_plan plans.new number result ≡ plans.old }
+    ensures count { length plans.new ≡ length plans.old }
+    ensures held { is_held result.state ≡ true }
+    ensures chained { AreChained chains.new plans.new }
+    ensures room { chains.old.room ≤ chains.new.room + 1 }
 {
-    let held = &plans[place as usize];
-    chains.rename(held.key(), plan.key(), place)
+    let name = FlightName::of_key(plans.as_slice()[(number - 1) as usize].key());
+    if name == FlightName::of_key(plan.key()) {
+        return plans.replace(number, plan);
+    }
+    chains.leave(plans.as_slice(), number);
+    let held = plans.replace(number, plan);
+    chains.join(plans.as_slice(), number);
+    chains.forget(&name);
+    held
 }
 
-/// Undoes the last change of these plans.
+/// Undoes the last change of these plans. It takes no memory.
 #[tactic(auto, unfolding(crate::specs::Plans::changed_at))]
-fn undo<A: Allocator + Copy>(plans: &mut PlanList<A>, last: LastChange<A>)
+fn undo<A: Allocator + Copy>(plans: &mut PlanList<A>, chains: &mut Chains<A>, last: LastChange<A>)
     requires change { IsSome (undone plans.old last) }
     requires number { IsOf last plans.old }
+    requires few { length plans.old ≤ 20_000 }
+    requires chained { AreChained chains.old plans.old }
+    requires room { CanReturn chains.old last plans.old }
     ensures undone { undone plans.old last ≡ Some plans.new }
     ensures count { length plans.new ≤ length plans.old }
+    ensures chained { AreChained chains.new plans.new }
 {
     match last {
         LastChange::Nothing => {}
         LastChange::Filed => {
+            chains.pop(plans.as_slice());
             plans.pop();
         }
         LastChange::Delayed { number, off_block } => {
             plans.set_off_block(number, off_block);
         }
         LastChange::Ended { number } => {
-            plans.set_state(number, PlanState::Filed);
+            file_again(plans, chains, number);
         }
         LastChange::Amended { number, plan } => {
-            plans.replace(number, plan);
+            exchange(plans, chains, number, plan);
         }
+    }
+}
+
+/// Makes the plan of this number filed again, and puts it into the chain of its flight where it is in none. It takes no memory.
+fn file_again<A: Allocator + Copy>(plans: &mut PlanList<A>, chains: &mut Chains<A>, number: u32)
+    requires number { (0 < number) × (number ≤ length plans.old) }
+    requires room { IfSome (plan_at plans.old number) (λ p. HasRoomFor chains.old (flight_of_key p.key)) }
+    requires chained { AreChained chains.old plans.old }
+    ensures changed { plans.new ≡ changed_at (with_state PlanState.Filed) number plans.old }
+    ensures chained { AreChained chains.new plans.new }
+{
+    let held = plans.as_slice()[(number - 1) as usize].is_held();
+    plans.set_state(number, PlanState::Filed);
+    if !held {
+        chains.join(plans.as_slice(), number);
     }
 }
 
@@ -469,24 +505,30 @@ fn previous<A: Allocator + Copy>(
     }
 }
 
-/// Gives the filed plan that a message is about another state.
+/// Gives the filed plan that a message is about another state. A cancelled plan leaves the chain of its flight.
 #[tactic(auto, unfolding(crate::specs::Plans::changed_at))]
 fn end_plan<A: Allocator + Copy>(
     plans: &mut PlanList<A>,
-    chains: &Chains<A>,
+    chains: &mut Chains<A>,
     parts: &Parts,
     state: PlanState,
 ) -> Result<u32, PlanFault>
     requires few { length plans.old ≤ 20_000 }
-    requires named { AreNamed chains.now plans.old }
+    requires chained { AreChained chains.old plans.old }
     ensures found { Answers result (matching plans.old parts.now) }
     ensures changed { IfOk result (λ n. plans.new ≡ changed_at (with_state state) n plans.old) }
     ensures within { IfOk result (λ n. (0 < n) × (n ≤ length plans.new)) }
     ensures back { IfOk result (λ n. changed_at (with_state PlanState.Filed) n plans.new ≡ plans.old) }
     ensures count { length plans.new ≡ length plans.old }
     ensures err { OnErr result (plans.new ≡ plans.old) }
+    ensures chained { AreChained chains.new plans.new }
+    ensures room { IfOk result (λ n. IfSome (plan_at plans.new n) (λ p. HasRoomFor chains.new (flight_of_key p.key))) }
+    ensures kept { OnErr result (chains.new ≡ chains.old) }
 {
     let number = matching(plans.as_slice(), chains, parts)?;
+    if let PlanState::Cancelled = state {
+        chains.leave(plans.as_slice(), number);
+    }
     plans.set_state(number, state);
     Ok(number)
 }
@@ -501,7 +543,7 @@ fn delay_plan<A: Allocator + Copy>(
 ) -> Result<(u32, Minute), PlanFault>
     requires now { IsDeskTime now }
     requires few { length plans.old ≤ 20_000 }
-    requires named { AreNamed chains.now plans.old }
+    requires chained { AreChained chains.now plans.old }
     ensures ok { IfOk result (λ r. delayed now plans.old message.now ≡ Ok (record { plans = plans.new; number = r.0 })) }
     ensures within { IfOk result (λ r. (0 < r.0) × (r.0 ≤ length plans.new) × (r.1 < 67_855_680)) }
     ensures back { IfOk result (λ r. changed_at (with_off_block r.1) r.0 plans.new ≡ plans.old) }
@@ -594,7 +636,7 @@ fn why_refused<A: Allocator + Copy>(
     now: Minute,
 ) -> Result<Minute, PlanFault>
     requires now { IsDeskTime now }
-    requires named { AreNamed chains.now plans.now }
+    requires chained { AreChained chains.now plans.now }
     ensures ok { IfOk result (λ moment. filed max_plans now plans.now message.now ≡ Ok (plans.now ++ plan_of moment message.now ∷ [])) }
     ensures room { OnOk result (length plans.now < max_plans) }
     ensures bound { IfOk result (λ moment. moment < 67_855_680) }

@@ -1,9 +1,12 @@
-use Rattle.std.proofs.Common.{◌≡◌, Ok, false}
+use Rattle.std.proofs.Common.{◌≡◌, Ok, Some, true, false, ap, ◌∙◌}
 use Rattle.std.specs.List.{list_any}
-use Rattle.flow_plans.specs.Plans.{is_held_as}
+use Rattle.flow_plans.specs.declared.plan.PlanState.{PlanState}
+use Rattle.flow_plans.specs.declared.plan.PlanState.TheVariants as state
+use Rattle.flow_plans.specs.Plans.{Plan, plan_at, is_held, is_held_as}
 use Rattle.flow_plans.specs.Matching.{matching}
-use Rattle.flow_plans.specs.Changes.{changes_key, key_after, moved_to, others}
+use Rattle.flow_plans.specs.Changes.{changes_key, key_after, moved_to, others, amended_plan}
 use Rattle.flow_plans.proofs.Amendments.{all-steps}
+use Rattle.flow_plans.proofs.Keepings.{plan-stood}
 use Rattle.flow_plans.proofs.amending.amended.Goals as goal
 
 pub returns-in-Ok-clause-ok : goal.returns-in-Ok-clause-ok
@@ -14,3 +17,14 @@ returns-in-Ok-clause-ok g c =
     let free : list_any (is_held_as (key_after c.index-plans-number.result.key c.args.message.now)) (others c.in_ok-number.number c.args.plans.now) ≡ false = cc (c.others_hold_key.ensures, c.amended-key.ensures, c.key-2.ensures, c.if-others_hold_key.false) in
     all-steps c.args.now c.args.plans.now c.args.message.now c.in_ok-number.number c.in_ok-off_block.off_block c.index-plans-number.result c.in-Ok.plan
     found c.in_ok-number.ensures.within.0 c.in_ok-number.ensures.within.1 c.index-plans-number.is same moved free c.in-Ok.ensures
+
+pub returns-in-Ok-clause-held : goal.returns-in-Ok-clause-held
+unfolding amended_plan
+returns-in-Ok-clause-held g c =
+    let p = c.index-plans-number.result in
+    let there : plan_at c.args.plans.now c.in_ok-number.number ≡ Some p =
+    plan-stood c.args.plans.now c.in_ok-number.number p c.in_ok-number.ensures.within.0 c.in_ok-number.ensures.within.1 c.index-plans-number.is in
+    let filed : p.state ≡ state.Filed = rw there at c.in_ok-number.ensures.filed in
+    let same : c.in-Ok.plan.state ≡ p.state = ap (λ (q : Plan). q.state) c.in-Ok.ensures in
+    let held : is_held p.state ≡ true = ap (λ (s : PlanState). is_held s) filed in
+    (ap (λ (s : PlanState). is_held s) same ∙ held, rw there held)

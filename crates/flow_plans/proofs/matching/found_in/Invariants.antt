@@ -1,15 +1,16 @@
-use Rattle.std.proofs.Common.{ℕ, ◌⊎◌}
+use Rattle.std.proofs.Common.{ℕ, ◌≤◌, length}
 use Rattle.flow_plans.specs.Matching.{is_candidate, is_gone}
 use Rattle.flow_plans.specs.Searching.{IsSound, IsCounted}
-use Rattle.flow_plans.specs.Chains.{IsReached}
-use Rattle.flow_plans.proofs.Walks.{rank}
+use Rattle.flow_plans.specs.Chains.{flight_of_parts, is_held_there, IsNewest}
 use Rattle.flow_plans.proofs.matching.found_in.Given as goal
 
-abbrev pub invariant-loop-next : goal.invariant-loop-next
-invariant-loop-next g l = record {
+abbrev pub invariant-loop-number : goal.invariant-loop-number
+invariant-loop-number g l = record {
   sound : IsSound (is_candidate l.parts) (is_gone l.parts) l.plans l.found;
-  counted : (place : ℕ) → IsReached l.nodes l.fn.newest place → IsReached l.nodes l.next place ⊎ IsCounted (is_candidate l.parts) (is_gone l.parts) l.plans l.found place;
+  counted : (place : ℕ) → l.number ≤ place → IsCounted (is_candidate l.parts) (is_gone l.parts) l.plans l.found place;
+  within : l.number ≤ length l.plans;
+  held : IsNewest (is_held_there (flight_of_parts l.parts) l.plans) l.number;
 }
 
-abbrev pub decreases-loop-next : goal.decreases-loop-next
-decreases-loop-next g l = rank l.next
+abbrev pub decreases-loop-number : goal.decreases-loop-number
+decreases-loop-number g l = l.number

@@ -1,11 +1,14 @@
-use Rattle.std.proofs.Common.{ℕ, ◌⊎◌}
+use Rattle.std.proofs.Common.{ℕ, ◌≤◌, length}
 use Rattle.flow_plans.specs.Searching.{IsFreeAt}
-use Rattle.flow_plans.specs.Chains.{IsReached}
-use Rattle.flow_plans.proofs.Walks.{rank}
+use Rattle.flow_plans.specs.Chains.{flight_of_key, is_held_there, IsNewest}
 use Rattle.flow_plans.proofs.matching.is_held_in.Given as goal
 
-abbrev pub invariant-loop-next : goal.invariant-loop-next
-invariant-loop-next g l = (place : ℕ) → IsReached l.nodes l.fn.newest place → IsReached l.nodes l.next place ⊎ IsFreeAt l.key l.plans l.but place
+abbrev pub invariant-loop-number : goal.invariant-loop-number
+invariant-loop-number g l = record {
+  free : (place : ℕ) → l.number ≤ place → IsFreeAt l.key l.plans l.but place;
+  within : l.number ≤ length l.plans;
+  held : IsNewest (is_held_there (flight_of_key l.key) l.plans) l.number;
+}
 
-abbrev pub decreases-loop-next : goal.decreases-loop-next
-decreases-loop-next g l = rank l.next
+abbrev pub decreases-loop-number : goal.decreases-loop-number
+decreases-loop-number g l = l.number

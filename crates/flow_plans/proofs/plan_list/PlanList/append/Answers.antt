@@ -1,10 +1,12 @@
-use Rattle.std.proofs.Common.{◌≡◌, List, [], ◌∷◌, ◌++◌, length, sym, ap, ◌∙◌}
-use Rattle.flow_plans.specs.declared.plan.Key.{Key}
-use Rattle.flow_plans.specs.Plans.{Plan}
-use Rattle.flow_plans.specs.Chains.{flight_of_key, IsNamed, AreNamed}
-use Rattle.flow_plans.proofs.Walks.{named-push}
+use Rattle.std.proofs.Common.{◌≡◌, ◌∙◌, Result, Ok, Err}
+use Rattle.std.specs.Result.{OnErr}
+use Rattle.flow_plans.proofs.Keepings.{chained-stay}
 use Rattle.flow_plans.proofs.OutlineLemmas.{outlines-push}
 use Rattle.flow_plans.proofs.plan_list.PlanList.append.Goals as goal
+
+on-err : {T E : Type 0} (P : Type 0) (r : Result T E) → P → OnErr r P
+on-err P (Ok x) p = tt
+on-err P (Err e) p = p
 
 pub invariant_of-self-2 : goal.invariant_of-self-2
 invariant_of-self-2 g c =
@@ -12,17 +14,10 @@ invariant_of-self-2 g c =
     rw (c.push_reserved.ensures.items, c.push_reserved-2.ensures.items, c.in_ok-reserve-2.ensures.items, c.in_ok-reserve.ensures.items)
     (outlines-push s.outlines.items s.plans.items c.of.result c.args.plan c.self.invariant c.of.ensures)
 
-pub returns-clause-named : goal.returns-clause-named
-returns-clause-named g c =
-    let plans : List Plan = c.self.inside.plans.items in
-    let items : c.push_reserved-2.new.self.items ≡ plans ++ c.args.plan ∷ [] = c.push_reserved-2.ensures.items ∙ ap (λ (ps : List Plan). ps ++ c.args.plan ∷ []) c.in_ok-reserve.ensures.items in
-    let at : c.len.result ≡ length plans = c.len.ensures ∙ c.in_ok-reserve.ensures.len ∙ c.self.inside.plans.ok.0 in
-    let name : c.of_key-name.result ≡ flight_of_key c.args.plan.key = c.of_key-name.ensures ∙ ap (λ (k : Key). flight_of_key k) c.key.ensures in
-    let last : IsNamed c.push.new.self (flight_of_key c.args.plan.key) (length plans) = rw (at, name) at c.in_ok-push.ensures.named in
-    let named : AreNamed c.args.chains.now plans = rw (sym c.self.view_is) at c.requires.named in
-    rw items (named-push c.args.chains.now c.push.new.self c.in_ok-push.ensures.kept plans c.args.plan named last)
+pub returns-in_err-append-clause-err : goal.returns-in_err-append-clause-err
+returns-in_err-append-clause-err g c = on-err _ c.from_residual-in_err-append.result (c.in_ok-reserve.ensures.items ∙ c.self.view_is)
 
-pub returns-in_err-push-clause-named : goal.returns-in_err-push-clause-named
-returns-in_err-push-clause-named g c = λ place plan there.
-    (let named : AreNamed c.args.chains.now c.self.inside.plans.items = rw (sym c.self.view_is) at c.requires.named in
-    c.in_err-push.ensures.kept (flight_of_key plan.key) place (named place plan (rw c.in_ok-reserve.ensures.items at there)))
+pub returns-in_err-append-clause-chained : goal.returns-in_err-append-clause-chained
+returns-in_err-append-clause-chained g c =
+    let same : c.reserve.new.self.items ≡ c.args.self.now = c.in_ok-reserve.ensures.items ∙ c.self.view_is in
+    rw same (chained-stay c.args.chains.now c.append.new.self c.args.self.now c.in_err-append.ensures.err c.requires.chained)

@@ -1,6 +1,13 @@
-use Rattle.std.proofs.Common.{◌≡◌, length, ap, arith}
-use Rattle.flow_plans.proofs.Keepings.{named-before-stays}
+use Rattle.std.proofs.Common.{◌≡◌, List, ◌∷◌, ◌++◌, [], length, Some, refl, ap, arith}
+use Rattle.flow_plans.specs.Plans.{Plan}
+use Rattle.flow_plans.specs.Stores.{Store}
+use Rattle.flow_plans.specs.Changes.{plan_of}
+use Rattle.flow_plans.proofs.Keepings.{returns-stay, pushed-back}
 use Rattle.flow_plans.proofs.store.PlanStore.file.Goals as goal
+
+pub append-requires-clause-held : goal.append-requires-clause-held
+unfolding plan_of
+append-requires-clause-held g c = rw c.in-Ok-new.ensures refl
 
 pub invariant_of-self : goal.invariant_of-self
 invariant_of-self g c =
@@ -9,6 +16,12 @@ invariant_of-self g c =
       c.self.invariant.1,
       c.self.invariant.2,
       rw same c.self.invariant.3,
-      c.in_default-append.ensures.named,
-      named-before-stays c.self.inside.chains c.append.new.chains c.self.inside.last c.in_default-append.ensures.kept c.self.invariant.5,
+      c.in_default-append.ensures.chained,
+      rw same (returns-stay c.self.inside.chains c.append.new.chains c.self.inside.last c.self.inside.plans c.in_default-append.ensures.kept c.self.invariant.5),
     )
+
+pub returns-clause-before : goal.returns-clause-before
+returns-clause-before g c =
+    let now : c.append.new.self ≡ c.self.inside.plans ++ c.in-Ok-new.plan ∷ [] = c.in-Ok-append.ensures.ok in
+    let old : c.self.inside.plans ≡ c.args.self.now.plans = ap (λ (s : Store). s.plans) c.self.view_is in
+    rw (now, pushed-back c.self.inside.plans c.in-Ok-new.plan) (ap (λ (ps : List Plan). Some ps) old)
