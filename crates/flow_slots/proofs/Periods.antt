@@ -126,7 +126,7 @@ slots_in-at_most : (q x : ℕ) → q ≤ 240 → slots_in q x ≤ 4 * x
 slots_in-at_most q x h =
     let most : x * q ≤ x * 240 = mul-le-mul_left x h in omega arith
 
-first_from-at_most : (e s q : ℕ) (ps : List Part) (m : ℕ) → AreSubperiods e s q ps → s ≤ m → first_from s q ps m ≤ 4 * (m - s)
+pub first_from-at_most : (e s q : ℕ) (ps : List Part) (m : ℕ) → AreSubperiods e s q ps → s ≤ m → first_from s q ps m ≤ 4 * (m - s)
 first_from-at_most e s q [] m a h = slots_in-at_most q (m - s) a.1
 first_from-at_most e s q (p ∷ ps) m a h =
     cases (λ u. first_from-at_most e p.from p.rate ps m a.2 u) (cases_lt m p.from) where

@@ -6,11 +6,11 @@ use std::alloc::{AllocError, Allocator};
 use std::marker::Model;
 
 /// The shape of a regulation with its first slots by minutes from the start, so that a chain that
-/// moves up looks them up and divides nothing.
+/// moves up looks them up and divides nothing. A slot's number takes two bytes.
 #[derive(Drop)]
 pub(crate) struct FirstSlots<A: Allocator + Copy> {
     shape: Shape,
-    by_minute: Vec<u32, A>,
+    by_minute: Vec<u16, A>,
 }
 
 impl<A: Allocator + Copy> Model for FirstSlots<A> {
@@ -30,7 +30,7 @@ impl<A: Allocator + Copy> FirstSlots<A> {
         let minutes = shape.minutes();
         let mut by_minute = vec![in alloc; 0; minutes as usize]?;
         for minute in 0..minutes {
-            by_minute[minute as usize] = shape.first_slot_in(minute);
+            by_minute[minute as usize] = shape.first_slot_in(minute) as u16;
         }
         Ok(FirstSlots { shape, by_minute })
     }
@@ -47,6 +47,6 @@ impl<A: Allocator + Copy> FirstSlots<A> {
         requires { IsWithin self.now entry }
         ensures { result ≡ first_slot self.now entry }
     {
-        self.by_minute[(entry - self.shape.start_minutes()) as usize]
+        u32::from(self.by_minute[(entry - self.shape.start_minutes()) as usize])
     }
 }

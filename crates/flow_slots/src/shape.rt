@@ -229,7 +229,8 @@ impl Shape {
     /// The number of the first slot so many minutes after the start.
     pub(crate) fn first_slot_in(&self, minutes: u32) -> u32
         requires { minutes < self.now.end - self.now.start }
-        ensures { result ≡ first_slot self.now (self.now.start + minutes) }
+        ensures value { result ≡ first_slot self.now (self.now.start + minutes) }
+        ensures most { result ≤ 5760 }
     {
         let moment = self.start.minutes() + minutes;
         first_from(
