@@ -1,0 +1,10 @@
+pub mod Fronts
+pub mod Adding
+pub mod Journals
+pub mod Rows
+pub mod Keeping
+pub mod Owning
+pub mod Filing
+pub mod Slotting
+pub mod Resuming
+pub mod Faults

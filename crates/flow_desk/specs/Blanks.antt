@@ -1,0 +1,34 @@
+-- What contracts see of a blank, and what is true of it.
+use Rattle.std.specs.Prelude.{◌≡◌, ℕ, ◌≤◌, ◌+◌, nat_lt, if◌then◌else◌, true, List, [], ◌∷◌, length, Option, Some, None}
+use Rattle.std.specs.List.{All}
+use Rattle.logbook.specs.Pages.{Book}
+use Rattle.flow_plans.specs.Settings.{Settings}
+use Rattle.flow_core.specs.State.{Record}
+use Rattle.flow_core.specs.History.{History, state_of}
+use Rattle.flow_desk.specs.Fronts.{FrontView}
+use Rattle.flow_desk.specs.Seats.{SeatView, WriterView}
+use Rattle.flow_desk.specs.Locks.{Counts}
+
+-- which desk it will be, and what was filed before
+pub record BlankView : Type 0 where
+  pub book : Book
+  pub setup : Settings
+  pub feeders : ℕ
+  pub entries : List Record
+
+-- a seat at this desk, from which these entries have been read
+abbrev pub IsFree : Book → Settings → List Record → SeatView → Type 0
+IsFree book setup es s = (s.knows ≡ true) × (s.book ≡ book) × (s.setup ≡ setup) × (s.read ≡ es)
+
+pub record IsBlank (core : History) (head : Book) (front : FrontView) (counts : List ℕ) (publisher : WriterView) (seats : List SeatView) : Type 0 where
+  pub book_is : front.book ≡ head
+  pub entries_are : front.entries ≡ (state_of core).journal
+  pub counted : Counts (length seats) (state_of core).journal counts
+  pub writer : (publisher.knows ≡ true) × (publisher.book ≡ head) × (publisher.setup ≡ core.setup) × (publisher.entries ≡ (state_of core).journal)
+  pub free : All (IsFree head core.setup (state_of core).journal) seats
+  pub few : length seats ≤ 64
+
+-- the number of the first entry whose feeder isn't below this, where they are numbered from n
+abbrev pub first_beyond : ℕ → ℕ → List Record → Option ℕ
+first_beyond feeders n [] = None
+first_beyond feeders n (e ∷ es) = if nat_lt e.input.feeder feeders then first_beyond feeders (n + 1) es else Some n

@@ -1,0 +1,10 @@
+pub mod Fronts
+pub mod Histories
+pub mod Boards
+pub mod Views
+pub mod Seats
+pub mod Passes
+pub mod Locks
+pub mod Blanks
+pub mod Desks
+pub mod Slots

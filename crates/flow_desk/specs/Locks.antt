@@ -1,0 +1,35 @@
+-- What is true of what lies under the lock, and of the core that it ends with.
+use Rattle.std.specs.Prelude.{◌≡◌, ℕ, ◌<◌, ◌≤◌, true, List, length, slice_index, Option, MatchOption}
+use mathlib.Core.List.{IsPrefix}
+use Rattle.std.specs.List.{All}
+use Rattle.logbook.specs.Pages.{Book}
+use Rattle.flow_plans.specs.Settings.{Settings}
+use Rattle.flow_core.specs.State.{Record}
+use Rattle.flow_core.specs.History.{History, state_of}
+use Rattle.flow_desk.specs.Fronts.{FrontView}
+use Rattle.flow_desk.specs.Seats.{WriterView}
+use Rattle.flow_desk.specs.Passes.{PassView}
+use Rattle.flow_desk.specs.Histories.{own, after}
+
+-- each feeder's entries are counted, and there are no others
+pub record Counts (feeders : ℕ) (es : List Record) (counts : List ℕ) : Type 0 where
+  pub wide : length counts ≡ feeders
+  pub each : (k : ℕ) → k < feeders → slice_index counts k ≡ length (own k es)
+  pub below : All (λ e. e.input.feeder < feeders) es
+
+-- whenever the lock is free the core is the desk of one thread over its journal, which is the history and what is published
+pub record IsLocked (book : Book) (setup : Settings) (feeders : ℕ) (core : History) (head : Book) (front : FrontView) (counts : List ℕ) (publisher : Option WriterView) : Type 0 where
+  pub setup_is : core.setup ≡ setup
+  pub one_thread : state_of core ≡ after setup (state_of core).journal
+  pub head_is : head ≡ book
+  pub book_is : front.book ≡ book
+  pub entries_are : front.entries ≡ (state_of core).journal
+  pub counted : Counts feeders (state_of core).journal counts
+  pub few : feeders ≤ 64
+  pub published : MatchOption publisher ⊥ (λ p. (p.knows ≡ true) × (p.book ≡ book) × (p.setup ≡ setup) × (p.entries ≡ (state_of core).journal))
+
+-- the history begins with what the pass has seen, which has all of its feeder's entries; they are as many as its receipts
+pub record Agrees (es : List Record) (p : PassView) : Type 0 where
+  pub later : IsPrefix p.seen es
+  pub all_own : length (own p.feeder es) ≡ p.receipts
+  pub none_own : own p.feeder es ≡ own p.feeder p.seen

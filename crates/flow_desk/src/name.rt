@@ -1,0 +1,24 @@
+//! Which desk it is.
+use std::marker::Brand;
+
+/// A desk's history, its setup and the number of its feeders. Contracts alone see them: a call that opens a blank picks them, so
+/// that the pass of another desk has another type.
+pub trait Name {
+    ghost use Rattle.std.specs.Prelude.{ℕ};
+    ghost use Rattle.logbook.specs.Pages.{Book};
+    ghost use Rattle.flow_plans.specs.Settings.{Settings};
+
+    ghost book: { Book };
+
+    ghost setup: { Settings };
+
+    ghost feeders: { ℕ };
+}
+
+impl Name for Brand {
+    ghost book = { record { number = 0; log_name = 0; cells_name = 0 } };
+
+    ghost setup = { record { start = 0; taxi = 0; max_plans = 0; max_entries = 0 } };
+
+    ghost feeders = { 0 };
+}
