@@ -9,6 +9,8 @@ use Rattle.flow_plans.specs.Entries.{subject, entry_at, in_period}
 use Rattle.flow_slots.specs.Assignment.{Placed}
 use Rattle.flow_slots.specs.Lineup.{Lineup, slot_in, held_slot, fixed_slot, len_of}
 use Rattle.flow_slots.specs.Period.{IsRegular, IsWithin, slots_before_end}
+use Rattle.flow_regulations.specs.declared.entry_asked.EntryAsked.{EntryAsked}
+use Rattle.flow_regulations.specs.Asked.{IsAsked}
 use Rattle.flow_regulations.specs.Regulations.{subject_to}
 use Rattle.flow_regulations.specs.Listing.{Listed, regulation_of}
 use Rattle.flow_regulations.proofs.Served.{slot_in-here, slot_in-other}
@@ -81,3 +83,13 @@ below (Some k) l a b h = omega (arith, a, b, h)
 
 pub subject-asked : (taxi : ℕ) (spot : Spot) (s t : ℕ) → s ≡ 0 → t ≡ 100000000 → (p : Plan) (o : Option ℕ) → o ≡ subject taxi spot s t p → o ≡ subject taxi spot 0 100000000 p
 subject-asked taxi spot s t a b p o e = e ∙ (ap (λ m. subject taxi spot m t p) a ∙ ap (λ m. subject taxi spot 0 m p) b)
+
+-- the entry that was asked at a place
+pub asked-at : (taxi : ℕ) (p : Plan) (a : EntryAsked) (spot there : Spot) → IsAsked taxi p a → a.spot ≡ Some spot → spot ≡ there → a.entry ≡ subject taxi there 0 100000000 p
+asked-at taxi p a spot there h at same =
+    if_some (λ s. a.entry ≡ subject taxi s 0 100000000 p) a.spot spot at h ∙ ap (λ s. subject taxi s 0 100000000 p) same
+
+pub nowhere_asked : (taxi : ℕ) (p : Plan) (a : EntryAsked) → a.spot ≡ None → IsAsked taxi p a
+nowhere_asked taxi p a none =
+    let I : Option Spot → Type 0 = λ o. IfSome o (λ s. a.entry ≡ subject taxi s 0 100000000 p) in
+    subst I (sym none) tt

@@ -7,3 +7,4 @@ pub mod Awaiting
 pub mod Notices
 pub mod Places
 pub mod Quiet
+pub mod Asked

@@ -4,6 +4,7 @@
 mod advice;
 mod closed;
 mod due_queue;
+mod entry_asked;
 mod fixed_flights;
 pub mod laws;
 mod marks;

@@ -2,15 +2,18 @@
 ghost use Rattle.std.specs.Prelude.{◌≡◌, ◌<◌, ◌≤◌, ℕ, List, None, Some, true, false, IfSome, IsSome, IfOk, OnOk, IsTrue, ◌↔◌, length};
 ghost use Rattle.std.specs.List.{All};
 ghost use Rattle.flow_plans.specs.Plans.{Plan as Held, plan_at, is_departed, is_filed};
+ghost use Rattle.flow_plans.specs.Entries.{subject};
 ghost use Rattle.flow_plans.specs.Near.{row_of};
 ghost use Rattle.flow_slots.specs.Lineup.{held_slot, fixed_slot, without_flight, waiting_entry, len_of, with_all_waiting, MayFill, IsLineup};
 ghost use Rattle.flow_slots.specs.Period.{IsWithin, IsRegular};
+ghost use Rattle.flow_regulations.specs.Asked.{IsAsked};
 ghost use Rattle.flow_regulations.specs.Places.{IsPlaceOf, MayStand, stood};
 ghost use Rattle.flow_regulations.specs.Marks.{IsOut, IsInOrder};
 ghost use Rattle.flow_regulations.specs.Regulations.{subject_to};
 ghost use Rattle.flow_regulations.specs.Settling.{is_due, pairs_of};
 ghost use Rattle.flow_regulations.specs.Listing.{Listed, regulation_of, with_lineup, without_in, released_in, keeps_slot, placed, with_no_flights, is_named, fixed_waiting, IsListedIn, IsSettledBut, AreSameBut, IsRenewed, IsFixedWaiting, IsLookedAgain, is_due_flight};
 
+use crate::entry_asked::{EntryAsked, entry_of};
 use crate::places::Place;
 use flow_plans::{Plan, PlanState, PlanStore, row_of};
 use flow_slots::{Planned, Shape, SlotList};
@@ -140,14 +143,20 @@ impl<A: Allocator + Copy> Regulation<A> {
         requires within { number ≤ length plans.now.plans }
         ensures { (p : Held) → plan_at plans.now.plans number ≡ Some p → result ≡ subject_to plans.now.taxi (regulation_of self.now) p }
     {
-        let entry = plans.subject(
-            number,
-            &self.spot,
-            Minute::from_minutes(0),
-            Minute::from_minutes(100_000_000),
-        )?;
-        if self.list.shape().contains(entry) {
-            Some(entry)
+        self.subject_from(&entry_of(plans, number, &self.spot))
+    }
+
+    /// This entry at its place, where it lies in the period.
+    #[inline(always)]
+    fn subject_from(&self, entry: &Option<Minute>) -> Option<Minute>
+        ensures { (taxi : ℕ) (p : Held) → entry.now ≡ subject taxi self.now.spot 0 100_000_000 p → result ≡ subject_to taxi (regulation_of self.now) p }
+    {
+        let shape = self.list.shape();
+        let Some(entry) = entry else {
+            return None;
+        };
+        if shape.contains(*entry) {
+            Some(*entry)
         } else {
             None
         }
@@ -170,9 +179,10 @@ impl<A: Allocator + Copy> Regulation<A> {
     /// Whether a fixed flight keeps its slot: it has departed, or it is subject and due and its slot is not before its
     /// entry.
     #[inline(always)]
-    fn keeps(&self, plans: &PlanStore<A>, number: u32, now: Minute) -> bool
+    fn keeps(&self, plans: &PlanStore<A>, number: u32, now: Minute, entry: &Option<Minute>) -> bool
         requires some { 0 < number }
         requires within { number ≤ length plans.now.plans }
+        requires entry { (p : Held) → plan_at plans.now.plans number ≡ Some p → entry.now ≡ subject_to plans.now.taxi (regulation_of self.now) p }
         ensures { (p : Held) → plan_at plans.now.plans number ≡ Some p
             → result ≡ keeps_slot plans.now.taxi now (regulation_of self.now) number p self.now.lineup }
     {
@@ -182,10 +192,10 @@ impl<A: Allocator + Copy> Regulation<A> {
         if has_departed(plans, number) {
             return true;
         }
-        let Some(entry) = self.subject(plans, number) else {
+        let Some(entry) = entry else {
             return false;
         };
-        is_due(plans, number, now) && entry <= self.list.shape().slot_time(slot)
+        is_due(plans, number, now) && *entry <= self.list.shape().slot_time(slot)
     }
 
     /// Takes a flight out, where it is held.
@@ -332,7 +342,8 @@ impl<A: Allocator + Copy> Regulation<A> {
     }
 
     /// Settles the regulation after a message about one flight, which touches that flight alone, and answers whether the
-    /// flight may be held then. One that may not be held before is let in where the regulation applies to it.
+    /// flight may be held then. One that may not be held before is let in where the regulation applies to it. The entry of the
+    /// flight at the regulation's place is asked for where that isn't the place that was asked last.
     #[inline(always)]
     pub(crate) fn look_where(
         &mut self,
@@ -340,30 +351,36 @@ impl<A: Allocator + Copy> Regulation<A> {
         number: u32,
         now: Minute,
         may_stand: bool,
+        asked: &mut EntryAsked,
     ) -> bool
         requires some { 0 < number }
         requires within { number ≤ length plans.now.plans }
+        requires asked { (p : Held) → plan_at plans.now.plans number ≡ Some p → IsAsked plans.now.taxi p asked.old }
         requires room { number ≤ self.old.lineup.capacity }
         requires out { may_stand ≡ false → IsOut number self.old }
         ensures looked { IsLookedAgain number plans.now.taxi now plans.now.plans self.old self.new }
         ensures out { result ≡ false → IsOut number self.new }
+        ensures asked { (p : Held) → plan_at plans.now.plans number ≡ Some p → IsAsked plans.now.taxi p asked.new }
     {
+        asked.ask(plans, number, &self.spot);
+        let entry = self.subject_from(&asked.entry);
         if may_stand {
-            self.look_again(plans, number, now);
+            self.look_again(plans, number, now, &entry);
             return true;
         }
-        if self.subject(plans, number).is_none() {
+        if entry.is_none() {
             self.is_in_order();
             return false;
         }
-        self.look_again(plans, number, now);
+        self.look_again(plans, number, now, &entry);
         true
     }
 
     /// Settles the regulation after a message about one flight, which touches that flight alone.
-    fn look_again(&mut self, plans: &PlanStore<A>, number: u32, now: Minute)
+    fn look_again(&mut self, plans: &PlanStore<A>, number: u32, now: Minute, entry: &Option<Minute>)
         requires some { 0 < number }
         requires within { number ≤ length plans.now.plans }
+        requires entry { (p : Held) → plan_at plans.now.plans number ≡ Some p → entry.now ≡ subject_to plans.now.taxi (regulation_of self.old) p }
         requires room { number ≤ self.old.lineup.capacity }
         ensures same { self.new ≡ with_lineup self.new.lineup self.old }
         ensures capacity { self.new.lineup.capacity ≡ self.old.lineup.capacity }
@@ -376,11 +393,11 @@ impl<A: Allocator + Copy> Regulation<A> {
             → IsRenewed plans.now.taxi max now plans.now.plans self.old self.new.lineup }
     {
         let _no_flight_twice = self.list.cells();
-        if self.keeps(plans, number, now) {
+        if self.keeps(plans, number, now, entry) {
             return;
         }
-        match self.subject(plans, number) {
-            Some(entry) => self.stand(number, entry, is_due(plans, number, now)),
+        match entry {
+            Some(entry) => self.stand(number, *entry, is_due(plans, number, now)),
             None => self.take_out(number),
         }
     }

@@ -16,6 +16,7 @@ ghost use Rattle.flow_regulations.specs.Quiet.{AreQuietBut, AllQuiet};
 
 use crate::advice::advice_of;
 use crate::closed::Closed;
+use crate::entry_asked::EntryAsked;
 use crate::fixed_flights::note_fixed;
 use crate::marks::{
     close_place, make_room, mark_where, may_stand, next_marked, open_last, open_last_row, set_word,
@@ -365,9 +366,11 @@ fn look_again_in<A: Allocator + Copy>(
     are_in_order(regulations);
     let concerned = word | near;
     let mut marked = word;
+    let mut asked = EntryAsked::nowhere();
     let mut index = next_marked(concerned, 0);
     while index < regulations.len() {
-        let stands = regulations[index].look_where(plans, number, now, may_stand(marked, index));
+        let stand = may_stand(marked, index);
+        let stands = regulations[index].look_where(plans, number, now, stand, &mut asked);
         marked = mark_where(marked, index, stands);
         index = next_marked(concerned, index + 1);
     }

@@ -20,7 +20,7 @@ returns-then-keeps-clause-renewed g c =
 pub stand-requires-clause-entry : goal.stand-requires-clause-entry
 stand-requires-clause-entry g c =
     let p = plan-there c.args.plans.now.plans c.args.number c.requires.some c.requires.within in
-    out-within c.args.plans.now.taxi c.args.number c.in-Some.entry c.args.self.now c.args.self.now p.0 c.subject.result (c.subject.ensures p.0 p.1) c.in-Some.is
+    out-within c.args.plans.now.taxi c.args.number c.in-Some.entry c.args.self.now c.args.self.now p.0 c.args.entry.now (c.requires.entry p.0 p.1) c.in-Some.is
 
 pub returns-in-Some-clause-renewed : goal.returns-in-Some-clause-renewed
 returns-in-Some-clause-renewed g c =
@@ -31,7 +31,7 @@ returns-in-Some-clause-renewed g c =
     let p = plan-there c.args.plans.now.plans c.args.number c.requires.some c.requires.within in
     placed-renewed c.args.plans.now.taxi c.args.now c.args.number c.args.plans.now.plans c.args.self.now p.0 p.1 c.requires.some lined regular (sym (c.keeps.ensures p.0 p.1) ∙ c.if-keeps.false)
     (Some c.in-Some.entry) c.is_due.result c.stand.new.self.lineup
-    (sym c.in-Some.is ∙ c.subject.ensures p.0 p.1)
+    (sym c.in-Some.is ∙ c.requires.entry p.0 p.1)
     (c.is_due.ensures p.0 p.1)
     (ap (λ v. v.lineup) c.stand.ensures)
 
@@ -44,7 +44,7 @@ returns-in-None-clause-renewed g c =
     let p = plan-there c.args.plans.now.plans c.args.number c.requires.some c.requires.within in
     placed-renewed c.args.plans.now.taxi c.args.now c.args.number c.args.plans.now.plans c.args.self.now p.0 p.1 c.requires.some lined regular (sym (c.keeps.ensures p.0 p.1) ∙ c.if-keeps.false)
     None (is_due c.args.now p.0) c.take_out.new.self.lineup
-    (sym c.in-None.is ∙ c.subject.ensures p.0 p.1)
+    (sym c.in-None.is ∙ c.requires.entry p.0 p.1)
     refl
     (ap (λ v. v.lineup) c.take_out.ensures)
 
