@@ -18,3 +18,4 @@ pub mod Notes
 pub mod Amendments
 pub mod Previous
 pub mod ChainMoves
+pub mod ChainWalks

@@ -1,7 +1,7 @@
 -- How plans are found by identification, departure and destination, which name a flight. For each flight there is a chain of the
 -- plans that are held under its name, the newest first: the number of the newest stands in a map, and beside each plan that of
 -- the next older one. Where there is none, the number is 0.
-use Rattle.std.specs.Prelude.{◌≡◌, ℕ, zero, suc, ◌+◌, ◌*◌, ◌<◌, ◌≤◌, Bool, true, ◌==◌, ◌&&◌, if◌then◌else◌, List, length, cond, Some, None, unwrap_or, slice_index}
+use Rattle.std.specs.Prelude.{◌≡◌, ℕ, zero, suc, ◌+◌, ◌-◌, ◌*◌, ◌<◌, ◌≤◌, Bool, true, ◌==◌, ◌&&◌, if◌then◌else◌, List, [], ◌∷◌, length, cond, Some, None, unwrap_or, slice_index}
 use Rattle.std.specs.List.{fold}
 use Rattle.std.specs.Map.{lookup}
 use Rattle.fpl_message.specs.declared.parts.Parts.{Parts}
@@ -77,6 +77,18 @@ pub record AreChained (chains : Chained) (plans : List Plan) : Type 0 where
   pub count : length chains.older ≡ length plans
   pub heads : (name : FlightName) → newest chains.heads name ≡ newest_held name plans (length plans)
   pub links : (name : FlightName) → AreLinks (is_held_there name plans) chains.older
+
+-- the numbers of a chain from this one on, and so many at most
+unfoldable pub chain_from : ℕ → List ℕ → ℕ → List ℕ
+chain_from zero older number = []
+chain_from (suc most) older number =
+    if number == 0 then [] else number ∷ chain_from most older (slice_index older (number - 1))
+
+-- the numbers of those of the first n plans that are held under a name, the newest first
+unfoldable pub held_numbers : FlightName → List Plan → ℕ → List ℕ
+held_numbers name plans zero = []
+held_numbers name plans (suc n) =
+    if is_held_there name plans n then (n + 1) ∷ held_numbers name plans n else held_numbers name plans n
 
 -- a plan can be put into the chain of this flight with no more memory
 abbrev pub HasRoomFor : Chained → FlightName → Type 0

@@ -1,12 +1,14 @@
 //! Laws over the definitions that the contracts cite: two held plans never have the same key, and a number always names the
-//! plan that it was given to. The plans are those before a message and after it, and those of whole runs.
+//! plan that it was given to. Plans are found by chains that have held plans alone. The plans are those before a message and after it, and those of whole runs.
 
 ghost use Rattle.std.specs.Prelude.{◌≡◌, ◌<◌, ◌+◌, ◌↔◌, ℕ, true, List, [], ◌∷◌, length, Ok, Some, None};
 ghost use Rattle.fpl_message.specs.declared.short_message.Dla.{Dla};
 ghost use Rattle.fpl_message.specs.declared.short_message.Cnl.{Cnl};
 ghost use Rattle.fpl_message.specs.declared.short_message.Dep.{Dep};
 ghost use Rattle.fpl_message.specs.Messages.{Fpl, Chg};
+ghost use Rattle.flow_plans.specs.declared.chains.FlightName.{FlightName};
 ghost use Rattle.flow_plans.specs.declared.plan.Key.{Key};
+ghost use Rattle.flow_plans.specs.Chains.{Chained, newest, AreChained, chain_from, held_numbers};
 ghost use Rattle.flow_plans.specs.Plans.{Plan, is_held, same_key, plan_at};
 ghost use Rattle.flow_plans.specs.Changes.{Changed, plan_of, moment_of, filed, delayed, cancelled, departed, amended};
 ghost use Rattle.flow_plans.specs.Distinct.{AreDistinct, KeepKeys, KeepFlights};
@@ -104,4 +106,11 @@ pub fn what_is_taken_back_is_gone()
         → after_turns (changes change ∷ takes_back ∷ []) held ≡ record { plans = held.plans; before = None } }
     ensures all { (turns : List Turn)
         → (messages : List Change) × ((after_turns turns nothing_held).plans ≡ changed_all messages []) }
+{}
+
+/// The chain of a flight, by which its plans are found, has the numbers of the plans that are held under its name, the newest first,
+/// each once, and no others. So a message costs those, whatever was filed, amended and cancelled before.
+pub fn chains_have_held_plans_alone()
+    ensures { (chains : Chained) (plans : List Plan) (name : FlightName) → AreChained chains plans
+        → chain_from (length plans) chains.older (newest chains.heads name) ≡ held_numbers name plans (length plans) }
 {}
