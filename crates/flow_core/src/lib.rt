@@ -1,4 +1,23 @@
 //! A desk on one thread: a journal of filings, and what follows from it.
+//!
+//! A core is seen as its setup and the filings that it took in. All else (`state_of`) is the run of these: one step
+//! after the other, each of which reads a text, answers it, and puts an entry behind the journal. What the code keeps
+//! beside the journal is that state, ready to be looked at; `IsRunWith` says that it is the run.
+//!
+//! - *A step* (`Core::step`, and `Core::file` for a text that is read in place of the last one) either gives a
+//!   receipt, or leaves the core as it was: at a full journal, and where memory is refused. The last step can be
+//!   taken back, without memory.
+//! - *The journal* keeps texts and receipts, one text behind the other in one row of bytes. What a text says isn't
+//!   kept: reading it again tells it, and the last filing alone is kept as it was read.
+//! - *Changes* (`Core::changes`) are the rows of plans that the last step made differ. A board that shows the rows
+//!   before and takes these in shows the rows after: so readers of a shared desk are told little.
+//! - *Serving* (`serve`) cuts an input into frames, files each and writes its answer, and hands answers on before it
+//!   may have to wait. Its contract speaks of bytes alone: what was written is the output of what was read.
+//! - *The journal as a text* (`Core::write_journal`, `read_journal`) names one history. A core that is read from it
+//!   has come to the same as the one that wrote it, and goes on from there.
+//!
+//! `desk` has the calls, `entry` and `entry_list` the journal, `answer` and `line` the texts of answers, `change` and
+//! `row` what readers see, `laws` and `journal_laws` what follows from the definitions.
 #![tactic(auto)]
 
 mod answer;

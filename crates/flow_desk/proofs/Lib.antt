@@ -8,3 +8,5 @@ pub mod Filing
 pub mod Slotting
 pub mod Resuming
 pub mod Faults
+pub mod Running
+pub mod Gathering

@@ -8,3 +8,4 @@ pub mod Locks
 pub mod Blanks
 pub mod Desks
 pub mod Slots
+pub mod Feeds

@@ -22,6 +22,7 @@
 mod blank;
 mod board;
 mod desk;
+mod feeders;
 mod history;
 pub mod laws;
 mod locked;
@@ -33,6 +34,7 @@ mod slots;
 
 pub use blank::{Blank, DeskFault, MAX_FEEDERS};
 pub use desk::{CloseFault, Desk};
+pub use feeders::{Done, End, Gate, run_feeders};
 pub use name::Name;
 pub use pass::Pass;
 pub use seat::NoVersion;

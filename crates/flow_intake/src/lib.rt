@@ -1,4 +1,13 @@
 //! Devices whose failures are counted, and the frames of an input.
+//!
+//! A reader gives its bytes in pieces of any size. `pieces` keeps the last one with what of it was taken, `kept` the
+//! bytes of the frame that is being cut, at most 2,000 of them, and `cut_frame` takes bytes until the frame's end has
+//! been seen or the input has ended. By definition (`frames`) the whole input is cut at once; the contract says that
+//! what call after call cuts off are these frames, however the pieces came. Frames that have ended in the bytes that
+//! came stay frames, however the input goes on, so each can be answered before the next byte is there.
+//!
+//! `Counted` is a device with the count of its calls that failed or took no byte, by which contracts tell where a
+//! fault came from. `write_bytes` is the one loop that writes.
 #![tactic(auto)]
 
 mod counted;

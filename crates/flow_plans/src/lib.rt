@@ -1,4 +1,21 @@
 //! Flight plans by number: filing them, and what later messages change.
+//!
+//! Plan n is the n-th of a list, for good. A message changes one plan of it or is refused (`specs/Changes`); the last
+//! change can be taken back. What is kept beside the plans only makes them quick to find, and each part has its word
+//! of what it says of them:
+//!
+//! - *Chains* (`chains`): from each flight, named by identification, departure and destination, to its newest held
+//!   plan, and from each plan to the next older one. A message looks at the held plans of its flight and at no
+//!   others.
+//! - *Outlines* (`outline`): where and when a plan's flight may come, in 24 bytes a plan. OPEN goes over these, and
+//!   reads the plans of those flights that may come to its place in its period. An outline may say too much, never
+//!   too little.
+//! - *Estimates* (`estimates`): the EET items of field 18 as notes, made when the plan is filed or amended.
+//! - *Places* (`places`, `near`): a bit for each place that a flight comes to, by which the open regulations near it
+//!   are found.
+//!
+//! `store` has the calls, `matching` finds the plan of a message, `amending` makes amendments, `undo` and `store`
+//! take the last change back, `setup` has the limits of a desk, `laws` what holds of plans over all messages to come.
 #![tactic(auto)]
 
 mod amending;

@@ -51,8 +51,8 @@ EndsEmpty-pass c k x e is ne = record { most = e.most; last = λ h. (later h (ca
   later h (inl q) = absurd (ne (is ∙ (ap (cell_at c.row) q ∙ (e.last h).1)))
   later h (inr q) = omega (arith, (e.last h).0, q)
 
-pub EndsEmpty-write : (c : MadeRow) (k n : ℕ) (x y : Cell) → EndsEmpty c k → x ≡ cell_at c.row k → (x ≡ Empty → ⊥) → EndsEmpty (record { row = set c.row k y; made = c.made; writes = n }) (k + 1)
-EndsEmpty-write c k n x y e is ne =
+pub EndsEmpty-write : (c : MadeRow) (k b n : ℕ) (x y : Cell) → EndsEmpty c k → x ≡ cell_at c.row k → (x ≡ Empty → ⊥) → EndsEmpty (record { row = set c.row k y; made = c.made; before = b; writes = n }) (k + 1)
+EndsEmpty-write c k b n x y e is ne =
     let passed = EndsEmpty-pass c k x e is ne in
     record {
       most = omega (arith, e.most, length-set c.row k y);
@@ -69,9 +69,9 @@ filled-all cells len h =
     ap (λ n. cells ++ replicate n Empty) none ∙ append-nil cells
 
 -- a cell that was made is written
-pub made-set : (cells : List Cell) (len k n : ℕ) (c : Cell) → k < length cells → (let r : MadeRow = record { row = filled (set cells k c) len; made = length (set cells k c); writes = n } in r) ≡ record { row = set (filled cells len) k c; made = length cells; writes = n }
-made-set cells len k n c h =
-    ap (λ v. let r : MadeRow = record { row = v; made = length (set cells k c); writes = n } in r) (filled-set cells len k c h) ∙ ap (λ v. let r : MadeRow = record { row = set (filled cells len) k c; made = v; writes = n } in r) (length-set cells k c)
+pub made-set : (cells : List Cell) (len k b n : ℕ) (c : Cell) → k < length cells → (let r : MadeRow = record { row = filled (set cells k c) len; made = length (set cells k c); before = b; writes = n } in r) ≡ record { row = set (filled cells len) k c; made = length cells; before = b; writes = n }
+made-set cells len k b n c h =
+    ap (λ v. let r : MadeRow = record { row = v; made = length (set cells k c); before = b; writes = n } in r) (filled-set cells len k c h) ∙ ap (λ v. let r : MadeRow = record { row = set (filled cells len) k c; made = v; before = b; writes = n } in r) (length-set cells k c)
 
 -- no flight moves up from cells that are empty
 pub next_up-others : (first : ℕ → ℕ) (hole : ℕ) (row : List Cell) (m j n : ℕ) → drop m row ≡ replicate n Empty → m ≤ j → next_up first hole (drop j row) ≡ None

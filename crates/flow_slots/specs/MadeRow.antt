@@ -1,5 +1,5 @@
 -- A row of slots of which only the first cells were made; the others are empty.
-use Rattle.std.specs.Prelude.{◌≡◌, ℕ, ◌-◌, ◌^◌, ◌<◌, ◌≤◌, List, ◌++◌, length, replicate}
+use Rattle.std.specs.Prelude.{◌≡◌, ℕ, ◌+◌, ◌-◌, ◌^◌, min, ◌<◌, ◌≤◌, List, ◌++◌, length, replicate}
 use Rattle.flow_slots.specs.declared.cell.Cell.{Cell}
 use Rattle.flow_slots.specs.declared.cell.Cell.TheVariants.{Empty}
 use Rattle.flow_slots.specs.Row.{cell_at}
@@ -7,7 +7,13 @@ use Rattle.flow_slots.specs.Row.{cell_at}
 pub record MadeRow : Type 0 where
   pub row : List Cell
   pub made : ℕ
+  -- how often a cell was written before the last chain began, and since then
+  pub before : ℕ
   pub writes : ℕ
+
+-- how often a cell was written in all; the count stays at its greatest value
+abbrev pub counted : MadeRow → ℕ
+counted c = min (c.before + c.writes) (2 ^ 64 - 1)
 
 -- the row of so many slots that begins with these cells
 abbrev pub filled : List Cell → ℕ → List Cell

@@ -1,6 +1,6 @@
 ghost use Rattle.std.specs.Prelude.{◌≡◌, ℕ, ◌-◌, ◌^◌, ◌<◌, ◌≤◌, true, false, ◌↔◌, IfOk, IsTrue, length, replicate};
 ghost use Rattle.flow_slots.specs.CellRow.{CellRow, written};
-ghost use Rattle.flow_slots.specs.MadeRow.{EndsEmpty};
+ghost use Rattle.flow_slots.specs.MadeRow.{EndsEmpty, counted};
 ghost use Rattle.flow_slots.specs.PackedCell.{IsStored};
 ghost use Rattle.flow_slots.specs.Row.{cell_at, flight_at};
 ghost use Rattle.flow_slots.specs.Walk.{waits_before};
@@ -19,10 +19,11 @@ pub struct Cells<A: Allocator + Copy = Global> {
 
 impl<A: Allocator + Copy> Model for Cells<A> {
     ghost use Rattle.flow_slots.specs.CellRow.{CellRow};
+    ghost use Rattle.flow_slots.specs.MadeRow.{counted};
 
     ghost Value = { CellRow };
 
-    ghost view = { λ c. record { row = c.made.row; writes = c.made.writes } };
+    ghost view = { λ c. record { row = c.made.row; writes = counted c.made } };
 }
 
 impl<A: Allocator + Copy> Cells<A> {
@@ -37,7 +38,7 @@ impl<A: Allocator + Copy> Cells<A> {
     /// These cells.
     #[inline(always)]
     pub(crate) fn from_made(made: MadeCells<A>) -> Cells<A>
-        ensures { result ≡ record { row = made.row; writes = made.writes } }
+        ensures { result ≡ record { row = made.row; writes = counted made } }
     {
         Cells { made }
     }
@@ -46,7 +47,7 @@ impl<A: Allocator + Copy> Cells<A> {
     pub(crate) fn take_from(&mut self, k: u32) -> MadeCells<A>
         requires { k < length self.old.row }
         ensures row { result.row ≡ self.old.row }
-        ensures writes { result.writes ≡ self.old.writes }
+        ensures writes { counted result ≡ self.old.writes }
         ensures ends { EndsEmpty result k }
     {
         let mut made = self.made.take();
@@ -121,7 +122,8 @@ impl<A: Allocator + Copy> Cells<A> {
     pub(crate) fn write(&mut self, k: u32, cell: Cell)
         requires slot { k < length self.old.row }
         requires kept { IsStored cell }
-        ensures { self.new ≡ written self.old k cell }
+        ensures cells { self.new ≡ written self.old k cell }
+        ensures more { self.old.writes ≤ self.new.writes }
     {
         self.made.write(k, cell);
     }

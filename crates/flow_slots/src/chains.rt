@@ -1,6 +1,6 @@
 ghost use Rattle.std.specs.Prelude.{◌≡◌, ℕ, ◌+◌, ◌-◌, ◌^◌, ◌<◌, ◌≤◌, ◌++◌, true, length, take, drop, IfSome, IfNone, None, Some};
 ghost use Rattle.flow_slots.specs.Changed.{gained};
-ghost use Rattle.flow_slots.specs.MadeRow.{EndsEmpty};
+ghost use Rattle.flow_slots.specs.MadeRow.{EndsEmpty, counted};
 ghost use Rattle.flow_slots.specs.Period.{first_slot};
 ghost use Rattle.flow_slots.specs.Row.{flight_at, place_at, IsTied, EntriesWithin, MovesUp};
 ghost use Rattle.flow_slots.specs.Walk.{displace, has_empty, next_up, close, Follows, AllFollow, ComesIn};
@@ -51,10 +51,11 @@ pub(crate) fn displace<A: Allocator + Copy>(
     requires ends { EndsEmpty cells from }
     ensures tied { IsTied places.new result.row }
     ensures row { result.row ≡ take from cells.row ++ displace flight (drop from cells.row) }
-    ensures writes { result.writes ≤ cells.writes + gained cells.row result.row }
+    ensures writes { counted result ≤ counted cells + gained cells.row result.row }
+    ensures more { counted cells ≤ counted result }
 {
     let mut row = cells;
-    let before = row.count_afresh();
+    row.begin_chain();
     let mut coming = flight;
     let mut k = from;
     loop {
@@ -71,7 +72,6 @@ pub(crate) fn displace<A: Allocator + Copy>(
     }
     row.write_next(k, Cell::Waiting(coming));
     places[coming.flight as usize] = HeldSlot::of(k);
-    row.count_more(before);
     row
 }
 
@@ -121,10 +121,11 @@ pub(crate) fn vacate<A: Allocator + Copy>(
     ensures tied { IsTied places.new result.row }
     ensures row { result.row
         ≡ take k cells.row ++ close (λ e. first_slot shape.now e) k (drop (k + 1) cells.row) }
-    ensures writes { result.writes ≤ cells.writes + gained cells.row result.row + 1 }
+    ensures writes { counted result ≤ counted cells + gained cells.row result.row + 1 }
+    ensures more { counted cells ≤ counted result }
 {
     let mut row = cells;
-    let before = row.count_afresh();
+    row.begin_chain();
     let mut hole = k;
     places[flight as usize] = HeldSlot::none();
     while let Some((next, held)) = next_up(&row, shape, hole) {
@@ -133,6 +134,5 @@ pub(crate) fn vacate<A: Allocator + Copy>(
         hole = next;
     }
     row.write_next(hole, Cell::Empty);
-    row.count_more(before);
     row
 }

@@ -1,7 +1,7 @@
 //! The cells of a row, made as they are needed.
 ghost use Rattle.std.specs.Prelude.{◌≡◌, ℕ, ◌+◌, ◌-◌, ◌<◌, ◌≤◌, ◌++◌, ◌^◌, ◌↔◌, IfOk, IsTrue, true, false, drop, length, max, min, replicate, slice_set, vec_len, vec_capacity};
 ghost use Rattle.flow_slots.specs.CellRow.{one_more};
-ghost use Rattle.flow_slots.specs.MadeRow.{MadeRow, EndsEmpty};
+ghost use Rattle.flow_slots.specs.MadeRow.{MadeRow, EndsEmpty, counted};
 ghost use Rattle.flow_slots.specs.PackedCell.{IsStored};
 ghost use Rattle.flow_slots.specs.Row.{cell_at};
 ghost use Rattle.flow_slots.specs.Walk.{waits_before};
@@ -19,6 +19,7 @@ use std::mem;
 pub(crate) struct MadeCells<A: Allocator + Copy> {
     row: Vec<PackedCell, A>,
     len: u32,
+    before: u64,
     writes: u64,
 }
 
@@ -31,6 +32,7 @@ impl<A: Allocator + Copy> Model for MadeCells<A> {
     ghost view = { λ c. record {
       row = filled c.row.items c.len;
       made = length c.row.items;
+      before = c.before;
       writes = c.writes;
     } };
 
@@ -68,11 +70,12 @@ fn past_earlier(cells: &[PackedCell], from: usize, flight: Planned) -> usize
 impl<A: Allocator + Copy> MadeCells<A> {
     /// Takes memory for all cells, and makes none.
     pub(crate) fn new(alloc: A, len: u32) -> Result<MadeCells<A>, AllocError>
-        ensures { IfOk result (λ c. c ≡ record { row = replicate len Empty; made = 0; writes = 0 }) }
+        ensures { IfOk result (λ c. c ≡ record { row = replicate len Empty; made = 0; before = 0; writes = 0 }) }
     {
         Ok(MadeCells {
             row: Vec::with_capacity(alloc, len as usize)?,
             len,
+            before: 0,
             writes: 0,
         })
     }
@@ -85,6 +88,7 @@ impl<A: Allocator + Copy> MadeCells<A> {
         let none = MadeCells {
             row: Vec::new(*self.row.allocator()),
             len: 0,
+            before: 0,
             writes: 0,
         };
         mem::replace(self, none)
@@ -111,9 +115,9 @@ impl<A: Allocator + Copy> MadeCells<A> {
     /// How often a cell was written.
     #[inline(always)]
     pub(crate) fn writes(&self) -> u64
-        ensures { result ≡ self.now.writes }
+        ensures { result ≡ counted self.now }
     {
-        self.writes
+        self.before.saturating_add(self.writes)
     }
 
     /// What stands in slot `k`.
@@ -156,7 +160,7 @@ impl<A: Allocator + Copy> MadeCells<A> {
     pub(crate) fn make_to(&mut self, k: u32)
         requires { k < length self.old.row }
         ensures row { self.new.row ≡ self.old.row }
-        ensures writes { self.new.writes ≡ self.old.writes }
+        ensures writes { counted self.new ≡ counted self.old }
         ensures ends { EndsEmpty self.new k }
     {
         let made = self.row.len() as u32;
@@ -173,20 +177,24 @@ impl<A: Allocator + Copy> MadeCells<A> {
         requires slot { k < length self.old.row }
         requires kept { IsStored cell }
         ensures row { self.new.row ≡ slice_set self.old.row k cell }
-        ensures writes { self.new.writes ≡ one_more self.old.writes }
+        ensures writes { counted self.new ≡ one_more (counted self.old) }
     {
         make(&mut self.row, k + 1);
         self.row[k as usize].set(cell);
         self.writes = self.writes.saturating_add(1);
     }
 
-    /// Counts writes from nothing again, and gives the count up to now.
-    pub(crate) fn count_afresh(&mut self) -> u64
-        ensures value { result ≡ self.old.writes }
-        ensures row { self.new
-            ≡ record { row = self.old.row; made = self.old.made; writes = 0 } }
+    /// Begins a chain: its writes are counted from nothing, beside those before, so that each costs one addition.
+    pub(crate) fn begin_chain(&mut self)
+        ensures { self.new ≡ record {
+          row = self.old.row;
+          made = self.old.made;
+          before = counted self.old;
+          writes = 0;
+        } }
     {
-        mem::replace(&mut self.writes, 0)
+        self.before = self.before.saturating_add(self.writes);
+        self.writes = 0;
     }
 
     /// Writes a cell that was made, and counts it by one addition.
@@ -198,21 +206,11 @@ impl<A: Allocator + Copy> MadeCells<A> {
         ensures { self.new ≡ record {
           row = slice_set self.old.row k cell;
           made = self.old.made;
+          before = self.old.before;
           writes = self.old.writes + 1;
         } }
     {
         self.row[k as usize].set(cell);
         self.writes += 1;
-    }
-
-    /// Adds writes that were counted before.
-    pub(crate) fn count_more(&mut self, before: u64)
-        ensures { self.new ≡ record {
-          row = self.old.row;
-          made = self.old.made;
-          writes = min (self.old.writes + before) (2 ^ 64 - 1);
-        } }
-    {
-        self.writes = self.writes.saturating_add(before);
     }
 }

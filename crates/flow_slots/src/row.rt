@@ -79,6 +79,7 @@ impl<A: Allocator + Copy> Row<A> {
         ensures len { vec_len self.new.places ≡ vec_len self.old.places }
         ensures writes { self.new.cells.writes
             ≤ self.old.cells.writes + gained self.old.cells.row self.new.cells.row }
+        ensures more { self.old.cells.writes ≤ self.new.cells.writes }
     {
         let k = first_later(&self.cells, from, flight);
         let cells = self.cells.take_from(k);
@@ -99,6 +100,7 @@ impl<A: Allocator + Copy> Row<A> {
         ensures waiting { waiting_of self.new.cells.row ≡ flights.now }
         ensures fixed { fixed_of 0 self.new.cells.row ≡ [] }
         ensures writes { self.new.cells.writes ≤ self.old.cells.writes + length flights.now }
+        ensures more { self.old.cells.writes ≤ self.new.cells.writes }
     {
         let mut next = 0;
         for planned in flights {
@@ -121,6 +123,7 @@ impl<A: Allocator + Copy> Row<A> {
         ensures len { vec_len self.new.places ≡ vec_len self.old.places }
         ensures writes { self.new.cells.writes
             ≤ self.old.cells.writes + gained self.old.cells.row self.new.cells.row + 1 }
+        ensures more { self.old.cells.writes ≤ self.new.cells.writes }
     {
         let cells = self.cells.take_from(k);
         self.cells = Cells::from_made(vacate(cells, self.places.as_mut_slice(), shape, flight, k));
@@ -144,6 +147,7 @@ impl<A: Allocator + Copy> Row<A> {
         ensures len { vec_len self.new.places ≡ vec_len self.old.places }
         ensures writes { self.new.cells.writes
             ≤ self.old.cells.writes + gained self.old.cells.row self.new.cells.row + 1 }
+        ensures more { self.old.cells.writes ≤ self.new.cells.writes }
     {
         let cell = self.cells.cell(k);
         self.cells.write(k, Cell::Fixed(flight));

@@ -176,6 +176,7 @@ impl<A: Allocator + Copy> SlotList<A> {
             ≡ with_waiting (record { entry = entry; flight = flight }) self.old.lineup }
         ensures writes { self.new.writes
             ≤ self.old.writes + moved_flights self.old.lineup self.new.lineup + 1 }
+        ensures more { self.old.writes ≤ self.new.writes }
     {
         let entry = entry.minutes();
         let from = self.first_slots.at(entry);
@@ -190,6 +191,7 @@ impl<A: Allocator + Copy> SlotList<A> {
         requires { MayFill flights.now self.old.lineup }
         ensures lineup { self.new.lineup ≡ with_all_waiting flights.now self.old.lineup }
         ensures writes { self.new.writes ≤ self.old.writes + length flights.now }
+        ensures more { self.old.writes ≤ self.new.writes }
     {
         self.row.fill(&self.first_slots, flights);
     }
@@ -201,6 +203,7 @@ impl<A: Allocator + Copy> SlotList<A> {
         ensures number { (0 < flight) × (flight ≤ self.old.lineup.capacity) }
         ensures writes { self.new.writes
             ≤ self.old.writes + moved_flights self.old.lineup self.new.lineup + 1 }
+        ensures more { self.old.writes ≤ self.new.writes }
     {
         if let Some(k) = self.row.place(flight) {
             self.row.vacate(&self.first_slots, flight, k);
@@ -228,6 +231,7 @@ impl<A: Allocator + Copy> SlotList<A> {
             → held_slot self.new.lineup other ≡ held_slot self.old.lineup other }
         ensures writes { self.new.writes
             ≤ self.old.writes + moved_flights self.old.lineup self.new.lineup + 1 }
+        ensures more { self.old.writes ≤ self.new.writes }
     {
         if let Some(k) = self.row.place(flight) {
             self.row.cells.write(k, Cell::Fixed(flight));
@@ -245,6 +249,7 @@ impl<A: Allocator + Copy> SlotList<A> {
             self.new.writes
             ≤ self.old.writes + (moved_flights self.old.lineup between + 1)
             + (moved_flights between self.new.lineup + 1) }
+        ensures more { self.old.writes ≤ self.new.writes }
     {
         self.remove(flight);
         self.insert(flight, entry);
@@ -262,6 +267,7 @@ impl<A: Allocator + Copy> SlotList<A> {
             ≡ with_fixed (record { flight = flight; slot = k }) self.old.lineup }
         ensures writes { self.new.writes
             ≤ self.old.writes + moved_flights self.old.lineup self.new.lineup + 1 }
+        ensures more { self.old.writes ≤ self.new.writes }
     {
         self.row.put_fixed(flight, k);
     }

@@ -1,4 +1,15 @@
 //! Messages and filings: what the bytes of a filing say, or why they are refused.
+//!
+//! A filing is a text with its reading: a message, an order, or the first refusal (`reading_of`). It is read once,
+//! when the filing is made, and the invariant of `Filing` says that the reading is the definition's; so nobody who
+//! holds a filing has to read it again. A reading goes from step to step and stops at the first refusal.
+//!
+//! - *Messages*: `flight_plan` (FPL), `short_message` (DLA, CNL and DEP), `modification` and `changes` (CHG with its
+//!   amended fields). `parts` is what names the plan that a message is about.
+//! - *Orders*: `order` and `sub_periods` (OPEN, SHUT and TIME).
+//! - *Editions*: OPEN got its sub-periods later. A filing knows by which edition it is read, so that an old journal
+//!   tells what it told.
+//! - *Memory*: `Filing::renew` reads another text in the memory of a filing, in its place.
 #![tactic(auto)]
 
 mod changes;

@@ -18,6 +18,7 @@ loop-held-preserved g c =
             walk = Displacing-fixed _ _ _ _ _ row c.loop-held.row.writes c.loop-held.places c.loop-held.coming c.loop-held.k w.in-Fixed.field-0 walk within w.in-Fixed.ensures.value;
             entry = c.loop-held.invariant.entry;
             few = omega (arith, c.loop-held.invariant.few);
+            before = c.loop-held.invariant.before;
             ends = EndsEmpty-pass c.loop-held.row c.loop-held.k (Fixed w.in-Fixed.field-0) c.loop-held.invariant.ends w.in-Fixed.ensures.value (λ q. cc);
             within = omega (arith, within);
           })
@@ -27,7 +28,8 @@ loop-held-preserved g c =
             walk = later;
             entry = w.in-Waiting.ensures.kept;
             few = omega (arith, c.loop-held.invariant.few);
-            ends = EndsEmpty-write c.loop-held.row c.loop-held.k (c.loop-held.row.writes + 1) (Waiting w.in-Waiting.held) (Waiting c.loop-held.coming) c.loop-held.invariant.ends w.in-Waiting.ensures.value (λ q. cc);
+            before = c.loop-held.invariant.before;
+            ends = EndsEmpty-write c.loop-held.row c.loop-held.k c.loop-held.row.before (c.loop-held.row.writes + 1) (Waiting w.in-Waiting.held) (Waiting c.loop-held.coming) c.loop-held.invariant.ends w.in-Waiting.ensures.value (λ q. cc);
             within = omega (arith, within, later.len, walk.len);
           })
     ]
@@ -36,15 +38,17 @@ pub returns-clause-tied : goal.returns-clause-tied
 returns-clause-tied g c =
     let walk = c.loop-held.invariant.walk in
     let tied = IsTied-seat c.loop-held.places c.loop-held.row.row c.loop-held.k c.loop-held.coming walk.tied (has_empty-within c.loop-held.row.row c.loop-held.k walk.room) walk.some (omega (arith, walk.number, walk.places_len)) c.in-Empty.ensures.value in
-    rw (c.count_more.ensures, c.write_next-2.ensures, c.of-2.ensures) tied
+    rw (c.write_next-2.ensures, c.of-2.ensures) tied
 
 pub returns-clause-row : goal.returns-clause-row
 returns-clause-row g c =
     let put = displace-empty c.loop-held.row.row c.loop-held.k c.loop-held.coming (has_empty-within c.loop-held.row.row c.loop-held.k c.loop-held.invariant.walk.room) c.in-Empty.ensures.value in
-    ap (λ v. v.row) c.count_more.ensures ∙ (ap (λ v. v.row) c.write_next-2.ensures ∙ (sym put ∙ c.loop-held.invariant.walk.target))
+    ap (λ v. v.row) c.write_next-2.ensures ∙ (sym put ∙ c.loop-held.invariant.walk.target)
 
 pub returns-clause-writes : goal.returns-clause-writes
 returns-clause-writes g c =
     let count = Displacing-count _ _ _ _ _ c.loop-held.row.row c.loop-held.row.writes c.loop-held.places c.loop-held.coming c.loop-held.k c.loop-held.invariant.walk (has_empty-within c.loop-held.row.row c.loop-held.k c.loop-held.invariant.walk.room) in
-    let first = ap (λ v. v.writes) c.write_next-2.ensures in
-    rw (c.count_more.ensures, c.write_next-2.ensures) (omega (arith, count, first))
+    rw c.write_next-2.ensures (omega (arith, count, c.loop-held.invariant.before))
+
+pub returns-clause-more : goal.returns-clause-more
+returns-clause-more g c = rw c.write_next-2.ensures (omega (arith, c.loop-held.invariant.before))

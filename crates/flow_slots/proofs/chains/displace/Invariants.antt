@@ -1,5 +1,5 @@
-use Rattle.std.proofs.Common.{◌≤◌, ◌<◌, ◌-◌, ◌^◌, length}
-use Rattle.flow_slots.specs.MadeRow.{EndsEmpty}
+use Rattle.std.proofs.Common.{◌≡◌, ◌≤◌, ◌<◌, ◌-◌, ◌^◌, length}
+use Rattle.flow_slots.specs.MadeRow.{EndsEmpty, counted}
 use Rattle.flow_slots.proofs.Displacing.{Displacing}
 use Rattle.flow_slots.proofs.chains.displace.Given as goal
 
@@ -8,6 +8,7 @@ invariant-loop-held g l = record {
   walk : Displacing l.fn.cells.row (length l.fn.places) 0 l.from l.fn.flight l.row.row l.row.writes l.places l.coming l.k;
   entry : l.coming.entry < 2 ^ 32 - 1;
   few : l.row.writes ≤ l.k;
+  before : l.row.before ≡ counted l.fn.cells;
   ends : EndsEmpty l.row l.k;
   within : l.k ≤ length l.row.row;
 }

@@ -5,4 +5,4 @@ use Rattle.flow_slots.proofs.made_cells.MadeCells.write_next.Goals as goal
 pub returns : goal.returns
 returns g c =
     let s = c.self.inside in
-    rw (c.set.ensures, ← c.self.view_is) (made-set s.row.items s.len c.args.k (s.writes + 1) c.args.cell (omega (arith, ap (λ v. v.made) c.self.view_is, c.requires.slot)))
+    rw (c.set.ensures, ← c.self.view_is) (made-set s.row.items s.len c.args.k s.before (s.writes + 1) c.args.cell (omega (arith, ap (λ v. v.made) c.self.view_is, c.requires.slot)))

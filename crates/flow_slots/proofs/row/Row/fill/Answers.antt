@@ -10,6 +10,7 @@ loop-planned-init g c =
     record {
       walk = Filling-start c.args.shape.now (length s.places.items - 1) c.args.flights.now s.cells.row s.places.items c.requires.kept c.requires.may.none_waiting c.requires.may.none_fixed;
       writes = omega arith;
+      more = omega arith;
     }
 
 pub write-requires-clause-slot : goal.write-requires-clause-slot
@@ -38,7 +39,8 @@ loop-planned-preserved g c =
     let x : Planned = get_or c.args.flights.now c.loop-planned.planned-index none in
     let comes = comes_next _ c.args.flights.now c.loop-planned.planned-index none c.requires.may c.loop-planned-test.true in
     let slot : c.max-k.result ≡ max (first_slot c.args.shape.now x.entry) c.loop-planned.next = omega (arith, c.max-k.ensures, c.at.ensures) in
-    rw (c.write.ensures, c.of.ensures) (record {
+    rw (c.write.ensures.cells, c.of.ensures) (record {
       walk = Filling-step _ _ _ _ c.loop-planned.next c.max-k.result s.cells.row s.places.items x c.loop-planned.invariant.walk comes slot;
       writes = omega (arith, c.loop-planned.invariant.writes);
+      more = omega (arith, c.loop-planned.invariant.more, rw c.write.ensures.cells at c.write.ensures.more);
     })

@@ -6,4 +6,5 @@ abbrev pub invariant-loop-planned : goal.invariant-loop-planned
 invariant-loop-planned g l = record {
   walk : Filling l.shape (length l.fn.self.places.items - 1) l.flights l.planned-index l.next l.self.cells.row l.self.places.items;
   writes : l.self.cells.writes ≤ l.fn.self.cells.writes + l.planned-index;
+  more : l.fn.self.cells.writes ≤ l.self.cells.writes;
 }

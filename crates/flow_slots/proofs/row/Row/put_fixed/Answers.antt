@@ -18,13 +18,13 @@ pub displace-requires-clause-tied : goal.displace-requires-clause-tied
 displace-requires-clause-tied g c =
     let s = c.args.self.now in
     let away = IsTied-absent s.places.items s.cells.row c.args.flight c.requires.tied c.requires.absent in
-    rw (c.as_mut_slice.ensures.value, c.take_from-cells.ensures.row, c.write.ensures, c.of.ensures, c.none.ensures) (IsTied-replace s.places.items s.cells.row c.args.k c.args.flight (Fixed c.args.flight) c.in-Waiting.held away c.requires.slot c.requires.some (omega arith) refl c.in-Waiting.ensures.value)
+    rw (c.as_mut_slice.ensures.value, c.take_from-cells.ensures.row, c.write.ensures.cells, c.of.ensures, c.none.ensures) (IsTied-replace s.places.items s.cells.row c.args.k c.args.flight (Fixed c.args.flight) c.in-Waiting.held away c.requires.slot c.requires.some (omega arith) refl c.in-Waiting.ensures.value)
 
 pub displace-requires-clause-follows : goal.displace-requires-clause-follows
 displace-requires-clause-follows g c =
     let s = c.args.self.now in
     let beyond = drop-set-lt (c.args.k + 1) s.cells.row c.args.k (Fixed c.args.flight) (omega arith) in
-    rw (c.take_from-cells.ensures.row, c.write.ensures) (subst (Follows c.in-Waiting.held) (sym beyond) (AllFollow-next c.args.k c.in-Waiting.held s.cells.row c.in-Waiting.ensures.value c.requires.order))
+    rw (c.take_from-cells.ensures.row, c.write.ensures.cells) (subst (Follows c.in-Waiting.held) (sym beyond) (AllFollow-next c.args.k c.in-Waiting.held s.cells.row c.in-Waiting.ensures.value c.requires.order))
 
 pub displace-requires-clause-some : goal.displace-requires-clause-some
 displace-requires-clause-some g c =
@@ -42,15 +42,16 @@ returns-in_default g c =
     let empty : cell_at s.cells.row c.args.k ≡ Empty =
     open_is_empty _ (λ w e. c.in_default.not-Waiting w (c.cell-cell.ensures.value ∙ e)) c.requires.open in
     record {
-      tied = rw (c.write.ensures, c.of.ensures) (IsTied-put s.places.items s.cells.row c.args.k c.args.flight (Fixed c.args.flight) c.requires.tied c.requires.slot c.requires.some (omega arith) (ap flight_of empty) c.requires.absent refl);
-      row = ap (λ v. v.row) c.write.ensures ∙ push-empty s.cells.row c.args.k c.args.flight c.requires.slot empty;
+      tied = rw (c.write.ensures.cells, c.of.ensures) (IsTied-put s.places.items s.cells.row c.args.k c.args.flight (Fixed c.args.flight) c.requires.tied c.requires.slot c.requires.some (omega arith) (ap flight_of empty) c.requires.absent refl);
+      row = ap (λ v. v.row) c.write.ensures.cells ∙ push-empty s.cells.row c.args.k c.args.flight c.requires.slot empty;
       len = omega arith;
-      writes = rw c.write.ensures (omega arith);
+      writes = rw c.write.ensures.cells (omega arith);
+      more = c.write.ensures.more;
     }
 
 pub returns-in-Waiting-clause-writes : goal.returns-in-Waiting-clause-writes
 returns-in-Waiting-clause-writes g c =
     let s = c.args.self.now in
-    let row = rw (c.take_from-cells.ensures.row, c.write.ensures) at c.displace.ensures.row in
-    let writes = rw (c.take_from-cells.ensures.row, c.take_from-cells.ensures.writes, c.write.ensures) at c.displace.ensures.writes in
+    let row = rw (c.take_from-cells.ensures.row, c.write.ensures.cells) at c.displace.ensures.row in
+    let writes = rw (c.take_from-cells.ensures.row, c.take_from-cells.ensures.writes, c.write.ensures.cells) at c.displace.ensures.writes in
     rw c.from_made.ensures (omega (arith, writes, gained-pushed s.cells.row _ c.displace.result.row c.args.k (Fixed c.args.flight) c.requires.slot row))

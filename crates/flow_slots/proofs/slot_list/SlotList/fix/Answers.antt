@@ -19,7 +19,7 @@ pub invariant_of-self : goal.invariant_of-self
 invariant_of-self g c =
     let s = c.self.inside in
     let w = waits s.row.places.items s.row.cells.row c.args.flight c.in-Some.k c.self.invariant.tied (sym c.in-Some.ensures) (ap (λ v. fixed_slot v.lineup c.args.flight) c.self.view_is ∙ c.requires.waits) in
-    rw c.write.ensures (IsKept-fixed s.first_slots s.capacity c.args.flight c.in-Some.k s.row.cells.row s.row.places.items c.self.invariant w)
+    rw c.write.ensures.cells (IsKept-fixed s.first_slots s.capacity c.args.flight c.in-Some.k s.row.cells.row s.row.places.items c.self.invariant w)
 
 pub returns-in-Some-clause-lineup : goal.returns-in-Some-clause-lineup
 returns-in-Some-clause-lineup g c =
@@ -29,7 +29,7 @@ returns-in-Some-clause-lineup g c =
     let at : held_slot c.args.self.now.lineup c.args.flight ≡ Some c.in-Some.k =
     sym (ap (λ v. held_slot v.lineup c.args.flight) c.self.view_is) ∙ (held ∙ sym c.in-Some.ensures) in
     let fixed = lineup-fixed s.first_slots s.capacity c.args.flight c.in-Some.k s.row.cells.row s.row.places.items c.self.invariant w in
-    rw (at, c.write.ensures) (fixed ∙ ap (λ v. fixed_at (record { flight = c.args.flight; slot = c.in-Some.k }) v.lineup) c.self.view_is)
+    rw (at, c.write.ensures.cells) (fixed ∙ ap (λ v. fixed_at (record { flight = c.args.flight; slot = c.in-Some.k }) v.lineup) c.self.view_is)
 
 pub returns-in_default : goal.returns-in_default
 returns-in_default g c =
@@ -43,7 +43,7 @@ returns-in_default g c =
 pub returns-in-Some-clause-writes : goal.returns-in-Some-clause-writes
 returns-in-Some-clause-writes g c =
     let before = ap (λ v. v.writes) c.self.view_is in
-    let one = ap (λ v. v.writes) c.write.ensures in
+    let one = ap (λ v. v.writes) c.write.ensures.cells in
     omega (arith, before, one)
 
 pub returns-in-Some-clause-nobody_moves : goal.returns-in-Some-clause-nobody_moves

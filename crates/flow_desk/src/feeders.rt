@@ -1,0 +1,253 @@
+//! Feeders that file at the same time, each its own feed.
+ghost use Rattle.std.specs.Prelude.{◌≡◌, ◌<◌, ◌≤◌, ◌+◌, ◌++◌, ℕ, [], Some, length, map, vec_len, vec_capacity, slice_get, slice_index_or, IfOk, IfErr, OnOk, OnErr, IsTrue, IsFalse};
+ghost use Rattle.std.specs.List.{All};
+ghost use Rattle.flow_desk.specs.Feeds.{Ran, HasRun, HaveRun, EndsAs, IsFresh};
+
+use crate::desk::Desk;
+use crate::name::Name;
+use crate::pass::Pass;
+use flow_core::{Receipt, StepFault};
+use fpl_message::Filing;
+use std::alloc::{AllocError, Allocator, Global};
+use std::collections::VecDeque;
+use std::sync::Wait;
+use std::thread;
+use std::thread::Threads;
+
+/// What is called round each filing.
+pub trait Gate {
+    /// Before the feeder files the `i`-th of its feed, from 0.
+    fn before(&self, feeder: u8, i: usize);
+
+    /// After it.
+    fn after(&self, feeder: u8, i: usize);
+}
+
+/// How a feed ended.
+#[derive(Clone, Copy, Debug, PartialEq, Eq)]
+pub enum End {
+    /// All of it has receipts.
+    Finished,
+    /// A filing was refused so. It is the first of those that are left.
+    Stopped(StepFault),
+    /// It was never begun. No feed ends so here: where no thread can be made, feeds run one after the other.
+    NotStarted,
+}
+
+/// A feed that has run: the pass, the receipts of the filings that have one, the filings that have none, and how it ended.
+#[derive(Drop)]
+pub struct Done<N: Name, A: Allocator + Copy = Global> {
+    pub pass: Pass<N, A>,
+    pub receipts: Vec<Receipt, A>,
+    pub left: Vec<Filing<A>, A>,
+    pub end: End,
+}
+
+/// A feed as it runs.
+#[derive(Drop)]
+struct Feed<N: Name, A: Allocator + Copy = Global> {
+    pass: Pass<N, A>,
+    receipts: Vec<Receipt, A>,
+    left: VecDeque<Filing<A>, A>,
+    end: End,
+}
+
+/// Files the next text of a feed. False where it was refused or nothing is left.
+fn file_next<N: Name, Q: Wait + Drop, G: Gate, W: Wait, A: Allocator + Copy>(
+    wait: &W,
+    alloc: A,
+    desk: &Desk<N, Q, A>,
+    gate: &G,
+    feed: &mut Feed<N, A>,
+) -> bool
+    requires room { vec_len feed.old.receipts + length feed.old.left.items ≤ vec_capacity feed.old.receipts }
+    ensures room { vec_len feed.new.receipts + length feed.new.left.items ≤ vec_capacity feed.new.receipts }
+    ensures ran { (p : _) (texts : _) → Ran p texts feed.old.pass feed.old.receipts.items feed.old.left.items → Ran p texts feed.new.pass feed.new.receipts.items feed.new.left.items }
+    ensures ends { IsFalse result → EndsAs N.setup feed.new.end feed.new.pass feed.new.receipts.items feed.new.left.items }
+    ensures goes { IsTrue result → length feed.new.left.items + 1 ≡ length feed.old.left.items }
+{
+    let Some(filing) = feed.left.pop_front() else {
+        feed.end = End::Finished;
+        return false;
+    };
+    let feeder = feed.pass.feeder();
+    let i = feed.receipts.len();
+    gate.before(feeder, i);
+    match desk.file(wait, alloc, &mut feed.pass, filing) {
+        Ok(receipt) => {
+            feed.receipts.push_reserved(receipt);
+            gate.after(feeder, i);
+            true
+        }
+        Err((fault, filing)) => {
+            feed.left.push_front_reserved(filing);
+            feed.end = End::Stopped(fault);
+            gate.after(feeder, i);
+            false
+        }
+    }
+}
+
+/// Files a feed until it ends.
+fn run_feed<N: Name, Q: Wait + Drop, G: Gate, W: Wait, A: Allocator + Copy>(
+    wait: &W,
+    alloc: A,
+    desk: &Desk<N, Q, A>,
+    gate: &G,
+    feed: &mut Feed<N, A>,
+)
+    requires { IsFresh feed.old.receipts.items feed.old.left.items (vec_capacity feed.old.receipts) }
+    ensures { HasRun N.setup feed.old.pass feed.old.left.items feed.new.pass feed.new.receipts.items feed.new.left.items feed.new.end }
+{
+    while file_next(wait, alloc, desk, gate, feed) {}
+}
+
+/// Runs all feeds at the same time, each in a thread of its own where one can be made.
+fn run_all<
+    N: Name + Send + Sync,
+    Q: Wait + Drop + Send,
+    G: Gate + Sync,
+    R: Threads + Sync,
+    W: Wait + Sync,
+    A: Allocator + Copy + Send + Sync,
+>(rt: &R, wait: &W, alloc: A, desk: &Desk<N, Q, A>, gate: &G, feeds: &mut Vec<Feed<N, A>, A>)
+    requires { All (λ f. IsFresh f.receipts.items f.left.items (vec_capacity f.receipts)) feeds.old.items }
+    ensures len { length feeds.new.items ≡ length feeds.old.items }
+    ensures each { (i : ℕ) (d : _) → i < length feeds.old.items → HasRun N.setup (slice_index_or feeds.old.items i d).pass (slice_index_or feeds.old.items i d).left.items (slice_index_or feeds.new.items i d).pass (slice_index_or feeds.new.items i d).receipts.items (slice_index_or feeds.new.items i d).left.items (slice_index_or feeds.new.items i d).end }
+{
+    let threads = feeds.len().max(1);
+    thread::for_each_mut(
+        rt,
+        feeds.as_mut_slice(),
+        threads,
+        &|_, feed| run_feed(wait, alloc, desk, gate, feed),
+    );
+}
+
+/// Room for a receipt of each filing.
+fn receipts_for<A: Allocator + Copy>(
+    alloc: A,
+    filings: usize,
+) -> Result<Vec<Receipt, A>, AllocError>
+    ensures { IfOk result (λ receipts. (receipts.items ≡ []) × (filings ≤ vec_capacity receipts)) }
+{
+    let mut receipts = Vec::new(alloc);
+    receipts.reserve(filings)?;
+    Ok(receipts)
+}
+
+/// Makes a feed of each pass and its texts. Where memory is refused passes and texts are as they were.
+fn gather<N: Name, A: Allocator + Copy>(
+    alloc: A,
+    passes: &mut Vec<Pass<N, A>, A>,
+    texts: &mut Vec<Vec<Filing<A>, A>, A>,
+    feeds: &mut Vec<Feed<N, A>, A>,
+) -> Result<(), AllocError>
+    requires each { length passes.old.items ≡ length texts.old.items }
+    requires room { vec_len feeds.old + length passes.old.items ≤ vec_capacity feeds.old }
+    requires fresh { All (λ f. IsFresh f.receipts.items f.left.items (vec_capacity f.receipts)) feeds.old.items }
+    ensures passes { OnOk result (map (λ f. f.pass) feeds.new.items ≡ map (λ f. f.pass) feeds.old.items ++ passes.old.items) }
+    ensures texts { OnOk result (map (λ f. f.left.items) feeds.new.items ≡ map (λ f. f.left.items) feeds.old.items ++ map (λ v. v.items) texts.old.items) }
+    ensures fresh { OnOk result (All (λ f. IsFresh f.receipts.items f.left.items (vec_capacity f.receipts)) feeds.new.items) }
+    ensures len { OnOk result (vec_len feeds.new ≡ vec_len feeds.old + length passes.old.items) }
+    ensures back { OnErr result ((passes.new.items ≡ passes.old.items) × (texts.new.items ≡ texts.old.items)) }
+    ensures rooms { (vec_capacity feeds.new ≡ vec_capacity feeds.old) × (vec_capacity passes.new ≡ vec_capacity passes.old) × (vec_capacity texts.new ≡ vec_capacity texts.old) }
+{
+    let Some(pass) = passes.pop() else {
+        return Ok(());
+    };
+    let Some(left) = texts.pop() else {
+        unreachable!()
+    };
+    let Ok(receipts) = receipts_for(alloc, left.len()) else {
+        passes.push_reserved(pass);
+        texts.push_reserved(left);
+        return Err(AllocError);
+    };
+    match gather(alloc, passes, texts, feeds) {
+        Ok(()) => {
+            feeds.push_reserved(Feed {
+                pass,
+                receipts,
+                left: VecDeque::from(left),
+                end: End::NotStarted,
+            });
+            Ok(())
+        }
+        Err(AllocError) => {
+            passes.push_reserved(pass);
+            texts.push_reserved(left);
+            Err(AllocError)
+        }
+    }
+}
+
+/// Hands each feed over as done, in the same order.
+fn hand_over<N: Name, A: Allocator + Copy>(
+    feeds: &mut Vec<Feed<N, A>, A>,
+    dones: &mut Vec<Done<N, A>, A>,
+)
+    requires room { vec_len dones.old + length feeds.old.items ≤ vec_capacity dones.old }
+    ensures passes { map (λ d. d.pass) dones.new.items ≡ map (λ d. d.pass) dones.old.items ++ map (λ f. f.pass) feeds.old.items }
+    ensures receipts { map (λ d. d.receipts.items) dones.new.items ≡ map (λ d. d.receipts.items) dones.old.items ++ map (λ f. f.receipts.items) feeds.old.items }
+    ensures left { map (λ d. d.left.items) dones.new.items ≡ map (λ d. d.left.items) dones.old.items ++ map (λ f. f.left.items) feeds.old.items }
+    ensures ends { map (λ d. d.end) dones.new.items ≡ map (λ d. d.end) dones.old.items ++ map (λ f. f.end) feeds.old.items }
+    ensures len { vec_len dones.new ≡ vec_len dones.old + length feeds.old.items }
+    ensures room { vec_capacity dones.new ≡ vec_capacity dones.old }
+{
+    let Some(feed) = feeds.pop() else {
+        return;
+    };
+    hand_over(feeds, dones);
+    let Feed {
+        pass,
+        receipts,
+        left,
+        end,
+    } = feed;
+    dones.push_reserved(Done {
+        pass,
+        receipts,
+        left: Vec::from(left),
+        end,
+    });
+}
+
+/// Files the feeds, each by its pass, and calls the gate round each filing: one thread files a feed in order, in a thread of its own
+/// where one can be made. Feed by feed it answers the pass, the receipts in order, the filings that have none, and how it ended.
+/// Where memory is refused before any feed is begun, passes and feeds come back as they were.
+pub fn run_feeders<
+    N: Name + Send + Sync,
+    Q: Wait + Drop + Send,
+    G: Gate + Sync,
+    R: Threads + Sync,
+    W: Wait + Sync,
+    A: Allocator + Copy + Send + Sync,
+>(
+    rt: &R,
+    wait: &W,
+    alloc: A,
+    desk: &Desk<N, Q, A>,
+    mut passes: Vec<Pass<N, A>, A>,
+    mut feeds: Vec<Vec<Filing<A>, A>, A>,
+    gate: &G,
+) -> Result<Vec<Done<N, A>, A>, (AllocError, Vec<Pass<N, A>, A>, Vec<Vec<Filing<A>, A>, A>)>
+    requires { length passes.items ≡ length feeds.items }
+    ensures run { IfOk result (λ ds. HaveRun N.setup passes.items (map (λ v. v.items) feeds.items) (map (λ d. d.pass) ds.items) (map (λ d. d.receipts.items) ds.items) (map (λ d. d.left.items) ds.items) (map (λ d. d.end) ds.items)) }
+    ensures refused { IfErr result (λ e. (e.1.items ≡ passes.items) × (e.2.items ≡ feeds.items)) }
+{
+    let mut work = Vec::new(alloc);
+    let mut dones = Vec::new(alloc);
+    if work.reserve(passes.len()).is_err() {
+        return Err((AllocError, passes, feeds));
+    }
+    if dones.reserve(passes.len()).is_err() {
+        return Err((AllocError, passes, feeds));
+    }
+    let Ok(()) = gather(alloc, &mut passes, &mut feeds, &mut work) else {
+        return Err((AllocError, passes, feeds));
+    };
+    run_all(rt, wait, alloc, desk, gate, &mut work);
+    hand_over(&mut work, &mut dones);
+    Ok(dones)
+}
