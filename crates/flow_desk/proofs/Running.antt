@@ -1,5 +1,5 @@
 -- What a feed has filed, text by text.
-use Rattle.std.proofs.Common.{◌≡◌, ◌+◌, List, [], ◌∷◌, ◌++◌, length, map, refl, sym, ap, subst, ◌∙◌, append_assoc, length-append, arith}
+use Rattle.std.proofs.Common.{◌≡◌, List, [], ◌∷◌, ◌++◌, map, refl, sym, ap, subst, ◌∙◌, append_assoc, length-append, arith}
 use Rattle.std.proofs.lemmas.List.{map-append, append-nil}
 use mathlib.Core.List.{IsPrefix}
 use Rattle.fpl_message.specs.Filings.{FilingText}

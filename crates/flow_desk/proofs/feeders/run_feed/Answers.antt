@@ -1,4 +1,4 @@
-use Rattle.std.proofs.Common.{◌≡◌, List, [], length, ap, sym, subst, arith}
+use Rattle.std.proofs.Common.{List, length, ap, sym, subst, arith}
 use Rattle.flow_core.specs.declared.receipt.Receipt.{Receipt}
 use Rattle.flow_desk.specs.Feeds.{Ran}
 use Rattle.flow_desk.proofs.Running.{ran-none}
