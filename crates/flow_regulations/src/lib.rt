@@ -34,6 +34,7 @@ mod closed;
 mod due_queue;
 mod entry_asked;
 mod fixed_flights;
+mod in_order;
 pub mod laws;
 mod marks;
 mod notice;

@@ -18,6 +18,7 @@ use crate::advice::advice_of;
 use crate::closed::Closed;
 use crate::entry_asked::EntryAsked;
 use crate::fixed_flights::note_fixed;
+use crate::in_order::put_in_order;
 use crate::marks::{
     close_place, make_room, mark_where, may_stand, next_marked, open_last, open_last_row, set_word,
     word_of,
@@ -47,6 +48,8 @@ pub struct Regulations<A: Allocator + Copy = Global> {
     rows: Vec<u64, A>,
     // the flights that come into a regulation when it is opened, in memory that is kept for this
     coming: Vec<Planned, A>,
+    // where they belong, in memory that is kept for this
+    targets: Vec<u32, A>,
 }
 
 impl<A: Allocator + Copy> Model for Regulations<A> {
@@ -77,6 +80,7 @@ impl<A: Allocator + Copy> Regulations<A> {
             words: Vec::new(alloc),
             rows: Vec::new(alloc),
             coming: Vec::new(alloc),
+            targets: Vec::new(alloc),
         }
     }
 
@@ -116,7 +120,7 @@ impl<A: Allocator + Copy> Regulations<A> {
         self.regulations.reserve(1)?;
         make_room(&mut self.words, alloc, self.max_plans)?;
         make_room(&mut self.rows, alloc, LAST_ROW)?;
-        let_all_in(&mut regulation, plans, &mut self.coming)?;
+        let_all_in(&mut regulation, plans, &mut self.coming, &mut self.targets)?;
         settle(&mut regulation, plans, now);
         open_last(&mut self.words, &self.regulations, &regulation);
         open_last_row(&mut self.rows, &self.regulations, &regulation);
@@ -491,12 +495,13 @@ fn release_in<A: Allocator + Copy>(
     }
 }
 
-/// Lets the flights that a new regulation applies to wait in it: they are noted in memory that is kept, sorted, and taken in at once.
-/// Refused where memory is.
+/// Lets the flights that a new regulation applies to wait in it: they are noted in memory that is kept, put in order, and taken in at
+/// once. Refused where memory is.
 fn let_all_in<A: Allocator + Copy>(
     regulation: &mut Regulation<A>,
     plans: &PlanStore<A>,
     coming: &mut Vec<Planned, A>,
+    targets: &mut Vec<u32, A>,
 ) -> Result<(), AllocError>
     requires room { length plans.now.plans ≤ regulation.old.lineup.capacity }
     requires empty { regulation.old ≡ opened plans.now.taxi [] regulation.old }
@@ -504,8 +509,11 @@ fn let_all_in<A: Allocator + Copy>(
 {
     coming.clear();
     coming.reserve(plans.count() as usize)?;
+    targets.clear();
+    targets.reserve(plans.count() as usize)?;
     note_coming(regulation, plans, coming);
-    coming.sort_unstable_by_key(|planned| planned.rank());
+    let (start, _end) = regulation.list().shape().period();
+    put_in_order(coming, start, targets);
     regulation.fill(coming);
     Ok(())
 }

@@ -12,7 +12,7 @@ use std::test::Fail;
 type Row = (&'static [u8], Result<u32, PlanFault>);
 
 /// A moment in the years of a desk.
-fn moment(rt: &impl Abort, text: &[u8]) -> Minute
+pub(crate) fn moment(rt: &impl Abort, text: &[u8]) -> Minute
     ensures { IsDeskTime result }
 {
     let moment = read_moment(text).expect(rt, "a moment");
@@ -21,12 +21,12 @@ fn moment(rt: &impl Abort, text: &[u8]) -> Minute
 }
 
 /// The setup of a desk that starts on 2024-09-01 at 05:00, with a taxi time of 10 minutes.
-fn setup(rt: &impl Abort, max_plans: u32) -> Setup {
+pub(crate) fn setup(rt: &impl Abort, max_plans: u32) -> Setup {
     Setup::new(moment(rt, b"2409010500"), 10, max_plans, 1000).expect(rt, "a setup")
 }
 
 /// What the store answers to a text. Another text than a message of a plan, and want of memory for its reading, are None.
-fn post<A: Allocator + Copy>(
+pub(crate) fn post<A: Allocator + Copy>(
     alloc: A,
     store: &mut PlanStore<A>,
     text: &[u8],

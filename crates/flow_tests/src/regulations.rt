@@ -3,6 +3,7 @@
 
 ghost use Rattle.std.specs.Prelude.{◌≡◌, ◌<◌, ◌≤◌, length};
 
+use crate::plans::{moment, post, setup};
 use crate::telling::{at, one_plan, tell_one, told};
 use flow_plans::{PlanStore, Setup};
 use flow_regulations::{Place, Regulations, Said};
@@ -10,7 +11,7 @@ use flow_slots::Shape;
 use fpl_message::Spot;
 use fpl_text::Text;
 use linked_list_allocator::LocalHeap;
-use std::alloc::{AllocError, Global};
+use std::alloc::{AllocError, Allocator, Global};
 use std::process::Abort;
 use std::test::Fail;
 
@@ -203,5 +204,85 @@ fn each_growth_is_refused(rt: HostRuntime) -> Result<(), AllocError> {
         opens = done;
     }
     assert!(&rt; opens);
+    Ok(())
+}
+
+/// A store with one flight to EDDF, off block at 08:00.
+fn one_flight<A: Allocator + Copy>(rt: &impl Abort, alloc: A) -> PlanStore<A> {
+    let mut plans = PlanStore::new(alloc, &setup(rt, 10));
+    let text = b"(FPL-AAA1-IS-A320/M-SDFG/LB1-LIML0800-N0450F350 DCT-EDDF0154-0)";
+    let now = moment(rt, b"2409010500");
+    assert_eq!(rt; post(alloc, &mut plans, text, now), Some(Ok(1)));
+    plans
+}
+
+/// Opens a regulation of that flight's arrival. Where it is refused for want of memory, none is open, as before.
+fn opens<A: Allocator + Copy>(
+    rt: &impl Abort,
+    alloc: A,
+    regulations: &mut Regulations<A>,
+    plans: &PlanStore<A>,
+) -> bool
+    requires { 0 < regulations.old.max_plans }
+    ensures { regulations.new.max_plans ≡ regulations.old.max_plans }
+{
+    assert!(rt; plans.count() == 1);
+    let id: Text<8> = Text::new(b"RMZ01");
+    assert!(rt; !regulations.is_open(&id));
+    let shape = Shape::new(at(10, 0), at(12, 0), 20, &[]).expect(rt, "a shape");
+    let arrivals = Spot::Arr(Text::new(b"EDDF"));
+    let opening = regulations.open(alloc, id.copied(), arrivals, shape, plans, at(6, 0));
+    assert_eq!(rt; regulations.is_open(&id), opening.is_ok());
+    assert_eq!(rt; regulations.count() == 0, opening.is_err());
+    opening.is_ok()
+}
+
+/// Whether it is opened while a block of so many bytes is taken.
+fn opens_beside<A: Allocator + Copy>(
+    rt: &impl Abort,
+    alloc: A,
+    regulations: &mut Regulations<A>,
+    plans: &PlanStore<A>,
+    taken: usize,
+) -> bool
+    requires { 0 < regulations.old.max_plans }
+    ensures { regulations.new.max_plans ≡ regulations.old.max_plans }
+{
+    let mut block: Vec<u8, A> = Vec::new(alloc);
+    block.reserve_exact(taken).is_ok() && opens(rt, alloc, regulations, plans)
+}
+
+/// How often an opening is refused, while ever smaller blocks are taken of a heap.
+fn refusals<A: Allocator + Copy>(
+    rt: &impl Abort,
+    alloc: A,
+    regulations: &mut Regulations<A>,
+    plans: &PlanStore<A>,
+) -> u32
+    requires { 0 < regulations.old.max_plans }
+{
+    let mut refused: u32 = 0;
+    for step in 0..500usize {
+        if opens_beside(rt, alloc, regulations, plans, 16_000 - 32 * step) {
+            return refused;
+        }
+        refused = refused.saturating_add(1);
+    }
+    refused
+}
+
+#[test]
+fn an_opening_is_refused_until_each_growth_has_room(rt: HostRuntime) -> Result<(), AllocError> {
+    let heap = LocalHeap::new(rt.alloc(), 16_000)?;
+    let plans = one_flight(&rt, &heap);
+    let mut regulations = Regulations::new(&heap, 10);
+    let refused = refusals(&rt, &heap, &mut regulations, &plans);
+    assert!(&rt; 0 < refused && refused < 500, "{refused}");
+    assert!(&rt;
+        regulations
+            .slots(&Text::new(b"RMZ01"))
+            .expect(&rt, "a slot list")
+            .is_fixed(1)
+    );
     Ok(())
 }

@@ -1,8 +1,8 @@
 //! Worked examples: a regulation from 10:00, and 20 slots an hour where nothing else is said.
 
-ghost use Rattle.std.specs.Prelude.{◌<◌};
+ghost use Rattle.std.specs.Prelude.{◌≡◌, ◌+◌, ◌<◌};
 
-use flow_slots::{Change, Shape, SlotList};
+use flow_slots::{Change, Planned, Shape, SlotList};
 use fpl_text::{Minute, Part};
 use linked_list_allocator::LocalHeap;
 use std::alloc::{AllocError, Allocator};
@@ -14,12 +14,16 @@ const TEN: u32 = 28_753_080;
 /// So many minutes after 10:00.
 fn at(minutes: u32) -> Minute
     requires { minutes < 10_000 }
+    ensures { result ≡ 28_753_080 + minutes }
 {
     Minute::from_minutes(TEN + minutes)
 }
 
 /// From 10:00 to 12:00.
-fn two_hours(rt: &impl Abort, rate: u32, parts: &[Part]) -> Shape {
+fn two_hours(rt: &impl Abort, rate: u32, parts: &[Part]) -> Shape
+    ensures start { result.start ≡ 28_753_080 }
+    ensures end { result.end ≡ 28_753_200 }
+{
     Shape::new(at(0), at(120), rate, parts).expect(rt, "a shape")
 }
 
@@ -194,6 +198,46 @@ fn fixed_flights_keep_their_slots(rt: HostRuntime) -> Result<(), AllocError> {
     assert_eq!(rt; slots(&list), [Some(0), Some(3), Some(1), None]);
     assert_eq!(rt; list.entry_of(2), Some(at(7)));
     assert_eq!(rt; list.holder(45), None);
+    Ok(())
+}
+
+/// A flight that waits, with its entry in minutes after 10:00.
+fn waiting(flight: u32, minutes: u32) -> Planned
+    requires { minutes < 10_000 }
+    ensures flight { result.flight ≡ flight }
+    ensures entry { result.entry ≡ 28_753_080 + minutes }
+{
+    Planned {
+        entry: TEN + minutes,
+        flight,
+    }
+}
+
+#[test]
+fn flights_that_come_at_once_stand_as_one_by_one(rt: HostRuntime) -> Result<(), AllocError> {
+    let mut list = SlotList::new(rt.alloc(), two_hours(&rt, 20, &[]), 1000)?;
+    list.fill(&[waiting(2, 0), waiting(3, 0), waiting(1, 1), waiting(4, 10)]);
+    assert_eq!(rt; slots(&list), [Some(2), Some(0), Some(1), Some(4)]);
+    assert_eq!(rt; list.cells().writes(), 4);
+    let mut other = SlotList::new(rt.alloc(), two_hours(&rt, 20, &[]), 1000)?;
+    for (flight, minutes) in [(1, 1), (2, 0), (3, 0), (4, 10)] {
+        take_in(&rt, &mut other, flight, at(minutes));
+    }
+    assert!(rt; list.same(&other));
+    Ok(())
+}
+
+#[test]
+fn flights_that_come_at_once_follow_the_sub_periods(rt: HostRuntime) -> Result<(), AllocError> {
+    let mut list = SlotList::new(rt.alloc(), two_hours(&rt, 20, &later_rates()), 1000)?;
+    list.fill(&[
+        waiting(4, 27),
+        waiting(1, 28),
+        waiting(2, 45),
+        waiting(3, 119),
+    ]);
+    assert_eq!(rt; slots(&list), [Some(10), Some(11), Some(40), Some(9)]);
+    assert_eq!(rt; list.cells().writes(), 4);
     Ok(())
 }
 

@@ -20,9 +20,11 @@ const USAGE: &str = "slotdesk <--start <yymmddhhmm>|--resume> [OPTIONS] < FILE";
 const MAX_FEEDERS: u64 = 64;
 
 const AFTER: &str =
-    "With --resume the taxi time and the number of plans are those of the journal.\n\n\
+    "With 2 or more feeders the answers come at the end of the input. With --resume the taxi time and the\n\
+    number of plans are those of the journal.\n\n\
     Exit status: 0 at the end of the input; 1 where reading or writing failed, or the input of --resume\n\
-    begins with no journal; 2 for a bad command line, a bad start, or where memory is refused.\n\n\
+    begins with no journal; 2 for a bad command line, a bad start, feeders fewer than those of the\n\
+    journal, or where memory, a reader's place or a thread is refused.\n\n\
     Times are UTC. A day, the same with its journal, and going on from that journal:\n  \
     slotdesk --start 2409010500 < day.txt\n  \
     slotdesk --start 2409010500 --journal < day.txt | sed -n '/^SLOTDESK JOURNAL/,$p' > journal.txt\n  \
@@ -78,7 +80,7 @@ fn feeders_argument<'a>(alloc: Global) -> Arg<'a> {
         .value_name("N")
         .default_value("1")
         .value_parser(ValueParser::unsigned(1, MAX_FEEDERS))
-        .help("How many feeders file, 1 to 64; only 1 is served yet")
+        .help("How many feeders file at the same time, 1 to 64")
 }
 
 fn journal_argument<'a>(alloc: Global) -> Arg<'a> {

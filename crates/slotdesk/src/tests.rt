@@ -1,10 +1,12 @@
 //! Runs of the program with words, readers and writers that tests make.
-use crate::run::run_words;
+use crate::run::{Fault, run_words, tell};
+use flow_runs::RunFault;
 use std::alloc::Global;
 use std::io;
 use std::io::{ErrorKind, Read, Write};
 use std::sync::Wait;
 use std::test::Fail;
+use std::thread::Threads;
 
 const FPL: &[u8] = b"(FPL-AAA1-IS-A320/M-SDFG/LB1-LIML0800-N0450F350 DCT-EDDF0150-0)";
 
@@ -59,7 +61,7 @@ fn make_sink(alloc: Global, room: usize) -> Sink {
 }
 
 /// The exit status of a run, and what it writes on standard error.
-fn run<T: AllocGlobal + Wait>(
+fn run<T: AllocGlobal + Threads + Wait + Sync>(
     rt: &T,
     words: &[&str],
     input: &[u8],
@@ -113,4 +115,43 @@ fn the_command_line_and_the_start_come_before_any_byte(rt: HostRuntime) -> Resul
     assert_eq!(&rt; run(&rt, &["--help"], b"", true, 10_000)?.0, 0);
     assert_eq!(&rt; run(&rt, &["--help"], b"", true, 0)?.0, 1);
     Ok(())
+}
+
+const START_TWO: [&str; 4] = ["--start", "2409010500", "--feeders", "2"];
+
+#[test]
+fn devices_that_fail_end_a_run_of_two_feeders(rt: HostRuntime) -> Result<(), Fail> {
+    let (status, errors) = run(&rt, &START_TWO, FPL, true, 1000)?;
+    assert_eq!(&rt; status, 1);
+    assert!(&rt; errors.as_slice() == b"slotdesk: read fault\n".as_slice());
+    // the answer and `REPLAY OK` are 21 bytes
+    for room in 0..21 {
+        let (status, errors) = run(&rt, &START_TWO, FPL, false, room)?;
+        assert_eq!(&rt; status, 1, "{room}");
+        assert!(&rt; errors.as_slice() == b"slotdesk: write fault\n".as_slice());
+    }
+    let (status, errors) = run(&rt, &START_TWO, FPL, false, 21)?;
+    assert_eq!(&rt; status, 0);
+    assert!(&rt; errors.is_empty());
+    Ok(())
+}
+
+/// The exit status of a run with many feeders that ended with this fault, and its line.
+fn told(alloc: Global, fault: RunFault) -> (u8, Vec<u8>) {
+    let mut errors = make_sink(alloc, 100);
+    let status = tell(Fault::from(fault), &mut errors);
+    (status, errors.taken)
+}
+
+#[test]
+fn faults_of_many_feeders_have_a_line_and_a_status(rt: HostRuntime) {
+    let (status, line) = told(rt.alloc(), RunFault::NoReader);
+    assert_eq!(&rt; status, 2);
+    assert!(&rt; line.as_slice() == b"slotdesk: no reader\n".as_slice());
+    let (status, line) = told(rt.alloc(), RunFault::NotStarted);
+    assert_eq!(&rt; status, 2);
+    assert!(&rt; line.as_slice() == b"slotdesk: thread not started\n".as_slice());
+    let (status, line) = told(rt.alloc(), RunFault::TooMuch);
+    assert_eq!(&rt; status, 1);
+    assert!(&rt; line.as_slice() == b"slotdesk: read fault\n".as_slice());
 }

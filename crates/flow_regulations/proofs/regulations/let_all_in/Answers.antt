@@ -1,14 +1,30 @@
-use Rattle.std.proofs.Common.{◌≡◌, ◌≤◌, List, [], length, rules, sym, ap, subst, ◌∙◌, arith}
-use Rattle.std.specs.List.Sorted.{IsNonDecreasingBy}
-use Rattle.std.proofs.lemmas.List.Sorted.{IsNonDecreasingBy-from_sort_by_key}
+use Rattle.std.proofs.Common.{◌≡◌, ◌++◌, ◌≤◌, ℕ, List, [], length, take, drop, rules, sym, ap, subst, ◌∙◌, arith}
+use Rattle.std.specs.List.Sorted.{IsPermutation, IsNonDecreasingBy}
+use Rattle.std.proofs.Math.Seq.{take-append_seam}
+use Rattle.std.proofs.lemmas.List.Sorted.{length_permutation}
 use Rattle.flow_plans.specs.Plans.{Plan}
 use Rattle.flow_slots.specs.declared.cell.Planned.{Planned}
 use Rattle.flow_slots.specs.Order.{rank}
 use Rattle.flow_slots.specs.Lineup.{MayFill, with_all_waiting}
-use Rattle.flow_regulations.specs.Regulations.{Regulation}
+use Rattle.flow_regulations.specs.Regulations.{Regulation, coming_from, waiting_from}
 use Rattle.flow_regulations.specs.Listing.{Listed, regulation_of, with_lineup}
 use Rattle.flow_regulations.proofs.Coming.{sorted-waiting, may-fill}
+use Rattle.flow_regulations.proofs.Openings.{coming-few}
 use Rattle.flow_regulations.proofs.regulations.let_all_in.Goals as goal
+
+-- what a vector holds whose items were put in order are the waiting flights
+in-order : (taxi n : ℕ) (r : Regulation) (plans : List Plan) (noted row read : List Planned) → length plans ≤ 20000 → noted ≡ coming_from 1 taxi r plans → n ≡ length noted → IsPermutation noted row → IsNonDecreasingBy rank row → read ≡ take n (row ++ drop (length row) noted) → read ≡ waiting_from 1 taxi r [] plans
+in-order taxi n r plans noted row read few is all moved up e =
+    let same : n ≡ length row = omega (arith, all, length_permutation noted row moved) in
+    let whole : take n (row ++ drop (length row) noted) ≡ row = ap (λ m. take m (row ++ drop (length row) noted)) same ∙ take-append_seam row (drop (length row) noted) in
+    e ∙ (whole ∙ sorted-waiting taxi 20000 r plans noted row few (omega arith) is moved up)
+
+pub put_in_order-requires : goal.put_in_order-requires
+put_in_order-requires g c =
+    let few = coming-few 1 c.args.plans.now.taxi (regulation_of c.args.regulation.now) c.args.plans.now.plans in
+    let noted = ap length c.note_coming.ensures in
+    let all = ap length c.deref_mut.ensures.value in
+    omega (arith, few, noted, all, c.in_ok-reserve-2.ensures.ok, c.count-2.ensures.count)
 
 pub fill-requires : goal.fill-requires
 fill-requires g c =
@@ -16,13 +32,14 @@ fill-requires g c =
     let taxi = c.args.plans.now.taxi in
     let l : Listed = c.args.regulation.now in
     let r : Regulation = regulation_of l in
-    let few : length plans ≤ 20000 = omega (arith, c.count.ensures.count, c.count.ensures.bound) in
-    let up : IsNonDecreasingBy rank c.sort_unstable_by_key.new.self.items = IsNonDecreasingBy-from_sort_by_key rank _ c.sort_unstable_by_key.ensures.sorted (λ a r q k. search rules) in
-    let sorted = sorted-waiting taxi 20000 r plans c.note_coming.new.coming.items c.sort_unstable_by_key.new.self.items few (omega arith) c.note_coming.ensures c.sort_unstable_by_key.ensures.permutation up in
+    let noted : List Planned = c.note_coming.new.coming.items in
+    let row : List Planned = c.put_in_order.new.flights in
+    let moved : IsPermutation noted row = subst (λ xs. IsPermutation xs row) c.deref_mut.ensures.value c.put_in_order.ensures.permutation in
+    let waiting = in-order taxi c.note_coming.new.coming.len r plans noted row c.deref.result.now (omega (arith, c.count.ensures.count, c.count.ensures.bound)) c.note_coming.ensures (omega (arith, c.note_coming.new.coming.ok.0)) moved c.put_in_order.ensures.order c.deref.ensures.value in
     let none : l.lineup.waiting ≡ [] = ap (λ v. v.lineup.waiting) c.requires.empty in
     let unfixed : l.lineup.fixed ≡ [] = ap (λ v. v.lineup.fixed) c.requires.empty in
     let M : List Planned → Type 0 = λ ws. MayFill ws l.lineup in
-    subst M (sym (c.deref.ensures.value ∙ sorted)) (may-fill taxi r plans l.lineup none unfixed (search rules) c.requires.room)
+    subst M (sym waiting) (may-fill taxi r plans l.lineup none unfixed (search rules) c.requires.room)
 
 pub returns : goal.returns
 returns g c =
@@ -30,7 +47,8 @@ returns g c =
     let taxi = c.args.plans.now.taxi in
     let l : Listed = c.args.regulation.now in
     let r : Regulation = regulation_of l in
-    let few : length plans ≤ 20000 = omega (arith, c.count.ensures.count, c.count.ensures.bound) in
-    let up : IsNonDecreasingBy rank c.sort_unstable_by_key.new.self.items = IsNonDecreasingBy-from_sort_by_key rank _ c.sort_unstable_by_key.ensures.sorted (λ a r q k. search rules) in
-    let sorted = sorted-waiting taxi 20000 r plans c.note_coming.new.coming.items c.sort_unstable_by_key.new.self.items few (omega arith) c.note_coming.ensures c.sort_unstable_by_key.ensures.permutation up in
-    c.fill.ensures ∙ ap (λ ws. with_lineup (with_all_waiting ws l.lineup) l) (c.deref.ensures.value ∙ sorted)
+    let noted : List Planned = c.note_coming.new.coming.items in
+    let row : List Planned = c.put_in_order.new.flights in
+    let moved : IsPermutation noted row = subst (λ xs. IsPermutation xs row) c.deref_mut.ensures.value c.put_in_order.ensures.permutation in
+    let waiting = in-order taxi c.note_coming.new.coming.len r plans noted row c.deref.result.now (omega (arith, c.count.ensures.count, c.count.ensures.bound)) c.note_coming.ensures (omega (arith, c.note_coming.new.coming.ok.0)) moved c.put_in_order.ensures.order c.deref.ensures.value in
+    c.fill.ensures ∙ ap (λ ws. with_lineup (with_all_waiting ws l.lineup) l) waiting

@@ -1,0 +1,2 @@
+-- What is told of readings.
+pub mod Readings

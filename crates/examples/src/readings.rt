@@ -1,0 +1,26 @@
+//! Reading a filing, with fpl_message alone.
+ghost use Rattle.std.specs.Prelude.{◌≡◌, ◌<◌, ◌↔◌, length, IfOk, IsErrOf};
+ghost use Rattle.fpl_message.specs.declared.filing.Edition.TheVariants as Edition;
+ghost use Rattle.fpl_message.specs.Reads.{reading_of};
+ghost use Rattle.examples.specs.Readings.{refusal_in};
+
+use fpl_message::{Filing, FilingFault, Reading, Refusal};
+use std::alloc::Allocator;
+
+/// Why these bytes are refused for how they are written, if they are. A desk isn't needed for that.
+///
+/// # Errors
+/// TooLong where there are more than 2,000 bytes, or OutOfMemory.
+pub fn refusal_of<A: Allocator + Copy>(
+    alloc: A,
+    bytes: &[u8],
+) -> Result<Option<Refusal>, FilingFault>
+    ensures refusal { IfOk result (λ r. r ≡ refusal_in (reading_of (record { edition = Edition.Second; bytes = bytes.now }))) }
+    ensures long { IsErrOf result FilingFault.TooLong ↔ (2000 < length bytes.now) }
+{
+    let filing = Filing::new(alloc, bytes)?;
+    match filing.reading() {
+        Reading::Bad(refusal) => Ok(Some(*refusal)),
+        Reading::Msg(_) | Reading::Ord(_) => Ok(None),
+    }
+}

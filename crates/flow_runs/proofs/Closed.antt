@@ -1,0 +1,170 @@
+-- What the feeders of a closed desk have filed, feeder by feeder.
+use Rattle.std.proofs.Common.{◌≡◌, ◌≢◌, ◌⊎◌, ℕ, zero, suc, ◌+◌, ◌<◌, ◌≤◌, ◌==◌, true, List, [], ◌∷◌, ◌++◌, length, map, Option, None, Some, slice_get, refl, sym, ap, subst, ◌∙◌, inl, inr, arith, length-append}
+use Rattle.std.specs.List.{All, list_any}
+use Rattle.std.proofs.lemmas.List.{append_cancel_left, append-nil, get_or-append_right, length-map}
+use Rattle.std.proofs.lemmas.List.Folds.{list_any_at}
+use Rattle.std.proofs.lemmas.Bool.Decides.{nat_tests}
+use Rattle.std.proofs.lemmas.Option.{slice_get_within, slice_get-get_or, get_or_from_slice_get}
+use mathlib.Core.List.{IsPrefix}
+use lib.ListN.{get_or}
+use Rattle.fpl_message.specs.Filings.{FilingText}
+use Rattle.flow_plans.specs.Settings.{Settings}
+use Rattle.flow_core.specs.declared.receipt.Receipt.{Receipt}
+use Rattle.flow_core.specs.declared.desk.StepFault.TheVariants as step
+use Rattle.flow_core.specs.State.{Record}
+use Rattle.flow_core.specs.History.{History, state_of}
+use Rattle.flow_desk.specs.declared.feeders.End.{End}
+use Rattle.flow_desk.specs.declared.feeders.End.TheVariants.{Finished, Stopped}
+use Rattle.flow_desk.specs.Desks.{AreOpened, IsMissing, has_pass}
+use Rattle.flow_desk.specs.Feeds.{EndsAs, HasRun, HaveRun}
+use Rattle.flow_desk.specs.Histories.{own, after}
+use Rattle.flow_desk.specs.Locks.{Agrees}
+use Rattle.flow_desk.specs.Passes.{PassView}
+use Rattle.flow_desk.proofs.Fronts.{prefix_trans, prefix_length}
+use Rattle.flow_desk.proofs.Owning.{own-append}
+use Rattle.flow_runs.specs.declared.fault.RunFault.{RunFault}
+use Rattle.flow_runs.specs.Ends.{EndsWell}
+use Rattle.flow_runs.specs.Filing.{texts, HasFiled}
+
+-- how one feed of many has run, by which pass, and what is true of that pass and of its end
+record RunAt (s : Settings) (Q : PassView → Type 0) (E : End → Type 0) (ps : List PassView) (qs : List PassView) (k : ℕ) (feed : List FilingText) : Type 0 where
+  p : PassView
+  q : PassView
+  receipts : List Receipt
+  left : List FilingText
+  end : End
+  at_p : slice_get ps k ≡ Some p
+  at_q : slice_get qs k ≡ Some q
+  ran : HasRun s p feed q receipts left end
+  is_q : Q q
+  is_end : E end
+
+all-tail : {X : Type 0} (P : X → Type 0) (x : X) (xs : List X) → All P (x ∷ xs) → All P xs
+all-tail P x xs all = λ k d lt. all (suc k) d (omega (arith, lt))
+
+run-at : (s : Settings) (Q : PassView → Type 0) (E : End → Type 0) (ps : List PassView) (fs : List (List FilingText)) (qs : List PassView) (rs : List (List Receipt)) (ls : List (List FilingText)) (es : List End)
+    → HaveRun s ps fs qs rs ls es → All Q qs → All E es → (k : ℕ) (feed : List FilingText) → slice_get fs k ≡ Some feed → RunAt s Q E ps qs k feed
+run-at s Q E ps [] qs rs ls es h all ends k feed at = absurd (omega (arith, slice_get_within [] k feed at))
+run-at s Q E [] (f ∷ fs) qs rs ls es h all ends k feed at = absurd h
+run-at s Q E (p ∷ ps) (f ∷ fs) [] rs ls es h all ends k feed at = absurd h
+run-at s Q E (p ∷ ps) (f ∷ fs) (q ∷ qs) [] ls es h all ends k feed at = absurd h
+run-at s Q E (p ∷ ps) (f ∷ fs) (q ∷ qs) (r ∷ rs) [] es h all ends k feed at = absurd h
+run-at s Q E (p ∷ ps) (f ∷ fs) (q ∷ qs) (r ∷ rs) (l ∷ ls) [] h all ends k feed at = absurd h
+run-at s Q E (p ∷ ps) (f ∷ fs) (q ∷ qs) (r ∷ rs) (l ∷ ls) (e ∷ es) h all ends zero feed at =
+    let same : f ≡ feed = cc at in
+    record {
+      p = p;
+      q = q;
+      receipts = r;
+      left = l;
+      end = e;
+      at_p = refl;
+      at_q = refl;
+      ran = subst (λ (t : List FilingText). HasRun s p t q r l e) same h.0;
+      is_q = all 0 q (omega arith);
+      is_end = ends 0 e (omega arith);
+    }
+run-at s Q E (p ∷ ps) (f ∷ fs) (q ∷ qs) (r ∷ rs) (l ∷ ls) (e ∷ es) h all ends (suc k) feed at =
+    let i = run-at s Q E ps fs qs rs ls es h.1 (all-tail Q q qs all) (all-tail E e es ends) k feed at in
+    record {
+      p = i.p;
+      q = i.q;
+      receipts = i.receipts;
+      left = i.left;
+      end = i.end;
+      at_p = i.at_p;
+      at_q = i.at_q;
+      ran = i.ran;
+      is_q = i.is_q;
+      is_end = i.is_end;
+    }
+
+-- of the entries behind those read, this feeder's are its feed up to what is left
+filed-at : (s : Settings) (E : End → Type 0) (n : ℕ) (read entries : List Record) (ps qs : List PassView) (k : ℕ) (feed : List FilingText) (r : RunAt s (Agrees (read ++ entries)) E ps qs k feed)
+    → AreOpened n read ps → texts (own k entries) ++ r.left ≡ feed
+filed-at s E n read entries ps qs k feed r opened =
+    let ran = r.ran.ran in
+    let opened_p : r.p ≡ record { feeder = k; receipts = length (own k read); seen = read } = opened.1 k r.p r.at_p in
+    let feeder_p : r.p.feeder ≡ k = ap (λ (v : PassView). v.feeder) opened_p in
+    let seen_p : r.p.seen ≡ read = ap (λ (v : PassView). v.seen) opened_p in
+    let feeder_q : r.q.feeder ≡ k = ran.feeder ∙ feeder_p in
+    let journal : List Record = read ++ entries in
+    let all_own : own k journal ≡ own k read ++ ran.entries =
+    ap (λ (j : ℕ). own j journal) (sym feeder_q) ∙ (r.is_q.none_own ∙ (ran.own_are ∙ (ap (λ (j : ℕ). own j r.p.seen ++ ran.entries) feeder_p ∙ ap (λ (es : List Record). own k es ++ ran.entries) seen_p))) in
+    let mine : own k entries ≡ ran.entries = append_cancel_left (own k read) (own k entries) ran.entries (sym (own-append k read entries) ∙ all_own) in
+    ap (λ (es : List Record). texts es ++ r.left) mine ∙ ran.texts
+
+-- where the journal isn't full, a feed that ended well is filed whole
+whole-at : (s : Settings) (read entries : List Record) (ps qs : List PassView) (k : ℕ) (feed : List FilingText) (r : RunAt s (Agrees (read ++ entries)) EndsWell ps qs k feed)
+    → length (read ++ entries) < s.max_entries → texts (own k entries) ++ r.left ≡ feed → texts (own k entries) ≡ feed
+whole-at s read entries ps qs k feed r room filed = elim r.is_end [
+  | inl done ↦
+      let none : r.left ≡ [] = subst (λ (e : End). EndsAs s e r.q r.receipts r.left) done r.ran.ends in
+      sym (append-nil (texts (own k entries))) ∙ (ap (λ (ts : List FilingText). texts (own k entries) ++ ts) (sym none) ∙ filed)
+  | inr full ↦
+      let ends : EndsAs s (Stopped step.JournalFull) r.q r.receipts r.left = subst (λ (e : End). EndsAs s e r.q r.receipts r.left) full r.ran.ends in
+      absurd (omega (arith, ends.1 refl, prefix_length r.q.seen (read ++ entries) r.is_q.later, room))
+]
+
+-- what holds of all entries holds of those behind
+all-behind : {X : Type 0} (P : X → Type 0) (xs ys : List X) → All P (xs ++ ys) → All P ys
+all-behind P xs ys all = λ k d lt.
+    let there : get_or (xs ++ ys) (length xs + k) d ≡ get_or ys k d = get_or-append_right xs ys (length xs) (length xs + k) d refl (omega arith) ∙ ap (λ (i : ℕ). get_or ys i d) (omega arith) in
+    subst P there (all (length xs + k) d (omega (arith, length-append xs ys, lt)))
+
+-- the first feed's pass saw the entries read, and the journal begins with what it saw at last
+read-first : (s : Settings) (E : End → Type 0) (n : ℕ) (read journal : List Record) (ps qs : List PassView) (k : ℕ) (feed : List FilingText)
+    → RunAt s (Agrees journal) E ps qs k feed → AreOpened n read ps → IsPrefix read journal
+read-first s E n read journal ps qs k feed r opened =
+    let seen_p : r.p.seen ≡ read = ap (λ (v : PassView). v.seen) (opened.1 k r.p r.at_p) in
+    subst (λ (es : List Record). IsPrefix es journal) seen_p (prefix_trans r.p.seen r.q.seen journal r.ran.ran.later r.is_q.later)
+
+-- the feeders have filed what the closed desk has
+pub closed : (s : Settings) (n : ℕ) (read : List Record) (ps : List PassView) (fs : List (List FilingText)) (qs : List PassView) (rs : List (List Receipt)) (ls : List (List FilingText)) (es : List End) (core : History) (stop : Option RunFault)
+    → 0 < n → length fs ≡ n → AreOpened n read ps → HaveRun s ps fs qs rs ls es → (stop ≡ None → All EndsWell es)
+    → core.setup ≡ s → state_of core ≡ after s (state_of core).journal → All (λ (e : Record). e.input.feeder < n) (state_of core).journal → All (Agrees (state_of core).journal) qs
+    → HasFiled s read n fs core stop
+closed s n read ps fs qs rs ls es core stop some wide opened ran well setup_is one below agree =
+    let journal : List Record = (state_of core).journal in
+    let any : End → Type 0 = λ e. Unit {0} in
+    let first : List FilingText = get_or fs 0 [] in
+    let front : IsPrefix read journal = read-first s any n read journal ps qs 0 first (run-at s (Agrees journal) any ps fs qs rs ls es ran agree (λ k d lt. tt) 0 first (slice_get-get_or fs 0 [] (omega (arith, some, wide)))) opened in
+    let entries : List Record = front.0 in
+    let is : journal ≡ read ++ entries = sym front.1 in
+    let agrees : All (Agrees (read ++ entries)) qs = subst (λ (j : List Record). All (Agrees j) qs) is agree in
+    record {
+      entries = entries;
+      setup_is = setup_is;
+      journal = is;
+      one_thread = one ∙ ap (after s) is;
+      below = all-behind (λ (e : Record). e.input.feeder < n) read entries (subst (λ (j : List Record). All (λ (e : Record). e.input.feeder < n) j) is below);
+      fronts = λ k feed at. (let r = run-at s (Agrees (read ++ entries)) any ps fs qs rs ls es ran agrees (λ k d lt. tt) k feed at in (r.left, filed-at s any n read entries ps qs k feed r opened));
+      whole = λ none room k feed at. (let r = run-at s (Agrees (read ++ entries)) EndsWell ps fs qs rs ls es ran agrees (well none) k feed at in whole-at s read entries ps qs k feed r room (filed-at s EndsWell n read entries ps qs k feed r opened));
+    }
+
+-- as many passes come back as there were
+pub as-many : (s : Settings) (ps : List PassView) (fs : List (List FilingText)) (qs : List PassView) (rs : List (List Receipt)) (ls : List (List FilingText)) (es : List End) → HaveRun s ps fs qs rs ls es → length qs ≡ length ps
+as-many s [] [] [] rs ls es h = refl
+as-many s [] (f ∷ fs) qs rs ls es h = absurd h
+as-many s [] [] (q ∷ qs) rs ls es h = absurd h
+as-many s (p ∷ ps) [] qs rs ls es h = absurd h
+as-many s (p ∷ ps) (f ∷ fs) [] rs ls es h = absurd h
+as-many s (p ∷ ps) (f ∷ fs) (q ∷ qs) [] ls es h = absurd h
+as-many s (p ∷ ps) (f ∷ fs) (q ∷ qs) (r ∷ rs) [] es h = absurd h
+as-many s (p ∷ ps) (f ∷ fs) (q ∷ qs) (r ∷ rs) (l ∷ ls) [] h = absurd h
+as-many s (p ∷ ps) (f ∷ fs) (q ∷ qs) (r ∷ rs) (l ∷ ls) (e ∷ es) h = ap suc (as-many s ps fs qs rs ls es h.1)
+
+-- no feeder's pass is missing when all have run
+pub none-missing : (s : Settings) (n : ℕ) (read : List Record) (ps : List PassView) (fs : List (List FilingText)) (qs : List PassView) (rs : List (List Receipt)) (ls : List (List FilingText)) (es : List End)
+    → length fs ≡ n → AreOpened n read ps → HaveRun s ps fs qs rs ls es → IsMissing n qs → ⊥
+none-missing s n read ps fs qs rs ls es wide opened ran missing =
+    let k : ℕ = missing.0 in
+    let feed : List FilingText = get_or fs k [] in
+    let any_pass : PassView → Type 0 = λ q. Unit {0} in
+    let any_end : End → Type 0 = λ e. Unit {0} in
+    let r = run-at s any_pass any_end ps fs qs rs ls es ran (λ i d lt. tt) (λ i d lt. tt) k feed (slice_get-get_or fs k [] (omega (arith, missing.1, wide))) in
+    let feeder : r.q.feeder ≡ k = r.ran.ran.feeder ∙ ap (λ (v : PassView). v.feeder) (opened.1 k r.p r.at_p) in
+    let its : (r.q.feeder == k) ≡ true = grind (arith, nat_tests) in
+    let there : ((get_or qs k r.q).feeder == k) ≡ true = ap (λ (v : PassView). v.feeder == k) (get_or_from_slice_get qs k r.q r.q r.at_q) ∙ its in
+    let has : has_pass qs k ≡ true = list_any_at (λ (v : PassView). v.feeder == k) qs k r.q (slice_get_within qs k r.q r.at_q) there in
+    absurd (cc (missing.2, has))

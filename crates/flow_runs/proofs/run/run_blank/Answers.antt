@@ -1,0 +1,37 @@
+use Rattle.std.proofs.Common.{◌≡◌, ℕ, List, map, sym, subst, ◌∙◌, ap, refl}
+use Rattle.std.proofs.lemmas.Result.{err_from_is_err_and}
+use Rattle.flow_plans.specs.Settings.{Settings}
+use Rattle.flow_intake.proofs.Results.{err_again}
+use Rattle.flow_core.proofs.JournalTexts.{OnOk-map}
+use Rattle.flow_runs.specs.Filing.{HasFiled}
+use Rattle.flow_runs.proofs.Ran.{RanMany-all, on_ok, on_ok_two, if_err_map}
+use Rattle.flow_runs.proofs.run.run_blank.Goals as goal
+
+pub returns-in_err-feeds-clause-much : goal.returns-in_err-feeds-clause-much
+returns-in_err-feeds-clause-much g c =
+    let p = err_from_is_err_and c.from_residual.result c.from_residual.ensures.1 in
+    rw (p.1, p.2) (λ e. c.in_err-feeds.ensures.much (err_again e))
+
+pub returns-in_err-feeds-clause-others : goal.returns-in_err-feeds-clause-others
+returns-in_err-feeds-clause-others g c =
+    let p = err_from_is_err_and c.from_residual.result c.from_residual.ensures.1 in
+    rw (p.1, p.2) c.in_err-feeds.ensures.others
+
+pub returns-clause-end : goal.returns-clause-end
+returns-clause-end g c = on_ok c.answer_all.result c.in_ok-feeds.ensures.end
+
+pub returns-clause-calm : goal.returns-clause-calm
+returns-clause-calm g c = OnOk-map c.answer_all.result (λ w. (c.in_ok-feeds.ensures.calm.0, w ∙ c.in_ok-feeds.ensures.calm.1)) c.answer_all.ensures.calm
+
+pub returns-clause-others : goal.returns-clause-others
+returns-clause-others g c = if_err_map c.answer_all.result (λ e k. (k.2, k.3)) c.answer_all.ensures.kinds
+
+pub returns-clause-ran : goal.returns-clause-ran
+returns-clause-ran g c =
+    let filed = subst (λ (q : Settings). HasFiled q c.args.blank.entries c.args.feeders (map (λ v. v.items) c.in_ok-feeds.field-0.feeds.items) c.in_ok-filed.filed.core c.in_ok-filed.filed.stop) (sym c.requires.named.1)
+    (subst (λ (n : ℕ). HasFiled g.N.Name.setup c.args.blank.entries n (map (λ v. v.items) c.in_ok-feeds.field-0.feeds.items) c.in_ok-filed.filed.core c.in_ok-filed.filed.stop) (sym c.requires.feeders.0) c.in_ok-filed.ensures.filed) in
+    on_ok_two c.answer_all.result
+    (λ a none. RanMany-all c.args.blank.setup c.args.blank.entries c.args.feeders c.args.journal (g.R.Read.remaining c.args.reader.now.device) (map (λ v. v.items) c.in_ok-feeds.field-0.feeds.items) c.in_ok-feeds.field-0.count
+    (g.W.Write.contents c.args.writer.now.device) (g.W.Write.contents c.read_all.new.writer.device) (g.W.Write.contents c.answer_all.new.writer.device) c.in_ok-filed.filed.core c.in_ok-filed.filed.stop c.args.read
+    c.in_ok-feeds.ensures.has filed none c.requires.read a)
+    c.answer_all.ensures.ok c.answer_all.ensures.whole

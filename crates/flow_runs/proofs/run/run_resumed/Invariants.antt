@@ -1,0 +1,5 @@
+use Rattle.flow_runs.proofs.run.run_resumed.Given as goal
+
+-- the desk that was just made
+abbrev pub ghosts-run_blank : goal.ghosts-run_blank
+ghosts-run_blank g a = record { book = a.blank.book; setup = a.blank.setup; feeders = a.blank.feeders }

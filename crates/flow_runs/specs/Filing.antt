@@ -1,0 +1,25 @@
+-- What the feeders of a desk have filed, all in all.
+use Rattle.std.specs.Prelude.{◌≡◌, ℕ, ◌<◌, List, ◌++◌, length, map, Option, Some, None, slice_get}
+use Rattle.std.specs.List.{All}
+use mathlib.Core.List.{IsPrefix}
+use Rattle.fpl_message.specs.Filings.{FilingText}
+use Rattle.flow_plans.specs.Settings.{Settings}
+use Rattle.flow_core.specs.State.{Record}
+use Rattle.flow_core.specs.History.{History, state_of}
+use Rattle.flow_desk.specs.Histories.{own, after}
+use Rattle.flow_runs.specs.declared.fault.RunFault.{RunFault}
+
+-- the texts of entries
+abbrev pub texts : List Record → List FilingText
+texts es = map (λ (e : Record). e.input.text) es
+
+-- a desk was closed: behind the entries read stand those of the feeders alone, all in one history of the desk of one thread. Of its feed
+-- each feeder has filed a front; where none ended with a fault and the journal isn't full, all of it
+pub record HasFiled (setup : Settings) (read : List Record) (feeders : ℕ) (feeds : List (List FilingText)) (core : History) (stop : Option RunFault) : Type 0 where
+  pub entries : List Record
+  pub setup_is : core.setup ≡ setup
+  pub journal : (state_of core).journal ≡ read ++ entries
+  pub one_thread : state_of core ≡ after setup (read ++ entries)
+  pub below : All (λ (e : Record). e.input.feeder < feeders) entries
+  pub fronts : (k : ℕ) (feed : List FilingText) → slice_get feeds k ≡ Some feed → IsPrefix (texts (own k entries)) feed
+  pub whole : stop ≡ None → length (read ++ entries) < setup.max_entries → (k : ℕ) (feed : List FilingText) → slice_get feeds k ≡ Some feed → texts (own k entries) ≡ feed

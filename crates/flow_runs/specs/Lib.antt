@@ -1,0 +1,5 @@
+pub mod Dealing
+pub mod Reading
+pub mod Ends
+pub mod Filing
+pub mod ManyRuns
