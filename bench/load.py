@@ -16,6 +16,8 @@ NAME is one of
   onward   one flight whose destination is amended SIZE times, each time to another place
   again    one flight that is filed and cancelled SIZE times
   visits   SIZE flights of one identification, each of which is amended to one destination and back
+  feeders  SIZE flights at 64 regulations, each filed, delayed and departed or cancelled by one of 64 feeders, to whom the filings
+           are dealt in turn; so they are by one of 2, 4, 8, 16 or 32 feeders, too
 The same name and size always give the same bytes. Run the program with --start 2409010000 --plans 20000.
 """
 import datetime
@@ -24,7 +26,7 @@ import sys
 
 SIZES = {"day": 20_000, "chains": 20_000, "text": 200_000, "journal": 1_000_000,
          "openings": 20_000, "reopened": 2_000, "delays": 2_000,
-         "toandfro": 60_000, "onward": 60_000, "again": 20_000, "visits": 10_000}
+         "toandfro": 60_000, "onward": 60_000, "again": 20_000, "visits": 10_000, "feeders": 20_000}
 MIDNIGHT = datetime.datetime(2024, 9, 1)
 AERODROMES = "EGLL LFPG EHAM EDDF LEMD EDDM LEBL LIRF EGKK LSZH EKCH LOWW ENGM ESSA EIDW EBBR LIMC EDDL EFHK LPPT".split()
 SECTORS = "EGTT EISN LFFF LFEE LFMM LFBB EBUR EHAA EDGG EDMM EDWW EDUU EDYY EKDK ESAA LKAA LOVV LSAS LIMM LIRR".split()
@@ -176,10 +178,41 @@ def visits(size):
         yield amended("AAA1", "LIML", "EDDF", place(number))
 
 
+def feeder_day(size):
+    """The filings of 64 feeders, each with its minute. Time goes to 05:30 and no flight leaves before, so that no feeder that runs
+    ahead makes the filing of another late."""
+    rng = random.Random(7)
+    queues = [[] for _ in range(64)]
+    for number in range(size):
+        off_block = rng.randrange(335, 450) if rng.random() < 0.66 else rng.randrange(335, 1300)
+        ident, start, end, text = flight_plan(rng, number, off_block, 8)
+        filed, later = rng.randrange(0, 200), off_block + rng.randrange(1, 60)
+        events = [text, "(DLA-%s-%s%s-%s-DOF/240901)" % (ident, start, clock(later), end)]
+        if rng.random() < 0.05:
+            events.append("(CNL-%s-%s%s-%s-DOF/240901)" % (ident, start, clock(later), end))
+        else:
+            events.append("(DEP-%s-%s%s-%s-DOF/240901)" % (ident, start, clock(later + 12), end))
+        queues[number % 64] += [(filed + 40 * at, number, event) for at, event in enumerate(events)]
+    for number, queue in enumerate(queues):
+        opened = rng.randrange(0, 200)
+        place = "VIA " + rng.choice(SECTORS) if number % 2 else "ARR " + rng.choice(AERODROMES)
+        queue.append((opened, -1, "OPEN R%d %s %s %s %d" % (number, place, stamp(350), stamp(900), rng.randrange(24, 120))))
+        queue.append((opened + rng.randrange(60, 300), -1, "SHUT R%d" % number))
+    queues[0] += [(minute, -2, "TIME " + stamp(minute)) for minute in range(10, 331, 10)]
+    return queues
+
+
+def feeders(size):
+    queues = [sorted(queue) for queue in feeder_day(size)]
+    for place in range(max(map(len, queues))):
+        for queue in queues:
+            yield queue[place][2] if place < len(queue) else "SHUT NONE"
+
+
 def main():
     name = sys.argv[1]
     size = int(sys.argv[2]) if len(sys.argv) > 2 else SIZES[name]
-    loads = [day, chains, text, journal, openings, reopened, delays, toandfro, onward, again, visits]
+    loads = [day, chains, text, journal, openings, reopened, delays, toandfro, onward, again, visits, feeders]
     for filing in {load.__name__: load for load in loads}[name](size):
         sys.stdout.write(filing + "\n")
 

@@ -1,7 +1,7 @@
 //! Desks that are made and closed.
 ghost use Rattle.std.specs.Prelude.{◌≡◌};
 
-use crate::desks::{FIRST, Opened, SECOND, number_of, open_two, setup};
+use crate::desks::{FIRST, Opened, SECOND, blank_for_two, number_of, open_two, setup};
 use flow_core::Core;
 use flow_desk::{Blank, CloseFault, Desk, DeskFault, Name, Pass};
 use std::alloc::Global;
@@ -48,7 +48,7 @@ fn entries<N: Name, Q: Wait + Drop>(
 
 #[test]
 fn a_desk_is_closed_with_all_its_passes(rt: HostRuntime) -> Result<(), Fail> {
-    let blank = Blank::new(&rt, rt.alloc(), setup(&rt, 20), 2).map_err(|_| "no blank")?;
+    let blank = blank_for_two(&rt, rt.alloc(), 20)?;
     close_with_all::<Brand, _, _>(&rt, rt.alloc(), blank)
 }
 
@@ -63,7 +63,7 @@ fn close_with_all<N: Name, Q: Wait + Drop, R: Wait + Abort>(
         desk,
         mut zero,
         mut one,
-    } = open_two::<N, Q>(alloc, blank)?;
+    } = open_two::<N, Q, _>(alloc, blank)?;
     assert_eq!(rt; number_of(rt, alloc, &desk, &mut zero, FIRST), Some(1));
     assert_eq!(rt; number_of(rt, alloc, &desk, &mut one, SECOND), Some(2));
     close_in_turn(rt, alloc, desk, zero, one)

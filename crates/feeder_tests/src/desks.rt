@@ -15,6 +15,14 @@ pub(crate) const FIRST: &[u8] = b"(FPL-AAA1-IS-A320/M-SDFG/LB1-LIML0800-N0450F35
 
 pub(crate) const SECOND: &[u8] = b"(FPL-AAA2-IS-A320/M-SDFG/LB1-LIML0800-N0450F350 DCT-EDDF0150-0)";
 
+pub(crate) const THIRD: &[u8] = b"(FPL-AAA3-IS-A320/M-SDFG/LB1-LIML0800-N0450F350 DCT-EDDF0150-0)";
+
+pub(crate) const FOURTH: &[u8] = b"(FPL-AAA4-IS-A320/M-SDFG/LB1-LIML0800-N0450F350 DCT-EDDF0150-0)";
+
+pub(crate) const FIFTH: &[u8] = b"(FPL-AAA5-IS-A320/M-SDFG/LB1-LIML0800-N0450F350 DCT-EDDF0150-0)";
+
+pub(crate) const OPEN: &[u8] = b"OPEN RMZ01 ARR EDDF 2409011000 2409011200 20";
+
 /// A setup from 2024-09-01 05:00 on, with a taxi time of 10 minutes and 10 plans at most.
 pub(crate) fn setup(rt: &impl Abort, max_entries: u32) -> Setup {
     let start = read_moment(b"2409010500").expect(rt, "a moment");
@@ -26,20 +34,46 @@ pub(crate) fn moment(rt: &impl Abort, digits: &[u8]) -> Minute {
     read_moment(digits).expect(rt, "a moment")
 }
 
-/// A desk of two feeders, with a pass for each.
-pub(crate) struct Opened<N: Name, Q: Wait + Drop> {
-    pub desk: Desk<N, Q>,
-    pub zero: Pass<N>,
-    pub one: Pass<N>,
+/// A desk of two feeders that takes so many entries.
+pub(crate) fn blank_for_two<R: Wait + Abort, A: Allocator + Copy>(
+    rt: &R,
+    alloc: A,
+    max_entries: u32,
+) -> Result<Blank<&R, A>, Fail> {
+    match Blank::new(rt, alloc, setup(rt, max_entries), 2) {
+        Ok(blank) => Ok(blank),
+        Err(_) => Err("refused: no desk".into()),
+    }
 }
 
-pub(crate) fn open_two<N: Name, Q: Wait + Drop>(
-    alloc: Global,
-    blank: Blank<Q>,
-) -> Result<Opened<N, Q>, Fail>
+/// Opens a desk.
+pub(crate) fn open_desk<N: Name, Q: Wait + Drop, A: Allocator + Copy>(
+    alloc: A,
+    blank: Blank<Q, A>,
+) -> Result<(Desk<N, Q, A>, Vec<Pass<N, A>, A>), Fail>
     requires { (blank.book ≡ N.book) × (blank.setup ≡ N.setup) × (blank.feeders ≡ N.feeders) }
 {
-    let (desk, mut passes) = Desk::<N, Q>::open(alloc, blank).map_err(|_| "not opened")?;
+    match Desk::<N, Q, A>::open(alloc, blank) {
+        Ok(opened) => Ok(opened),
+        Err(_) => Err("refused: not opened".into()),
+    }
+}
+
+/// A desk of two feeders, with a pass for each.
+#[derive(Drop)]
+pub(crate) struct Opened<N: Name, Q: Wait + Drop, A: Allocator + Copy = Global> {
+    pub desk: Desk<N, Q, A>,
+    pub zero: Pass<N, A>,
+    pub one: Pass<N, A>,
+}
+
+pub(crate) fn open_two<N: Name, Q: Wait + Drop, A: Allocator + Copy>(
+    alloc: A,
+    blank: Blank<Q, A>,
+) -> Result<Opened<N, Q, A>, Fail>
+    requires { (blank.book ≡ N.book) × (blank.setup ≡ N.setup) × (blank.feeders ≡ N.feeders) }
+{
+    let (desk, mut passes) = open_desk::<N, Q, A>(alloc, blank)?;
     let one = passes.pop().ok_or("no pass")?;
     let zero = passes.pop().ok_or("no pass")?;
     Ok(Opened { desk, zero, one })

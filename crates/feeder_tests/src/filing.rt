@@ -1,7 +1,9 @@
 //! Feeders that file, each by its pass, and look.
 ghost use Rattle.std.specs.Prelude.{◌≡◌};
 
-use crate::desks::{FIRST, Opened, SECOND, number_of, open_two, sees_filed, sees_none, setup};
+use crate::desks::{
+    FIRST, Opened, SECOND, blank_for_two, number_of, open_two, sees_filed, sees_none,
+};
 use flow_core::StepFault;
 use flow_desk::{Blank, Desk, Name, Pass};
 use fpl_message::Filing;
@@ -14,7 +16,7 @@ use std::thread::{Threads, join};
 
 #[test]
 fn a_feeder_sees_what_it_filed(rt: HostRuntime) -> Result<(), Fail> {
-    let blank = Blank::new(&rt, rt.alloc(), setup(&rt, 20), 2).map_err(|_| "no blank")?;
+    let blank = blank_for_two(&rt, rt.alloc(), 20)?;
     file_and_look::<Brand, _, _>(&rt, rt.alloc(), blank)
 }
 
@@ -29,7 +31,7 @@ fn file_and_look<N: Name, Q: Wait + Drop, R: Wait + Abort>(
         desk,
         mut zero,
         one: _,
-    } = open_two::<N, Q>(alloc, blank)?;
+    } = open_two::<N, Q, _>(alloc, blank)?;
     assert!(rt; sees_none(&desk, &mut zero, 1));
     assert_eq!(rt; number_of(rt, alloc, &desk, &mut zero, FIRST), Some(1));
     assert_eq!(rt; zero.receipts(), 1);
@@ -41,7 +43,7 @@ fn file_and_look<N: Name, Q: Wait + Drop, R: Wait + Abort>(
 
 #[test]
 fn two_feeders_file_at_the_same_time(rt: HostRuntime) -> Result<(), Fail> {
-    let blank = Blank::new(&rt, rt.alloc(), setup(&rt, 20), 2).map_err(|_| "no blank")?;
+    let blank = blank_for_two(&rt, rt.alloc(), 20)?;
     both_file::<Brand, _, _>(&rt, rt.alloc(), blank)
 }
 
@@ -63,7 +65,7 @@ fn both_file<N: Name + Send + Sync, Q: Wait + Drop + Send, R: Threads + Wait + A
 ) -> Result<(), Fail>
     requires { (blank.book ≡ N.book) × (blank.setup ≡ N.setup) × (blank.feeders ≡ N.feeders) }
 {
-    let Opened { desk, zero, one } = open_two::<N, Q>(alloc, blank)?;
+    let Opened { desk, zero, one } = open_two::<N, Q, _>(alloc, blank)?;
     let shared = &desk;
     let ((mut zero, a), (mut one, b)) = join(
         rt,
@@ -79,7 +81,7 @@ fn both_file<N: Name + Send + Sync, Q: Wait + Drop + Send, R: Threads + Wait + A
 
 #[test]
 fn a_full_journal_refuses_the_other_feeder(rt: HostRuntime) -> Result<(), Fail> {
-    let blank = Blank::new(&rt, rt.alloc(), setup(&rt, 1), 2).map_err(|_| "no blank")?;
+    let blank = blank_for_two(&rt, rt.alloc(), 1)?;
     file_over::<Brand, _, _>(&rt, rt.alloc(), blank)
 }
 
@@ -111,7 +113,7 @@ fn file_over<N: Name, Q: Wait + Drop, R: Wait + Abort>(
         desk,
         mut zero,
         mut one,
-    } = open_two::<N, Q>(alloc, blank)?;
+    } = open_two::<N, Q, _>(alloc, blank)?;
     assert_eq!(rt; number_of(rt, alloc, &desk, &mut zero, FIRST), Some(1));
     assert!(rt; is_full(rt, alloc, &desk, &mut one, SECOND));
     assert_eq!(rt; one.receipts(), 0);

@@ -6,7 +6,15 @@ mod closing;
 #[cfg(test)]
 mod desks;
 #[cfg(test)]
+mod feeds;
+#[cfg(test)]
 mod filing;
+#[cfg(test)]
+mod gates;
+#[cfg(test)]
+mod memory;
+#[cfg(test)]
+mod refused;
 #[cfg(test)]
 mod resuming;
 #[cfg(test)]

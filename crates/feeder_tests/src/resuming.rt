@@ -51,7 +51,7 @@ fn go_on<N: Name, Q: Wait + Drop, R: Wait + Abort>(
         desk,
         mut zero,
         mut one,
-    } = open_two::<N, Q>(alloc, blank)?;
+    } = open_two::<N, Q, _>(alloc, blank)?;
     assert_eq!(rt; zero.receipts(), 0);
     assert_eq!(rt; one.receipts(), 1);
     assert!(rt; sees_filed(rt, &desk, &mut zero, 1));

@@ -1,7 +1,7 @@
 //! The held slots of a regulation.
 ghost use Rattle.std.specs.Prelude.{◌≡◌};
 
-use crate::desks::{FIRST, Opened, SECOND, moment, number_of, open_two, setup};
+use crate::desks::{FIRST, OPEN, Opened, SECOND, blank_for_two, moment, number_of, open_two};
 use flow_desk::{Blank, Desk, Name, Pass, SlotRow};
 use fpl_text::Text;
 use std::alloc::{AllocError, Global};
@@ -10,10 +10,8 @@ use std::process::Abort;
 use std::sync::Wait;
 use std::test::*;
 
-const OPEN: &[u8] = b"OPEN RMZ01 ARR EDDF 2409011000 2409011200 20";
-
 /// Whether these are the held slots of two flights that both arrive at 10:00, not yet due.
-fn are_two(rt: &impl Abort, slots: Result<Option<Vec<SlotRow>>, AllocError>) -> bool {
+pub(crate) fn are_two(rt: &impl Abort, slots: Result<Option<Vec<SlotRow>>, AllocError>) -> bool {
     let rows = [
         SlotRow {
             slot: 0,
@@ -35,7 +33,7 @@ fn are_two(rt: &impl Abort, slots: Result<Option<Vec<SlotRow>>, AllocError>) -> 
 }
 
 /// Whether no such regulation is open.
-fn are_none(slots: Result<Option<Vec<SlotRow>>, AllocError>) -> bool {
+pub(crate) fn are_none(slots: Result<Option<Vec<SlotRow>>, AllocError>) -> bool {
     match slots {
         Ok(held) => held.is_none(),
         Err(_) => false,
@@ -44,7 +42,7 @@ fn are_none(slots: Result<Option<Vec<SlotRow>>, AllocError>) -> bool {
 
 #[test]
 fn a_feeder_sees_the_slots_that_another_filed(rt: HostRuntime) -> Result<(), Fail> {
-    let blank = Blank::new(&rt, rt.alloc(), setup(&rt, 20), 2).map_err(|_| "no blank")?;
+    let blank = blank_for_two(&rt, rt.alloc(), 20)?;
     file_and_list::<Brand, _, _>(&rt, rt.alloc(), blank)
 }
 
@@ -59,7 +57,7 @@ fn file_and_list<N: Name, Q: Wait + Drop, R: Wait + Abort>(
         desk,
         mut zero,
         mut one,
-    } = open_two::<N, Q>(alloc, blank)?;
+    } = open_two::<N, Q, _>(alloc, blank)?;
     assert_eq!(rt; number_of(rt, alloc, &desk, &mut zero, OPEN), Some(1));
     assert_eq!(rt; number_of(rt, alloc, &desk, &mut zero, FIRST), Some(2));
     assert_eq!(rt; number_of(rt, alloc, &desk, &mut zero, SECOND), Some(3));
