@@ -1,14 +1,13 @@
 -- A word has a kind where its bytes are those of a route, and only there.
-use Rattle.std.proofs.Common.{◌≡◌, ℕ, zero, suc, ◌+◌, ◌<◌, ◌≤◌, Bool, true, false, ◌&&◌, ◌||◌, eqb, List, [], ◌∷◌, length, take, drop, get_or, codes, sym, refl, ap, ◌∙◌, arith, ⊎_elim}
-use Rattle.std.specs.Prelude.{Option, Some, None, is_some, is_ok, if◌then◌else◌, ◌⊎◌}
+use Rattle.std.proofs.Common.{◌≡◌, ℕ, zero, suc, ◌+◌, ◌<◌, Bool, true, false, ◌&&◌, ◌||◌, eqb, List, [], ◌∷◌, length, take, drop, get_or, codes, sym, refl, ap, ◌∙◌, arith, ⊎_elim}
+use Rattle.std.specs.Prelude.{Option, Some, None, is_some, is_ok, if◌then◌else◌}
 use Rattle.std.specs.List.{list_all, prefix_len}
 use Rattle.std.specs.Option.{option_map, option_and_then, ok_or}
 use Rattle.std.proofs.lemmas.Bool.{cases_Bool, false≢true, false_from_ne_true, and_parts, and_from, eqb-true, leb-true, ltb-true, or_left, or_right, or_cases}
-use Rattle.std.proofs.lemmas.List.{length-take, length-drop, get_or-take, get_or-drop, drop-drop, take_all, drop_all, drop_more}
+use Rattle.std.proofs.lemmas.List.{drop-drop, take_all, drop_all, drop_more}
 use Rattle.std.proofs.lemmas.List.Sums.{passes_at_first}
 use lib.Pointwise.{bytes_decides}
 use Rattle.fpl_text.specs.Bytes.{is_letter, is_digit, is_letter_or_digit}
-use Rattle.fpl_items.specs.declared.route.Kind.{Kind}
 use Rattle.fpl_items.specs.declared.route.Kind.TheVariants.{Dct, Vfr, Ifr, Point, Change, Climb, Designator, Other}
 use Rattle.fpl_items.specs.declared.route.Element.{Element}
 use Rattle.fpl_items.specs.Speeds.{is_letter_and_digits, is_speed, is_height, is_level, is_speed_and_level, speed_len}
@@ -215,16 +214,17 @@ word-kind word = ⊎_elim (λ h. found h ∙ sym h) (λ h. lost h ∙ sym h) (ca
     lost : list_all is_route_byte word ≡ false → is_some (kind_of word) ≡ false
     lost h =
         rw (
-        not-so h (is_text (codes "DCT") word) (text-routed (codes "DCT") word refl),
-        not-so h (is_text (codes "VFR") word) (text-routed (codes "VFR") word refl),
-        not-so h (is_text (codes "IFR") word) (text-routed (codes "IFR") word refl),
-        not-so h (is_text (codes "OAT") word) (text-routed (codes "OAT") word refl),
-        not-so h (is_text (codes "GAT") word) (text-routed (codes "GAT") word refl),
-        not-so h (is_point word) (point-routed word),
-        not-so h (is_change word) (change-routed word),
-        not-so h (is_climb word) (climb-routed word),
-        not-so h (is_designator word) (designator-routed word),
-        h) refl
+          not-so h (is_text (codes "DCT") word) (text-routed (codes "DCT") word refl),
+          not-so h (is_text (codes "VFR") word) (text-routed (codes "VFR") word refl),
+          not-so h (is_text (codes "IFR") word) (text-routed (codes "IFR") word refl),
+          not-so h (is_text (codes "OAT") word) (text-routed (codes "OAT") word refl),
+          not-so h (is_text (codes "GAT") word) (text-routed (codes "GAT") word refl),
+          not-so h (is_point word) (point-routed word),
+          not-so h (is_change word) (change-routed word),
+          not-so h (is_climb word) (climb-routed word),
+          not-so h (is_designator word) (designator-routed word),
+          h,
+        ) refl
 
 -- elements are there where each word has the bytes of a route
 pub words-kinds : (from : ℕ) (words : List (List ℕ)) → is_some (elements_of from words) ≡ list_all (list_all is_route_byte) words

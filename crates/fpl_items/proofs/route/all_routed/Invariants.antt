@@ -1,7 +1,6 @@
 use Rattle.std.proofs.Common.{◌≡◌, length}
 use Rattle.std.specs.List.{list_all}
 use Rattle.fpl_items.specs.Kinds.{is_route_byte}
-use Rattle.fpl_items.proofs.RouteBytesLemmas.{word-kind}
 use Rattle.fpl_items.proofs.route.all_routed.Given as goal
 
 abbrev pub invariant-words : goal.invariant-words
