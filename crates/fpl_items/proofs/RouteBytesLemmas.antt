@@ -8,6 +8,7 @@ use Rattle.std.proofs.lemmas.List.{drop-drop, take_all, drop_all, drop_more}
 use Rattle.std.proofs.lemmas.List.Sums.{passes_at_first}
 use lib.Pointwise.{bytes_decides}
 use Rattle.fpl_text.specs.Bytes.{is_letter, is_digit, is_letter_or_digit}
+use Rattle.fpl_items.specs.declared.route.Kind.{Kind}
 use Rattle.fpl_items.specs.declared.route.Kind.TheVariants.{Dct, Vfr, Ifr, Point, Change, Climb, Designator, Other}
 use Rattle.fpl_items.specs.declared.route.Element.{Element}
 use Rattle.fpl_items.specs.Speeds.{is_letter_and_digits, is_speed, is_height, is_level, is_speed_and_level, speed_len}

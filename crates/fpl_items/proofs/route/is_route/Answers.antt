@@ -1,4 +1,4 @@
-use Rattle.std.proofs.Common.{◌≡◌, sym, refl, ◌∙◌}
+use Rattle.std.proofs.Common.{sym, refl, ◌∙◌}
 use Rattle.fpl_items.proofs.RouteBytesLemmas.{none-routed, field-routed}
 use Rattle.fpl_items.proofs.route.is_route.Goals as goal
 

@@ -1,4 +1,4 @@
-use Rattle.std.proofs.Common.{◌≡◌, length, sym, ◌∙◌}
+use Rattle.std.proofs.Common.{length, sym, ◌∙◌}
 use Rattle.std.proofs.lemmas.Bool.{eq-eqb}
 use Rattle.fpl_items.proofs.RouteBytesLemmas.{plain-routed}
 use Rattle.fpl_items.proofs.route.is_routed.Goals as goal
