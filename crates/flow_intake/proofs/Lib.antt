@@ -1,6 +1,7 @@
 pub mod Cuttings
 pub mod Texts
 pub mod Sources
+pub mod InTurn
 pub mod NextFrames
 pub mod Results
 pub mod Firsts

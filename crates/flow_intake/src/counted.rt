@@ -66,6 +66,7 @@ impl<W: Write> Write for Counted<W> {
         ensures bound { WritesAtMost result buf.now }
         ensures bytes { WriteAppends (W.contents self.old.device) (W.contents self.new.device) result buf.now }
         ensures calm { IfOk result (λ n. 0 < n → self.new.failures ≡ self.old.failures) }
+        ensures empty { length buf.now ≡ 0 → OnOk result (self.new.failures ≡ self.old.failures) }
         ensures counts { MatchResult result (λ n. n ≡ 0 → 0 < length buf.now → self.new.failures ≡ min (self.old.failures + 1) (2 ^ 64 - 1)) (λ _. self.new.failures ≡ min (self.old.failures + 1) (2 ^ 64 - 1)) }
     {
         let written = self.device.write(buf);

@@ -1,6 +1,7 @@
 //! The frames of an input.
 ghost use Rattle.std.specs.Prelude.{◌≡◌, ◌≢◌, ◌≤◌, ◌<◌, ◌+◌, ◌^◌, [], Some, false, min, length, IfErr, IfOk, IfNone, IfSome, IsOkAnd, OnErr, OnOk, OnSome, IsErrOf, Err, IsTrue, IsNone, ◌-◌};
 ghost use Rattle.flow_intake.specs.Frames.{kept_of};
+ghost use Rattle.flow_intake.specs.InTurn.{EndsWithin, GivesNext};
 ghost use Rattle.flow_intake.specs.NextFrame.{Cuts, Gives, Starves, filing_in, filing_kept};
 ghost use Rattle.flow_intake.specs.Source.{CutsFirst, KeepsTotal};
 ghost use Rattle.flow_intake.specs.Reader.{Agrees, Came, CameTooMuch, Finished, Unfinished};
@@ -128,6 +129,7 @@ fn next_frame<R: Read, A: Allocator + Copy>(
     ensures much { IsErrOf result IntakeFault.TooMuch → CameTooMuch pieces.old (R.remaining reader.old.device) (R.remaining reader.new.device) }
     ensures calm { OnOk result (reader.new.failures ≡ reader.old.failures) }
     ensures failed { IsErrOf result IntakeFault.Read → reader.new.failures ≡ min (reader.old.failures + 1) (2 ^ 64 - 1) }
+    ensures memory { IsErrOf result IntakeFault.OutOfMemory → reader.new.failures ≡ reader.old.failures }
 {
     if !cut_frame(reader, pieces, kept)? {
         return Ok(None);
@@ -187,6 +189,7 @@ impl<R: Read, A: Allocator + Copy> Intake<R, A> {
     /// answers `Read` and reads nothing.
     pub fn next(&mut self) -> Result<Option<Frame<A>>, IntakeFault>
         ensures cuts { IfOk result (λ frame. CutsFirst frame self.old.left self.new.left) }
+        ensures frames { IfOk result (λ frame. GivesNext frame self.old.left self.new.left) }
         ensures taken { OnOk result (KeepsTotal self.old self.new) }
         ensures none { IfOk result (λ frame. IfNone frame (IsTrue self.new.ended)) }
         ensures ended { IsTrue self.old.ended → self.old.failed ≡ false → IsOkAnd result (λ frame. IsNone frame) × (self.new ≡ self.old) }
@@ -200,6 +203,11 @@ impl<R: Read, A: Allocator + Copy> Intake<R, A> {
         ensures read { self.old.failed ≡ false → IsErrOf result IntakeFault.Read → self.new.failures ≡ min (self.old.failures + 1) (2 ^ 64 - 1) }
         ensures much { IsErrOf result IntakeFault.TooMuch → IfSome self.old.left (λ bytes. 4000000000 < self.old.taken + length bytes) }
         ensures calm { OnOk result (self.new.failures ≡ self.old.failures) }
+        ensures memory { IsErrOf result IntakeFault.OutOfMemory → self.new.failures ≡ self.old.failures }
+
+        // An input of more than 4,000,000,000 bytes has no end that is answered.
+        ensures most { OnOk result (self.new.taken ≤ 4000000000) }
+        ensures end { IfOk result (λ frame. EndsWithin frame self.old.taken self.old.left) }
     {
         if self.failed {
             return Err(IntakeFault::Read);
@@ -211,6 +219,7 @@ impl<R: Read, A: Allocator + Copy> Intake<R, A> {
             &mut self.kept,
         );
         self.failed = result.is_err();
+        self.pieces.are_within();
         result
     }
 }

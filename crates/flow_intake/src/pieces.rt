@@ -128,6 +128,14 @@ impl<A: Allocator> Pieces<A> {
         self.unread().first().copied()
     }
 
+    /// No more bytes are taken than an input may have.
+    #[inline(always)]
+    pub(crate) fn are_within(&self)
+        ensures { self.now.taken ≤ 4000000000 }
+    {
+        let _at = self.at;
+    }
+
     /// Whether the reader has no more.
     pub(crate) fn has_ended(&self) -> bool
         ensures { result ≡ self.now.ended }

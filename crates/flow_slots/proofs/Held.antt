@@ -14,27 +14,27 @@ use Rattle.flow_slots.proofs.Fresh.{greedy-row}
 use Rattle.flow_slots.proofs.Periods.{first_slot-monotone}
 use Rattle.flow_slots.proofs.Tied.{place_at-within, flight_at-within, IsTied-some}
 
-abbrev first_of : {A : Type 0} → Option A → Option A → Option A
+abbrev pub first_of : {A : Type 0} → Option A → Option A → Option A
 first_of None o = o
 first_of (Some x) o = Some x
 
-slot_in-append : (f : ℕ) (xs ys : List Placed) → slot_in f (xs ++ ys) ≡ first_of (slot_in f xs) (slot_in f ys)
+pub slot_in-append : (f : ℕ) (xs ys : List Placed) → slot_in f (xs ++ ys) ≡ first_of (slot_in f xs) (slot_in f ys)
 slot_in-append f [] ys = refl
 slot_in-append f (x ∷ xs) ys =
     elim (eqb x.flight f) as (λ b. cond b (Some x.slot) (slot_in f (xs ++ ys)) ≡ first_of (cond b (Some x.slot) (slot_in f xs)) (slot_in f ys)) [ true ↦ refl | false ↦ slot_in-append f xs ys ]
 
-flight_in-append : (k : ℕ) (xs ys : List Placed) → flight_in k (xs ++ ys) ≡ first_of (flight_in k xs) (flight_in k ys)
+pub flight_in-append : (k : ℕ) (xs ys : List Placed) → flight_in k (xs ++ ys) ≡ first_of (flight_in k xs) (flight_in k ys)
 flight_in-append k [] ys = refl
 flight_in-append k (x ∷ xs) ys =
     elim (eqb x.slot k) as (λ b. cond b (Some x.flight) (flight_in k (xs ++ ys)) ≡ first_of (cond b (Some x.flight) (flight_in k xs)) (flight_in k ys)) [ true ↦ refl | false ↦ flight_in-append k xs ys ]
 
-slot_in-other : (f : ℕ) (x : Placed) (xs : List Placed) → (x.flight ≡ f → ⊥) → slot_in f (x ∷ xs) ≡ slot_in f xs
+pub slot_in-other : (f : ℕ) (x : Placed) (xs : List Placed) → (x.flight ≡ f → ⊥) → slot_in f (x ∷ xs) ≡ slot_in f xs
 slot_in-other f x xs ne = ap (λ b. cond b (Some x.slot) (slot_in f xs)) (ne_eqb x.flight f ne)
 
-slot_in-here : (f : ℕ) (x : Placed) (xs : List Placed) → x.flight ≡ f → slot_in f (x ∷ xs) ≡ Some x.slot
+pub slot_in-here : (f : ℕ) (x : Placed) (xs : List Placed) → x.flight ≡ f → slot_in f (x ∷ xs) ≡ Some x.slot
 slot_in-here f x xs e = ap (λ b. cond b (Some x.slot) (slot_in f xs)) (eq-eqb x.flight f e)
 
-flight_in-other : (k : ℕ) (x : Placed) (xs : List Placed) → (x.slot ≡ k → ⊥) → flight_in k (x ∷ xs) ≡ flight_in k xs
+pub flight_in-other : (k : ℕ) (x : Placed) (xs : List Placed) → (x.slot ≡ k → ⊥) → flight_in k (x ∷ xs) ≡ flight_in k xs
 flight_in-other k x xs ne = ap (λ b. cond b (Some x.flight) (flight_in k xs)) (ne_eqb x.slot k ne)
 
 pub flight_in-here : (k : ℕ) (x : Placed) (xs : List Placed) → x.slot ≡ k → flight_in k (x ∷ xs) ≡ Some x.flight

@@ -19,7 +19,11 @@ pub mod Orderly
 pub mod Periods
 pub mod Room
 pub mod Same
+pub mod Served
+pub mod Sound
+pub mod StaysSound
 pub mod Steps
 pub mod TakenBack
 pub mod Tied
 pub mod Undone
+pub mod UndoneAll

@@ -11,7 +11,7 @@ use Rattle.flow_slots.specs.Delay.{total_delay, IsChoice, waiting_slots, HasLeas
 use Rattle.flow_slots.proofs.Fresh.{is_in-above}
 use Rattle.flow_slots.proofs.Periods.{first_slot-first, slot_time-later}
 
-first_slot-least : (p : Period) (e k : ℕ) → IsRegular p → p.start ≤ e → e ≤ slot_time p k → first_slot p e ≤ k
+pub first_slot-least : (p : Period) (e k : ℕ) → IsRegular p → p.start ≤ e → e ≤ slot_time p k → first_slot p e ≤ k
 first_slot-least p e k r h l = cases (cases_lt k (first_slot p e)) where
   cases : (k < first_slot p e) ⊎ (first_slot p e ≤ k) → first_slot p e ≤ k
   cases (inr q) = q
@@ -22,21 +22,21 @@ is_in-cases : (k : ℕ) (xs : List ℕ) (b : Bool) → is_in k xs ≡ b → (abo
 is_in-cases k xs true e h = absurd (omega (arith, is_in-above k xs e))
 is_in-cases k xs false e h = refl
 
-first_free_within-free : (n k : ℕ) (taken : List ℕ) → above taken ≤ k + n → is_in (first_free_within n taken k) taken ≡ false
+pub first_free_within-free : (n k : ℕ) (taken : List ℕ) → above taken ≤ k + n → is_in (first_free_within n taken k) taken ≡ false
 first_free_within-free zero k taken h = (let e : is_in k taken ≡ false = is_in-cases k taken (is_in k taken) refl (omega arith) in e)
 first_free_within-free (suc n) k taken h = cases (first_free_within-free n (k + 1) taken (omega arith)) (is_in k taken) refl where
   cases : is_in (first_free_within n taken (k + 1)) taken ≡ false → (b : Bool) → is_in k taken ≡ b → is_in (cond b (first_free_within n taken (k + 1)) k) taken ≡ false
   cases again true e = again
   cases again false e = e
 
-first_free_within-from : (n k : ℕ) (taken : List ℕ) → k ≤ first_free_within n taken k
+pub first_free_within-from : (n k : ℕ) (taken : List ℕ) → k ≤ first_free_within n taken k
 first_free_within-from zero k taken = omega arith
 first_free_within-from (suc n) k taken = cases (first_free_within-from n (k + 1) taken) (is_in k taken) where
   cases : k + 1 ≤ first_free_within n taken (k + 1) → (b : Bool) → k ≤ cond b (first_free_within n taken (k + 1)) k
   cases again true = omega arith
   cases again false = omega arith
 
-first_free_within-least : (n k j : ℕ) (taken : List ℕ) → k ≤ j → is_in j taken ≡ false → first_free_within n taken k ≤ j
+pub first_free_within-least : (n k j : ℕ) (taken : List ℕ) → k ≤ j → is_in j taken ≡ false → first_free_within n taken k ≤ j
 first_free_within-least zero k j taken h f = h
 first_free_within-least (suc n) k j taken h f = cases (λ q. first_free_within-least n (k + 1) j taken q f) (is_in k taken) refl where
   cases : (k + 1 ≤ j → first_free_within n taken (k + 1) ≤ j) → (b : Bool) → is_in k taken ≡ b → cond b (first_free_within n taken (k + 1)) k ≤ j

@@ -56,7 +56,7 @@ without-gone f (w ∷ ws) = cases (without-gone f ws) (eqb w.flight f) refl wher
   cases again true q = subst (NoneIs f) (sym (without-here f w ws (eqb-true w.flight f q))) again
   cases again false q = subst (NoneIs f) (sym (without-other f w ws (eqb-false w.flight f q))) (eqb-false w.flight f q, again)
 
-without_fixed-gone : (f : ℕ) (xs : List Placed) → NoneFixed f (without_fixed f xs)
+pub without_fixed-gone : (f : ℕ) (xs : List Placed) → NoneFixed f (without_fixed f xs)
 without_fixed-gone f [] = tt
 without_fixed-gone f (x ∷ xs) =
     elim (eqb x.flight f) as (λ b. eqb x.flight f ≡ b → NoneFixed f (cond (not b) (x ∷ without_fixed f xs) (without_fixed f xs))) [ true ↦ λ q. without_fixed-gone f xs | false ↦ λ q. (eqb-false x.flight f q, without_fixed-gone f xs) ] refl

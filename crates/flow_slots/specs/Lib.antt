@@ -5,9 +5,11 @@ pub mod FirstServed
 pub mod ChangeList
 pub mod Changed
 pub mod Lineup
+pub mod LineupLaws
 pub mod MadeRow
 pub mod Order
 pub mod PackedCell
 pub mod Period
 pub mod Row
+pub mod Undoings
 pub mod Walk

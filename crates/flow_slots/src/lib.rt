@@ -24,7 +24,7 @@
 //!
 //! `slot_list` has the calls, `row` and `chains` the walks, `shape` periods and rates, `first_slots` a table of first
 //! slots by minutes; `cells`, `made_cells`, `packed_cell` and `held_slot` are how cells and places lie in memory.
-//! `laws` says how each change is undone.
+//! `laws` says what the fresh assignment is, and how each change and each list of changes is undone.
 #![tactic(auto)]
 
 mod cell;

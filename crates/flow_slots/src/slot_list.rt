@@ -5,6 +5,7 @@ ghost use Rattle.flow_slots.specs.Delay.{HasLeastDelay, Rise, waiting_slots};
 ghost use Rattle.flow_slots.specs.FirstServed.{IsFirstServed};
 ghost use Rattle.flow_slots.specs.Row.{flight_at};
 ghost use Rattle.flow_slots.specs.Lineup.{len_of, held_slot, held_flight, fixed_slot, with_waiting, with_fixed, without_flight, fixed_at, IsLineup, waiting_entry, with_all_waiting, MayFill};
+ghost use Rattle.flow_slots.specs.LineupLaws.{IsSound};
 
 use crate::cell::{Cell, Planned};
 use crate::cells::Cells;
@@ -108,6 +109,13 @@ impl<A: Allocator + Copy> SlotList<A> {
         ensures least_delay { HasLeastDelay self.now.lineup }
     {
         &self.row.cells
+    }
+
+    /// What `laws` ask of a lineup holds of that of each list, whichever changes were made.
+    pub fn has_sound_lineup(&self)
+        ensures { IsSound self.now.lineup }
+    {
+        let _row = &self.row;
     }
 
     /// The slot of a flight, None where it isn't held.

@@ -1,5 +1,6 @@
 pub mod OtherLemmas
 pub mod RoutesLemmas
+pub mod RouteBytesLemmas
 pub mod RouteLawsProofs
 pub mod ItemsLemmas
 pub mod KindsLemmas

@@ -1,5 +1,5 @@
 -- Field 15: a speed and a level, and the elements of the route after them (ICAO Doc 4444, appendix 3, field type 15).
-use Rattle.std.specs.Prelude.{◌≡◌, ℕ, ◌+◌, if◌then◌else◌, List, [], ◌∷◌, length, take, drop, Option, Some, None, Result, Ok, Err}
+use Rattle.std.specs.Prelude.{◌≡◌, ℕ, ◌+◌, if◌then◌else◌, List, [], ◌∷◌, length, take, drop, Option, Some, None, Bool, is_ok, Result, Ok, Err}
 use Rattle.std.specs.Option.{option_map, option_and_then, ok_or}
 use Rattle.fpl_items.specs.declared.fault.ItemFault.{ItemFault}
 use Rattle.fpl_items.specs.declared.fault.ItemFault.TheVariants.{BadField, OutOfMemory}
@@ -35,6 +35,10 @@ path_of_words (word ∷ words) =
 -- field 15, or its fault
 unfoldable pub path_or_fault : List ℕ → Result Path ItemFault
 path_or_fault field = ok_or (path_of_words (words_of field)) (BadField 15)
+
+-- whether field 15 can be read
+abbrev pub is_route : List ℕ → Bool
+is_route field = is_ok (path_or_fault field)
 
 -- What a call gave, seen by `view`, is what its definition says, unless memory ran out.
 abbrev pub Gives : {X Y : Type 0} → (X → Y) → Result X ItemFault → Result Y ItemFault → Type 0

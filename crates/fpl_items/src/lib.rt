@@ -17,4 +17,4 @@ pub mod speed;
 pub use fault::ItemFault;
 pub use item::{Item, ItemWords, Items};
 pub use other::Other18;
-pub use route::{Element, Kind, Route};
+pub use route::{Element, Kind, Route, is_route};

@@ -4,7 +4,7 @@ ghost use Rattle.std.specs.Prelude.{◌≡◌, ◌≤◌, ◌<◌, ◌+◌, Some
 ghost use Rattle.std.specs.List.{list_all, prefix_len};
 ghost use Rattle.fpl_text.specs.Bytes.{is_letter, is_letter_or_digit};
 ghost use Rattle.std.specs.Option.{ok_or};
-ghost use Rattle.fpl_items.specs.Routes.{path_or_fault, elements_of, total_len, Gives};
+ghost use Rattle.fpl_items.specs.Routes.{path_or_fault, is_route, elements_of, total_len, Gives};
 ghost use Rattle.fpl_items.specs.Kinds.{is_name, is_coordinate, is_point, is_change, is_climb_range, is_climb_speed, is_climb_from, is_climb, is_designator, is_route_byte, kind_of, before_stroke, height_len};
 
 use crate::fault::ItemFault;
@@ -304,6 +304,39 @@ fn elements_of<A: Allocator + Copy>(
         from = to + 1;
     }
     Ok(elements)
+}
+
+/// Whether all bytes of a word are those of a route.
+#[inline(always)]
+fn is_routed(measured: &Measured<'_>) -> bool
+    requires { measured.now.letters_or_digits ≡ prefix_len is_letter_or_digit measured.now.word.now }
+    ensures { result ≡ list_all is_route_byte measured.now.word.now }
+{
+    measured.letters_or_digits == measured.word.len() || all_route_bytes(measured.word)
+}
+
+/// Whether all these words have the bytes of a route: as many kinds as there are words can then be told.
+fn all_routed(mut words: Words<'_>) -> bool
+    ensures { result ≡ list_all (list_all is_route_byte) words.entry }
+{
+    'words: while let Some(measured) = words.next_measured() {
+        if !is_routed(&measured) {
+            return false;
+        }
+    }
+    true
+}
+
+/// Whether field 15 can be read: a speed and a level, and words of letters, digits and strokes, since a word of these has a
+/// kind. Its elements are told by `Route::read`, which takes memory for them.
+pub fn is_route(field: &[u8]) -> bool
+    ensures { result ≡ is_route field.now }
+{
+    let mut words = Words::new(field);
+    let Some(first) = words.next() else {
+        return false;
+    };
+    is_speed_and_level(first) && all_routed(words)
 }
 
 impl<A: Allocator + Copy> Route<A> {

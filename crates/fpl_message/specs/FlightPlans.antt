@@ -4,7 +4,7 @@ use Rattle.fpl_text.specs.declared.place.Destination.{Destination}
 use Rattle.fpl_text.specs.Headings.{heading_of}
 use Rattle.fpl_text.specs.Places.{ident_of, departure_of, destination_of}
 use Rattle.fpl_text.specs.Craft.{rules_of, craft_of, is_equipment}
-use Rattle.fpl_items.specs.Routes.{path_or_fault}
+use Rattle.fpl_items.specs.Routes.{is_route}
 use Rattle.fpl_items.specs.Items.{items_or_fault}
 use Rattle.fpl_message.specs.declared.refusal.Refusal.{Refusal}
 use Rattle.fpl_message.specs.Refusals.{◌>>=◌, by_items, in_field}
@@ -18,6 +18,10 @@ elapsed_of destination = in_field 16 destination.elapsed
 abbrev pub equipment_of : List ℕ → Option (List ℕ)
 equipment_of text = if is_equipment text then Some text else None
 
+-- field 15 is right where it can be read; what it says is told to those who ask
+abbrev pub route_of : List ℕ → Option (List ℕ)
+route_of text = if is_route text then Some text else None
+
 -- FPL: fields 3, 7, 8, 9, 10, 13, 15, 16 and 18, read from the left
 unfoldable pub fpl_of : List (List ℕ) → Result Fpl Refusal
 fpl_of fields =
@@ -27,7 +31,7 @@ fpl_of fields =
     >>= (λ rules. in_field 9 (craft_of (field fields 3))
     >>= (λ craft. in_field 10 (equipment_of (field fields 4))
     >>= (λ equipment. in_field 13 (departure_of (field fields 5))
-    >>= (λ departure. by_items (path_or_fault (field fields 6))
+    >>= (λ departure. in_field 15 (route_of (field fields 6))
     >>= (λ route. in_field 16 (destination_of (field fields 7))
     >>= (λ destination. elapsed_of destination
     >>= (λ elapsed. by_items (items_or_fault (field fields 8))
@@ -37,7 +41,6 @@ fpl_of fields =
       rules = rules;
       craft = craft;
       departure = departure;
-      route = route;
       destination = destination;
       elapsed = elapsed;
       items = items;

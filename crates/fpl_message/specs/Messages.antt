@@ -5,7 +5,6 @@ use Rattle.fpl_text.specs.declared.craft.Rules.{Rules}
 use Rattle.fpl_text.specs.declared.craft.Craft.{Craft}
 use Rattle.fpl_text.specs.declared.place.Departure.{Departure}
 use Rattle.fpl_text.specs.declared.place.Destination.{Destination}
-use Rattle.fpl_items.specs.Routes.{Path}
 use Rattle.fpl_message.specs.declared.parts.Parts.{Parts}
 use Rattle.fpl_message.specs.declared.short_message.Dla.{Dla}
 use Rattle.fpl_message.specs.declared.short_message.Cnl.{Cnl}
@@ -17,14 +16,13 @@ use Rattle.fpl_items.specs.Items.{Item}
 abbrev pub field : List (List ℕ) → ℕ → List ℕ
 field fields place = unwrap_or (slice_get fields place) []
 
--- a filed flight plan: the squeezed texts of its nine fields, and what they say
+-- a filed flight plan: the squeezed texts of its nine fields, and what they say; field 15 is read where it is asked for
 pub record Fpl : Type 0 where
   pub fields : List (List ℕ)
   pub ident : Ident
   pub rules : Rules
   pub craft : Craft
   pub departure : Departure
-  pub route : Path
   pub destination : Destination
   -- the total elapsed time, in minutes
   pub elapsed : ℕ

@@ -3,14 +3,13 @@ use Rattle.std.specs.Prelude.{ℕ, ◌+◌, ◌-◌, ◌*◌, not, ◌==◌, if�
 use Rattle.fpl_text.specs.Fields.{begins_amendment}
 use Rattle.fpl_text.specs.Places.{departure_of, destination_of}
 use Rattle.fpl_text.specs.Craft.{rules_of, craft_of}
-use Rattle.fpl_items.specs.Routes.{path_or_fault}
 use Rattle.fpl_items.specs.Items.{items_or_fault}
 use Rattle.fpl_message.specs.declared.refusal.Refusal.{Refusal}
 use Rattle.fpl_message.specs.declared.refusal.Refusal.TheVariants as refusal
 use Rattle.fpl_message.specs.declared.parts.Parts.{Parts}
 use Rattle.fpl_message.specs.Refusals.{◌>>=◌, by_items, in_field}
 use Rattle.fpl_message.specs.Messages.{field, Chg}
-use Rattle.fpl_message.specs.FlightPlans.{equipment_of}
+use Rattle.fpl_message.specs.FlightPlans.{equipment_of, route_of}
 use Rattle.fpl_message.specs.ShortMessages.{opening_of}
 
 -- the number of a field 22: the one or two digits before its stroke
@@ -47,7 +46,7 @@ amend_departure text m =
 
 abbrev pub amend_route : List ℕ → Chg → Result Chg Refusal
 amend_route text m =
-    once m.field15 (by_items (path_or_fault text) >>= (λ route. Ok (record m { field15 = Some text })))
+    once m.field15 (in_field 15 (route_of text) >>= (λ route. Ok (record m { field15 = Some text })))
 
 abbrev pub amend_destination : List ℕ → Chg → Result Chg Refusal
 amend_destination text m =

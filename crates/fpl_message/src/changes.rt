@@ -9,7 +9,7 @@ ghost use Rattle.fpl_message.specs.KeptChanges.{kept, StandAmong};
 use crate::fault::Fault;
 use crate::parts::Parts;
 use crate::refusal::Refusal;
-use fpl_items::{Other18, Route};
+use fpl_items::{Other18, is_route};
 use fpl_text::equipment::is_equipment;
 use fpl_text::fields::begins_amendment;
 use fpl_text::{Craft, Departure, Destination, Fields, Rules};
@@ -127,7 +127,7 @@ impl<A: Allocator + Copy> Changes<A> {
     }
 
     /// Field 15.
-    fn amend_route(&mut self, alloc: A, fields: &Fields<A>, place: usize) -> Result<(), Fault>
+    fn amend_route(&mut self, fields: &Fields<A>, place: usize) -> Result<(), Fault>
         requires { place < length fields.now }
         ensures change { Gives (λ _. kept fields.now self.new) result
             (amend_route (amended_text (field fields.now place)) (kept fields.now self.old)) }
@@ -136,7 +136,9 @@ impl<A: Allocator + Copy> Changes<A> {
         if self.field15.is_some() {
             return Err(Fault::Refused(Refusal::DuplicateItem));
         }
-        let _route = Route::read(alloc, amended_at(fields, place))?;
+        if !is_route(amended_at(fields, place)) {
+            return Err(Fault::Refused(Refusal::BadField(15)));
+        }
         self.field15 = Some(place);
         Ok(())
     }
@@ -189,7 +191,7 @@ impl<A: Allocator + Copy> Changes<A> {
             9 => self.amend_craft(fields, place),
             10 => self.amend_equipment(fields, place),
             13 => self.amend_departure(fields, place),
-            15 => self.amend_route(alloc, fields, place),
+            15 => self.amend_route(fields, place),
             16 => self.amend_destination(fields, place),
             18 => self.amend_other(alloc, fields, place),
             number => Err(Fault::Refused(Refusal::UnsupportedAmendment(number))),

@@ -1,14 +1,14 @@
 //! The filed flight plan message, FPL.
-ghost use Rattle.std.specs.Prelude.{◌≡◌, ◌<◌, [], length, slice_get, Some};
+ghost use Rattle.std.specs.Prelude.{◌≡◌, ◌<◌, [], length, slice_get, Some, Ok, IfOk, IfErr};
 ghost use Rattle.fpl_message.specs.Refusals.{Gives, by_items};
-ghost use Rattle.fpl_items.specs.Routes.{path_or_fault};
+ghost use Rattle.fpl_items.specs.Routes.{is_route, path_or_fault};
 ghost use Rattle.fpl_items.specs.Items.{items_or_fault};
 ghost use Rattle.fpl_message.specs.FlightPlans.{fpl_of};
 ghost use Rattle.fpl_message.specs.Messages.{field};
 
 use crate::fault::{Fault, boxed};
 use crate::refusal::Refusal;
-use fpl_items::{Other18, Route};
+use fpl_items::{ItemFault, Other18, Route, is_route};
 use fpl_text::equipment::is_equipment;
 use fpl_text::{Craft, Departure, Destination, Fields, Heading, Ident, Rules};
 use std::alloc::{Allocator, Global};
@@ -22,15 +22,15 @@ pub struct Fpl<A: Allocator + Copy = Global> {
     rules: Rules,
     craft: Craft,
     departure: Departure,
-    route: Route<A>,
     destination: Destination,
     elapsed: u32,
     other: Other18<A>,
 }
 
 impl<A: Allocator + Copy> Model for Fpl<A> {
-    ghost use Rattle.std.specs.Prelude.{◌≡◌, length};
-    ghost use Rattle.fpl_message.specs.Messages.{Fpl as Plan};
+    ghost use Rattle.std.specs.Prelude.{◌≡◌, true, length};
+    ghost use Rattle.fpl_items.specs.Routes.{is_route};
+    ghost use Rattle.fpl_message.specs.Messages.{Fpl as Plan, field};
 
     ghost Value = { Plan };
 
@@ -40,13 +40,12 @@ impl<A: Allocator + Copy> Model for Fpl<A> {
       rules = m.rules;
       craft = m.craft;
       departure = m.departure;
-      route = m.route;
       destination = m.destination;
       elapsed = m.elapsed;
       items = m.other;
     } };
 
-    ghost invariant = { λ m. length m.fields ≡ 9 };
+    ghost invariant = { λ m. (length m.fields ≡ 9) × (is_route (field m.fields 6) ≡ true) };
 }
 
 impl<A: Allocator + Copy> Fpl<A> {
@@ -64,7 +63,9 @@ impl<A: Allocator + Copy> Fpl<A> {
             return Err(Fault::Refused(Refusal::BadField(10)));
         }
         let departure = Departure::read(fields.field(5))?;
-        let route = Route::read(alloc, fields.field(6))?;
+        if !is_route(fields.field(6)) {
+            return Err(Fault::Refused(Refusal::BadField(15)));
+        }
         let destination = Destination::read(fields.field(7))?;
         let Some(elapsed) = destination.elapsed else {
             return Err(Fault::Refused(Refusal::BadField(16)));
@@ -76,7 +77,6 @@ impl<A: Allocator + Copy> Fpl<A> {
             rules,
             craft,
             departure,
-            route,
             destination,
             elapsed,
             other,
@@ -112,11 +112,12 @@ impl<A: Allocator + Copy> Fpl<A> {
         &self.departure
     }
 
-    /// Field 15: the route.
-    pub fn route(&self) -> &Route<A>
-        ensures { result.now ≡ self.now.route }
+    /// Field 15: the route, read anew at each call, since a desk never asks for it. It is right: no fault comes but want of memory.
+    pub fn route<B: Allocator + Copy>(&self, alloc: B) -> Result<Route<B>, ItemFault>
+        ensures ok { IfOk result (λ route. path_or_fault (field self.now.fields 6) ≡ Ok route) }
+        ensures err { IfErr result (λ fault. fault ≡ ItemFault.OutOfMemory) }
     {
-        &self.route
+        Route::read(alloc, self.fields.field(6))
     }
 
     /// Field 16: the destination and its alternates.

@@ -3,6 +3,7 @@ pub mod DaysLemmas
 pub mod FieldLawsProofs
 pub mod PlacesLemmas
 pub mod SqueezingLemmas
+pub mod SqueezingLawsProofs
 pub mod WordsLemmas
 pub mod MomentsLemmas
 pub mod ReadBackLemmas

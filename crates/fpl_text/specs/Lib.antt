@@ -1,5 +1,6 @@
 pub mod Bytes
 pub mod Squeezing
+pub mod SqueezingLaws
 pub mod Fields
 pub mod Borders
 pub mod Headings

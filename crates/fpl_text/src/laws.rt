@@ -1,6 +1,10 @@
 //! Laws over the definitions that the contracts cite.
 
-ghost use Rattle.std.specs.Prelude.{◌≡◌, ◌<◌, ◌≤◌, ◌/◌, ◌%◌, ◌++◌, ℕ, true, List, Some};
+ghost use Rattle.std.specs.Prelude.{◌≡◌, ◌<◌, ◌≤◌, ◌/◌, ◌%◌, ◌++◌, ◌↔◌, ℕ, true, false, List, [], ◌∷◌, length, Some};
+ghost use Rattle.std.specs.List.{list_all};
+ghost use Rattle.fpl_text.specs.Bytes.{is_blank};
+ghost use Rattle.fpl_text.specs.Squeezing.{squeezed};
+ghost use Rattle.fpl_text.specs.SqueezingLaws.{unblanked, is_inner, IsSqueezed, KeepsPair};
 ghost use Rattle.fpl_text.specs.Fields.{is_bracketed, fields_of};
 ghost use Rattle.fpl_text.specs.FieldLaws.{AreFields};
 ghost use Rattle.fpl_text.specs.Moments.{IsYymmdd, moment_of, day_digits, hhmm_of};
@@ -21,4 +25,23 @@ pub fn one_day_text()
 pub fn moment_reads_back()
     ensures { (minute : ℕ) → 15_778_080 ≤ minute → minute < 67_848_480
         → moment_of (day_digits (minute / 1440) ++ hhmm_of (minute % 1440)) ≡ Some minute }
+{}
+
+/// Squeezing keeps all bytes but blanks, in their order. Where blanks stood between two bytes of words one space is left,
+/// and where two bytes stood together they stay so.
+pub fn squeezing_keeps_the_words()
+    ensures bytes { (text : List ℕ) → unblanked (squeezed text) ≡ unblanked text }
+    ensures apart { (front gap rest : List ℕ) (x y : ℕ) → list_all is_blank gap ≡ true → 0 < length gap
+        → is_inner x ≡ true → is_inner y ≡ true
+        → KeepsPair (squeezed (front ++ (x ∷ (gap ++ (y ∷ rest))))) front rest (32 ∷ []) x y }
+    ensures joined { (front rest : List ℕ) (x y : ℕ) → is_blank x ≡ false → is_blank y ≡ false
+        → KeepsPair (squeezed (front ++ (x ∷ (y ∷ rest)))) front rest [] x y }
+{}
+
+/// A squeezed text has no blanks but spaces, no two of them one after the other, and none at the ends or beside a hyphen
+/// or a bracket; squeezing leaves just these texts as they are, so a text that is squeezed twice is that squeezed once.
+pub fn squeezing_ends()
+    ensures squeezed { (text : List ℕ) → IsSqueezed (squeezed text) }
+    ensures stays { (text : List ℕ) → IsSqueezed text ↔ (squeezed text ≡ text) }
+    ensures again { (text : List ℕ) → squeezed (squeezed text) ≡ squeezed text }
 {}

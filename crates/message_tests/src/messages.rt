@@ -234,9 +234,10 @@ fn a_flight_plan(rt: HostRuntime) -> Result<(), Fail> {
     assert_eq!(rt; plan.craft().kind.as_bytes(), b"B773".as_slice());
     assert_eq!(rt; plan.field(4), b"CHOV/S".as_slice());
     assert_eq!(rt; plan.departure().time.minutes(), 840);
-    assert_eq!(rt; plan.route().elements().len(), 8);
+    let route = plan.route(rt.alloc())?;
+    assert_eq!(rt; route.elements().len(), 8);
     assert!(rt;
-        plan.route()
+        route
             .elements()
             .last()
             .is_some_and(|element| element.kind == Kind::Dct)

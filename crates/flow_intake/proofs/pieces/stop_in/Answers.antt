@@ -1,6 +1,3 @@
-use Rattle.std.proofs.Common.{ap, ◌∙◌}
-use Rattle.std.specs.List.{position}
-use Rattle.flow_intake.specs.Until.{stops_at}
 use Rattle.flow_intake.proofs.FirstBytes.{first_byte-position}
 use Rattle.flow_intake.proofs.pieces.stop_in.Goals as goal
 

@@ -1,5 +1,7 @@
 use Rattle.std.proofs.Common.{ap}
+use Rattle.std.specs.Io.KnownBytes.{prepend_known}
 use Rattle.flow_intake.specs.Source.{Source}
+use Rattle.flow_intake.proofs.InTurn.{EndsWithin-ok, GivesNext-ok, SameTotal-ok}
 use Rattle.flow_intake.proofs.Sources.{CutsFirst-ok}
 use Rattle.flow_intake.proofs.intake.Intake.next.Goals as goal
 
@@ -7,3 +9,17 @@ pub returns-clause-cuts : goal.returns-clause-cuts
 returns-clause-cuts g c =
     CutsFirst-ok g.row.A.Denot c.next_frame-result.result c.self.inside.pieces c.next_frame-result.new.pieces (g.R.Read.remaining c.self.inside.reader.device) (g.R.Read.remaining c.next_frame-result.new.reader.device) c.args.self.now.left
     c.next_frame-result.ensures.gives c.next_frame-result.ensures.agrees (ap (λ (s : Source). s.left) c.self.view_is)
+
+pub returns-clause-frames : goal.returns-clause-frames
+returns-clause-frames g c =
+    GivesNext-ok g.row.A.Denot c.next_frame-result.result c.args.self.now.left (prepend_known c.next_frame-result.new.pieces.unread (g.R.Read.remaining c.next_frame-result.new.reader.device)) (returns-clause-cuts g c)
+
+pub returns-clause-taken : goal.returns-clause-taken
+returns-clause-taken g c =
+    SameTotal-ok g.row.A.Denot c.next_frame-result.result c.self.inside.pieces c.next_frame-result.new.pieces (g.R.Read.remaining c.self.inside.reader.device) (g.R.Read.remaining c.next_frame-result.new.reader.device) c.args.self.now.left c.args.self.now.taken
+    c.next_frame-result.ensures.gives (ap (λ (s : Source). s.left) c.self.view_is) (ap (λ (s : Source). s.taken) c.self.view_is)
+
+pub returns-clause-end : goal.returns-clause-end
+returns-clause-end g c =
+    EndsWithin-ok g.row.A.Denot c.next_frame-result.result c.args.self.now.taken c.next_frame-result.new.pieces.taken c.args.self.now.left (prepend_known c.next_frame-result.new.pieces.unread (g.R.Read.remaining c.next_frame-result.new.reader.device))
+    (returns-clause-cuts g c) (returns-clause-taken g c) c.are_within.ensures
