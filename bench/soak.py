@@ -11,42 +11,23 @@ not be as it was before an earlier look. Then each entry of the journal must be 
 replay the same. Prints what the program says and how long it took, and ends with 1 where something was wrong.
 """
 import argparse
-import os
 import pathlib
-import shutil
 import subprocess
 import sys
 import tempfile
 import time
 
+sys.dont_write_bytecode = True
+
+from beside import placed  # noqa: E402
+
 ROOT = pathlib.Path(__file__).resolve().parent.parent
-STANDS_ON = "fpl_text fpl_message flow_plans flow_core flow_desk"
-
-
-def workspace():
-    """The crates that each crate of the workspace stands on, by its name."""
-    lines = [line.partition("#")[0].partition(":") for line in (ROOT / "crates.txt").read_text().splitlines()]
-    return {name.strip(): needs.split() for name, _, needs in lines if name.strip()}
+STANDS_ON = ["fpl_text", "fpl_message", "flow_plans", "flow_core", "flow_desk"]
 
 
 def build(folder):
     """The program, built in a copy of those crates that it stands on."""
-    needs = workspace()
-    wanted = set(STANDS_ON.split())
-    while not wanted >= {below for name in wanted for below in needs.get(name, [])}:
-        wanted |= {below for name in wanted for below in needs.get(name, [])}
-    listed = {name: needs[name] for name in needs if name in wanted} | {"soak": STANDS_ON.split()}
-    shutil.copy2(ROOT / "HANDLES", folder)
-    (folder / "crates.txt").write_text("".join("%s: %s\n" % (name, " ".join(below)) for name, below in listed.items()))
-    for name in listed:
-        if name != "soak" and not (folder / "crates" / name).exists():
-            shutil.copytree(ROOT / "crates" / name, folder / "crates" / name, copy_function=os.link)
-    crate = folder / "crates" / "soak"
-    kept = ROOT / "bench" / "soak"
-    for source in kept.rglob("*.in"):
-        target = crate / source.relative_to(kept).with_suffix("")
-        target.parent.mkdir(parents=True, exist_ok=True)
-        shutil.copyfile(source, target)
+    crate = placed(folder, "soak", STANDS_ON, ROOT / "bench" / "soak")
     subprocess.run(["nice", "rt", "run", "--", "1", "1"], cwd=crate, check=True)
     return crate / "out" / "soak"
 
