@@ -2,4 +2,5 @@ pub mod OtherLemmas
 pub mod RoutesLemmas
 pub mod RouteLawsProofs
 pub mod ItemsLemmas
+pub mod ItemLawsProofs
 pub mod KindsLemmas
