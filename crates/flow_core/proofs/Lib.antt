@@ -14,6 +14,7 @@ pub mod JournalHeld
 pub mod Backs
 pub mod Entering
 pub mod FrozenPairs
+pub mod FrozenRuns
 pub mod Comparing
 pub mod ChangedRows
 pub mod Filed

@@ -1,5 +1,5 @@
 //! The plans by number.
-ghost use Rattle.std.specs.Prelude.{◌≡◌, ◌≤◌, ◌<◌, ◌+◌, ◌-◌, ◌*◌, ◌++◌, ◌∷◌, ℕ, [], Ok, Err, Some, None, IfOk, IfErr, IfNone, OnOk, OnErr, IfSome, IsSome, IsTrue, ◌↔◌, MatchOption, true, length, slice_get, option_copied};
+ghost use Rattle.std.specs.Prelude.{◌≡◌, ◌≢◌, ◌≤◌, ◌<◌, ◌+◌, ◌-◌, ◌*◌, ◌++◌, ◌∷◌, ℕ, [], Ok, Err, Some, None, IfOk, IfErr, IfNone, OnOk, OnErr, IfSome, IsSome, IsTrue, ◌↔◌, MatchOption, true, length, slice_get, option_copied};
 ghost use Rattle.std.specs.List.{list_any};
 ghost use Rattle.flow_plans.specs.Settings.{IsDeskTime};
 ghost use Rattle.flow_plans.specs.Entries.{take_off, entry_at, subject};
@@ -641,6 +641,7 @@ fn why_refused<A: Allocator + Copy>(
     ensures room { OnOk result (length plans.now < max_plans) }
     ensures bound { IfOk result (λ moment. moment < 67_855_680) }
     ensures refused { IfErr result (λ e. IsRefusal e (filed max_plans now plans.now message.now)) }
+    ensures memory { result ≢ Err PlanFault.OutOfMemory }
 {
     let Some(off_block) = moment_of(message, now) else {
         return Err(PlanFault::TooEarly);

@@ -20,7 +20,7 @@ list_all-prefix p xs n h =
     every [] h = refl
     every (y ∷ ys) h = rw (h 0 (omega arith)) (every ys (λ k l. h (suc k) (omega arith)))
 
-stroke-other : is_letter_or_digit 47 ≡ false
+pub stroke-other : is_letter_or_digit 47 ≡ false
 unfolding is_letter is_digit
 stroke-other = refl
 

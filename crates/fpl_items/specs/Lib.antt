@@ -2,4 +2,5 @@ pub mod Speeds
 pub mod Kinds
 pub mod Routes
 pub mod Items
+pub mod ItemLaws
 pub mod RouteLaws

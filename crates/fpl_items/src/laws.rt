@@ -1,7 +1,9 @@
 //! Laws over the definitions that the contracts cite.
 
-ghost use Rattle.std.specs.Prelude.{◌≡◌, ℕ, List, Ok, drop};
+ghost use Rattle.std.specs.Prelude.{◌≡◌, ◌⊎◌, ℕ, List, [], Ok, codes, drop};
 ghost use Rattle.fpl_text.specs.Words.{words_of};
+ghost use Rattle.fpl_items.specs.ItemLaws.{BeginWithItem, SpellItems};
+ghost use Rattle.fpl_items.specs.Items.{Item, items_of, items_or_fault};
 ghost use Rattle.fpl_items.specs.Routes.{Path, path_or_fault};
 ghost use Rattle.fpl_items.specs.RouteLaws.{AreElements, AreInOrder};
 
@@ -11,4 +13,13 @@ pub fn elements_are_words()
     ensures words { (field : List ℕ) (path : Path) → path_or_fault field ≡ Ok path
         → AreElements field (drop 1 (words_of field)) path.elements }
     ensures order { (field : List ℕ) (path : Path) → path_or_fault field ≡ Ok path → AreInOrder 0 path.elements }
+{}
+
+/// The items of field 18 make up its words: each is spelled by the word that begins it, with a stroke behind its name, and by
+/// the words up to the next one. No other list of items is spelled by these words. A field that is 0 has none.
+pub fn items_are_words()
+    ensures found { (words : List (List ℕ)) → BeginWithItem words → SpellItems (items_of words) words }
+    ensures only { (items : List Item) (words : List (List ℕ)) → SpellItems items words → items_of words ≡ items }
+    ensures field { (field : List ℕ) (items : List Item) → items_or_fault field ≡ Ok items
+        → ((field ≡ codes "0") × (items ≡ [])) ⊎ SpellItems items (words_of field) }
 {}

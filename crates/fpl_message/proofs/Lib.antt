@@ -1,4 +1,5 @@
 pub mod ModificationLemmas
+pub mod AmendmentLawsProofs
 pub mod OrderLemmas
 pub mod EditionLemmas
 pub mod EmptyText

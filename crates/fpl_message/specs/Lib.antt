@@ -5,6 +5,7 @@ pub mod Messages
 pub mod FlightPlans
 pub mod ShortMessages
 pub mod Modifications
+pub mod AmendmentLaws
 pub mod KeptChanges
 pub mod Orders
 pub mod SaidOrders

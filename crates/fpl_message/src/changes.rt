@@ -1,5 +1,5 @@
 //! The amended fields of a modification, field type 22.
-ghost use Rattle.std.specs.Prelude.{◌≡◌, ◌≤◌, ◌<◌, ◌∷◌, drop, length, true, IfOk};
+ghost use Rattle.std.specs.Prelude.{◌≡◌, ◌≢◌, Err, ◌≤◌, ◌<◌, ◌∷◌, drop, length, true, IfOk};
 ghost use Rattle.fpl_text.specs.Fields.{begins_amendment};
 ghost use Rattle.fpl_message.specs.Refusals.{Gives};
 ghost use Rattle.fpl_message.specs.Messages.{field};
@@ -68,6 +68,7 @@ impl<A: Allocator + Copy> Changes<A> {
         requires { place < length fields.now }
         ensures change { Gives (λ _. kept fields.now self.new) result
             (amend_rules (amended_text (field fields.now place)) (kept fields.now self.old)) }
+        ensures memory { result ≢ Err Fault.OutOfMemory }
         ensures stand { StandAmong (length fields.now) self.old → StandAmong (length fields.now) self.new }
     {
         if self.field8.is_some() {
@@ -84,6 +85,7 @@ impl<A: Allocator + Copy> Changes<A> {
         requires { place < length fields.now }
         ensures change { Gives (λ _. kept fields.now self.new) result
             (amend_craft (amended_text (field fields.now place)) (kept fields.now self.old)) }
+        ensures memory { result ≢ Err Fault.OutOfMemory }
         ensures stand { StandAmong (length fields.now) self.old → StandAmong (length fields.now) self.new }
     {
         if self.field9.is_some() {
@@ -99,6 +101,7 @@ impl<A: Allocator + Copy> Changes<A> {
         requires { place < length fields.now }
         ensures change { Gives (λ _. kept fields.now self.new) result
             (amend_equipment (amended_text (field fields.now place)) (kept fields.now self.old)) }
+        ensures memory { result ≢ Err Fault.OutOfMemory }
         ensures stand { StandAmong (length fields.now) self.old → StandAmong (length fields.now) self.new }
     {
         if self.field10.is_some() {
@@ -116,6 +119,7 @@ impl<A: Allocator + Copy> Changes<A> {
         requires { place < length fields.now }
         ensures change { Gives (λ _. kept fields.now self.new) result
             (amend_departure (amended_text (field fields.now place)) (kept fields.now self.old)) }
+        ensures memory { result ≢ Err Fault.OutOfMemory }
         ensures stand { StandAmong (length fields.now) self.old → StandAmong (length fields.now) self.new }
     {
         if self.departure.is_some() {
@@ -148,6 +152,7 @@ impl<A: Allocator + Copy> Changes<A> {
         requires { place < length fields.now }
         ensures change { Gives (λ _. kept fields.now self.new) result
             (amend_destination (amended_text (field fields.now place)) (kept fields.now self.old)) }
+        ensures memory { result ≢ Err Fault.OutOfMemory }
         ensures stand { StandAmong (length fields.now) self.old → StandAmong (length fields.now) self.new }
     {
         if self.destination.is_some() {

@@ -5,6 +5,7 @@ pub mod Fields
 pub mod Borders
 pub mod Headings
 pub mod FieldLaws
+pub mod FieldParts
 pub mod Times
 pub mod Words
 pub mod Craft

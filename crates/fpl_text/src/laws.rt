@@ -6,7 +6,14 @@ ghost use Rattle.fpl_text.specs.Bytes.{is_blank};
 ghost use Rattle.fpl_text.specs.Squeezing.{squeezed};
 ghost use Rattle.fpl_text.specs.SqueezingLaws.{unblanked, is_inner, IsSqueezed, KeepsPair};
 ghost use Rattle.fpl_text.specs.Fields.{is_bracketed, fields_of};
+ghost use Rattle.fpl_text.specs.Craft.{craft_of};
 ghost use Rattle.fpl_text.specs.FieldLaws.{AreFields};
+ghost use Rattle.fpl_text.specs.FieldParts.{IsCraft, IsHeading, IsIdent, IsMessageNumber};
+ghost use Rattle.fpl_text.specs.Headings.{heading_of, is_number};
+ghost use Rattle.fpl_text.specs.Places.{ident_of};
+ghost use Rattle.fpl_text.specs.declared.craft.Craft.{Craft};
+ghost use Rattle.fpl_text.specs.declared.heading.Heading.{Heading};
+ghost use Rattle.fpl_text.specs.declared.ident.Ident.{Ident};
 ghost use Rattle.fpl_text.specs.Moments.{IsYymmdd, moment_of, day_digits, hhmm_of};
 
 /// The fields of a text are the one list whose join by hyphens stands in its brackets.
@@ -44,4 +51,21 @@ pub fn squeezing_ends()
     ensures squeezed { (text : List ℕ) → IsSqueezed (squeezed text) }
     ensures stays { (text : List ℕ) → IsSqueezed text ↔ (squeezed text ≡ text) }
     ensures again { (text : List ℕ) → squeezed (squeezed text) ≡ squeezed text }
+{}
+
+/// Field 3, and a message number in it, are exactly their parts one after the other: so these parts, joined again, are the
+/// field, and a text that they make is read as them.
+pub fn headings_are_their_parts()
+    ensures field { (text : List ℕ) (heading : Heading) → (heading_of text ≡ Some heading) ↔ IsHeading text heading }
+    ensures number { (text : List ℕ) → (is_number text ≡ true) ↔ IsMessageNumber text }
+{}
+
+/// So is field 7: a name, and a transponder code or nothing.
+pub fn idents_are_their_parts()
+    ensures { (text : List ℕ) (ident : Ident) → (ident_of text ≡ Some ident) ↔ IsIdent text ident }
+{}
+
+/// And field 9: a number or nothing, a type, a stroke and a wake category.
+pub fn crafts_are_their_parts()
+    ensures { (text : List ℕ) (craft : Craft) → (craft_of text ≡ Some craft) ↔ IsCraft text craft }
 {}
