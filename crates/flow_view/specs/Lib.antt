@@ -1,1 +1,4 @@
+pub mod Opened
+pub mod Opening
 pub mod Shown
+pub mod Totals
