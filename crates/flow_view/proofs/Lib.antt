@@ -1,2 +1,4 @@
 pub mod Told
 pub mod Openings
+pub mod Entries
+pub mod Loads

@@ -1,3 +1,4 @@
+pub mod Load
 pub mod Opened
 pub mod Opening
 pub mod Shown

@@ -28,7 +28,7 @@ pub struct SlotRow {
 }
 
 /// The row of a slot, where it is held.
-fn row_at<A: Allocator + Copy>(
+pub fn row_at<A: Allocator + Copy>(
     core: &Core<A>,
     spot: &Spot,
     list: &SlotList<A>,

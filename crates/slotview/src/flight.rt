@@ -1,0 +1,272 @@
+//! A flight: its plans, its slots, and what was filed and said about it.
+use crate::fault::Fault;
+use crate::list::state_of;
+use crate::sheet::{Cell, Column, Sheet, Side, moment_or_none, moment_text, text_cell};
+use crate::summary::place_text;
+use flow_core::{Core, Entry, Kind, Notice, Said, Verdict};
+use flow_plans::{Plan, PlanState};
+use flow_view::{Opened, SlotRow, entry_at, row_at};
+use fpl_message::{Filing, Order, Reading};
+use fpl_text::Minute;
+use std::alloc::{AllocError, Global};
+use std::io::Write;
+
+static PLANS: [Column; 8] = [
+    Column("plan", 5, Side::Right),
+    Column("flight", 7, Side::Left),
+    Column("dep", 4, Side::Left),
+    Column("dest", 4, Side::Left),
+    Column("off-block", 10, Side::Left),
+    Column("state", 9, Side::Left),
+    Column("told", 10, Side::Left),
+    Column("cause", 8, Side::Left),
+];
+
+static SLOTS: [Column; 8] = [
+    Column("plan", 5, Side::Right),
+    Column("regul", 8, Side::Left),
+    Column("place", 15, Side::Left),
+    Column("entry", 10, Side::Left),
+    Column("slot", 5, Side::Right),
+    Column("time", 10, Side::Left),
+    Column("delay", 5, Side::Right),
+    Column("state", 8, Side::Left),
+];
+
+static SAID: [Column; 7] = [
+    Column("entry", 7, Side::Right),
+    Column("time", 10, Side::Left),
+    Column("what", 4, Side::Left),
+    Column("plan", 5, Side::Right),
+    Column("off-block", 10, Side::Left),
+    Column("told", 10, Side::Left),
+    Column("cause", 8, Side::Left),
+];
+
+/// Whether a plan is of the flight of this identification.
+fn is_of(plan: &Plan, ident: &[u8]) -> bool {
+    plan.key().ident.as_bytes() == ident
+}
+
+fn state_name(state: PlanState) -> &'static [u8] {
+    match state {
+        PlanState::Filed => b"filed",
+        PlanState::Departed => b"departed",
+        PlanState::Cancelled => b"cancelled",
+    }
+}
+
+/// The numbers of the plans of a flight.
+fn plans_of(alloc: Global, core: &Core, ident: &[u8]) -> Result<Vec<u32>, AllocError> {
+    let mut numbers = Vec::new(alloc);
+    for index in 0..core.setup().max_plans() {
+        let number = index + 1;
+        match core.plan(number) {
+            Some(plan) if is_of(plan, ident) => numbers.push(number)?,
+            Some(_) => {}
+            None => break,
+        }
+    }
+    Ok(numbers)
+}
+
+fn put_plan<W: Write + Drop>(sheet: &mut Sheet<W>, core: &Core, number: u32) -> Result<(), Fault> {
+    let Some(plan) = core.plan(number) else {
+        return Ok(());
+    };
+    let told = match core.row(number) {
+        Some(row) => row.told,
+        None => None,
+    };
+    let ctot = moment_or_none(told.as_ref().map(|told| told.ctot));
+    let cause = match &told {
+        Some(told) => told.regulation.as_bytes(),
+        None => b"",
+    };
+    let off_block = moment_text(plan.off_block());
+    sheet.put(&[
+        Cell::Number(u64::from(number)),
+        Cell::Text(plan.key().ident.as_bytes()),
+        Cell::Text(plan.key().dep.as_bytes()),
+        Cell::Text(plan.key().dest.as_bytes()),
+        Cell::Text(off_block.as_bytes()),
+        Cell::Text(state_name(plan.state())),
+        text_cell(ctot.as_bytes()),
+        text_cell(cause),
+    ])
+}
+
+/// Writes where a plan's flight enters a regulation, and the slot that it has there.
+fn put_slot<W: Write + Drop>(
+    alloc: Global,
+    sheet: &mut Sheet<W>,
+    core: &Core,
+    opened: &Opened,
+    number: u32,
+) -> Result<(), Fault> {
+    let Some(plan) = core.plan(number) else {
+        return Ok(());
+    };
+    let Some(list) = core.slots(opened.id()) else {
+        return Ok(());
+    };
+    let entry = entry_at(plan, core.setup().taxi(), opened.place());
+    let row = match list.slot_of(number) {
+        Some(slot) => row_at(core, opened.place(), list, slot),
+        None => None,
+    };
+    if entry.is_none() && row.is_none() {
+        return Ok(());
+    }
+    let place = place_text(alloc, opened.place())?;
+    let entry = moment_or_none(entry);
+    let time = moment_or_none(row.as_ref().map(|row| row.time));
+    let mut cells = [Cell::Blank; 8];
+    cells[0] = Cell::Number(u64::from(number));
+    cells[1] = Cell::Text(opened.id().as_bytes());
+    cells[2] = Cell::Text(place.as_slice());
+    cells[3] = text_cell(entry.as_bytes());
+    cells[5] = text_cell(time.as_bytes());
+    if let Some(row) = &row {
+        cells[4] = Cell::Number(u64::from(row.slot));
+        cells[6] = Cell::Number(u64::from(row.delay()));
+        cells[7] = Cell::Text(state_of(row));
+    }
+    sheet.put(&cells)
+}
+
+/// The title of an accepted message, and the plan that it is about.
+fn about(verdict: Verdict) -> Option<(&'static [u8], u32)> {
+    match verdict {
+        Verdict::Accepted { kind: Kind::Fpl, plan } => Some((b"FPL", plan)),
+        Verdict::Accepted { kind: Kind::Dla, plan } => Some((b"DLA", plan)),
+        Verdict::Accepted { kind: Kind::Chg, plan } => Some((b"CHG", plan)),
+        Verdict::Accepted { kind: Kind::Cnl, plan } => Some((b"CNL", plan)),
+        Verdict::Departed { plan, .. } => Some((b"DEP", plan)),
+        _ => None,
+    }
+}
+
+/// The desk's time after an entry: that of an accepted TIME.
+fn time_after(alloc: Global, entry: &Entry<'_>, time: Minute) -> Result<Minute, AllocError> {
+    let Verdict::Accepted { kind: Kind::Time, .. } = entry.receipt().verdict else {
+        return Ok(time);
+    };
+    let Ok(filing) = Filing::read_as(alloc, entry.edition(), entry.text()) else {
+        return Err(AllocError);
+    };
+    match filing.reading() {
+        Reading::Ord(Order::SetTime { at }) => Ok(*at),
+        _ => Ok(time),
+    }
+}
+
+/// Writes a notice that an entry caused.
+fn put_notice<W: Write + Drop>(
+    sheet: &mut Sheet<W>,
+    entry: u32,
+    time: Minute,
+    notice: &Notice,
+) -> Result<(), Fault> {
+    let (title, told) = match &notice.says {
+        Said::Sam(told) => (b"SAM", Some(told)),
+        Said::Srm(told) => (b"SRM", Some(told)),
+        Said::Slc => (b"SLC", None),
+    };
+    let time = moment_text(time);
+    let off_block = moment_text(notice.off_block);
+    let ctot = moment_or_none(told.map(|told| told.ctot));
+    let cause = match told {
+        Some(told) => told.regulation.as_bytes(),
+        None => b"",
+    };
+    sheet.put(&[
+        Cell::Number(u64::from(entry)),
+        Cell::Text(time.as_bytes()),
+        Cell::Text(title),
+        Cell::Blank,
+        Cell::Text(off_block.as_bytes()),
+        text_cell(ctot.as_bytes()),
+        text_cell(cause),
+    ])
+}
+
+/// Writes what an entry filed about a flight, and the notices to it that it caused.
+fn put_entry<W: Write + Drop>(
+    sheet: &mut Sheet<W>,
+    core: &Core,
+    entry: &Entry<'_>,
+    time: Minute,
+    ident: &[u8],
+) -> Result<(), Fault> {
+    let receipt = entry.receipt();
+    if let Some((title, number)) = about(receipt.verdict) {
+        let is_its = match core.plan(number) {
+            Some(plan) => is_of(plan, ident),
+            None => false,
+        };
+        if is_its {
+            let now = moment_text(time);
+            let mut cells = [Cell::Blank; 7];
+            cells[0] = Cell::Number(u64::from(receipt.number));
+            cells[1] = Cell::Text(now.as_bytes());
+            cells[2] = Cell::Text(title);
+            cells[3] = Cell::Number(u64::from(number));
+            sheet.put(&cells)?;
+        }
+    }
+    for index in 0..receipt.notices {
+        let number = receipt.first_notice.saturating_add(u64::from(index));
+        match core.notice(number) {
+            Some(notice) if notice.ident.as_bytes() == ident => {
+                put_notice(sheet, receipt.number, time, notice)?;
+            }
+            _ => {}
+        }
+    }
+    Ok(())
+}
+
+/// Writes all that was filed and said about a flight, with the entries and the desk's times.
+fn put_said<W: Write + Drop>(
+    alloc: Global,
+    sheet: &mut Sheet<W>,
+    core: &Core,
+    ident: &[u8],
+) -> Result<(), Fault> {
+    let mut time = core.setup().start();
+    for index in 0..core.entries() {
+        if let Some(entry) = core.entry(index + 1) {
+            time = time_after(alloc, &entry, time)?;
+            put_entry(sheet, core, &entry, time, ident)?;
+        }
+    }
+    Ok(())
+}
+
+/// Writes the plans of the flight of this identification. Whether there is one.
+pub fn put_flight<W: Write + Drop>(
+    alloc: Global,
+    sheet: &mut Sheet<W>,
+    core: &Core,
+    regulations: &[Opened],
+    ident: &[u8],
+) -> Result<bool, Fault> {
+    let numbers = plans_of(alloc, core, ident)?;
+    if numbers.is_empty() {
+        return Ok(false);
+    }
+    sheet.begin("plans", &PLANS)?;
+    for number in &numbers {
+        put_plan(sheet, core, *number)?;
+    }
+    sheet.begin("slots", &SLOTS)?;
+    for number in &numbers {
+        for opened in regulations {
+            put_slot(alloc, sheet, core, opened, *number)?;
+        }
+    }
+    sheet.begin("said", &SAID)?;
+    put_said(alloc, sheet, core, ident)?;
+    Ok(true)
+}

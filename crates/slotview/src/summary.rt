@@ -1,0 +1,156 @@
+//! A summary: the desk, and its open regulations.
+use crate::fault::Fault;
+use crate::sheet::{Cell, Column, Sheet, Side, moment_text};
+use flow_core::Core;
+use flow_plans::PlanState;
+use flow_view::{Opened, Totals, rows_of, totals_of};
+use fpl_message::Spot;
+use std::alloc::{AllocError, Global};
+use std::io::Write;
+
+static DESK: [Column; 6] = [
+    Column("time", 10, Side::Left),
+    Column("entries", 7, Side::Right),
+    Column("plans", 5, Side::Right),
+    Column("filed", 5, Side::Right),
+    Column("departed", 8, Side::Right),
+    Column("cancelled", 9, Side::Right),
+];
+
+static REGULATIONS: [Column; 11] = [
+    Column("regul", 8, Side::Left),
+    Column("place", 15, Side::Left),
+    Column("from", 10, Side::Left),
+    Column("to", 10, Side::Left),
+    Column("rates", 11, Side::Left),
+    Column("flights", 7, Side::Right),
+    Column("frozen", 6, Side::Right),
+    Column("delayed", 7, Side::Right),
+    Column("total", 6, Side::Right),
+    Column("mean", 5, Side::Right),
+    Column("most", 4, Side::Right),
+];
+
+/// Plans by state.
+#[derive(Clone, Copy)]
+struct States {
+    filed: u32,
+    departed: u32,
+    cancelled: u32,
+}
+
+/// How many plans stand in each state.
+fn states_of(core: &Core) -> States {
+    let mut states = States {
+        filed: 0,
+        departed: 0,
+        cancelled: 0,
+    };
+    for index in 0..core.setup().max_plans() {
+        let Some(plan) = core.plan(index + 1) else {
+            break;
+        };
+        match plan.state() {
+            PlanState::Filed => states.filed = states.filed.saturating_add(1),
+            PlanState::Departed => states.departed = states.departed.saturating_add(1),
+            PlanState::Cancelled => states.cancelled = states.cancelled.saturating_add(1),
+        }
+    }
+    states
+}
+
+fn put_desk<W: Write + Drop>(sheet: &mut Sheet<W>, core: &Core) -> Result<(), Fault> {
+    let states = states_of(core);
+    let time = moment_text(core.now());
+    let plans = u64::from(states.filed) + u64::from(states.departed) + u64::from(states.cancelled);
+    sheet.begin("desk", &DESK)?;
+    sheet.put(&[
+        Cell::Text(time.as_bytes()),
+        Cell::Number(u64::from(core.entries())),
+        Cell::Number(plans),
+        Cell::Number(u64::from(states.filed)),
+        Cell::Number(u64::from(states.departed)),
+        Cell::Number(u64::from(states.cancelled)),
+    ])
+}
+
+/// A place as an order names it.
+pub fn place_text(alloc: Global, spot: &Spot) -> Result<Vec<u8>, AllocError> {
+    let (kind, place) = match spot {
+        Spot::Dep(place) => (b"DEP ", place.as_bytes()),
+        Spot::Arr(place) => (b"ARR ", place.as_bytes()),
+        Spot::Via(place) => (b"VIA ", place.as_bytes()),
+    };
+    let mut text = Vec::from_slice(alloc, kind)?;
+    text.extend_from_slice(place)?;
+    Ok(text)
+}
+
+/// The hourly rates of the sub-periods, with strokes between them.
+fn rates_text(alloc: Global, opened: &Opened) -> Result<String, AllocError> {
+    let rate = opened.rate();
+    let mut text = format!(in alloc; "{rate}")?;
+    for part in opened.parts() {
+        let rate = part.rate;
+        write!(text, "/{rate}")?;
+    }
+    Ok(text)
+}
+
+/// The mean delay in tenths of a minute, rounded.
+fn mean_of(totals: Totals) -> u64 {
+    if totals.flights == 0 {
+        return 0;
+    }
+    totals
+        .total
+        .saturating_mul(10)
+        .saturating_add(totals.flights / 2)
+        / totals.flights
+}
+
+fn put_regulation<W: Write + Drop>(
+    alloc: Global,
+    sheet: &mut Sheet<W>,
+    core: &Core,
+    opened: &Opened,
+) -> Result<(), Fault> {
+    let Some(list) = core.slots(opened.id()) else {
+        return Ok(());
+    };
+    let rows = rows_of(alloc, core, opened.place(), list)?;
+    let totals = totals_of(rows.as_slice());
+    let (from, to) = opened.period();
+    let place = place_text(alloc, opened.place())?;
+    let rates = rates_text(alloc, opened)?;
+    let from = moment_text(from);
+    let to = moment_text(to);
+    sheet.put(&[
+        Cell::Text(opened.id().as_bytes()),
+        Cell::Text(place.as_slice()),
+        Cell::Text(from.as_bytes()),
+        Cell::Text(to.as_bytes()),
+        Cell::Text(rates.as_bytes()),
+        Cell::Number(totals.flights),
+        Cell::Number(totals.frozen),
+        Cell::Number(totals.delayed),
+        Cell::Number(totals.total),
+        Cell::Tenths(mean_of(totals)),
+        Cell::Number(u64::from(totals.greatest)),
+    ])
+}
+
+/// Writes the desk and its open regulations.
+pub fn put_summary<W: Write + Drop>(
+    alloc: Global,
+    sheet: &mut Sheet<W>,
+    core: &Core,
+    regulations: &[Opened],
+) -> Result<(), Fault> {
+    put_desk(sheet, core)?;
+    sheet.begin("regulations", &REGULATIONS)?;
+    for opened in regulations {
+        put_regulation(alloc, sheet, core, opened)?;
+    }
+    Ok(())
+}
