@@ -1,6 +1,6 @@
 -- The regulations that the journal tells to be open are those that are.
-use Rattle.std.proofs.Common.{◌≡◌, ℕ, ◌+◌, ◌-◌, List, [], ◌∷◌, ◌++◌, map, refl, ap, sym, ◌∙◌, Bool, true, false, not, Option, Result, Ok, Err}
-use Rattle.std.specs.Prelude.{filter, fold, cond, nat_le, nat_lt, length}
+use Rattle.std.proofs.Common.{◌≡◌, ℕ, ◌+◌, List, [], ◌∷◌, ◌++◌, map, refl, ap, sym, ◌∙◌, Bool, true, false, not, Option, Result, Ok, Err}
+use Rattle.std.specs.Prelude.{filter, cond, nat_le, nat_lt, length}
 use Rattle.std.specs.List.{list_any}
 use Rattle.std.specs.Prelude.{slice_get, take, ◌<◌, Some, None}
 use Rattle.std.proofs.Common.{arith, inl, inr}
@@ -15,8 +15,7 @@ use Rattle.std.proofs.lemmas.List.{map-append}
 use Rattle.std.proofs.lemmas.List.Sums.{fold-append}
 use Rattle.fpl_message.specs.declared.refusal.Refusal.{Refusal}
 use Rattle.fpl_message.specs.declared.refusal.Refusal.TheVariants as refusal
-use Rattle.fpl_message.specs.declared.order.OpenReg.{OpenReg}
-use Rattle.fpl_message.specs.Messages.{Message, fpl, dla, chg, cnl, dep, Order, open_reg, shut_reg, set_time}
+use Rattle.fpl_message.specs.Messages.{Message, fpl, dla, chg, cnl, dep, open_reg, shut_reg, set_time}
 use Rattle.fpl_message.specs.Reads.{Reading, msg, ord, bad, reading_of}
 use Rattle.fpl_message.specs.Refusals.{◌>>=◌}
 use Rattle.flow_plans.specs.Settings.{Settings}
@@ -26,8 +25,6 @@ use Rattle.flow_plans.specs.Changes.{Changed}
 use Rattle.flow_regulations.specs.Regulations.{Regulation, has_flight}
 use Rattle.flow_regulations.specs.Settling.{settled, frozen_at_departure}
 use Rattle.flow_regulations.specs.declared.notice.Told.{Told}
-use Rattle.flow_traffic.specs.declared.verdict.Verdict.{Verdict}
-use Rattle.flow_traffic.specs.declared.verdict.Verdict.TheVariants.{Accepted, Departed, Refused}
 use Rattle.flow_traffic.specs.Traffic.{Traffic}
 use Rattle.flow_traffic.specs.Asked.{Asked, asked, asked_by_message, asked_to_open, asked_to_shut, asked_at, changed_by, verdict_on, is_departure, departing, is_called, ordered, max_regulations}
 use Rattle.flow_traffic.specs.Answers.{settle}

@@ -1,5 +1,5 @@
 -- Which regulations are open, as the entries of a journal tell it: those that an accepted OPEN opened and no later SHUT closed.
-use Rattle.std.specs.Prelude.{ℕ, not, List, [], ◌∷◌, ◌++◌, filter, fold}
+use Rattle.std.specs.Prelude.{not, List, [], ◌∷◌, ◌++◌, filter, fold}
 use Rattle.std.specs.Str.{bytes_eq}
 use Rattle.fpl_message.specs.Messages.{open_reg, shut_reg}
 use Rattle.fpl_message.specs.Reads.{Reading, ord, reading_of}

@@ -1,5 +1,5 @@
 -- The rows of a slot list as they are shown: its held slots in order, each with its flight.
-use Rattle.std.specs.Prelude.{ℕ, zero, suc, List, [], ◌∷◌, ◌++◌, map, Option}
+use Rattle.std.specs.Prelude.{ℕ, zero, suc, List, [], ◌++◌, map, Option}
 use Rattle.std.specs.Option.{option_map, is_some, option_to_list}
 use Rattle.fpl_message.specs.declared.order.Spot.{Spot}
 use Rattle.flow_plans.specs.Plans.{Plan, plan_at}

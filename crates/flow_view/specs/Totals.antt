@@ -1,5 +1,5 @@
 -- Sums and counts of the rows of a slot list.
-use Rattle.std.specs.Prelude.{ℕ, ◌+◌, ◌-◌, nat_lt, List, [], ◌∷◌, map, length, count_by, sum, max, fold, Option, Some, None}
+use Rattle.std.specs.Prelude.{ℕ, ◌-◌, nat_lt, List, map, length, count_by, sum, max, fold, Option}
 use Rattle.std.specs.Option.{option_map_or, option_and_then}
 use Rattle.flow_view.specs.declared.slot_row.SlotRow.{SlotRow}
 use Rattle.flow_view.specs.declared.totals.Totals.{Totals}

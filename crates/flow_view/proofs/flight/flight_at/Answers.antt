@@ -1,4 +1,4 @@
-use Rattle.std.proofs.Common.{◌≡◌, ◌-◌, ℕ, List, Option, Some, ap, sym, ◌∙◌, slice_get}
+use Rattle.std.proofs.Common.{◌≡◌, ◌-◌, ℕ, Option, Some, ap, sym, ◌∙◌, slice_get}
 use Rattle.std.specs.Option.{option_copied, option_map}
 use Rattle.flow_plans.specs.Plans.{Plan}
 use Rattle.flow_regulations.specs.declared.notice.Told.{Told}

@@ -1,4 +1,4 @@
-use Rattle.std.proofs.Common.{◌≡◌, ◌≤◌, take, false, nat_le}
+use Rattle.std.proofs.Common.{◌≡◌, ◌≤◌, take, false}
 use Rattle.std.specs.Prelude.{count_by}
 use Rattle.std.specs.Option.{option_map_or}
 use Rattle.flow_view.specs.Load.{is_from_to}

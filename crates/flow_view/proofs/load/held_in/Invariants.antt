@@ -1,8 +1,6 @@
-use Rattle.std.proofs.Common.{◌≡◌, ◌≤◌, take, false, nat_le}
+use Rattle.std.proofs.Common.{◌≡◌, ◌≤◌, take}
 use Rattle.std.specs.Prelude.{count_by}
-use Rattle.std.specs.Option.{option_map_or}
 use Rattle.flow_view.specs.Load.{is_from_to}
-use Rattle.flow_view.specs.Totals.{entry_of}
 use Rattle.flow_view.proofs.load.held_in.Given as goal
 
 abbrev pub invariant-loop-row : goal.invariant-loop-row

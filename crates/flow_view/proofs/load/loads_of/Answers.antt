@@ -1,8 +1,8 @@
-use Rattle.std.proofs.Common.{◌≡◌, ◌≤◌, ◌<◌, ◌∙◌, ◌+◌, ◌-◌, ◌*◌, ◌/◌, ◌++◌, ◌∷◌, [], sym, ap, ℕ, List, arith, subst}
+use Rattle.std.proofs.Common.{◌≡◌, ◌<◌, ◌∙◌, ◌+◌, ◌-◌, ◌*◌, ◌/◌, ◌++◌, ◌∷◌, [], ap, ℕ, List, arith, subst}
 use Rattle.flow_slots.specs.Period.{Period}
 use Rattle.flow_view.specs.declared.load.Load.{Load}
 use Rattle.flow_view.specs.declared.slot_row.SlotRow.{SlotRow}
-use Rattle.flow_view.specs.Load.{loads_before, loads}
+use Rattle.flow_view.specs.Load.{loads_before}
 use Rattle.flow_view.proofs.Loads.{begins-within, next-load}
 use Rattle.flow_view.proofs.load.loads_of.Goals as goal
 

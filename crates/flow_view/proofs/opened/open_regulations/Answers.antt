@@ -1,4 +1,4 @@
-use Rattle.std.proofs.Common.{◌≡◌, ◌∙◌, ◌+◌, ◌-◌, sym, ap, ℕ, List, take, arith, length, Some, None, slice_get}
+use Rattle.std.proofs.Common.{◌≡◌, ◌∙◌, ◌+◌, ◌-◌, sym, ap, ℕ, List, arith, Some, slice_get}
 use Rattle.std.proofs.lemmas.List.{take_all}
 use Rattle.flow_core.specs.State.{Record}
 use Rattle.flow_core.specs.History.{state_of}
