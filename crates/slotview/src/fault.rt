@@ -18,9 +18,7 @@ pub enum Fault {
     Read,
     Write,
     /// The input shows at this byte, from 0, that no journal is there.
-    BadJournal {
-        at: u64,
-    },
+    BadJournal { at: u64 },
     /// Something that isn't there was asked for, which has been told.
     NotThere,
     OutOfMemory,

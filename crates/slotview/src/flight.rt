@@ -1,9 +1,9 @@
 //! A flight: its plans, its slots, and what was filed and said about it.
 use crate::fault::Fault;
-use crate::list::state_of;
-use crate::sheet::{Cell, Column, Sheet, Side, moment_or_none, moment_text, text_cell};
+use crate::list::{ctot_of, state_of};
+use crate::sheet::{Cell, Column, Sheet, Side};
 use crate::summary::place_text;
-use flow_core::{Core, Entry, Kind, Notice, Said, Verdict};
+use flow_core::{Core, Entry, Kind, Notice, Receipt, Said, Told, Verdict};
 use flow_plans::{Plan, PlanState};
 use flow_view::{Opened, SlotRow, entry_at, row_at};
 use fpl_message::{Filing, Order, Reading};
@@ -70,6 +70,14 @@ fn plans_of(alloc: Global, core: &Core, ident: &[u8]) -> Result<Vec<u32>, AllocE
     Ok(numbers)
 }
 
+/// The regulation that causes the take-off time that was told.
+fn cause_of(told: &Option<Told>) -> Cell {
+    match told {
+        Some(told) => Cell::text(told.regulation.as_bytes()),
+        None => Cell::Blank,
+    }
+}
+
 fn put_plan<W: Write + Drop>(sheet: &mut Sheet<W>, core: &Core, number: u32) -> Result<(), Fault> {
     let Some(plan) = core.plan(number) else {
         return Ok(());
@@ -78,21 +86,15 @@ fn put_plan<W: Write + Drop>(sheet: &mut Sheet<W>, core: &Core, number: u32) -> 
         Some(row) => row.told,
         None => None,
     };
-    let ctot = moment_or_none(told.as_ref().map(|told| told.ctot));
-    let cause = match &told {
-        Some(told) => told.regulation.as_bytes(),
-        None => b"",
-    };
-    let off_block = moment_text(plan.off_block());
     sheet.put(&[
-        Cell::Number(u64::from(number)),
-        Cell::Text(plan.key().ident.as_bytes()),
-        Cell::Text(plan.key().dep.as_bytes()),
-        Cell::Text(plan.key().dest.as_bytes()),
-        Cell::Text(off_block.as_bytes()),
-        Cell::Text(state_name(plan.state())),
-        text_cell(ctot.as_bytes()),
-        text_cell(cause),
+        Cell::number(number),
+        Cell::text(plan.key().ident.as_bytes()),
+        Cell::text(plan.key().dep.as_bytes()),
+        Cell::text(plan.key().dest.as_bytes()),
+        Cell::moment(plan.off_block()),
+        Cell::text(state_name(plan.state())),
+        Cell::moment_or_blank(ctot_of(&told)),
+        cause_of(&told),
     ])
 }
 
@@ -119,37 +121,58 @@ fn put_slot<W: Write + Drop>(
         return Ok(());
     }
     let place = place_text(alloc, opened.place())?;
-    let entry = moment_or_none(entry);
-    let time = moment_or_none(row.as_ref().map(|row| row.time));
-    let mut cells = [Cell::Blank; 8];
-    cells[0] = Cell::Number(u64::from(number));
-    cells[1] = Cell::Text(opened.id().as_bytes());
-    cells[2] = Cell::Text(place.as_slice());
-    cells[3] = text_cell(entry.as_bytes());
-    cells[5] = text_cell(time.as_bytes());
-    if let Some(row) = &row {
-        cells[4] = Cell::Number(u64::from(row.slot));
-        cells[6] = Cell::Number(u64::from(row.delay()));
-        cells[7] = Cell::Text(state_of(row));
-    }
-    sheet.put(&cells)
+    let (slot, time, delay, state) = match &row {
+        Some(row) => (
+            Cell::number(row.slot),
+            Cell::moment(row.time),
+            Cell::number(row.delay()),
+            Cell::text(state_of(row)),
+        ),
+        None => (Cell::Blank, Cell::Blank, Cell::Blank, Cell::Blank),
+    };
+    sheet.put(&[
+        Cell::number(number),
+        Cell::text(opened.id().as_bytes()),
+        Cell::text(place.as_slice()),
+        Cell::moment_or_blank(entry),
+        slot,
+        time,
+        delay,
+        state,
+    ])
 }
 
 /// The title of an accepted message, and the plan that it is about.
-fn about(verdict: Verdict) -> Option<(&'static [u8], u32)> {
+fn about(verdict: Verdict) -> Option<(&'static str, u32)> {
     match verdict {
-        Verdict::Accepted { kind: Kind::Fpl, plan } => Some((b"FPL", plan)),
-        Verdict::Accepted { kind: Kind::Dla, plan } => Some((b"DLA", plan)),
-        Verdict::Accepted { kind: Kind::Chg, plan } => Some((b"CHG", plan)),
-        Verdict::Accepted { kind: Kind::Cnl, plan } => Some((b"CNL", plan)),
-        Verdict::Departed { plan, .. } => Some((b"DEP", plan)),
+        Verdict::Accepted {
+            kind: Kind::Fpl,
+            plan,
+        } => Some(("FPL", plan)),
+        Verdict::Accepted {
+            kind: Kind::Dla,
+            plan,
+        } => Some(("DLA", plan)),
+        Verdict::Accepted {
+            kind: Kind::Chg,
+            plan,
+        } => Some(("CHG", plan)),
+        Verdict::Accepted {
+            kind: Kind::Cnl,
+            plan,
+        } => Some(("CNL", plan)),
+        Verdict::Departed { plan, .. } => Some(("DEP", plan)),
         _ => None,
     }
 }
 
 /// The desk's time after an entry: that of an accepted TIME.
 fn time_after(alloc: Global, entry: &Entry<'_>, time: Minute) -> Result<Minute, AllocError> {
-    let Verdict::Accepted { kind: Kind::Time, .. } = entry.receipt().verdict else {
+    let Verdict::Accepted {
+        kind: Kind::Time,
+        ..
+    } = entry.receipt().verdict
+    else {
         return Ok(time);
     };
     let Ok(filing) = Filing::read_as(alloc, entry.edition(), entry.text()) else {
@@ -168,26 +191,46 @@ fn put_notice<W: Write + Drop>(
     time: Minute,
     notice: &Notice,
 ) -> Result<(), Fault> {
-    let (title, told) = match &notice.says {
-        Said::Sam(told) => (b"SAM", Some(told)),
-        Said::Srm(told) => (b"SRM", Some(told)),
-        Said::Slc => (b"SLC", None),
-    };
-    let time = moment_text(time);
-    let off_block = moment_text(notice.off_block);
-    let ctot = moment_or_none(told.map(|told| told.ctot));
-    let cause = match told {
-        Some(told) => told.regulation.as_bytes(),
-        None => b"",
+    let (title, ctot, cause) = match &notice.says {
+        Said::Sam(told) => (
+            "SAM",
+            Cell::moment(told.ctot),
+            Cell::text(told.regulation.as_bytes()),
+        ),
+        Said::Srm(told) => (
+            "SRM",
+            Cell::moment(told.ctot),
+            Cell::text(told.regulation.as_bytes()),
+        ),
+        Said::Slc => ("SLC", Cell::Blank, Cell::Blank),
     };
     sheet.put(&[
-        Cell::Number(u64::from(entry)),
-        Cell::Text(time.as_bytes()),
-        Cell::Text(title),
+        Cell::number(entry),
+        Cell::moment(time),
+        Cell::text(title.as_bytes()),
         Cell::Blank,
-        Cell::Text(off_block.as_bytes()),
-        text_cell(ctot.as_bytes()),
-        text_cell(cause),
+        Cell::moment(notice.off_block),
+        ctot,
+        cause,
+    ])
+}
+
+/// Writes an accepted message about a plan.
+fn put_message<W: Write + Drop>(
+    sheet: &mut Sheet<W>,
+    entry: u32,
+    time: Minute,
+    title: &str,
+    plan: u32,
+) -> Result<(), Fault> {
+    sheet.put(&[
+        Cell::number(entry),
+        Cell::moment(time),
+        Cell::text(title.as_bytes()),
+        Cell::number(plan),
+        Cell::Blank,
+        Cell::Blank,
+        Cell::Blank,
     ])
 }
 
@@ -195,24 +238,17 @@ fn put_notice<W: Write + Drop>(
 fn put_entry<W: Write + Drop>(
     sheet: &mut Sheet<W>,
     core: &Core,
-    entry: &Entry<'_>,
+    receipt: Receipt,
     time: Minute,
     ident: &[u8],
 ) -> Result<(), Fault> {
-    let receipt = entry.receipt();
     if let Some((title, number)) = about(receipt.verdict) {
         let is_its = match core.plan(number) {
             Some(plan) => is_of(plan, ident),
             None => false,
         };
         if is_its {
-            let now = moment_text(time);
-            let mut cells = [Cell::Blank; 7];
-            cells[0] = Cell::Number(u64::from(receipt.number));
-            cells[1] = Cell::Text(now.as_bytes());
-            cells[2] = Cell::Text(title);
-            cells[3] = Cell::Number(u64::from(number));
-            sheet.put(&cells)?;
+            put_message(sheet, receipt.number, time, title, number)?;
         }
     }
     for index in 0..receipt.notices {
@@ -238,7 +274,7 @@ fn put_said<W: Write + Drop>(
     for index in 0..core.entries() {
         if let Some(entry) = core.entry(index + 1) {
             time = time_after(alloc, &entry, time)?;
-            put_entry(sheet, core, &entry, time, ident)?;
+            put_entry(sheet, core, entry.receipt(), time, ident)?;
         }
     }
     Ok(())

@@ -1,9 +1,10 @@
 //! The slot list of a regulation.
 use crate::fault::Fault;
-use crate::sheet::{Cell, Column, Sheet, Side, moment_or_none, moment_text, text_cell};
-use flow_core::Core;
+use crate::sheet::{Cell, Column, Sheet, Side};
+use flow_core::{Core, Told};
 use flow_plans::PlanState;
 use flow_view::{Opened, SlotRow, rows_of};
+use fpl_text::Minute;
 use std::alloc::Global;
 use std::io::Write;
 
@@ -21,6 +22,14 @@ static COLUMNS: [Column; 12] = [
     Column("state", 8, Side::Left),
     Column("told", 10, Side::Left),
 ];
+
+/// The take-off time that was told.
+pub fn ctot_of(told: &Option<Told>) -> Option<Minute> {
+    match told {
+        Some(told) => Some(told.ctot),
+        None => None,
+    }
+}
 
 /// How the flight of a row holds its slot.
 pub fn state_of(row: &SlotRow) -> &'static [u8] {
@@ -44,27 +53,23 @@ fn put_row<W: Write + Drop>(
     row: &SlotRow,
     empty: u32,
 ) -> Result<(), Fault> {
-    let time = moment_text(row.time);
-    let mut cells = [Cell::Blank; 12];
-    cells[0] = Cell::Text(opened.id().as_bytes());
-    cells[1] = Cell::Number(u64::from(row.slot));
-    cells[2] = Cell::Number(u64::from(empty));
-    cells[3] = Cell::Text(time.as_bytes());
     let Some(flight) = &row.flight else {
-        return sheet.put(&cells);
+        return Ok(());
     };
-    let off_block = moment_text(flight.off_block);
-    let entry = moment_or_none(flight.entry);
-    let told = moment_or_none(flight.told.as_ref().map(|told| told.ctot));
-    cells[4] = Cell::Text(flight.ident.as_bytes());
-    cells[5] = Cell::Text(flight.dep.as_bytes());
-    cells[6] = Cell::Text(flight.dest.as_bytes());
-    cells[7] = Cell::Text(off_block.as_bytes());
-    cells[8] = text_cell(entry.as_bytes());
-    cells[9] = Cell::Number(u64::from(row.delay()));
-    cells[10] = Cell::Text(state_of(row));
-    cells[11] = text_cell(told.as_bytes());
-    sheet.put(&cells)
+    sheet.put(&[
+        Cell::text(opened.id().as_bytes()),
+        Cell::number(row.slot),
+        Cell::number(empty),
+        Cell::moment(row.time),
+        Cell::text(flight.ident.as_bytes()),
+        Cell::text(flight.dep.as_bytes()),
+        Cell::text(flight.dest.as_bytes()),
+        Cell::moment(flight.off_block),
+        Cell::moment_or_blank(flight.entry),
+        Cell::number(row.delay()),
+        Cell::text(state_of(row)),
+        Cell::moment_or_blank(ctot_of(&flight.told)),
+    ])
 }
 
 /// Writes the rows of the slot list of a regulation.

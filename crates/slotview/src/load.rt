@@ -1,6 +1,6 @@
 //! Demand and slots of a regulation by steps of time.
 use crate::fault::Fault;
-use crate::sheet::{Cell, Column, Sheet, Side, moment_text};
+use crate::sheet::{Cell, Column, Sheet, Side};
 use flow_core::Core;
 use flow_view::{Load, Opened, held_later, loads_of, rows_of};
 use std::alloc::{AllocError, Global};
@@ -64,19 +64,17 @@ fn put_load<W: Write + Drop>(
     load: &Load,
     each: u64,
 ) -> Result<(), Fault> {
-    let from = moment_text(load.from);
-    let to = moment_text(load.to);
     let slots = u64::from(load.slots);
     let demand = bar_of(alloc, load.demand, slots, each)?;
     let held = bar_of(alloc, load.held, slots, each)?;
     let cells = [
-        Cell::Text(from.as_bytes()),
-        Cell::Text(to.as_bytes()),
+        Cell::moment(load.from),
+        Cell::moment(load.to),
         Cell::Number(load.demand),
         Cell::Number(slots),
         Cell::Number(load.held),
-        Cell::Text(demand.as_slice()),
-        Cell::Text(held.as_slice()),
+        Cell::text(demand.as_slice()),
+        Cell::text(held.as_slice()),
     ];
     if sheet.is_text() {
         sheet.put(&cells)

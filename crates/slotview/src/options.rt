@@ -9,7 +9,8 @@ const ABOUT: &str = "Shows a flight plan desk as its journal tells it.\n\n\
     stands before the journal is passed over, and what stands behind its END isn't read. Without a\n\
     command it shows a summary.";
 
-const AFTER: &str = "Exit status: 0 where it was shown; 1 where reading or writing failed, the input has no journal, or\n\
+const AFTER: &str =
+    "Exit status: 0 where it was shown; 1 where reading or writing failed, the input has no journal, or\n\
     no such regulation, flight or entry is there; 2 for a bad command line, or where memory is refused.\n\n\
     Times are UTC. The desk of a day, and the slot list of one regulation after entry 12:\n  \
     slotdesk --start 2409010500 --journal < day.txt | slotview\n  \
@@ -31,18 +32,11 @@ pub enum Format {
 pub enum Shown<'a> {
     Summary,
     /// The slot list of the regulation of this name, or those of all.
-    List {
-        id: Option<&'a str>,
-    },
+    List { id: Option<&'a str> },
     /// The plans of the flight of this identification.
-    Flight {
-        ident: &'a str,
-    },
+    Flight { ident: &'a str },
     /// Demand and slots of the regulation of this name, in steps of so many minutes.
-    Load {
-        id: &'a str,
-        step: u32,
-    },
+    Load { id: &'a str, step: u32 },
 }
 
 /// What the words of the command line ask for.

@@ -7,14 +7,62 @@ use serde_json::{Map, Value, put};
 use std::alloc::{AllocError, Global};
 use std::io::Write;
 
+/// The bytes of a text in a cell at most.
+const LONGEST: usize = 32;
+
 /// What stands in a cell.
-#[derive(Clone, Copy)]
-pub enum Cell<'a> {
+#[derive(Drop)]
+pub enum Cell {
     Blank,
-    Text(&'a [u8]),
+    Text(Text<32>),
     Number(u64),
     /// A number of tenths.
     Tenths(u64),
+}
+
+impl Cell {
+    /// A text, or a blank cell where it is empty. No text is longer than 32 bytes; of a longer one the front stands there.
+    pub fn text(text: &[u8]) -> Cell {
+        if text.is_empty() {
+            return Cell::Blank;
+        }
+        let shown = text.len().min(LONGEST);
+        Cell::Text(Text::new(&text[..shown]))
+    }
+
+    /// A number.
+    pub fn number(number: u32) -> Cell {
+        Cell::Number(u64::from(number))
+    }
+
+    /// A moment: yymmddhhmm.
+    pub fn moment(moment: Minute) -> Cell {
+        let day = moment.yymmdd();
+        let time = moment.hhmm();
+        let mut digits = [b' '; 10];
+        let mut place = 0usize;
+        for digit in day.as_bytes() {
+            if place < 10 {
+                digits[place] = *digit;
+                place += 1;
+            }
+        }
+        for digit in time.as_bytes() {
+            if place < 10 {
+                digits[place] = *digit;
+                place += 1;
+            }
+        }
+        Cell::text(&digits)
+    }
+
+    /// What may be a moment.
+    pub fn moment_or_blank(moment: Option<Minute>) -> Cell {
+        match moment {
+            Some(moment) => Cell::moment(moment),
+            None => Cell::Blank,
+        }
+    }
 }
 
 /// A column: its name, its width in a table of text, and whether its cells stand at the right.
@@ -24,36 +72,6 @@ pub struct Column(pub &'static str, pub usize, pub Side);
 pub enum Side {
     Left,
     Right,
-}
-
-/// The text of a moment: yymmddhhmm.
-pub fn moment_text(moment: Minute) -> Text<10> {
-    let day = moment.yymmdd();
-    let time = moment.hhmm();
-    let mut digits = [b'0'; 10];
-    for (place, digit) in day.as_bytes().iter().chain(time.as_bytes()).enumerate() {
-        if place < 10 {
-            digits[place] = *digit;
-        }
-    }
-    Text::new(&digits)
-}
-
-/// The text of what may be a moment.
-pub fn moment_or_none(moment: Option<Minute>) -> Text<10> {
-    match moment {
-        Some(moment) => moment_text(moment),
-        None => Text::new(b""),
-    }
-}
-
-/// A text that may be empty, in a cell.
-pub fn text_cell(text: &[u8]) -> Cell<'_> {
-    if text.is_empty() {
-        Cell::Blank
-    } else {
-        Cell::Text(text)
-    }
 }
 
 /// Where tables are written, one behind the other.
@@ -81,31 +99,39 @@ fn pad(line: &mut Vec<u8>, count: usize) -> Result<(), AllocError> {
 }
 
 /// The text of a cell.
-fn text_of(alloc: Global, cell: Cell<'_>) -> Result<Vec<u8>, AllocError> {
+fn text_of(alloc: Global, cell: &Cell) -> Result<Vec<u8>, AllocError> {
     match cell {
         Cell::Blank => Ok(Vec::new(alloc)),
-        Cell::Text(text) => Vec::from_slice(alloc, text),
+        Cell::Text(text) => Vec::from_slice(alloc, text.as_bytes()),
         Cell::Number(number) => Ok(format!(in alloc; "{number}")?.into_bytes()),
         Cell::Tenths(tenths) => {
-            let whole = tenths / 10;
-            let rest = tenths % 10;
+            let whole = *tenths / 10;
+            let rest = *tenths % 10;
             Ok(format!(in alloc; "{whole}.{rest}")?.into_bytes())
         }
     }
 }
 
 /// The value of a cell.
-fn value_of(alloc: Global, cell: Cell<'_>) -> Result<Value, AllocError> {
+fn value_of(alloc: Global, cell: &Cell) -> Result<Value, AllocError> {
     match cell {
         Cell::Blank => Ok(Value::Null),
-        Cell::Text(text) => Value::try_from_str(alloc, str::from_utf8(text).unwrap_or("")),
-        Cell::Number(number) => Ok(Value::from(number)),
-        Cell::Tenths(tenths) => Ok(Value::from(tenths as f64 / 10.0)),
+        Cell::Text(text) => Value::try_from_str(
+            alloc,
+            str::from_utf8(text.as_bytes()).unwrap_or(""),
+        ),
+        Cell::Number(number) => Ok(Value::from(*number)),
+        Cell::Tenths(tenths) => Ok(Value::from(*tenths as f64 / 10.0)),
     }
 }
 
 /// Appends a cell to a line of text, and before it the blanks that it needs there.
-fn put_aligned(line: &mut Vec<u8>, gap: usize, column: &Column, text: &[u8]) -> Result<usize, AllocError> {
+fn put_aligned(
+    line: &mut Vec<u8>,
+    gap: usize,
+    column: &Column,
+    text: &[u8],
+) -> Result<usize, AllocError> {
     let Column(_, width, side) = column;
     let room = width.saturating_sub(text.len());
     if text.is_empty() {
@@ -167,13 +193,13 @@ impl<W: Write + Drop> Sheet<W> {
     fn put_names(&mut self) -> Result<(), Fault> {
         let mut cells = Vec::new(self.alloc);
         for Column(name, _, _) in self.columns {
-            cells.push(Cell::Text(name.as_bytes()))?;
+            cells.push(Cell::text(name.as_bytes()))?;
         }
         self.put_line(cells.as_slice())
     }
 
     /// Writes a row.
-    pub fn put(&mut self, cells: &[Cell<'_>]) -> Result<(), Fault> {
+    pub fn put(&mut self, cells: &[Cell]) -> Result<(), Fault> {
         match self.format {
             Format::Table | Format::Csv => self.put_line(cells)?,
             Format::Json => {
@@ -187,7 +213,7 @@ impl<W: Write + Drop> Sheet<W> {
         Ok(())
     }
 
-    fn put_line(&mut self, cells: &[Cell<'_>]) -> Result<(), Fault> {
+    fn put_line(&mut self, cells: &[Cell]) -> Result<(), Fault> {
         let line = match self.format {
             Format::Csv => self.record_of(cells)?,
             _ => self.text_line(cells)?,
@@ -196,21 +222,21 @@ impl<W: Write + Drop> Sheet<W> {
     }
 
     /// The cells of a row as a JSON object.
-    fn object_of(&self, cells: &[Cell<'_>]) -> Result<Value, Fault> {
+    fn object_of(&self, cells: &[Cell]) -> Result<Value, Fault> {
         let mut members = Map::new(self.alloc);
         for (column, cell) in self.columns.iter().zip(cells) {
             let Column(name, _, _) = column;
-            let value = value_of(self.alloc, *cell)?;
+            let value = value_of(self.alloc, cell)?;
             put(&mut members, self.alloc, name, value)?;
         }
         Ok(Value::Object(members))
     }
 
     /// The cells of a row as a record of comma-separated fields.
-    fn record_of(&self, cells: &[Cell<'_>]) -> Result<Vec<u8>, Fault> {
+    fn record_of(&self, cells: &[Cell]) -> Result<Vec<u8>, Fault> {
         let mut record = WriterBuilder::new().from_writer(Vec::new(self.alloc));
         for cell in cells {
-            let text = text_of(self.alloc, *cell)?;
+            let text = text_of(self.alloc, cell)?;
             record.write_field(text.as_slice()).map_err(memory)?;
         }
         record.end_record().map_err(memory)?;
@@ -218,11 +244,11 @@ impl<W: Write + Drop> Sheet<W> {
     }
 
     /// The cells of a row as an aligned line.
-    fn text_line(&self, cells: &[Cell<'_>]) -> Result<Vec<u8>, Fault> {
+    fn text_line(&self, cells: &[Cell]) -> Result<Vec<u8>, Fault> {
         let mut line = Vec::new(self.alloc);
         let mut gap = 0usize;
         for (column, cell) in self.columns.iter().zip(cells) {
-            let text = text_of(self.alloc, *cell)?;
+            let text = text_of(self.alloc, cell)?;
             gap = put_aligned(&mut line, gap, column, text.as_slice())?.saturating_add(1);
         }
         line.push(b'\n')?;
@@ -245,7 +271,11 @@ impl<W: Write + Drop> Sheet<W> {
     /// Ends the tables.
     pub fn end(mut self) -> Result<(), Fault> {
         if let Format::Json = self.format {
-            let end = if self.tables == 0 { b"{}\n".as_slice() } else { b"\n]}\n".as_slice() };
+            let end = if self.tables == 0 {
+                b"{}\n".as_slice()
+            } else {
+                b"\n]}\n".as_slice()
+            };
             self.write(end)?;
         }
         self.writer.flush().map_err(unwritten)

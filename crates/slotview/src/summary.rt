@@ -1,6 +1,6 @@
 //! A summary: the desk, and its open regulations.
 use crate::fault::Fault;
-use crate::sheet::{Cell, Column, Sheet, Side, moment_text};
+use crate::sheet::{Cell, Column, Sheet, Side};
 use flow_core::Core;
 use flow_plans::PlanState;
 use flow_view::{Opened, Totals, rows_of, totals_of};
@@ -61,16 +61,15 @@ fn states_of(core: &Core) -> States {
 
 fn put_desk<W: Write + Drop>(sheet: &mut Sheet<W>, core: &Core) -> Result<(), Fault> {
     let states = states_of(core);
-    let time = moment_text(core.now());
     let plans = u64::from(states.filed) + u64::from(states.departed) + u64::from(states.cancelled);
     sheet.begin("desk", &DESK)?;
     sheet.put(&[
-        Cell::Text(time.as_bytes()),
-        Cell::Number(u64::from(core.entries())),
+        Cell::moment(core.now()),
+        Cell::number(core.entries()),
         Cell::Number(plans),
-        Cell::Number(u64::from(states.filed)),
-        Cell::Number(u64::from(states.departed)),
-        Cell::Number(u64::from(states.cancelled)),
+        Cell::number(states.filed),
+        Cell::number(states.departed),
+        Cell::number(states.cancelled),
     ])
 }
 
@@ -123,20 +122,18 @@ fn put_regulation<W: Write + Drop>(
     let (from, to) = opened.period();
     let place = place_text(alloc, opened.place())?;
     let rates = rates_text(alloc, opened)?;
-    let from = moment_text(from);
-    let to = moment_text(to);
     sheet.put(&[
-        Cell::Text(opened.id().as_bytes()),
-        Cell::Text(place.as_slice()),
-        Cell::Text(from.as_bytes()),
-        Cell::Text(to.as_bytes()),
-        Cell::Text(rates.as_bytes()),
+        Cell::text(opened.id().as_bytes()),
+        Cell::text(place.as_slice()),
+        Cell::moment(from),
+        Cell::moment(to),
+        Cell::text(rates.as_bytes()),
         Cell::Number(totals.flights),
         Cell::Number(totals.frozen),
         Cell::Number(totals.delayed),
         Cell::Number(totals.total),
         Cell::Tenths(mean_of(totals)),
-        Cell::Number(u64::from(totals.greatest)),
+        Cell::number(totals.greatest),
     ])
 }
 
