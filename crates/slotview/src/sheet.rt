@@ -17,7 +17,7 @@ pub enum Cell {
     Text(Text<32>),
     Number(u64),
     /// A number of tenths.
-    Tenths(u64),
+    Tenths(u32),
 }
 
 impl Cell {
@@ -121,7 +121,7 @@ fn value_of(alloc: Global, cell: &Cell) -> Result<Value, AllocError> {
             str::from_utf8(text.as_bytes()).unwrap_or(""),
         ),
         Cell::Number(number) => Ok(Value::from(*number)),
-        Cell::Tenths(tenths) => Ok(Value::from(*tenths as f64 / 10.0)),
+        Cell::Tenths(tenths) => Ok(Value::from(f64::from(*tenths) / 10.0)),
     }
 }
 

@@ -31,6 +31,9 @@ static REGULATIONS: [Column; 11] = [
     Column("most", 4, Side::Right),
 ];
 
+/// A slot list has no more slots.
+const MOST_ROWS: usize = 30_000;
+
 /// Plans by state.
 #[derive(Clone, Copy)]
 struct States {
@@ -97,15 +100,13 @@ fn rates_text(alloc: Global, opened: &Opened) -> Result<String, AllocError> {
 }
 
 /// The mean delay in tenths of a minute, rounded.
-fn mean_of(totals: Totals) -> u64 {
+fn mean_of(totals: Totals) -> u32 {
     if totals.flights == 0 {
         return 0;
     }
-    totals
-        .total
-        .saturating_mul(10)
-        .saturating_add(totals.flights / 2)
-        / totals.flights
+    let tenths = totals.total.saturating_mul(10);
+    let mean = tenths.saturating_add(totals.flights / 2) / totals.flights;
+    u32::try_from(mean).unwrap_or(u32::MAX)
 }
 
 fn put_regulation<W: Write + Drop>(
@@ -118,7 +119,7 @@ fn put_regulation<W: Write + Drop>(
         return Ok(());
     };
     let rows = rows_of(alloc, core, opened.place(), list)?;
-    let totals = totals_of(rows.as_slice());
+    let totals = totals_of(&rows[..rows.len().min(MOST_ROWS)]);
     let (from, to) = opened.period();
     let place = place_text(alloc, opened.place())?;
     let rates = rates_text(alloc, opened)?;
