@@ -92,11 +92,11 @@ opens-along t r made a e h = let same : made ≡ a = cc in subst (Opens t r) sam
 
 abbrev asked_with : Traffic → Message → Changed → Asked
 asked_with t m c = record {
-      plans = c.plans;
-      now = t.now;
-      regulations = departing (is_departure m) c.number t.taxi t.max_plans t.plans t.regulations;
-      verdict = verdict_on t.told m c.number;
-    }
+  plans = c.plans;
+  now = t.now;
+  regulations = departing (is_departure m) c.number t.taxi t.max_plans t.plans t.regulations;
+  verdict = verdict_on t.told m c.number;
+}
 
 asked-opens-by : (t : Traffic) (m : Message) (changed : Result Changed Refusal) (a : Asked)
     → changed >>= (λ c. Ok (asked_with t m c)) ≡ Ok a → Opens t (msg m) a

@@ -108,10 +108,5 @@ pub(crate) fn flight_at<A: Allocator + Copy>(
     let Some(plan) = core.plan(number) else {
         return None;
     };
-    Some(flight_of(
-        plan,
-        core.setup().taxi(),
-        spot,
-        told_of(core, number),
-    ))
+    Some(flight_of(plan, core.setup().taxi(), spot, told_of(core, number)))
 }

@@ -145,13 +145,15 @@ fn take_in<A: Allocator + Copy>(
 {
     match entry.receipt().verdict {
         Verdict::Accepted {
-            kind: Kind::Open, ..
+            kind: Kind::Open,
+            ..
         } => {
             let filing = filing_of(alloc, entry)?;
             take_open(alloc, list, filing.reading())
         }
         Verdict::Accepted {
-            kind: Kind::Shut, ..
+            kind: Kind::Shut,
+            ..
         } => {
             let filing = filing_of(alloc, entry)?;
             take_shut(list, filing.reading());

@@ -21,7 +21,7 @@ pub enum Cell {
 }
 
 impl Cell {
-    /// A text, or a blank cell where it is empty. No text is longer than 32 bytes; of a longer one the front stands there.
+    /// A text, or a blank cell where it is empty. No text is longer than 32 bytes; a longer one would be cut.
     pub fn text(text: &[u8]) -> Cell {
         if text.is_empty() {
             return Cell::Blank;

@@ -18,5 +18,5 @@ returns g c =
     let taxi : c.taxi.result ≡ c.args.core.now.setup.taxi = c.taxi.ensures.value ∙ ap (λ s. s.taxi) c.setup.ensures in
     let made : Option Plan → Option Flight = option_map (λ p. flight_of c.args.core.now.setup.taxi c.args.spot.now p (told_of t.told c.args.number)) in
     ap (λ (f : Flight). Some f) (c.flight_of.ensures ∙ (ap (λ n. flight_of n c.args.spot.now c.in-Some.plan.now c.told_of.result) taxi
-        ∙ ap (λ (o : Option Told). flight_of c.args.core.now.setup.taxi c.args.spot.now c.in-Some.plan.now o) told))
+    ∙ ap (λ (o : Option Told). flight_of c.args.core.now.setup.taxi c.args.spot.now c.in-Some.plan.now o) told))
     ∙ sym (ap made here)

@@ -9,9 +9,9 @@ use Rattle.flow_view.proofs.load.loads_of.Goals as goal
 pub load_at-requires-clause-within : goal.load_at-requires-clause-within
 load_at-requires-clause-within g c =
     let minutes : c.saturating_sub-minutes.result ≡ c.args.shape.now.end - c.args.shape.now.start
-        = omega (arith, c.saturating_sub-minutes.ensures, c.minutes.ensures.value, c.minutes-2.ensures.value, c.period-start.ensures.start, c.period-start.ensures.end) in
+    = omega (arith, c.saturating_sub-minutes.ensures, c.minutes.ensures.value, c.minutes-2.ensures.value, c.period-start.ensures.start, c.period-start.ensures.end) in
     let within : c.args.step * c.loop-index.index < c.saturating_sub-minutes.result
-        = begins-within c.saturating_sub-minutes.result c.args.step c.loop-index.index c.requires.some c.loop-index-test.true in
+    = begins-within c.saturating_sub-minutes.result c.args.step c.loop-index.index c.requires.some c.loop-index-test.true in
     subst (λ n. c.args.step * c.loop-index.index < n) minutes within
 
 pub loop-index-preserved : goal.loop-index-preserved
@@ -29,7 +29,7 @@ returns g c =
     let p : Period = c.args.shape.now in
     let rows : List SlotRow = c.args.rows.now in
     let minutes : c.saturating_sub-minutes.result ≡ p.end - p.start
-        = omega (arith, c.saturating_sub-minutes.ensures, c.minutes.ensures.value, c.minutes-2.ensures.value, c.period-start.ensures.start, c.period-start.ensures.end) in
+    = omega (arith, c.saturating_sub-minutes.ensures, c.minutes.ensures.value, c.minutes-2.ensures.value, c.period-start.ensures.start, c.period-start.ensures.end) in
     let all : c.loop-index.index ≡ (c.saturating_sub-minutes.result + c.args.step - 1) / c.args.step = omega (arith, c.loop-index-test.false, c.loop-index.auto.index-end) in
     c.loop-index.invariant
     ∙ (ap (λ n. loads_before n c.args.step p rows) all

@@ -15,13 +15,13 @@ loop-index-preserved g c =
     let at : i + 1 - 1 ≡ i = omega arith in
     elim c.match-entry.branch [
       | in-Some+in_ok-take_in w ↦
-        let here : slice_get js (i + 1 - 1) ≡ Some w.in-Some.entry = sym (w.in-Some.ensures.entry (omega arith)) in
-        ap (λ l. l.items) w.list-is
-        ∙ (w.in_ok-take_in.ensures
-        ∙ (ap (λ (os : List Opening). open_after os w.in-Some.entry) c.loop-index.invariant
-        ∙ sym (next-open js i (i + 1 - 1) w.in-Some.entry at here)))
+          let here : slice_get js (i + 1 - 1) ≡ Some w.in-Some.entry = sym (w.in-Some.ensures.entry (omega arith)) in
+          ap (λ l. l.items) w.list-is
+          ∙ (w.in_ok-take_in.ensures
+          ∙ (ap (λ (os : List Opening). open_after os w.in-Some.entry) c.loop-index.invariant
+          ∙ sym (next-open js i (i + 1 - 1) w.in-Some.entry at here)))
       | in_default w ↦
-        absurd (one-more js i (i + 1 - 1) at (omega (arith, c.loop-index-test.true, c.entries-index-end.ensures.count)) (sym (c.entry.ensures.entry (omega arith)) ∙ w.in_default.is))
+          absurd (one-more js i (i + 1 - 1) at (omega (arith, c.loop-index-test.true, c.entries-index-end.ensures.count)) (sym (c.entry.ensures.entry (omega arith)) ∙ w.in_default.is))
     ]
 
 pub returns : goal.returns
