@@ -1,0 +1,4 @@
+pub mod Told
+pub mod Openings
+pub mod Entries
+pub mod Loads

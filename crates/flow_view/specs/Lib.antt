@@ -1,0 +1,5 @@
+pub mod Load
+pub mod Opened
+pub mod Opening
+pub mod Shown
+pub mod Totals

@@ -1,0 +1,16 @@
+//! What a desk shows of itself: the rows of its slot lists.
+#![tactic(auto)]
+
+mod flight;
+mod load;
+mod opened;
+mod past;
+mod slot_row;
+mod totals;
+
+pub use flight::{Flight, entry_at};
+pub use load::{Load, held_later, loads_of};
+pub use opened::{Opened, open_regulations};
+pub use past::core_after;
+pub use slot_row::{SlotRow, row_at, rows_of};
+pub use totals::{Totals, totals_of};

@@ -1,0 +1,71 @@
+//! The rows of a slot list.
+ghost use Rattle.std.specs.Prelude.{◌≡◌, ◌<◌, IfOk};
+ghost use Rattle.std.specs.Option.{option_map};
+ghost use Rattle.flow_core.specs.History.{state_of};
+ghost use Rattle.flow_slots.specs.Lineup.{len_of, held_flight};
+ghost use Rattle.flow_view.specs.Shown.{row_of, shown};
+
+use crate::flight::{Flight, flight_at};
+use flow_core::Core;
+use flow_slots::SlotList;
+use fpl_message::Spot;
+use fpl_text::Minute;
+use std::alloc::{AllocError, Allocator};
+
+/// A held slot of a regulation with its flight.
+#[derive(Drop)]
+pub struct SlotRow {
+    /// The number of the slot, from 0.
+    pub slot: u32,
+    /// The moment of the slot.
+    pub time: Minute,
+    /// The number of the flight's plan, from 1.
+    pub plan: u32,
+    /// Whether the flight keeps the slot.
+    pub frozen: bool,
+    /// None where there is no plan of that number.
+    pub flight: Option<Flight>,
+}
+
+/// The row of a slot, where it is held.
+pub fn row_at<A: Allocator + Copy>(
+    core: &Core<A>,
+    spot: &Spot,
+    list: &SlotList<A>,
+    slot: u32,
+) -> Option<SlotRow>
+    requires { slot < len_of list.now.lineup }
+    ensures { result ≡ option_map (λ f. row_of core.now.setup.taxi (state_of core.now).traffic spot.now list.now.lineup (record { flight = f; slot = slot })) (held_flight list.now.lineup slot) }
+{
+    let Some(plan) = list.holder(slot) else {
+        return None;
+    };
+    let _most = list.max_plans();
+    let _cells = list.cells();
+    let _len = list.len();
+    Some(SlotRow {
+        slot,
+        time: list.shape().slot_time(slot),
+        plan,
+        frozen: list.is_fixed(plan),
+        flight: flight_at(core, spot, plan),
+    })
+}
+
+/// The rows of a slot list of a regulation at that place, in the order of its slots.
+pub fn rows_of<A: Allocator + Copy>(
+    alloc: A,
+    core: &Core<A>,
+    spot: &Spot,
+    list: &SlotList<A>,
+) -> Result<Vec<SlotRow, A>, AllocError>
+    ensures { IfOk result (λ rows. rows.items ≡ shown core.now spot.now list.now.lineup) }
+{
+    let mut rows = Vec::new(alloc);
+    for slot in 0..list.len() {
+        if let Some(row) = row_at(core, spot, list, slot) {
+            rows.push(row)?;
+        }
+    }
+    Ok(rows)
+}

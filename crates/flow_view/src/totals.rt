@@ -1,0 +1,69 @@
+//! Sums and counts of the rows of a slot list.
+ghost use Rattle.std.specs.Prelude.{◌≡◌, ◌≤◌, ◌<◌, ◌^◌, length, IfSome, IsTrue};
+ghost use Rattle.flow_view.specs.Totals.{entry_of, delay_of, totals_of};
+
+use crate::slot_row::SlotRow;
+use fpl_text::Minute;
+
+/// Sums and counts of the rows of a slot list.
+#[derive(Clone, Copy)]
+pub struct Totals {
+    /// How many flights hold a slot.
+    pub flights: u64,
+    /// How many of them keep it, departed ones among them.
+    pub frozen: u64,
+    /// How many have a slot after their planned entry.
+    pub delayed: u64,
+    /// The sum of the delays, in minutes.
+    pub total: u64,
+    /// The greatest delay, in minutes.
+    pub greatest: u32,
+}
+
+impl SlotRow {
+    /// The planned entry of the flight.
+    pub fn entry(&self) -> Option<Minute>
+        ensures { result ≡ entry_of self.now }
+    {
+        match &self.flight {
+            Some(flight) => flight.entry,
+            None => None,
+        }
+    }
+
+    /// The minutes from the planned entry to the slot.
+    pub fn delay(&self) -> u32
+        ensures value { result ≡ delay_of self.now }
+        ensures bound { result ≤ 100_000_000 }
+    {
+        match self.entry() {
+            Some(entry) => self.time.minutes().saturating_sub(entry.minutes()),
+            None => 0,
+        }
+    }
+}
+
+/// The sums and counts of the rows.
+pub fn totals_of(rows: &[SlotRow]) -> Totals
+    requires { length rows.now ≤ 1_000_000 }
+    ensures { result ≡ totals_of rows.now }
+{
+    let mut totals = Totals {
+        flights: 0,
+        frozen: 0,
+        delayed: 0,
+        total: 0,
+        greatest: 0,
+    };
+    for row in rows {
+        let delay = row.delay();
+        totals = Totals {
+            flights: totals.flights + 1,
+            frozen: totals.frozen + u64::from(row.frozen),
+            delayed: totals.delayed + u64::from(delay > 0),
+            total: totals.total + u64::from(delay),
+            greatest: totals.greatest.max(delay),
+        };
+    }
+    totals
+}

@@ -1,0 +1,190 @@
+//! A run of the program.
+ghost use Rattle.std.specs.Prelude.{◌≤◌};
+
+use crate::fault::{DONE, Fault, NOT_RUN, tell};
+use crate::flight::put_flight;
+use crate::list::put_lists;
+use crate::load::put_loads;
+use crate::options::{Options, Shown, read_options};
+use crate::sheet::Sheet;
+use crate::source::Source;
+use crate::summary::put_summary;
+use clap::Error;
+use clap::error::ErrorKind;
+use flow_core::{Core, Counted, JournalFault, read_journal};
+use flow_view::{Opened, core_after, open_regulations};
+use std::alloc::Global;
+use std::io::{BufReader, Read, Write};
+use std::mem::ManuallyDrop;
+
+/// Shows what the words of the command line ask for, of which the first is the program's name, and answers the exit
+/// status: 0 where it was shown, 1 where a device failed or it isn't there, 2 where nothing could be run.
+///
+/// What is shown goes to `writer`, one line of a fault and the text of a bad command line to `errors`. The command line
+/// is checked before a byte is read.
+pub fn run_words<R: Read + Drop, W: Write + Drop, E: Write>(
+    alloc: Global,
+    words: &[String],
+    reader: R,
+    mut writer: W,
+    errors: &mut E,
+) -> u8
+    ensures { result ≤ 2 }
+{
+    let options = match read_options(alloc, words) {
+        Ok(options) => options,
+        Err(error) => return tell_usage(&error, &mut writer, errors),
+    };
+    match show(alloc, options, reader, writer, errors) {
+        Ok(()) => DONE,
+        Err(fault) => tell(fault, errors),
+    }
+}
+
+/// Reads the journal, and shows what is asked for.
+fn show<R: Read + Drop, W: Write + Drop, E: Write>(
+    alloc: Global,
+    options: Options<'_>,
+    reader: R,
+    writer: W,
+    errors: &mut E,
+) -> Result<(), Fault> {
+    let core = read_desk(alloc, reader)?;
+    let shown = match options.at {
+        Some(count) => show_past(alloc, options, &core, count, writer, errors),
+        None => show_desk(alloc, options, &core, writer, errors),
+    };
+    // The process ends now and gives its memory back whole.
+    let _kept = ManuallyDrop::new(core);
+    shown
+}
+
+/// Shows what is asked for of the desk as it stood after so many entries.
+fn show_past<W: Write + Drop, E: Write>(
+    alloc: Global,
+    options: Options<'_>,
+    core: &Core,
+    count: u32,
+    writer: W,
+    errors: &mut E,
+) -> Result<(), Fault> {
+    let entries = core.entries();
+    if count > entries {
+        let _told = writeln!(errors, "slotview: no entry {count}, there are {entries}");
+        return Err(Fault::NotThere);
+    }
+    let past = core_after(alloc, core, count)?;
+    show_desk(alloc, options, &past, writer, errors)
+}
+
+/// The desk of the journal in the input.
+fn read_desk<R: Read + Drop>(alloc: Global, reader: R) -> Result<Core, Fault> {
+    let Ok(reader) = BufReader::new(alloc, reader) else {
+        return Err(Fault::OutOfMemory);
+    };
+    let mut source = Source::new(reader);
+    match source.find() {
+        Ok(true) => {}
+        Ok(false) => {
+            return Err(Fault::BadJournal { at: source.place() });
+        }
+        Err(_) => return Err(Fault::Read),
+    }
+    let read = read_journal(alloc, &mut Counted::new(&mut source));
+    match read {
+        Ok(core) => Ok(core),
+        Err(JournalFault::Read) => Err(Fault::Read),
+        Err(JournalFault::NotAJournal) => Err(Fault::BadJournal { at: source.place() }),
+        Err(JournalFault::OutOfMemory) => Err(Fault::OutOfMemory),
+    }
+}
+
+/// Shows what is asked for of a desk.
+fn show_desk<W: Write + Drop, E: Write>(
+    alloc: Global,
+    options: Options<'_>,
+    core: &Core,
+    writer: W,
+    errors: &mut E,
+) -> Result<(), Fault> {
+    let regulations = open_regulations(alloc, core)?;
+    let all = regulations.as_slice();
+    let mut sheet = Sheet::new(alloc, options.format, writer);
+    match options.shown {
+        Shown::Summary => put_summary(alloc, &mut sheet, core, all)?,
+        Shown::List { id: None } => put_lists(alloc, &mut sheet, core, all)?,
+        Shown::List { id: Some(id) } => {
+            put_lists(alloc, &mut sheet, core, named(all, id, errors)?)?;
+        }
+        Shown::Load { id, step } => {
+            for opened in named(all, id, errors)? {
+                put_loads(alloc, &mut sheet, core, opened, step)?;
+            }
+        }
+        Shown::Flight { ident } => {
+            if !put_flight(alloc, &mut sheet, core, all, ident.as_bytes())? {
+                tell_flights(core, ident, errors);
+                return Err(Fault::NotThere);
+            }
+        }
+    }
+    sheet.end()
+}
+
+/// Writes that there is no such flight, and the flights that there are.
+fn tell_flights<E: Write>(core: &Core, ident: &str, errors: &mut E) {
+    let _told = write!(errors, "slotview: no flight {ident}, there are:");
+    for index in 0..core.setup().max_plans() {
+        let Some(plan) = core.plan(index + 1) else {
+            break;
+        };
+        let name = str::from_utf8(plan.key().ident.as_bytes()).unwrap_or("");
+        let _named = write!(errors, " {name}");
+    }
+    let _ended = errors.write_all(b"\n");
+}
+
+/// The open regulation of this name, alone. Where there is none, a line names those there are.
+fn named<'a, E: Write>(
+    regulations: &'a [Opened],
+    id: &str,
+    errors: &mut E,
+) -> Result<&'a [Opened], Fault> {
+    for (index, opened) in regulations.iter().enumerate() {
+        if opened.is_named(id.as_bytes()) {
+            return Ok(&regulations[index..index + 1]);
+        }
+    }
+    let _told = write!(errors, "slotview: no regulation {id}, open are:");
+    for opened in regulations {
+        let name = str::from_utf8(opened.id().as_bytes()).unwrap_or("");
+        let _named = write!(errors, " {name}");
+    }
+    let _ended = errors.write_all(b"\n");
+    Err(Fault::NotThere)
+}
+
+/// What is said beside the parser's text to a word that is no command or option, such as the name of a file.
+const INPUT_HINT: &[u8] = b"\nThe journal comes on standard input: slotview .. < FILE\n";
+
+/// Writes what the command line parser says, the help to `writer` and a fault to `errors`.
+fn tell_usage<W: Write, E: Write>(error: &Error, writer: &mut W, errors: &mut E) -> u8
+    ensures { result ≤ 2 }
+{
+    if error.kind() == ErrorKind::OutOfMemory {
+        return tell(Fault::OutOfMemory, errors);
+    }
+    if error.use_stderr() {
+        let _told = write!(errors, "{error}");
+        if error.kind() == ErrorKind::UnknownArgument {
+            let _hinted = errors.write_all(INPUT_HINT);
+        }
+        let _flushed = errors.flush();
+        return NOT_RUN;
+    }
+    let told = write!(writer, "{error}");
+    if told.is_err() || writer.flush().is_err() {
+        return tell(Fault::Write, errors);
+    }
+    DONE
+}
