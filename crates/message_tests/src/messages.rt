@@ -1,4 +1,3 @@
-use fpl_items::Kind;
 use fpl_message::{Chg, Edition, Filing, FilingFault, Message, Order, Reading, Refusal, Spot};
 use fpl_text::{Day, FlightRules, read_moment};
 use linked_list_allocator::LocalHeap;
@@ -234,14 +233,6 @@ fn a_flight_plan(rt: HostRuntime) -> Result<(), Fail> {
     assert_eq!(rt; plan.craft().kind.as_bytes(), b"B773".as_slice());
     assert_eq!(rt; plan.field(4), b"CHOV/S".as_slice());
     assert_eq!(rt; plan.departure().time.minutes(), 840);
-    let route = plan.route(rt.alloc())?;
-    assert_eq!(rt; route.elements().len(), 8);
-    assert!(rt;
-        route
-            .elements()
-            .last()
-            .is_some_and(|element| element.kind == Kind::Dct)
-    );
     assert_eq!(rt; plan.destination().alternates.as_slice().len(), 1);
     assert_eq!(rt; plan.elapsed(), 295);
     assert_eq!(rt; plan.other().day(), Day::read(b"240901"));
