@@ -13,10 +13,10 @@ use Rattle.fpl_text.specs.Words.{words_of}
 use Rattle.fpl_items.specs.Items.{items_of, elapsed_to}
 use Rattle.fpl_message.specs.declared.order.Spot.{Spot}
 use Rattle.fpl_message.specs.declared.order.Spot.TheVariants.{Dep, Arr, Via}
-use Rattle.flow_plans.specs.declared.estimate.Estimate.{Estimate}
+use Rattle.fpl_items.specs.declared.estimate.Estimate.{Estimate}
 use Rattle.flow_plans.specs.Plans.{Plan, is_filed, is_visual}
-use Rattle.flow_plans.specs.Places.{bit_of, may_have}
-use Rattle.flow_plans.specs.Estimates.{AreEstimatesOf}
+use Rattle.fpl_items.specs.Places.{bit_of, may_have}
+use Rattle.fpl_items.specs.Estimates.{first_for, AreEstimatesOf}
 use Rattle.flow_plans.specs.Entries.{take_off, elapsed_at, entry_at, in_period, subject}
 use Rattle.flow_plans.specs.Near.{row_of, word_at, HasBitsOf}
 
@@ -28,10 +28,6 @@ or-second a b w h i l s = (let e = h i l s in omega (arith, bit_at_or a b i, bit
 
 pub bits-same : (a w : ℕ) → a ≡ w → HasBitsOf a w
 bits-same a w e i l s = ap (λ v. bit_at v i) e ∙ s
-
--- a word of ones has all bits
-pub bits-all : (w : ℕ) → HasBitsOf 18_446_744_073_709_551_615 w
-bits-all w i l s = bit_at_ones 64 i l
 
 pub bit-below : (place : List ℕ) → bit_of place < 64
 unfolding bit_of
@@ -63,15 +59,12 @@ taken-one table places j words word e taken b l h s = cases (cases_eq b j) where
       subst B (sym q) (or-second words word (word_at table (128 + j)) (bits-same word (word_at table (128 + j)) e))
   cases (inr ne) = or-first words word (word_at table (128 + b)) (taken b (omega (arith, l, ne)) h s)
 
--- a place with an estimate is in the set
-pub has-place : (field place : List ℕ) (whole : Bool) (places : ℕ) (notes : List Estimate) → AreEstimatesOf field whole places notes → IsSome (elapsed_to place (items_of (words_of field))) → whole ≡ true → may_have places place ≡ true
-has-place field place whole places notes e some is = cases (may_have places place) refl where
-  cases : (b : Bool) → may_have places place ≡ b → b ≡ true
-  cases true q = refl
-  cases false q =
-      let none : elapsed_to place (items_of (words_of field)) ≡ None = sym (e.say_the_same is place) ∙ e.have_places place q in
-      let S : Option ℕ → Type 0 = λ o. IsSome o in
-      absurd (false≢true (subst S none some))
+-- a place with an estimate has its bit
+pub some-has : (field place : List ℕ) (places : ℕ) (notes : List Estimate) → AreEstimatesOf (items_of (words_of field)) notes
+    → ((other : List ℕ) → IsSome (first_for other notes) → may_have places other ≡ true) → IsSome (elapsed_to place (items_of (words_of field))) → may_have places place ≡ true
+some-has field place places notes are has some =
+    let S : Option ℕ → Type 0 = λ o. IsSome o in
+    has place (subst S (sym (are place)) some)
 
 pub some-first : (o : Option ℕ) (f : ℕ → Option ℕ) → IsSome (option_and_then f o) → IsSome o
 some-first None f h = absurd (false≢true h)

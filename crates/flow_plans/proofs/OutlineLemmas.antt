@@ -4,7 +4,6 @@ use Rattle.std.specs.Prelude.{IsSome, IfSome, codes}
 use Rattle.std.specs.Option.{option_and_then}
 use Rattle.std.specs.Str.{bytes_eq}
 use Rattle.std.proofs.lemmas.Bool.{false≢true, eq-eqb, and_parts, le-leb, lt-ltb, leb-true, ltb-true}
-use Rattle.std.proofs.lemmas.Nat.Bits.{bit_at_ones}
 use Rattle.std.proofs.lemmas.Option.{slice_get-get_or}
 use lib.Pointwise.{bytes_decides}
 use Rattle.fpl_text.specs.Moments.{moment_within}
@@ -12,14 +11,11 @@ use Rattle.fpl_message.specs.declared.order.Spot.{Spot}
 use Rattle.fpl_message.specs.declared.order.Spot.TheVariants.{Dep, Arr, Via}
 use Rattle.flow_plans.specs.declared.outline.Outline.{Outline}
 use Rattle.flow_plans.specs.Plans.{Plan, is_filed, is_visual, plan_at, filed_moment, filed_off_block}
-use Rattle.flow_plans.specs.Places.{bit_of, may_have, letters_of}
+use Rattle.fpl_items.specs.Places.{may_have}
+use Rattle.flow_plans.specs.Places.{letters_of}
 use Rattle.flow_plans.specs.Entries.{take_off, elapsed_at, entry_at, in_period, subject}
 use Rattle.flow_plans.specs.Outlines.{may_be_subject, may_come, may_fly, outlined_moment, IsOutlineOf, AreOutlines}
-use Rattle.flow_plans.proofs.NearLemmas.{bit-below, some-first, some-if, some-then, subject-enters}
-
--- a set of all places has each place
-pub all-places : (place : List ℕ) → may_have 18_446_744_073_709_551_615 place ≡ true
-all-places place = eq-eqb _ _ (bit_at_ones 64 (bit_of place) (bit-below place))
+use Rattle.flow_plans.proofs.NearLemmas.{some-first, some-if, some-then, subject-enters}
 
 -- regulations apply to no flight but of such a plan
 pub subject-may-be : (taxi start end : ℕ) (spot : Spot) (p : Plan) → IsSome (subject taxi spot start end p) → may_be_subject p ≡ true

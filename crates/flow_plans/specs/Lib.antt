@@ -6,7 +6,6 @@ pub mod Searching
 pub mod Chains
 pub mod Changes
 pub mod Entries
-pub mod Estimates
 pub mod Places
 pub mod Near
 pub mod Outlines

@@ -3,7 +3,7 @@ use Rattle.std.specs.Prelude.{◌≡◌, ℕ, ◌+◌, ◌<◌, List, slice_inde
 use Rattle.std.specs.Int.{bit_at}
 use Rattle.fpl_message.specs.declared.order.Spot.{Spot}
 use Rattle.fpl_message.specs.declared.order.Spot.TheVariants.{Dep, Arr, Via}
-use Rattle.flow_plans.specs.Places.{bit_of}
+use Rattle.fpl_items.specs.Places.{bit_of}
 
 -- the row of a place: departures, arrivals and places on the way have 64 rows each
 unfoldable pub row_of : Spot → ℕ

@@ -7,7 +7,8 @@ use Rattle.fpl_message.specs.declared.order.Spot.TheVariants.{Dep, Arr, Via}
 use Rattle.flow_plans.specs.declared.outline.Outline.{Outline}
 use Rattle.flow_plans.specs.Plans.{Plan, is_filed, is_visual}
 use Rattle.flow_plans.specs.Entries.{subject}
-use Rattle.flow_plans.specs.Places.{may_have, letters_of}
+use Rattle.fpl_items.specs.Places.{may_have}
+use Rattle.flow_plans.specs.Places.{letters_of}
 
 -- whether regulations may apply to the flight of a plan, wherever they are
 abbrev pub may_be_subject : Plan → Bool

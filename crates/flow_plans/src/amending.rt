@@ -49,7 +49,10 @@ pub(crate) fn exempt_after<A: Allocator + Copy>(held: bool, amended: Option<&Oth
 
 /// The elapsed time of an amended field 16 that has one, or else the one held.
 pub(crate) fn elapsed_after(held: u32, amended: Option<&Destination>) -> u32
-    ensures { result ≡ elapsed_after held (option_copied amended.entry) }
+    requires held { held < 6000 }
+    requires amended { IfSome amended (λ amended. IfSome amended.now.elapsed (λ minutes. minutes < 6000)) }
+    ensures value { result ≡ elapsed_after held (option_copied amended.entry) }
+    ensures bound { result < 6000 }
 {
     match amended {
         Some(destination) => destination.elapsed.unwrap_or(held),

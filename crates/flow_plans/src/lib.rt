@@ -10,7 +10,7 @@
 //! - *Outlines* (`outline`): where and when a plan's flight may come, in 24 bytes a plan. OPEN goes over these, and
 //!   reads the plans of those flights that may come to its place in its period. An outline may say too much, never
 //!   too little.
-//! - *Estimates* (`estimates`): the EET items of field 18 as notes, made when the plan is filed or amended.
+//! - *Estimates* (`texts`): what the EET items of field 18 say, taken over from the message that was read.
 //! - *Places* (`places`, `near`): a bit for each place that a flight comes to, by which the open regulations near it
 //!   are found.
 //!
@@ -20,13 +20,10 @@
 
 mod amending;
 mod chains;
-mod estimate;
-mod estimates;
 mod fault;
 pub mod laws;
 mod matching;
 mod near;
-mod note_list;
 mod outline;
 mod places;
 mod plan;

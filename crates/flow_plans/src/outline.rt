@@ -4,8 +4,9 @@
 ghost use Rattle.std.specs.Prelude.{◌≡◌};
 ghost use Rattle.flow_plans.specs.Outlines.{may_come, may_fly, outlined_moment, IsOutlineOf};
 
-use crate::places::{letters_of, may_have};
+use crate::places::letters_of;
 use crate::plan::Plan;
+use fpl_items::places::may_have;
 use fpl_message::Spot;
 use fpl_text::Minute;
 use std::alloc::Allocator;

@@ -5,7 +5,7 @@ ghost use Rattle.flow_plans.specs.Entries.{take_off, elapsed_at, entry_at, subje
 ghost use Rattle.fpl_message.specs.declared.order.Spot.{Spot};
 ghost use Rattle.flow_plans.specs.Near.{row_of, word_at, HasBitsOf};
 ghost use Rattle.flow_plans.specs.Outlines.{may_be_subject};
-ghost use Rattle.flow_plans.specs.Places.{may_have};
+ghost use Rattle.fpl_items.specs.Places.{may_have};
 ghost use Rattle.flow_plans.specs.Plans.{is_held, is_filed, is_visual, same_key, is_held_as, text_of, status_of, with_state, with_off_block};
 ghost use Rattle.flow_plans.specs.Matching.{agrees, is_candidate, is_gone};
 ghost use Rattle.flow_plans.specs.Changes.{plan_of, key_of, changes_key, key_after, amended_plan};
@@ -167,20 +167,16 @@ impl<A: Allocator + Copy> Model for Plan<A> {
       texts = p.texts;
     } };
 
-    ghost invariant = { λ p. p.off_block < 67_855_680 };
+    ghost invariant = { λ p. (p.off_block < 67_855_680) × (p.elapsed < 6000) };
 }
 
 impl<A: Allocator + Copy> Plan<A> {
-    /// The plan that a flight plan message files, with this off-block moment. Refused where memory is, and with an elapsed time
-    /// of more than 65,535 minutes, which no message that was read has.
+    /// The plan that a flight plan message files, with this off-block moment. Refused where memory is.
     #[tactic(auto, unfolding(crate::specs::Changes::plan_of))]
     pub(crate) fn new(alloc: A, message: &Fpl<A>, off_block: Minute) -> Result<Self, AllocError>
         requires { off_block < 67_855_680 }
         ensures { IfOk result (λ p. p ≡ plan_of off_block message.now) }
     {
-        let Ok(elapsed) = u16::try_from(message.elapsed()) else {
-            return Err(AllocError);
-        };
         let texts = Texts::new(
             alloc,
             message.field(2),
@@ -188,12 +184,13 @@ impl<A: Allocator + Copy> Plan<A> {
             message.field(4),
             message.field(6),
             message.field(8),
+            message.other().estimates(),
         )?;
         Ok(Plan {
             key: key_of(message, off_block),
             state: PlanState::Filed,
             off_block,
-            elapsed,
+            elapsed: message.elapsed() as u16,
             alternates: message.destination().alternates.copied(),
             rules: message.rules().rules,
             exempt: message.other().exempt(),
@@ -214,16 +211,13 @@ impl<A: Allocator + Copy> Plan<A> {
         requires off_block { off_block < 67_855_680 }
         ensures { IfOk result (λ p. p ≡ amended_plan off_block message.now self.now) }
     {
-        let minutes = elapsed_after(self.elapsed_time(), message.destination());
-        let Ok(elapsed) = u16::try_from(minutes) else {
-            return Err(AllocError);
-        };
+        let elapsed = elapsed_after(self.elapsed_time(), message.destination());
         let texts = self.texts.amended(alloc, message)?;
         Ok(Plan {
             key,
             state: self.state,
             off_block,
-            elapsed,
+            elapsed: elapsed as u16,
             alternates: alternates_after(&self.alternates, message.destination()),
             rules: rules_after(self.rules, message.rules()),
             exempt: exempt_after(self.exempt, message.other()),
@@ -462,9 +456,10 @@ impl<A: Allocator + Copy> Plan<A> {
         way.max(self.elapsed)
     }
 
-    /// The total elapsed time, in minutes.
+    /// The total elapsed time, in minutes, at most 5,999.
     pub fn elapsed_time(&self) -> u32
-        ensures { result ≡ self.now.elapsed }
+        ensures value { result ≡ self.now.elapsed }
+        ensures bound { result < 6000 }
     {
         u32::from(self.elapsed)
     }

@@ -1,13 +1,15 @@
 //! The field texts that a plan holds.
-ghost use Rattle.std.specs.Prelude.{◌≡◌, ◌≤◌, ◌<◌, ◌+◌, ◌++◌, true, length, List, ℕ, IfOk, IfSome, IsSome};
+ghost use Rattle.std.specs.Prelude.{◌≡◌, ◌≤◌, ◌<◌, ◌+◌, ◌++◌, true, length, List, ℕ, option_copied, MatchOption, IfOk, IfSome, IsSome};
 ghost use Rattle.fpl_text.specs.Words.{words_of};
 ghost use Rattle.fpl_items.specs.Items.{items_of, elapsed_to};
+ghost use Rattle.fpl_items.specs.Estimates.{AreEstimatesOf};
 ghost use Rattle.flow_plans.specs.Changes.{texts_after};
 ghost use Rattle.flow_plans.specs.Near.{word_at, HasBitsOf};
-ghost use Rattle.flow_plans.specs.Places.{bit_of, may_have};
+ghost use Rattle.fpl_items.specs.Places.{bit_of, may_have};
 
 use crate::amending::text_after;
-use crate::estimates::Estimates;
+use crate::near::words_on_way;
+use fpl_items::{Estimates, Other18};
 use fpl_message::Chg;
 use std::alloc::{AllocError, Allocator, Global};
 use std::marker::Model;
@@ -27,7 +29,9 @@ pub(crate) struct Texts<A: Allocator + Copy = Global> {
 impl<A: Allocator + Copy> Model for Texts<A> {
     ghost use Rattle.std.specs.Prelude.{◌≤◌, length, slice_range, drop};
     ghost use Rattle.flow_plans.specs.Plans.{Texts as Held};
-    ghost use Rattle.flow_plans.specs.Estimates.{AreEstimatesOf};
+    ghost use Rattle.fpl_text.specs.Words.{words_of};
+    ghost use Rattle.fpl_items.specs.Items.{items_of};
+    ghost use Rattle.fpl_items.specs.Estimates.{AreEstimatesOf};
 
     ghost Value = { Held };
 
@@ -40,7 +44,7 @@ impl<A: Allocator + Copy> Model for Texts<A> {
     } };
 
     ghost invariant = { λ t. (t.end8 ≤ t.end9) × (t.end9 ≤ t.end10) × (t.end10 ≤ t.end15) × (t.end15 ≤ length t.bytes.items)
-        × AreEstimatesOf (slice_range t.bytes.items t.end15 (length t.bytes.items)) t.estimates.whole t.estimates.places t.estimates.notes };
+        × AreEstimatesOf (items_of (words_of (slice_range t.bytes.items t.end15 (length t.bytes.items)))) t.estimates };
 }
 
 /// Appends a text, and answers where it ends.
@@ -52,8 +56,21 @@ fn push_text<A: Allocator>(bytes: &mut Vec<u8, A>, text: &[u8]) -> Result<usize,
     Ok(bytes.len())
 }
 
+/// The estimates of an amended field 18, or else those held.
+fn estimates_after<'a, A: Allocator + Copy>(
+    held: &'a Estimates<A>,
+    amended: Option<&'a Other18<A>>,
+) -> &'a Estimates<A>
+    ensures { MatchOption (option_copied amended.entry) (result.now ≡ held.now) (λ items. AreEstimatesOf items result.now) }
+{
+    match amended {
+        Some(other) => other.estimates(),
+        None => held,
+    }
+}
+
 impl<A: Allocator + Copy> Texts<A> {
-    /// A copy of these texts.
+    /// A copy of these texts, and of the estimates of field 18.
     pub(crate) fn new(
         alloc: A,
         field8: &[u8],
@@ -61,10 +78,12 @@ impl<A: Allocator + Copy> Texts<A> {
         field10: &[u8],
         field15: &[u8],
         field18: &[u8],
+        estimates: &Estimates<A>,
     ) -> Result<Self, AllocError>
+        requires { AreEstimatesOf (items_of (words_of field18.now)) estimates.now }
         ensures { IfOk result (λ t. t ≡ record { field8 = field8.now; field9 = field9.now; field10 = field10.now; field15 = field15.now; field18 = field18.now }) }
     {
-        let estimates = Estimates::read(alloc, field18)?;
+        let estimates = estimates.copied(alloc)?;
         let small = field8
             .len()
             .saturating_add(field9.len())
@@ -100,6 +119,7 @@ impl<A: Allocator + Copy> Texts<A> {
             text_after(self.field10(), message.field10()),
             text_after(self.field15(), message.field15()),
             text_after(self.field18(), message.field18()),
+            estimates_after(self.estimates(), message.other()),
         )
     }
 
@@ -133,13 +153,20 @@ impl<A: Allocator + Copy> Texts<A> {
         &self.bytes[self.end15..]
     }
 
+    /// What the EET items of field 18 say.
+    fn estimates(&self) -> &Estimates<A>
+        ensures { AreEstimatesOf (items_of (words_of self.now.field18)) result.now }
+    {
+        &self.estimates
+    }
+
     /// The minutes from take-off to a place of the way, by the first estimate for it in the EET items of field 18.
     #[inline(always)]
     pub(crate) fn elapsed(&self, place: &[u8]) -> Option<u32>
         ensures value { result ≡ elapsed_to place.now (items_of (words_of self.now.field18)) }
         ensures bound { IfSome result (λ minutes. minutes < 6000) }
     {
-        self.estimates.elapsed(self.field18(), place)
+        self.estimates.elapsed(place)
     }
 
     /// The bits of the words in a table that stand in the rows of the places of the way, by the EET items of field 18.
@@ -147,14 +174,14 @@ impl<A: Allocator + Copy> Texts<A> {
     pub(crate) fn near(&self, table: &[u64]) -> u64
         ensures { (place : List ℕ) → IsSome (elapsed_to place (items_of (words_of self.now.field18))) → HasBitsOf result (word_at table.now (128 + bit_of place)) }
     {
-        self.estimates.near(table)
+        words_on_way(table, self.estimates.places())
     }
 
     /// A set that has each place of the way, by the EET items of field 18.
     pub(crate) fn way(&self) -> u64
         ensures { (place : List ℕ) → IsSome (elapsed_to place (items_of (words_of self.now.field18))) → may_have result place ≡ true }
     {
-        self.estimates.way()
+        self.estimates.places()
     }
 
     /// The minutes from take-off to the last place of the way, by the EET items of field 18, or more.

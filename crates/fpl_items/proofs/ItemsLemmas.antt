@@ -1,13 +1,13 @@
 -- Where an item begins, by what stands at the front of its first word.
 use Rattle.std.proofs.Common.{◌≡◌, ℕ, length-append, not, ◌++◌, suc, ◌<◌, ◌≤◌, Bool, true, false, ◌&&◌, eqb, ltb, leb, List, [], ◌∷◌, length, take, get_or, sym, refl, ap, ◌∙◌, arith, ⊎_elim}
 use Rattle.std.specs.List.{list_all, prefix_len}
-use Rattle.std.proofs.lemmas.Bool.{and_parts, cases_Bool, eq-eqb, eqb-true, false_from_ne_true, false≢true, le-ltb, ltb-true}
+use Rattle.std.proofs.lemmas.Bool.{and_parts, cases_Bool, cond-true, cond-false, eq-eqb, eqb-true, false_from_ne_true, false≢true, le-ltb, ltb-true}
 use Rattle.std.proofs.lemmas.List.{length-take, get_or-take}
 use Rattle.std.proofs.lemmas.List.Folds.{list_all_at}
 use Rattle.std.proofs.lemmas.List.Sums.{prefix_len_is, prefix_len_passes, position_or_len_is, passes_at_first}
 use Rattle.fpl_text.specs.Bytes.{is_letter, is_digit, is_letter_or_digit}
 use Rattle.fpl_items.specs.Kinds.{before_stroke}
-use Rattle.fpl_text.specs.Words.{lacks, PassesOver}
+use Rattle.fpl_text.specs.Words.{lacks, words_from_byte}
 use Rattle.fpl_items.specs.Items.{begins_item, items_of}
 
 pub list_all-prefix : (p : ℕ → Bool) (xs : List ℕ) (n : ℕ) → n ≤ prefix_len p xs → list_all p (take n xs) ≡ true
@@ -73,14 +73,18 @@ no-item word none =
     rw (whole, le-ltb (length word) (length word) (omega arith)) refl
 
 -- words without a stroke are passed over
-items-over : (front words : List (List ℕ)) → list_all (lacks 47) front ≡ true → items_of (front ++ words) ≡ items_of words
-items-over [] words none = refl
-items-over (word ∷ front) words none =
-    let parts = and_parts (lacks 47 word) (list_all (lacks 47) front) none in
-    rw (no-item word parts.0) (items-over front words parts.1)
+pub items-from : (words : List (List ℕ)) → items_of words ≡ items_of (words_from_byte 47 words)
+items-from [] = refl
+items-from (word ∷ words) =
+    ⊎_elim
+    (λ none. cond-false _ _ _ (no-item word none) ∙ items-from words ∙ sym (ap items_of (cond-true _ _ _ none)))
+    (λ some. ap items_of (sym (cond-false _ _ _ some)))
+    (cases_Bool (lacks 47 word))
 
-pub items-passed : (old new : List (List ℕ)) → PassesOver 47 old new → items_of old ≡ items_of new
-items-passed old new over = ap items_of over.whole ∙ items-over over.front new over.none
-
-pub passed-length : (old new : List (List ℕ)) → PassesOver 47 old new → length new ≤ length old
-passed-length old new over = omega (arith, ap length over.whole, length-append over.front new)
+pub length-from : (byte : ℕ) (words : List (List ℕ)) → length (words_from_byte byte words) ≤ length words
+length-from byte [] = omega arith
+length-from byte (word ∷ words) =
+    ⊎_elim
+    (λ none. rw none (omega (arith, length-from byte words)))
+    (λ some. rw some (omega arith))
+    (cases_Bool (lacks byte word))

@@ -5,3 +5,6 @@ pub mod RouteLawsProofs
 pub mod ItemsLemmas
 pub mod ItemLawsProofs
 pub mod KindsLemmas
+pub mod PlaceLemmas
+pub mod Notes
+pub mod Longest

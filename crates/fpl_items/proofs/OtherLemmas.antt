@@ -3,7 +3,9 @@ use Rattle.std.proofs.Common.{◌≡◌, ◌≤◌, ◌+◌, ◌-◌, ℕ, zero,
 use Rattle.std.proofs.lemmas.Bool.{cases_Bool, le-leb}
 use Rattle.std.proofs.Math.Dec.{leb-suc-suc, leb-suc-zero}
 use Rattle.std.specs.List.{list_all, prefix_len}
-use Rattle.std.specs.Prelude.{codes, nat_le}
+use Rattle.std.specs.Prelude.{◌≢◌, codes, nat_le, IfOk, IfErr, Result, Ok, Err}
+use Rattle.fpl_items.specs.declared.fault.ItemFault.{ItemFault}
+use Rattle.fpl_items.specs.declared.fault.ItemFault.TheVariants.{OutOfMemory}
 use Rattle.fpl_text.specs.Bytes.{is_letter_or_digit}
 use Rattle.fpl_text.specs.Times.{elapsed_time}
 use Rattle.fpl_text.specs.Words.{words_of}
@@ -11,7 +13,9 @@ use Rattle.fpl_items.specs.Kinds.{is_text}
 use lib.Pointwise.{bytes_decides}
 use Rattle.std.specs.Prelude.{is_some}
 use Rattle.std.specs.Option.{option_or}
-use Rattle.fpl_items.specs.Items.{Item, begins_item, is_estimate, items_of, field_fault, first_fault, exempts, is_exempt, day_of_items, Say, SaysAfter}
+use Rattle.fpl_items.specs.Items.{Item, begins_item, is_estimate, items_of, field_fault, first_fault, exempts, is_exempt, day_of_items, estimate_for, elapsed_to, Say, SaysAfter}
+use Rattle.fpl_items.specs.declared.estimate.Estimate.{Estimate}
+use Rattle.fpl_items.specs.Estimates.{first_for}
 
 -- what the items before the ones that are left said: the rest of all is what these say
 pub record SaySoFar (day : Option ℕ) (exempt : Bool) (left all : List Item) : Type 0 where
@@ -43,6 +47,22 @@ zero-says = (refl, record { day_is = refl; exempt_is = refl })
 pub says-nothing : (field : List ℕ) → is_text (codes "0") field ≡ true → (field_fault field ≡ None) × Say (items_of (words_of field)) None false
 says-nothing field is = rw ((bytes_decides field (codes "0")).0 is) zero-says
 
+nothing-there : items_of (words_of (codes "0")) ≡ []
+unfolding words_of begins_item
+nothing-there = refl
+
+pub zero-items : (field : List ℕ) → is_text (codes "0") field ≡ true → items_of (words_of field) ≡ []
+zero-items field is = rw ((bytes_decides field (codes "0")).0 is) nothing-there
+
+-- what follows of a call that went well, and of one that found a fault
+pub ok-then : {X : Type 0} (P Q : Type 0) (r : Result X ItemFault) → (P → Q) → IfOk r (λ _. P) → IfOk r (λ _. Q)
+ok-then P Q (Ok x) follows p = follows p
+ok-then P Q (Err fault) follows p = tt
+
+pub fault-then : {X : Type 0} (P Q : Type 0) (r : Result X ItemFault) → (P → Q) → IfErr r (λ fault. fault ≢ OutOfMemory → P) → IfErr r (λ fault. fault ≢ OutOfMemory → Q)
+fault-then P Q (Ok x) follows p = tt
+fault-then P Q (Err fault) follows p = λ other. follows (p other)
+
 -- the front of a text meets a test where as many of its first bytes do
 pub front_all : (p : ℕ → Bool) (xs : List ℕ) (n : ℕ) → n ≤ length xs → nat_le n (prefix_len p xs) ≡ list_all p (take n xs)
 front_all p xs zero h = le-leb 0 _ (omega arith)
@@ -61,3 +81,12 @@ pub estimate-measured : (word : List ℕ) (n : ℕ) → n ≡ prefix_len is_lett
 unfolding is_estimate
 estimate-measured word n same least most =
     rw (le-leb 5 (length word) least, le-leb (length word) 15 most, same, front_all is_letter_or_digit word (length word - 4) (omega arith)) refl
+
+-- the words before the ones that are left were noted
+pub record NotedSoFar (before notes : List Estimate) (left all : List (List ℕ)) : Type 0 where
+  pub rest : list_all is_estimate left ≡ list_all is_estimate all
+  pub added : (place : List ℕ) → option_or (first_for place notes) (estimate_for place left) ≡ option_or (first_for place before) (estimate_for place all)
+
+-- so were the items before the ones that are left
+abbrev pub TellSoFar : List Estimate → List Item → List Item → Type 0
+TellSoFar notes left all = (place : List ℕ) → option_or (first_for place notes) (elapsed_to place left) ≡ elapsed_to place all

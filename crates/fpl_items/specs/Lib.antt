@@ -4,3 +4,5 @@ pub mod Routes
 pub mod Items
 pub mod ItemLaws
 pub mod RouteLaws
+pub mod Places
+pub mod Estimates

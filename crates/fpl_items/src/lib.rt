@@ -7,13 +7,19 @@
 //! from the left.
 #![tactic(auto)]
 
+pub mod estimate;
+pub mod estimates;
 pub mod fault;
 pub mod item;
 pub mod laws;
+pub mod note_list;
 pub mod other;
+pub mod places;
 pub mod route;
 pub mod speed;
 
+pub use estimate::Estimate;
+pub use estimates::Estimates;
 pub use fault::ItemFault;
 pub use item::{Item, ItemWords, Items};
 pub use other::Other18;

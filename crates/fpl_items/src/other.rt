@@ -1,13 +1,17 @@
 //! Field 18: other information.
 
-ghost use Rattle.std.specs.Prelude.{◌≡◌, false, is_some, slice_index_or, [], None, Some, IfSome, MatchResult};
+ghost use Rattle.std.specs.Prelude.{◌≡◌, ◌≢◌, ◌≤◌, ◌<◌, ◌-◌, true, false, is_some, slice_index_or, length, drop, [], None, Some, IfSome, IfOk, IfErr};
 ghost use Rattle.std.specs.List.{list_all, list_any, prefix_len};
 ghost use Rattle.fpl_text.specs.Bytes.{is_letter_or_digit};
+ghost use Rattle.fpl_text.specs.Times.{elapsed_time};
+ghost use Rattle.fpl_items.specs.Estimates.{AddsWord, AddsWords, AddsItem, AreEstimatesOf};
 ghost use Rattle.fpl_items.specs.Kinds.{is_text};
 ghost use Rattle.fpl_text.specs.Words.{words_of};
-ghost use Rattle.fpl_items.specs.Items.{begins_item, words_before, is_estimate, is_day, item_fault, first_fault, items_of, field_fault, items_or_fault, estimate_for, elapsed_to, is_exempt, day_of_words, day_of_items, Say, SaysAfter};
+ghost use Rattle.fpl_items.specs.Items.{begins_item, words_before, is_estimate, is_day, item_fault, first_fault, items_of, field_fault, items_or_fault, elapsed_to, is_exempt, day_of_words, day_of_items, Say, SaysAfter};
 ghost use Rattle.fpl_items.specs.Routes.{Gives};
 
+use crate::estimate::Estimate;
+use crate::estimates::Estimates;
 use crate::fault::ItemFault;
 use crate::item::{Item, ItemWords, Items, begins_item};
 use fpl_text::byte::all_letters_or_digits;
@@ -15,58 +19,108 @@ use fpl_text::{Day, Measured, Words, read_elapsed};
 use std::alloc::{Allocator, Global};
 use std::marker::Model;
 
-/// A place and an elapsed time.
-#[tactic(auto, unfolding(crate::specs::Items::is_estimate))]
-fn is_estimate(word: &[u8]) -> bool
-    ensures { result ≡ is_estimate word.now }
+/// Notes the estimate that a word is, a place and an elapsed time, where the elapsed time is one.
+fn note_split<A: Allocator + Copy>(
+    estimates: &mut Estimates<A>,
+    word: &[u8],
+) -> Result<(), ItemFault>
+    requires least { 5 ≤ length word.now }
+    requires most { length word.now ≤ 15 }
+    ensures time { IfOk result (λ _. is_some (elapsed_time (drop (length word.now - 4) word.now)) ≡ true) }
+    ensures noted { IfOk result (λ _. AddsWord estimates.old estimates.new word.now) }
+    ensures fault { IfErr result (λ fault. fault ≢ ItemFault.OutOfMemory → fault ≡ ItemFault.BadField 18) }
+    ensures no_time { IfErr result (λ fault. fault ≢ ItemFault.OutOfMemory → is_some (elapsed_time (drop (length word.now - 4) word.now)) ≡ false) }
 {
-    if word.len() < 5 || word.len() > 15 {
-        return false;
-    }
     let (place, time) = word.split_at(word.len() - 4);
-    all_letters_or_digits(place) && read_elapsed(time).is_some()
+    let Some(minutes) = read_elapsed(time) else {
+        return Err(ItemFault::BadField(18));
+    };
+    let Ok(()) = estimates.push(place, Estimate::new(place, minutes)) else {
+        return Err(ItemFault::OutOfMemory);
+    };
+    Ok(())
 }
 
-/// Whether a measured word is a place and an elapsed time.
+/// Notes the estimate that a word is, if it is one.
+#[tactic(auto, unfolding(crate::specs::Items::is_estimate))]
+fn note_word<A: Allocator + Copy>(
+    estimates: &mut Estimates<A>,
+    word: &[u8],
+) -> Result<(), ItemFault>
+    ensures is { IfOk result (λ _. is_estimate word.now ≡ true) }
+    ensures noted { IfOk result (λ _. AddsWord estimates.old estimates.new word.now) }
+    ensures fault { IfErr result (λ fault. fault ≢ ItemFault.OutOfMemory → fault ≡ ItemFault.BadField 18) }
+    ensures none { IfErr result (λ fault. fault ≢ ItemFault.OutOfMemory → is_estimate word.now ≡ false) }
+{
+    if word.len() < 5 || word.len() > 15 {
+        return Err(ItemFault::BadField(18));
+    }
+    if !all_letters_or_digits(&word[..word.len() - 4]) {
+        return Err(ItemFault::BadField(18));
+    }
+    note_split(estimates, word)
+}
+
+/// Notes the estimate that a measured word is, if it is one.
 #[inline(always)]
 #[tactic(auto, unfolding(crate::specs::Items::is_estimate))]
-fn is_measured_estimate(measured: &Measured<'_>) -> bool
+fn note_measured<A: Allocator + Copy>(
+    estimates: &mut Estimates<A>,
+    measured: &Measured<'_>,
+) -> Result<(), ItemFault>
     requires { measured.now.letters_or_digits ≡ prefix_len is_letter_or_digit measured.now.word.now }
-    ensures { result ≡ is_estimate measured.now.word.now }
+    ensures is { IfOk result (λ _. is_estimate measured.now.word.now ≡ true) }
+    ensures noted { IfOk result (λ _. AddsWord estimates.old estimates.new measured.now.word.now) }
+    ensures fault { IfErr result (λ fault. fault ≢ ItemFault.OutOfMemory → fault ≡ ItemFault.BadField 18) }
+    ensures none { IfErr result (λ fault. fault ≢ ItemFault.OutOfMemory → is_estimate measured.now.word.now ≡ false) }
 {
     let word = measured.word;
-    if word.len() < 5 || word.len() > 15 {
-        return false;
+    if word.len() < 5 {
+        return Err(ItemFault::BadField(18));
     }
-    let (place, time) = word.split_at(word.len() - 4);
-    measured.letters_or_digits >= place.len() && read_elapsed(time).is_some()
+    if word.len() > 15 {
+        return Err(ItemFault::BadField(18));
+    }
+    if measured.letters_or_digits < word.len() - 4 {
+        return Err(ItemFault::BadField(18));
+    }
+    note_split(estimates, word)
 }
 
-/// Whether each of the words before the first item is a place and an elapsed time.
-fn are_estimates_before_item(mut words: Words<'_>) -> bool
-    ensures { result ≡ list_all is_estimate (words_before words.entry) }
+/// Notes the words before the first item, up to one that is no place with an elapsed time.
+fn note_before_item<A: Allocator + Copy>(
+    estimates: &mut Estimates<A>,
+    mut words: Words<'_>,
+) -> Result<(), ItemFault>
+    ensures are { IfOk result (λ _. list_all is_estimate (words_before words.entry) ≡ true) }
+    ensures noted { IfOk result (λ _. AddsWords estimates.old estimates.new (words_before words.entry)) }
+    ensures fault { IfErr result (λ fault. fault ≢ ItemFault.OutOfMemory → fault ≡ ItemFault.BadField 18) }
+    ensures other { IfErr result (λ fault. fault ≢ ItemFault.OutOfMemory → list_all is_estimate (words_before words.entry) ≡ false) }
 {
     'words: while let Some(measured) = words.next_measured() {
         if begins_item(&measured) {
-            return true;
+            return Ok(());
         }
-        if !is_measured_estimate(&measured) {
-            return false;
-        }
+        note_measured(estimates, &measured)?;
     }
-    true
+    Ok(())
 }
 
-fn all_estimates(words: ItemWords<'_>) -> bool
-    ensures { result ≡ list_all is_estimate words.entry }
+/// Notes the words of an EET item, up to one that is no place with an elapsed time.
+fn note_words<A: Allocator + Copy>(
+    estimates: &mut Estimates<A>,
+    words: ItemWords<'_>,
+) -> Result<(), ItemFault>
+    ensures are { IfOk result (λ _. list_all is_estimate words.entry ≡ true) }
+    ensures noted { IfOk result (λ _. AddsWords estimates.old estimates.new words.entry) }
+    ensures fault { IfErr result (λ fault. fault ≢ ItemFault.OutOfMemory → fault ≡ ItemFault.BadField 18) }
+    ensures other { IfErr result (λ fault. fault ≢ ItemFault.OutOfMemory → list_all is_estimate words.entry ≡ false) }
 {
     let ItemWords { own, following } = words;
     if let Some(word) = own {
-        if !is_estimate(word) {
-            return false;
-        }
+        note_word(estimates, word)?;
     }
-    are_estimates_before_item(following)
+    note_before_item(estimates, following)
 }
 
 /// The day of exactly one word, which is a date.
@@ -96,12 +150,16 @@ struct Effects {
 }
 
 impl Effects {
-    /// What they say with an item more, or its fault.
+    /// What they say with an item more, whose estimates are noted, or its fault.
     #[tactic(auto, unfolding(crate::specs::Items::item_fault))]
-    fn with(self, item: &Item<'_>) -> Result<Effects, ItemFault>
-        ensures { MatchResult result
-            (λ next. SaysAfter self.day self.exempt item.now next.day next.exempt)
-            (λ fault. item_fault (is_some self.day) item.now ≡ Some fault) }
+    fn with<A: Allocator + Copy>(
+        self,
+        estimates: &mut Estimates<A>,
+        item: &Item<'_>,
+    ) -> Result<Effects, ItemFault>
+        ensures says { IfOk result (λ next. SaysAfter self.day self.exempt item.now next.day next.exempt) }
+        ensures noted { IfOk result (λ _. AddsItem estimates.old estimates.new item.now) }
+        ensures fault { IfErr result (λ fault. fault ≢ ItemFault.OutOfMemory → item_fault (is_some self.day) item.now ≡ Some fault) }
     {
         let name = item.name();
         if name == b"DOF".as_slice() {
@@ -116,8 +174,9 @@ impl Effects {
                 exempt: self.exempt,
             });
         }
-        if name == b"EET".as_slice() && !all_estimates(item.words()) {
-            return Err(ItemFault::BadField(18));
+        if name == b"EET".as_slice() {
+            note_words(estimates, item.words())?;
+            return Ok(self);
         }
         let exempts = name == b"STS".as_slice() && has_word(item.words(), b"ATFMX");
         Ok(Effects {
@@ -127,38 +186,32 @@ impl Effects {
     }
 }
 
-/// What items say, or their first fault from the left.
-fn read_items(items: Items<'_>) -> Result<Effects, ItemFault>
-    ensures { MatchResult result
-        (λ all. (first_fault false items.entry ≡ None) × Say items.entry all.day all.exempt)
-        (λ fault. first_fault false items.entry ≡ Some fault) }
+/// What items say, whose estimates are noted, or their first fault from the left.
+fn read_items<A: Allocator + Copy>(
+    estimates: &mut Estimates<A>,
+    items: Items<'_>,
+) -> Result<Effects, ItemFault>
+    requires { estimates.old ≡ [] }
+    ensures faultless { IfOk result (λ _. first_fault false items.entry ≡ None) }
+    ensures says { IfOk result (λ all. Say items.entry all.day all.exempt) }
+    ensures noted { IfOk result (λ _. AreEstimatesOf items.entry estimates.new) }
+    ensures fault { IfErr result (λ fault. fault ≢ ItemFault.OutOfMemory → first_fault false items.entry ≡ Some fault) }
 {
     let mut effects = Effects {
         day: None,
         exempt: false,
     };
     for item in items {
-        effects = effects.with(&item)?;
+        effects = effects.with(estimates, &item)?;
     }
     Ok(effects)
-}
-
-/// The elapsed time of the first estimate for a place.
-fn estimate_for(words: ItemWords<'_>, place: &[u8]) -> Option<u32>
-    ensures { result ≡ estimate_for place.now words.entry }
-{
-    for word in words {
-        let (before, time) = word.split_at(word.len().saturating_sub(4));
-        if before == place {
-            return read_elapsed(time);
-        }
-    }
-    None
 }
 
 /// Field 18: other information (ICAO Doc 4444, appendix 3, field type 18), seen as its items.
 #[derive(Drop)]
 pub struct Other18<A: Allocator + Copy = Global> {
+    /// What the EET items say.
+    estimates: Estimates<A>,
     text: Vec<u8, A>,
     day: Option<Day>,
     exempt: bool,
@@ -167,13 +220,14 @@ pub struct Other18<A: Allocator + Copy = Global> {
 impl<A: Allocator + Copy> Model for Other18<A> {
     ghost use Rattle.std.specs.Prelude.{List};
     ghost use Rattle.fpl_items.specs.Items.{Item as Entry, items_of, Say};
+    ghost use Rattle.fpl_items.specs.Estimates.{AreEstimatesOf};
     ghost use Rattle.fpl_text.specs.Words.{words_of};
 
     ghost Value = { List Entry };
 
     ghost view = { λ o. items_of (words_of o.text.items) };
 
-    ghost invariant = { λ o. Say (items_of (words_of o.text.items)) o.day o.exempt };
+    ghost invariant = { λ o. Say (items_of (words_of o.text.items)) o.day o.exempt × AreEstimatesOf (items_of (words_of o.text.items)) o.estimates };
 }
 
 /// Whether the first word of a field begins an item.
@@ -187,33 +241,40 @@ fn begins_with_item(field: &[u8]) -> bool
     }
 }
 
-/// What the items of a field say, or its first fault.
+/// What the items of a field say, whose estimates are noted, or its first fault.
 #[tactic(auto, unfolding(crate::specs::Items::field_fault))]
-fn read_field(field: &[u8]) -> Result<Effects, ItemFault>
-    ensures { MatchResult result
-        (λ all. (field_fault field.now ≡ None) × Say (items_of (words_of field.now)) all.day all.exempt)
-        (λ fault. field_fault field.now ≡ Some fault) }
+fn read_field<A: Allocator + Copy>(
+    estimates: &mut Estimates<A>,
+    field: &[u8],
+) -> Result<Effects, ItemFault>
+    requires { estimates.old ≡ [] }
+    ensures faultless { IfOk result (λ _. field_fault field.now ≡ None) }
+    ensures says { IfOk result (λ all. Say (items_of (words_of field.now)) all.day all.exempt) }
+    ensures noted { IfOk result (λ _. AreEstimatesOf (items_of (words_of field.now)) estimates.new) }
+    ensures fault { IfErr result (λ fault. fault ≢ ItemFault.OutOfMemory → field_fault field.now ≡ Some fault) }
 {
     if field == b"0".as_slice() {
-        Ok(Effects {
+        return Ok(Effects {
             day: None,
             exempt: false,
-        })
-    } else if begins_with_item(field) {
-        read_items(Items::new(field))
-    } else {
-        Err(ItemFault::BadField(18))
+        });
     }
+    if !begins_with_item(field) {
+        return Err(ItemFault::BadField(18));
+    }
+    read_items(estimates, Items::new(field))
 }
 
 impl<A: Allocator + Copy> Other18<A> {
     /// Reads field 18: `0`, or one or more items. The first fault counts, from the left: BadField for a field that does not begin
     /// with an item, and for an EET item with a word that is no place with an elapsed time; BadDate for a DOF item that is not
-    /// exactly one date; DuplicateItem for a second DOF.
+    /// exactly one date; DuplicateItem for a second DOF. Takes memory for estimates past the eighth before it looks at what follows.
     pub fn read(alloc: A, field: &[u8]) -> Result<Self, ItemFault>
-        ensures { Gives (λ other. other) result (items_or_fault field.now) }
+        ensures value { Gives (λ other. other) result (items_or_fault field.now) }
+        ensures items { IfOk result (λ other. other ≡ items_of (words_of field.now)) }
     {
-        let effects = match read_field(field) {
+        let mut estimates = Estimates::new(alloc);
+        let effects = match read_field(&mut estimates, field) {
             Ok(effects) => effects,
             Err(fault) => return Err(fault),
         };
@@ -221,6 +282,7 @@ impl<A: Allocator + Copy> Other18<A> {
             return Err(ItemFault::OutOfMemory);
         };
         Ok(Other18 {
+            estimates,
             text,
             day: effects.day,
             exempt: effects.exempt,
@@ -241,18 +303,19 @@ impl<A: Allocator + Copy> Other18<A> {
         self.day
     }
 
+    /// The estimates of the EET items, which are told without a look at these.
+    pub fn estimates(&self) -> &Estimates<A>
+        ensures { AreEstimatesOf self.now result.now }
+    {
+        &self.estimates
+    }
+
     /// The elapsed time, in minutes, of the first estimate for a place.
     pub fn elapsed(&self, place: &[u8]) -> Option<u32>
-        ensures { result ≡ elapsed_to place.now self.now }
+        ensures value { result ≡ elapsed_to place.now self.now }
+        ensures bound { IfSome result (λ minutes. minutes < 6000) }
     {
-        for item in self.items() {
-            if item.name() == b"EET".as_slice() {
-                if let Some(minutes) = estimate_for(item.words(), place) {
-                    return Some(minutes);
-                }
-            }
-        }
-        None
+        self.estimates.elapsed(place)
     }
 
     /// Whether an STS item exempts the flight.

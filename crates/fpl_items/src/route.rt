@@ -1,9 +1,8 @@
 //! Field 15: the route.
 
-ghost use Rattle.std.specs.Prelude.{◌≡◌, ◌≤◌, ◌<◌, ◌+◌, Some, length, IfOk, IfErr};
+ghost use Rattle.std.specs.Prelude.{◌≡◌, ◌≤◌, ◌<◌, ◌+◌, [], None, Some, length, vec_capacity, MatchOption};
 ghost use Rattle.std.specs.List.{list_all, prefix_len};
 ghost use Rattle.fpl_text.specs.Bytes.{is_letter, is_letter_or_digit};
-ghost use Rattle.std.specs.Option.{ok_or};
 ghost use Rattle.fpl_items.specs.Routes.{path_or_fault, is_route, elements_of, total_len, Gives};
 ghost use Rattle.fpl_items.specs.Kinds.{is_name, is_coordinate, is_point, is_change, is_climb_range, is_climb_speed, is_climb_from, is_climb, is_designator, is_route_byte, kind_of, before_stroke, height_len};
 
@@ -42,11 +41,9 @@ pub enum Kind {
 #[derive(Clone, Copy, Debug, PartialEq, Eq)]
 pub struct Element {
     pub kind: Kind,
-    pub from: u16,
-    pub to: u16,
+    pub from: usize,
+    pub to: usize,
 }
-
-const _: () = prove!(size_of::<Element>() <= 8);
 
 /// Field 15: a speed and a level, and the elements of the route after them (ICAO Doc 4444, appendix 3, field type 15).
 #[derive(Drop)]
@@ -264,46 +261,27 @@ fn kind_of(measured: &Measured<'_>) -> Option<Kind>
     kind_with_other(measured.word)
 }
 
-/// The element of that kind at that place, where the place can be held.
-fn element_at(kind: Kind, from: usize, to: usize) -> Result<Element, ItemFault>
-    requires { from ≤ to }
-    ensures ok { IfOk result (λ element. element ≡ record { kind = kind; from = from; to = to }) }
-    ensures err { IfErr result (λ fault. fault ≡ ItemFault.OutOfMemory) }
-{
-    if to > 65_535 {
-        return Err(ItemFault::OutOfMemory);
-    }
-    Ok(Element {
-        kind,
-        from: from as u16,
-        to: to as u16,
-    })
-}
-
-/// The elements that words are, at most so many, of which the first stands at `start`.
-fn elements_of<A: Allocator + Copy>(
-    alloc: A,
-    most: usize,
+/// The elements that words are, of which the first stands at `start`, in an empty list that has room for them. None where a word
+/// has no kind. Takes no memory.
+fn elements_in<A: Allocator + Copy>(
+    room: Vec<Element, A>,
     start: usize,
     mut words: Words<'_>,
-) -> Result<Vec<Element, A>, ItemFault>
-    requires most { length words ≤ most }
+) -> Option<Vec<Element, A>>
+    requires empty { room.items ≡ [] }
+    requires room { length words ≤ vec_capacity room }
     requires fits { start + total_len words ≤ usize.MAX }
-    ensures { Gives (λ v. v.items) result (ok_or (elements_of start words.entry) (ItemFault.BadField 15)) }
+    ensures { MatchOption result (elements_of start words.entry ≡ None) (λ v. elements_of start words.entry ≡ Some v.items) }
 {
-    let Ok(mut elements) = Vec::with_capacity(alloc, most) else {
-        return Err(ItemFault::OutOfMemory);
-    };
+    let mut elements = room;
     let mut from = start;
     'words: while let Some(measured) = words.next_measured() {
-        let Some(kind) = kind_of(&measured) else {
-            return Err(ItemFault::BadField(15));
-        };
+        let kind = kind_of(&measured)?;
         let to = from + measured.word.len();
-        elements.push_reserved(element_at(kind, from, to)?);
+        elements.push_reserved(Element { kind, from, to });
         from = to + 1;
     }
-    Ok(elements)
+    Some(elements)
 }
 
 /// Whether all bytes of a word are those of a route.
@@ -340,7 +318,7 @@ pub fn is_route(field: &[u8]) -> bool
 }
 
 impl<A: Allocator + Copy> Route<A> {
-    /// Reads field 15. A field of more than 65,535 bytes, whose elements have places that cannot be held, is OutOfMemory.
+    /// Reads field 15. It is OutOfMemory only where there is no memory for as many elements as the field has spaces.
     #[tactic(auto, unfolding(crate::specs::Routes::path_or_fault))]
     pub fn read(alloc: A, field: &[u8]) -> Result<Self, ItemFault>
         ensures { Gives (λ route. route) result (path_or_fault field.now) }
@@ -352,7 +330,12 @@ impl<A: Allocator + Copy> Route<A> {
         let Some((speed, level)) = speed_and_level(first) else {
             return Err(ItemFault::BadField(15));
         };
-        let elements = elements_of(alloc, space_count(field), first.len() + 1, words)?;
+        let Ok(room) = Vec::with_capacity(alloc, space_count(field)) else {
+            return Err(ItemFault::OutOfMemory);
+        };
+        let Some(elements) = elements_in(room, first.len() + 1, words) else {
+            return Err(ItemFault::BadField(15));
+        };
         Ok(Route {
             speed,
             level,

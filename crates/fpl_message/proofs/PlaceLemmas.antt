@@ -8,7 +8,8 @@ use Rattle.fpl_text.specs.Bytes.{is_blank, is_accepted}
 use Rattle.fpl_text.specs.Squeezing.{squeezed_unless, squeezed_or_fault, Gives}
 use Rattle.fpl_text.specs.declared.fields.Title.{Title}
 use Rattle.fpl_text.specs.Fields.{is_bracketed, fields_of, first_field, title_of, has_its_fields, counted_fields, fields_or_fault}
-use Rattle.fpl_message.specs.Refusals.{PlaceFits}
+use Rattle.fpl_message.specs.declared.fault.Fault.TheVariants.{OutOfMemory}
+use Rattle.fpl_message.specs.Refusals.{PlaceFits, text_fault}
 
 -- what is found in a list lies within it
 position_from-below : {X : Type 0} (test : X → Bool) (i : ℕ) (xs : List X) (place : ℕ) → position_from test i xs ≡ Some place → place < i + length xs
@@ -69,3 +70,26 @@ fields-fit bytes text.NoBracket e = tt
 fields-fit bytes text.UnknownTitle e = tt
 fields-fit bytes text.FieldCount e = tt
 fields-fit bytes text.OutOfMemory e = tt
+
+-- nor for want of memory
+not-memory : (bytes : List ℕ) → fields_or_fault bytes ≡ Err text.OutOfMemory → ⊥
+unfolding fields_or_fault
+not-memory bytes e = at (is_bracketed bytes) (title_of (first_field (fields_of bytes))) e
+  where
+    counted : (enough : Bool) → (if enough then Ok (fields_of bytes) else Err text.FieldCount) ≡ Err text.OutOfMemory → ⊥
+    counted true e = cc
+    counted false e = cc
+
+    at : (bracketed : Bool) (title : Option Title)
+        → (if bracketed then counted_fields title (fields_of bytes) else Err text.NoBracket) ≡ Err text.OutOfMemory → ⊥
+    at false title e = cc
+    at true None e = cc
+    at true (Some title) e = counted (has_its_fields title (fields_of bytes)) e
+
+pub fields-told : (bytes : List ℕ) (fault : TextFault) → fields_or_fault bytes ≡ Err fault → text_fault fault ≡ OutOfMemory → ⊥
+fields-told bytes text.Empty e told = cc
+fields-told bytes (text.BadByte place) e told = cc
+fields-told bytes text.NoBracket e told = cc
+fields-told bytes text.UnknownTitle e told = cc
+fields-told bytes text.FieldCount e told = cc
+fields-told bytes text.OutOfMemory e told = not-memory bytes e

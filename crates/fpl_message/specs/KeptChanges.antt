@@ -1,6 +1,8 @@
 -- What the code keeps of a modification: its fields, and the places of those that are amended.
-use Rattle.std.specs.Prelude.{ℕ, ◌<◌, List, Option}
+use Rattle.std.specs.Prelude.{◌≡◌, ℕ, ◌<◌, List, Option, length}
 use Rattle.std.specs.Option.{option_map, ForSome}
+use Rattle.fpl_text.specs.Words.{words_of}
+use Rattle.fpl_items.specs.Items.{items_of}
 use Rattle.fpl_message.specs.declared.changes.Changes.{Changes}
 use Rattle.fpl_message.specs.Messages.{field, Chg}
 use Rattle.fpl_message.specs.Modifications.{amended_text}
@@ -24,10 +26,12 @@ kept fields c = record {
   field18 = text_at fields c.field18;
 }
 
--- its amended fields are some of so many
-pub record StandAmong {A : Type 0} (count : ℕ) (c : Changes A) : Type 0 where
-  pub field8 : ForSome c.field8 (λ at. at < count)
-  pub field9 : ForSome c.field9 (λ at. at < count)
-  pub field10 : ForSome c.field10 (λ at. at < count)
-  pub field15 : ForSome c.field15 (λ at. at < count)
-  pub field18 : ForSome c.field18 (λ at. at < count)
+-- its amended fields are some of these, an elapsed time is below a hundred hours, and items are those of the amended field 18
+pub record StandAmong {A : Type 0} (fields : List (List ℕ)) (c : Changes A) : Type 0 where
+  pub field8 : ForSome c.field8 (λ at. at < length fields)
+  pub field9 : ForSome c.field9 (λ at. at < length fields)
+  pub field10 : ForSome c.field10 (λ at. at < length fields)
+  pub field15 : ForSome c.field15 (λ at. at < length fields)
+  pub field18 : ForSome c.field18 (λ at. at < length fields)
+  pub elapsed : ForSome c.destination (λ destination. ForSome destination.elapsed (λ minutes. minutes < 6000))
+  pub items : option_map (λ text. items_of (words_of text)) (text_at fields c.field18) ≡ c.other

@@ -69,7 +69,7 @@ impl<A: Allocator + Copy> Changes<A> {
         ensures change { Gives (λ _. kept fields.now self.new) result
             (amend_rules (amended_text (field fields.now place)) (kept fields.now self.old)) }
         ensures memory { result ≢ Err Fault.OutOfMemory }
-        ensures stand { StandAmong (length fields.now) self.old → StandAmong (length fields.now) self.new }
+        ensures stand { StandAmong fields.now self.old → StandAmong fields.now self.new }
     {
         if self.field8.is_some() {
             return Err(Fault::Refused(Refusal::DuplicateItem));
@@ -86,7 +86,7 @@ impl<A: Allocator + Copy> Changes<A> {
         ensures change { Gives (λ _. kept fields.now self.new) result
             (amend_craft (amended_text (field fields.now place)) (kept fields.now self.old)) }
         ensures memory { result ≢ Err Fault.OutOfMemory }
-        ensures stand { StandAmong (length fields.now) self.old → StandAmong (length fields.now) self.new }
+        ensures stand { StandAmong fields.now self.old → StandAmong fields.now self.new }
     {
         if self.field9.is_some() {
             return Err(Fault::Refused(Refusal::DuplicateItem));
@@ -102,7 +102,7 @@ impl<A: Allocator + Copy> Changes<A> {
         ensures change { Gives (λ _. kept fields.now self.new) result
             (amend_equipment (amended_text (field fields.now place)) (kept fields.now self.old)) }
         ensures memory { result ≢ Err Fault.OutOfMemory }
-        ensures stand { StandAmong (length fields.now) self.old → StandAmong (length fields.now) self.new }
+        ensures stand { StandAmong fields.now self.old → StandAmong fields.now self.new }
     {
         if self.field10.is_some() {
             return Err(Fault::Refused(Refusal::DuplicateItem));
@@ -120,7 +120,7 @@ impl<A: Allocator + Copy> Changes<A> {
         ensures change { Gives (λ _. kept fields.now self.new) result
             (amend_departure (amended_text (field fields.now place)) (kept fields.now self.old)) }
         ensures memory { result ≢ Err Fault.OutOfMemory }
-        ensures stand { StandAmong (length fields.now) self.old → StandAmong (length fields.now) self.new }
+        ensures stand { StandAmong fields.now self.old → StandAmong fields.now self.new }
     {
         if self.departure.is_some() {
             return Err(Fault::Refused(Refusal::DuplicateItem));
@@ -135,7 +135,8 @@ impl<A: Allocator + Copy> Changes<A> {
         requires { place < length fields.now }
         ensures change { Gives (λ _. kept fields.now self.new) result
             (amend_route (amended_text (field fields.now place)) (kept fields.now self.old)) }
-        ensures stand { StandAmong (length fields.now) self.old → StandAmong (length fields.now) self.new }
+        ensures memory { result ≢ Err Fault.OutOfMemory }
+        ensures stand { StandAmong fields.now self.old → StandAmong fields.now self.new }
     {
         if self.field15.is_some() {
             return Err(Fault::Refused(Refusal::DuplicateItem));
@@ -153,7 +154,7 @@ impl<A: Allocator + Copy> Changes<A> {
         ensures change { Gives (λ _. kept fields.now self.new) result
             (amend_destination (amended_text (field fields.now place)) (kept fields.now self.old)) }
         ensures memory { result ≢ Err Fault.OutOfMemory }
-        ensures stand { StandAmong (length fields.now) self.old → StandAmong (length fields.now) self.new }
+        ensures stand { StandAmong fields.now self.old → StandAmong fields.now self.new }
     {
         if self.destination.is_some() {
             return Err(Fault::Refused(Refusal::DuplicateItem));
@@ -168,7 +169,7 @@ impl<A: Allocator + Copy> Changes<A> {
         requires { place < length fields.now }
         ensures change { Gives (λ _. kept fields.now self.new) result
             (amend_other (amended_text (field fields.now place)) (kept fields.now self.old)) }
-        ensures stand { StandAmong (length fields.now) self.old → StandAmong (length fields.now) self.new }
+        ensures stand { StandAmong fields.now self.old → StandAmong fields.now self.new }
     {
         if self.field18.is_some() {
             return Err(Fault::Refused(Refusal::DuplicateItem));
@@ -185,7 +186,7 @@ impl<A: Allocator + Copy> Changes<A> {
         requires { place < length fields.now }
         ensures change { Gives (λ _. kept fields.now self.new) result
             (amend (field fields.now place) (kept fields.now self.old)) }
-        ensures stand { StandAmong (length fields.now) self.old → StandAmong (length fields.now) self.new }
+        ensures stand { StandAmong fields.now self.old → StandAmong fields.now self.new }
     {
         let field = fields.field(place);
         if !begins_amendment(field) {
@@ -213,7 +214,7 @@ impl<A: Allocator + Copy> Changes<A> {
     ) -> Result<Changes<A>, Fault>
         requires { first ≤ length fields.now }
         ensures change { Gives (kept fields.now) result (amended (drop first fields.now) (unamended parts)) }
-        ensures stand { IfOk result (StandAmong (length fields.now)) }
+        ensures stand { IfOk result (StandAmong fields.now) }
     {
         let mut changes = Changes {
             parts,

@@ -2,7 +2,8 @@
 ghost use Rattle.std.specs.Prelude.{◌≡◌, ◌<◌, [], length, slice_get, Some, Ok, IfOk, IfErr};
 ghost use Rattle.fpl_message.specs.Refusals.{Gives, by_items};
 ghost use Rattle.fpl_items.specs.Routes.{is_route, path_or_fault};
-ghost use Rattle.fpl_items.specs.Items.{items_or_fault};
+ghost use Rattle.fpl_text.specs.Words.{words_of};
+ghost use Rattle.fpl_items.specs.Items.{items_of, items_or_fault};
 ghost use Rattle.fpl_message.specs.FlightPlans.{fpl_of};
 ghost use Rattle.fpl_message.specs.Messages.{field};
 
@@ -28,7 +29,9 @@ pub struct Fpl<A: Allocator + Copy = Global> {
 }
 
 impl<A: Allocator + Copy> Model for Fpl<A> {
-    ghost use Rattle.std.specs.Prelude.{◌≡◌, true, length};
+    ghost use Rattle.std.specs.Prelude.{◌≡◌, ◌<◌, true, length};
+    ghost use Rattle.fpl_text.specs.Words.{words_of};
+    ghost use Rattle.fpl_items.specs.Items.{items_of};
     ghost use Rattle.fpl_items.specs.Routes.{is_route};
     ghost use Rattle.fpl_message.specs.Messages.{Fpl as Plan, field};
 
@@ -45,7 +48,8 @@ impl<A: Allocator + Copy> Model for Fpl<A> {
       items = m.other;
     } };
 
-    ghost invariant = { λ m. (length m.fields ≡ 9) × (is_route (field m.fields 6) ≡ true) };
+    ghost invariant = { λ m. (length m.fields ≡ 9) × (is_route (field m.fields 6) ≡ true) × (m.elapsed < 6000)
+        × (m.other ≡ items_of (words_of (field m.fields 8))) };
 }
 
 impl<A: Allocator + Copy> Fpl<A> {
@@ -127,16 +131,18 @@ impl<A: Allocator + Copy> Fpl<A> {
         &self.destination
     }
 
-    /// The total elapsed time of field 16, in minutes.
+    /// The total elapsed time of field 16, in minutes, at most 5,999.
     pub fn elapsed(&self) -> u32
-        ensures { result ≡ self.now.elapsed }
+        ensures value { result ≡ self.now.elapsed }
+        ensures bound { result < 6000 }
     {
         self.elapsed
     }
 
     /// Field 18: other information.
     pub fn other(&self) -> &Other18<A>
-        ensures { result.now ≡ self.now.items }
+        ensures value { result.now ≡ self.now.items }
+        ensures items { result.now ≡ items_of (words_of (field self.now.fields 8)) }
     {
         &self.other
     }

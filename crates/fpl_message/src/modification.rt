@@ -1,6 +1,8 @@
 //! The modification message, CHG.
-ghost use Rattle.std.specs.Prelude.{◌≡◌, ◌≤◌, ◌<◌, length, option_copied};
-ghost use Rattle.std.specs.Option.{ForSome};
+ghost use Rattle.std.specs.Prelude.{◌≡◌, ◌≤◌, ◌<◌, length, option_copied, IfSome};
+ghost use Rattle.std.specs.Option.{ForSome, option_map};
+ghost use Rattle.fpl_text.specs.Words.{words_of};
+ghost use Rattle.fpl_items.specs.Items.{items_of};
 ghost use Rattle.fpl_message.specs.Refusals.{Gives};
 ghost use Rattle.fpl_message.specs.Modifications.{chg_of};
 ghost use Rattle.fpl_message.specs.KeptChanges.{text_at};
@@ -31,7 +33,7 @@ impl<A: Allocator + Copy> Model for Chg<A> {
 
     ghost view = { λ m. kept m.fields m.changes };
 
-    ghost invariant = { λ m. StandAmong (length m.fields) m.changes };
+    ghost invariant = { λ m. StandAmong m.fields m.changes };
 }
 
 impl<A: Allocator + Copy> Chg<A> {
@@ -69,16 +71,18 @@ impl<A: Allocator + Copy> Chg<A> {
         self.changes.departure.as_ref()
     }
 
-    /// An amended field 16.
+    /// An amended field 16, of which an elapsed time is at most 5,999 minutes.
     pub fn destination(&self) -> Option<&Destination>
-        ensures { option_copied result ≡ self.now.destination }
+        ensures value { option_copied result ≡ self.now.destination }
+        ensures bound { IfSome result (λ amended. IfSome amended.now.elapsed (λ minutes. minutes < 6000)) }
     {
         self.changes.destination.as_ref()
     }
 
     /// What an amended field 18 says.
     pub fn other(&self) -> Option<&Other18<A>>
-        ensures { option_copied result ≡ self.now.items }
+        ensures value { option_copied result ≡ self.now.items }
+        ensures items { option_copied result ≡ option_map (λ text. items_of (words_of text)) self.now.field18 }
     {
         self.changes.other.as_ref()
     }

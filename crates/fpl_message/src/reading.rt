@@ -1,5 +1,5 @@
 //! The reading of bytes.
-ghost use Rattle.std.specs.Prelude.{◌≡◌, ◌≤◌, length, OnOk};
+ghost use Rattle.std.specs.Prelude.{◌≡◌, ◌≢◌, ◌≤◌, Err, length, OnOk};
 ghost use Rattle.fpl_text.specs.Squeezing.{squeezed_or_fault};
 ghost use Rattle.fpl_text.specs.Fields.{fields_or_fault};
 ghost use Rattle.fpl_message.specs.Refusals.{Gives, by_text};
@@ -73,9 +73,10 @@ fn squeezed<A: Allocator + Copy>(room: Vec<u8, A>, bytes: &[u8]) -> Result<Squee
     }
 }
 
-/// The fields of a squeezed text, or why it has none.
+/// The fields of a squeezed text, or why it has none. Takes no memory.
 fn fields_of<A: Allocator + Copy>(squeezed: Squeezed<A>) -> Result<Fields<A>, Fault>
-    ensures { Gives (λ fields. fields) result (by_text (fields_or_fault squeezed)) }
+    ensures value { Gives (λ fields. fields) result (by_text (fields_or_fault squeezed)) }
+    ensures memory { result ≢ Err Fault.OutOfMemory }
 {
     match squeezed.into_fields() {
         Ok(fields) => Ok(fields),

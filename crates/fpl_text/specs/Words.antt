@@ -1,5 +1,5 @@
 -- The words of a squeezed text, which stand between its spaces.
-use Rattle.std.specs.Prelude.{◌≡◌, ◌≤◌, ◌<◌, ◌+◌, ℕ, Bool, true, not, ◌==◌, nat_le, if◌then◌else◌, List, [], ◌++◌, length, slice_index, drop}
+use Rattle.std.specs.Prelude.{◌≡◌, ◌≤◌, ◌<◌, ◌+◌, ℕ, Bool, not, ◌==◌, nat_le, if◌then◌else◌, List, [], ◌∷◌, length, slice_index, drop}
 use Rattle.std.specs.List.{slice_split, list_all}
 
 -- what stands between the spaces of a text; an empty text has no word
@@ -20,8 +20,7 @@ pub record HoldWord (lanes : List ℕ) (place : ℕ) (word : List ℕ) : Type 0 
 abbrev pub lacks : ℕ → List ℕ → Bool
 lacks byte text = list_all (λ b. not (b == byte)) text
 
--- the first words, none of which has the byte, are passed over
-pub record PassesOver (byte : ℕ) (old new : List (List ℕ)) : Type 0 where
-  pub front : List (List ℕ)
-  pub whole : old ≡ front ++ new
-  pub none : list_all (lacks byte) front ≡ true
+-- the words from the first that has the byte on
+abbrev pub words_from_byte : ℕ → List (List ℕ) → List (List ℕ)
+words_from_byte byte [] = []
+words_from_byte byte (word ∷ words) = if lacks byte word then words_from_byte byte words else word ∷ words

@@ -1,6 +1,6 @@
 //! Fields 13 and 16: a departure, a destination.
 
-ghost use Rattle.std.specs.Prelude.{◌≡◌, ◌≤◌, List, ℕ, length};
+ghost use Rattle.std.specs.Prelude.{◌≡◌, ◌≤◌, ◌<◌, List, ℕ, length, IfOk, IfSome};
 ghost use Rattle.std.specs.Option.{ok_or};
 ghost use Rattle.fpl_text.specs.Places.{is_place, arrival_of, alternates_of, departure_of, destination_of};
 
@@ -106,7 +106,8 @@ impl Departure {
 /// Four letters, and then nothing or an elapsed time.
 #[tactic(auto, unfolding(crate::specs::Places::arrival_of, crate::specs::Places::is_place))]
 fn arrival_of(word: &[u8]) -> Option<(Text<4>, Option<u32>)>
-    ensures { result ≡ arrival_of word.now }
+    ensures value { result ≡ arrival_of word.now }
+    ensures bound { IfSome result (λ arrival. IfSome arrival.1 (λ minutes. minutes < 6000)) }
 {
     if word.len() < 4 || !is_place(&word[..4]) {
         return None;
@@ -140,7 +141,8 @@ fn alternates_of(words: Words<'_>) -> Option<Alternates>
 /// The parts of field 16.
 #[tactic(auto, unfolding(crate::specs::Places::destination_of))]
 fn destination_of(field: &[u8]) -> Option<Destination>
-    ensures { result ≡ destination_of field.now }
+    ensures value { result ≡ destination_of field.now }
+    ensures bound { IfSome result (λ destination. IfSome destination.elapsed (λ minutes. minutes < 6000)) }
 {
     let mut words = Words::new(field);
     let (place, elapsed) = arrival_of(words.next()?)?;
@@ -153,9 +155,11 @@ fn destination_of(field: &[u8]) -> Option<Destination>
 }
 
 impl Destination {
-    /// Reads field 16: four letters, then nothing or an elapsed time hhmm, and then at most two words of four letters.
+    /// Reads field 16: four letters, then nothing or an elapsed time hhmm, which is at most 5,999 minutes, and then at most two
+    /// words of four letters.
     pub fn read(field: &[u8]) -> Result<Destination, FieldFault>
-        ensures { result ≡ ok_or (destination_of field.now) (FieldFault.BadField 16) }
+        ensures value { result ≡ ok_or (destination_of field.now) (FieldFault.BadField 16) }
+        ensures bound { IfOk result (λ destination. IfSome destination.elapsed (λ minutes. minutes < 6000)) }
     {
         destination_of(field).ok_or(FieldFault::BadField(16))
     }

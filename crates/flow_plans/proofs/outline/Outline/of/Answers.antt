@@ -10,6 +10,6 @@ returns-then-not-may_be_subject g c = outline-of-none _ c.args.plan.now c.is_fil
 pub returns : goal.returns
 returns g c =
     outline-of-all _ c.args.plan.now c.is_filed-is_filed.ensures c.off_block-off_block.ensures.value
-    (c.letters_of.ensures.value ∙ ap letters_of (c.as_bytes.ensures.value ∙ ap (λ (k : Key). k.dep) c.key-key.ensures))
-    (c.letters_of-2.ensures.value ∙ ap letters_of (c.as_bytes-2.ensures.value ∙ ap (λ (k : Key). k.dest) c.key-key.ensures))
+    (c.letters_of.ensures ∙ ap letters_of (c.as_bytes.ensures.value ∙ ap (λ (k : Key). k.dep) c.key-key.ensures))
+    (c.letters_of-2.ensures ∙ ap letters_of (c.as_bytes-2.ensures.value ∙ ap (λ (k : Key). k.dest) c.key-key.ensures))
     c.way.ensures c.longest.ensures.destination c.longest.ensures.way

@@ -10,5 +10,4 @@ returns g c = λ place.
     (let s = c.self.inside in
     let field : List ℕ = slice_range s.bytes.items s.end15 (length s.bytes.items) in
     let S : List ℕ → Type 0 = λ v. IfSome (elapsed_to place (items_of (words_of v))) (λ minutes. minutes ≤ c.longest.result) in
-    subst S (ap (λ t. t.field18) c.self.view_is)
-    (way-longest field s.estimates.whole s.estimates.places s.estimates.notes c.longest.result c.self.invariant.4 c.longest.ensures.whole c.longest.ensures.other place))
+    subst S (ap (λ t. t.field18) c.self.view_is) (way-longest field s.estimates c.longest.result c.self.invariant.4 c.longest.ensures place))

@@ -6,5 +6,5 @@ use Rattle.fpl_message.proofs.changes.Changes.read.Given as goal
 abbrev pub invariant-loop-place : goal.invariant-loop-place
 invariant-loop-place g l = record {
   walk : amended (drop l.place l.fields) (kept l.fields l.changes) ≡ amended (drop l.first l.fields) (unamended l.fn.parts);
-  stand : StandAmong (length l.fields) l.changes;
+  stand : StandAmong l.fields l.changes;
 }

@@ -1,0 +1,60 @@
+-- The longest of some notes.
+use Rattle.std.proofs.Common.{◌≡◌, ℕ, ◌≤◌, arith, max, Bool, true, false, if◌then◌else◌, List, [], ◌∷◌, ◌++◌, Option, Some, None, refl, sym, ap, ◌∙◌}
+use Rattle.std.specs.Prelude.{IfSome}
+use Rattle.std.specs.Option.{option_or}
+use Rattle.fpl_items.specs.declared.estimate.Estimate.{Estimate}
+use Rattle.fpl_items.specs.Estimates.{is_for, first_for}
+
+-- the longest of these, after others
+abbrev pub longest_after : ℕ → List Estimate → ℕ
+longest_after longest [] = longest
+longest_after longest (e ∷ es) = longest_after (max longest e.minutes) es
+
+pub longest-grows : (longest : ℕ) (es : List Estimate) → longest ≤ longest_after longest es
+longest-grows longest [] = omega arith
+longest-grows longest (e ∷ es) = omega (arith, longest-grows (max longest e.minutes) es)
+
+-- either way of a test
+either : (P : ℕ → Type 0) (x : ℕ) (o : Option ℕ) (b : Bool) → P x → IfSome o P → IfSome (if b then Some x else o) P
+either P x o true p q = p
+either P x o false p q = q
+
+-- what is found is one of them
+pub longest-found : (place : List ℕ) (longest : ℕ) (es : List Estimate) → IfSome (first_for place es) (λ minutes. minutes ≤ longest_after longest es)
+longest-found place longest [] = tt
+longest-found place longest (e ∷ es) =
+    either (λ minutes. minutes ≤ longest_after (max longest e.minutes) es) e.minutes (first_for place es) (is_for place e)
+    (omega (arith, longest-grows (max longest e.minutes) es)) (longest-found place (max longest e.minutes) es)
+
+-- what is found in notes one part after the other: in the first part, else in the second
+pub first-of-both : (place : List ℕ) (few more : List Estimate) → first_for place (few ++ more) ≡ option_or (first_for place few) (first_for place more)
+first-of-both place [] more = refl
+first-of-both place (e ∷ few) more = over (is_for place e) e.minutes _ _ _ (first-of-both place few more)
+  where
+    over : (b : Bool) (minutes : ℕ) (x y z : Option ℕ) → x ≡ option_or y z → (if b then Some minutes else x) ≡ option_or (if b then Some minutes else y) z
+    over true minutes x y z e = refl
+    over false minutes x y z e = e
+
+-- what is found in the first part is found in both
+pub found-in-both : (place : List ℕ) (few more all : List Estimate) (minutes : ℕ) → few ++ more ≡ all → Some minutes ≡ first_for place few → Some minutes ≡ first_for place all
+found-in-both place few more all minutes parts first =
+    rw (sym parts) (ap (λ o. option_or o (first_for place more)) first ∙ sym (first-of-both place few more))
+
+-- where nothing is found in the first part, what is found in both is found in the second
+pub found-in-rest : (place : List ℕ) (few more all : List Estimate) (found : Option ℕ) → few ++ more ≡ all → None ≡ first_for place few → found ≡ first_for place more → found ≡ first_for place all
+found-in-rest place few more all found parts none second = rw (sym parts) (second ∙ sym (first-of-both place few more ∙ ap (λ o. option_or o (first_for place more)) (sym none)))
+
+-- what is found in both parts is one of either
+pub found-less : (place : List ℕ) (few more all : List Estimate) (longest : ℕ) → few ++ more ≡ all
+    → IfSome (first_for place few) (λ minutes. minutes ≤ longest) → IfSome (first_for place more) (λ minutes. minutes ≤ longest)
+    → IfSome (first_for place all) (λ minutes. minutes ≤ longest)
+found-less place few more all longest parts p q = rw (sym parts, first-of-both place few more) (by _ _ p q)
+  where
+    by : (x y : Option ℕ) → IfSome x (λ minutes. minutes ≤ longest) → IfSome y (λ minutes. minutes ≤ longest) → IfSome (option_or x y) (λ minutes. minutes ≤ longest)
+    by None y p q = q
+    by (Some m) y p q = p
+
+-- a bound of what is found, raised
+pub below-raised : (o : Option ℕ) (low high : ℕ) → low ≤ high → IfSome o (λ minutes. minutes ≤ low) → IfSome o (λ minutes. minutes ≤ high)
+below-raised None low high l h = tt
+below-raised (Some m) low high l h = omega (arith, l, h)

@@ -1,0 +1,41 @@
+-- What is noted of EET items (ICAO Doc 4444, appendix 3, field type 18), so that field 18 is read once.
+use Rattle.std.specs.Prelude.{◌≡◌, ℕ, Bool, false, ◌&&◌, nat_le, if◌then◌else◌, List, [], ◌∷◌, length, Option, Some, None}
+use Rattle.std.specs.Option.{option_or}
+use Rattle.fpl_items.specs.declared.estimate.Estimate.{Estimate}
+use Rattle.fpl_items.specs.Kinds.{is_text}
+use Rattle.fpl_items.specs.Items.{Item, estimate_for, elapsed_to}
+use Rattle.fpl_items.specs.Places.{may_have, name_of}
+
+-- whether a note is for a place
+unfoldable pub is_for : List ℕ → Estimate → Bool
+is_for place e = nat_le (length place) 11 && is_text (name_of place) e.name
+
+-- the minutes of the first of these notes that is for a place
+abbrev pub first_for : List ℕ → List Estimate → Option ℕ
+first_for place [] = None
+first_for place (e ∷ es) = if is_for place e then Some e.minutes else first_for place es
+
+-- notes that say, after those before, what a word says, whatever the words after it are
+abbrev pub AddsWord : List Estimate → List Estimate → List ℕ → Type 0
+AddsWord before after word =
+    (place : List ℕ) (words : List (List ℕ))
+    → option_or (first_for place after) (estimate_for place words) ≡ option_or (first_for place before) (estimate_for place (word ∷ words))
+
+-- what these words of an item say
+abbrev pub AddsWords : List Estimate → List Estimate → List (List ℕ) → Type 0
+AddsWords before after words =
+    (place : List ℕ) → first_for place after ≡ option_or (first_for place before) (estimate_for place words)
+
+-- what an item says, whatever the items after it are
+abbrev pub AddsItem : List Estimate → List Estimate → Item → Type 0
+AddsItem before after item =
+    (place : List ℕ) (items : List Item)
+    → option_or (first_for place after) (elapsed_to place items) ≡ option_or (first_for place before) (elapsed_to place (item ∷ items))
+
+-- notes that say of every place what items say
+abbrev pub AreEstimatesOf : List Item → List Estimate → Type 0
+AreEstimatesOf items notes = (place : List ℕ) → first_for place notes ≡ elapsed_to place items
+
+-- a set of places that has the place of each note
+abbrev pub HasPlacesOf : ℕ → List Estimate → Type 0
+HasPlacesOf places notes = (place : List ℕ) → may_have places place ≡ false → first_for place notes ≡ None

@@ -1,0 +1,131 @@
+//! The estimates of field 18, noted once.
+ghost use Rattle.std.specs.Prelude.{◌≡◌, ◌≤◌, ◌<◌, ◌∷◌, ◌++◌, [], true, List, ℕ, length, IfOk, IfSome, IsSome, OnOk, OnErr};
+ghost use Rattle.fpl_items.specs.Places.{may_have, name_of};
+ghost use Rattle.fpl_items.specs.Estimates.{first_for};
+
+use crate::estimate::Estimate;
+use crate::note_list::NoteList;
+use crate::places::{may_have, name_of, with_place};
+use std::alloc::{AllocError, Allocator, Global};
+use std::marker::Model;
+
+/// What EET items say, in order. The first eight estimates take no memory of their own. Contracts see the estimates.
+#[derive(Drop)]
+pub struct Estimates<A: Allocator + Copy = Global> {
+    /// The places of the notes, so that few other places are looked for.
+    places: u64,
+    notes: NoteList<A>,
+}
+
+impl<A: Allocator + Copy> Model for Estimates<A> {
+    ghost use Rattle.std.specs.Prelude.{List};
+    ghost use Rattle.fpl_items.specs.declared.estimate.Estimate.{Estimate as Note};
+    ghost use Rattle.fpl_items.specs.Estimates.{HasPlacesOf};
+
+    ghost Value = { List Note };
+
+    ghost view = { λ e. e.notes };
+
+    ghost invariant = { λ e. HasPlacesOf e.places e.notes };
+}
+
+impl<A: Allocator + Copy> Estimates<A> {
+    /// No estimates.
+    pub(crate) fn new(alloc: A) -> Self
+        ensures { result ≡ [] }
+    {
+        Estimates {
+            places: 0,
+            notes: NoteList::new(alloc),
+        }
+    }
+
+    /// The same estimates. Those past the eighth take memory.
+    pub fn copied<B: Allocator + Copy>(&self, alloc: B) -> Result<Estimates<B>, AllocError>
+        ensures { IfOk result (λ e. e ≡ self.now) }
+    {
+        let notes = self.notes.copied(alloc)?;
+        Ok(Estimates {
+            places: self.places,
+            notes,
+        })
+    }
+
+    /// Appends the note of a place. After an `Err` all is as it was.
+    pub(crate) fn push(&mut self, place: &[u8], note: Estimate) -> Result<(), AllocError>
+        requires place { length place.now ≤ 11 }
+        requires note { note.name ≡ name_of place.now }
+        ensures ok { OnOk result (self.new ≡ self.old ++ note ∷ []) }
+        ensures err { OnErr result (self.new ≡ self.old) }
+    {
+        self.notes.push(note)?;
+        self.places = with_place(self.places, place);
+        Ok(())
+    }
+
+    /// The elapsed time, in minutes, of the first estimate for a place.
+    #[inline(always)]
+    pub fn elapsed(&self, place: &[u8]) -> Option<u32>
+        ensures value { result ≡ first_for place.now self.now }
+        ensures bound { IfSome result (λ minutes. minutes < 6000) }
+    {
+        if !may_have(self.places, place) {
+            return None;
+        }
+        if place.len() > 11 {
+            return None;
+        }
+        let (few, more) = self.notes.parts();
+        if let Some(minutes) = first_for(few, place) {
+            return Some(minutes);
+        }
+        if more.is_empty() {
+            return None;
+        }
+        first_for(more, place)
+    }
+
+    /// A set that has the places of the estimates.
+    #[inline]
+    pub fn places(&self) -> u64
+        ensures { (place : List ℕ) → IsSome (first_for place self.now) → may_have result place ≡ true }
+    {
+        self.places
+    }
+
+    /// The minutes of the longest of the estimates.
+    pub fn longest(&self) -> u32
+        ensures { (place : List ℕ) → IfSome (first_for place self.now) (λ minutes. minutes ≤ result) }
+    {
+        let (few, more) = self.notes.parts();
+        longest_of(more, longest_of(few, 0))
+    }
+}
+
+/// The minutes of the longest of these notes, or others where these are more.
+fn longest_of(notes: &[Estimate], other: u32) -> u32
+    ensures notes { (place : List ℕ) → IfSome (first_for place notes.now) (λ minutes. minutes ≤ result) }
+    ensures other { other ≤ result }
+{
+    let mut longest = other;
+    for note in notes {
+        longest = longest.max(note.minutes());
+    }
+    longest
+}
+
+/// The minutes of the first of these notes that is for a place.
+#[inline(never)]
+fn first_for(notes: &[Estimate], place: &[u8]) -> Option<u32>
+    requires { length place.now ≤ 11 }
+    ensures value { result ≡ first_for place.now notes.now }
+    ensures bound { IfSome result (λ minutes. minutes < 6000) }
+{
+    let name = name_of(place);
+    for note in notes {
+        if note.is_for(place, &name) {
+            return Some(note.minutes());
+        }
+    }
+    None
+}
