@@ -1,5 +1,5 @@
 -- What the walk of a flight that displaces others keeps.
-use Rattle.std.proofs.Common.{◌≡◌, ℕ, ◌+◌, ◌<◌, ◌≤◌, ◌++◌, true, List, length, get_or, set, take, drop, Option, None, Some, refl, sym, ap, subst, ◌∙◌, arith}
+use Rattle.std.proofs.Common.{◌≡◌, ℕ, ◌+◌, ◌<◌, ◌≤◌, ◌++◌, true, false, List, length, get_or, set, take, drop, Option, None, Some, refl, sym, ap, subst, ◌∙◌, arith}
 use Rattle.std.proofs.lemmas.List.{length-set, drop-set-lt, get_or-drop}
 use Rattle.std.proofs.lemmas.Grind.{drop_more_same}
 use Rattle.flow_slots.specs.declared.cell.Planned.{Planned}
@@ -7,7 +7,7 @@ use Rattle.flow_slots.specs.declared.cell.Cell.{Cell}
 use Rattle.flow_slots.specs.declared.cell.Cell.TheVariants.{Empty, Waiting, Fixed}
 use Rattle.flow_slots.specs.Changed.{gained}
 use Rattle.flow_slots.specs.Row.{flight_of, flight_at, place_at, IsTied}
-use Rattle.flow_slots.specs.Walk.{displace, has_empty, Follows}
+use Rattle.flow_slots.specs.Walk.{displace, has_empty, waits, Follows}
 use Rattle.flow_slots.proofs.Following.{Follows-fixed, Follows-waiting}
 use Rattle.flow_slots.proofs.Steps.{displace-fixed, displace-later, has_empty-fixed, has_empty-waiting}
 use Rattle.flow_slots.proofs.Tied.{IsTied-swap, IsTied-number, IsTied-absent, place_at-lifted}
@@ -63,6 +63,12 @@ Displacing-fixed start flights first_writes from x row writes places coming k f 
       count = d.count;
       target = sym (displace-fixed row k f coming h e) ∙ d.target;
     }
+
+-- so is what isn't empty and in which no flight waits
+pub Displacing-passed : (start : List Cell) (flights first_writes from : ℕ) (x : Planned) (row : List Cell) (writes : ℕ) (places : List (Option ℕ)) (coming : Planned) (k : ℕ) (cell : Cell) → Displacing start flights first_writes from x row writes places coming k → k < length row → cell ≡ get_or row k Empty → waits cell ≡ false → (cell ≡ Empty → ⊥) → Displacing start flights first_writes from x row writes places coming (k + 1)
+Displacing-passed start flights first_writes from x row writes places coming k Empty d h e w n = absurd (n refl)
+Displacing-passed start flights first_writes from x row writes places coming k (Waiting v) d h e w n = cc
+Displacing-passed start flights first_writes from x row writes places coming k (Fixed f) d h e w n = Displacing-fixed start flights first_writes from x row writes places coming k f d h e
 
 -- one write, to a cell of another flight or of none
 pub Displacing-count : (start : List Cell) (flights first_writes from : ℕ) (x : Planned) (row : List Cell) (writes : ℕ) (places : List (Option ℕ)) (coming : Planned) (k : ℕ) → Displacing start flights first_writes from x row writes places coming k → k < length row → writes + 1 ≤ first_writes + gained start (set row k (Waiting coming))

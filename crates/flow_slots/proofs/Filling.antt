@@ -14,7 +14,7 @@ use Rattle.flow_slots.specs.Walk.{displace, waits_before}
 use Rattle.flow_slots.specs.Lineup.{Lineup, IsKept, InOrder, NoneIs, WaitingApart, MayFill}
 use Rattle.flow_slots.proofs.Following.{Passed, passed-earlier}
 use Rattle.flow_slots.proofs.Kept.{insert-takes_in, IsKept-insert}
-use Rattle.flow_slots.proofs.Periods.{first_slot-monotone, slots_before_end-at_most}
+use Rattle.flow_slots.proofs.Periods.{first_slot-monotone}
 use Rattle.flow_slots.proofs.Room.{room, first_slot-early}
 use Rattle.flow_slots.proofs.Steps.{displace-empty, has_empty-within}
 use Rattle.flow_slots.proofs.Tied.{IsTied-put}
@@ -116,11 +116,6 @@ Filling-passed p capacity ws i next k row places x walk comes is =
 pub Filling-within : (p : Period) (capacity : ℕ) (ws : List Planned) (i next k : ℕ) (row : List Cell) (places : List (Option ℕ)) (x : Planned) → Filling p capacity ws i next row places → ComesNext p capacity ws i x → k ≡ max (first_slot p x.entry) next → k < length row
 Filling-within p capacity ws i next k row places x walk comes is =
     has_empty-within row k (Filling-passed p capacity ws i next k row places x walk comes is).room
-
--- a row has few slots
-pub few_slots : (p : Period) (capacity : ℕ) (row : List Cell) (places : List (Option ℕ)) → IsKept p capacity row places → length row ≤ 25760
-few_slots p capacity row places kept =
-    omega (arith, kept.len, kept.flights, slots_before_end-at_most p kept.regular)
 
 -- it takes slot `k`
 pub Filling-step : (p : Period) (capacity : ℕ) (ws : List Planned) (i next k : ℕ) (row : List Cell) (places : List (Option ℕ)) (x : Planned) → Filling p capacity ws i next row places → ComesNext p capacity ws i x → k ≡ max (first_slot p x.entry) next → Filling p capacity ws (i + 1) (k + 1) (set row k (Waiting x)) (set places x.flight (Some k))

@@ -19,11 +19,11 @@ counted c = min (c.before + c.writes) (2 ^ 64 - 1)
 abbrev pub filled : List Cell → ℕ → List Cell
 filled cells len = cells ++ replicate (len - length cells) Empty
 
--- no more cells than slots, and room for a cell of each slot
+-- no more cells than slots, and room for a cell of each slot; the number of slots takes two bytes
 pub record HasRoom (cells : List Cell) (len capacity : ℕ) : Type 0 where
   pub made : length cells ≤ len
   pub room : len ≤ capacity
-  pub slots : len < 2 ^ 32
+  pub slots : len < 2 ^ 16
 
 -- where not all cells were made, the last one is empty and not before slot `k`
 pub record EndsEmpty (c : MadeRow) (k : ℕ) : Type 0 where

@@ -21,6 +21,12 @@ waits_before x Empty = false
 waits_before x (Waiting w) = stands_before w x
 waits_before x (Fixed f) = false
 
+-- a flight waits in a cell
+abbrev pub waits : Cell → Bool
+waits Empty = false
+waits (Waiting w) = true
+waits (Fixed f) = false
+
 -- some cell is empty
 abbrev pub has_empty : List Cell → Bool
 has_empty [] = false

@@ -1,3 +1,4 @@
+//! A flight that waits, where it stands in the order, and what stands in a slot.
 ghost use Rattle.std.specs.Prelude.{◌≡◌};
 ghost use Rattle.flow_slots.specs.Order.{rank, stands_before};
 

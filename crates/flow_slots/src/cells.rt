@@ -1,3 +1,4 @@
+//! The row of slots as its callers see it: what stands in each slot, and how often slots were written.
 ghost use Rattle.std.specs.Prelude.{◌≡◌, ℕ, ◌-◌, ◌^◌, ◌<◌, ◌≤◌, true, false, ◌↔◌, IfOk, IsTrue, length, replicate};
 ghost use Rattle.flow_slots.specs.CellRow.{CellRow, written};
 ghost use Rattle.flow_slots.specs.MadeRow.{EndsEmpty, counted};
@@ -28,6 +29,7 @@ impl<A: Allocator + Copy> Model for Cells<A> {
 
 impl<A: Allocator + Copy> Cells<A> {
     pub(crate) fn new(alloc: A, len: u32) -> Result<Cells<A>, AllocError>
+        requires { len < 2 ^ 16 }
         ensures { IfOk result (λ c. c ≡ record { row = replicate len Empty; writes = 0 }) }
     {
         Ok(Cells {
@@ -124,6 +126,7 @@ impl<A: Allocator + Copy> Cells<A> {
         requires kept { IsStored cell }
         ensures cells { self.new ≡ written self.old k cell }
         ensures more { self.old.writes ≤ self.new.writes }
+        ensures small { k < 2 ^ 16 - 1 }
     {
         self.made.write(k, cell);
     }

@@ -1,3 +1,5 @@
+//! The chains: a flight that comes in and displaces later ones up to an empty slot, and a hole into which later
+//! ones move up.
 ghost use Rattle.std.specs.Prelude.{◌≡◌, ℕ, ◌+◌, ◌-◌, ◌^◌, ◌<◌, ◌≤◌, ◌++◌, true, length, take, drop, IfSome, IfNone, None, Some};
 ghost use Rattle.flow_slots.specs.Changed.{gained};
 ghost use Rattle.flow_slots.specs.MadeRow.{EndsEmpty, counted};
@@ -10,6 +12,7 @@ use crate::cells::Cells;
 use crate::first_slots::FirstSlots;
 use crate::held_slot::HeldSlot;
 use crate::made_cells::MadeCells;
+use crate::packed_cell::PackedFlight;
 use std::alloc::Allocator;
 
 /// The first slot from `from` on that is empty or held by a flight that waits and doesn't stand
@@ -56,22 +59,28 @@ pub(crate) fn displace<A: Allocator + Copy>(
 {
     let mut row = cells;
     row.begin_chain();
-    let mut coming = flight;
+    let mut coming = PackedFlight::of(flight);
     let mut k = from;
     loop {
-        match row.made_cell(k) {
-            Cell::Empty => break,
-            Cell::Fixed(_) => {}
-            Cell::Waiting(held) => {
-                row.write_next(k, Cell::Waiting(coming));
-                places[coming.flight as usize] = HeldSlot::of(k);
+        let cell = row.packed(k);
+        match cell.waiting() {
+            Some(held) => {
+                let moved = coming.get();
+                row.write_next(k, Cell::Waiting(moved));
+                places[moved.flight as usize] = HeldSlot::of(k);
                 coming = held;
+            }
+            None => {
+                if cell.is_empty() {
+                    break;
+                }
             }
         }
         k += 1;
     }
-    row.write_next(k, Cell::Waiting(coming));
-    places[coming.flight as usize] = HeldSlot::of(k);
+    let last = coming.get();
+    row.write_next(k, Cell::Waiting(last));
+    places[last.flight as usize] = HeldSlot::of(k);
     row
 }
 
@@ -92,14 +101,19 @@ fn next_up<A: Allocator + Copy>(
 {
     let made = cells.made();
     for next in hole + 1..made {
-        match cells.made_cell(next) {
-            Cell::Empty => return None,
-            Cell::Fixed(_) => {}
-            Cell::Waiting(held) => {
+        let cell = cells.packed(next);
+        match cell.waiting() {
+            Some(waiting) => {
+                let held = waiting.get();
                 if hole < shape.at(held.entry) {
                     return None;
                 }
                 return Some((next, held));
+            }
+            None => {
+                if cell.is_empty() {
+                    return None;
+                }
             }
         }
     }

@@ -1,3 +1,4 @@
+//! The calls that change a slot list as values, so that a list of them can be made in turn and undone.
 ghost use Rattle.std.specs.Prelude.{◌≡◌};
 ghost use Rattle.flow_slots.specs.ChangeList.{May, changed, MayAll, changed_by};
 

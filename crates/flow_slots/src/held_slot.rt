@@ -7,11 +7,12 @@ use std::marker::Model;
 /// How many slots a search looks at at once.
 const CHUNK: usize = 16;
 
-/// The slot that a flight holds, or none. It takes four bytes, so that a chain writes one word for each flight that it moves.
+/// The slot that a flight holds, or none. It takes two bytes, since a row has fewer than 65,536 slots: half of what the
+/// numbers of slots would take.
 #[derive(Clone, Copy, Debug)]
 pub(crate) struct HeldSlot {
     /// One more than the number of the slot, and 0 for none.
-    after: u32,
+    after: u16,
 }
 
 impl Model for HeldSlot {
@@ -38,10 +39,12 @@ impl HeldSlot {
     /// This slot.
     #[inline(always)]
     pub(crate) fn of(slot: u32) -> Self
-        requires { slot < 2 ^ 32 - 1 }
+        requires { slot < 2 ^ 16 - 1 }
         ensures { result ≡ Some slot }
     {
-        HeldSlot { after: slot + 1 }
+        HeldSlot {
+            after: (slot + 1) as u16,
+        }
     }
 
     /// The number of the slot.
@@ -52,7 +55,7 @@ impl HeldSlot {
         if self.after == 0 {
             None
         } else {
-            Some(self.after - 1)
+            Some(u32::from(self.after - 1))
         }
     }
 
@@ -66,7 +69,7 @@ impl HeldSlot {
 
     /// The number after that of the slot, with the bits of another number.
     #[inline(always)]
-    fn or(self, other: u32) -> u32
+    fn or(self, other: u16) -> u16
         ensures { (result ≡ 0) ↔ (other ≡ 0) × (self ≡ None) }
     {
         other | self.after

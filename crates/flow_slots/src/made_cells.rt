@@ -70,6 +70,7 @@ fn past_earlier(cells: &[PackedCell], from: usize, flight: Planned) -> usize
 impl<A: Allocator + Copy> MadeCells<A> {
     /// Takes memory for all cells, and makes none.
     pub(crate) fn new(alloc: A, len: u32) -> Result<MadeCells<A>, AllocError>
+        requires { len < 2 ^ 16 }
         ensures { IfOk result (λ c. c ≡ record { row = replicate len Empty; made = 0; before = 0; writes = 0 }) }
     {
         Ok(MadeCells {
@@ -134,14 +135,13 @@ impl<A: Allocator + Copy> MadeCells<A> {
         }
     }
 
-    /// What stands in slot `k`, whose cell was made.
+    /// What stands in slot `k`, whose cell was made, in its word.
     #[inline(always)]
-    pub(crate) fn made_cell(&self, k: u32) -> Cell
+    pub(crate) fn packed(&self, k: u32) -> PackedCell
         requires { k < self.now.made }
-        ensures value { result ≡ cell_at self.now.row k }
-        ensures kept { IsStored result }
+        ensures { result ≡ cell_at self.now.row k }
     {
-        self.row[k as usize].get()
+        self.row[k as usize]
     }
 
     /// The first slot from `k` on in which no flight waits that stands before this one.
@@ -178,6 +178,7 @@ impl<A: Allocator + Copy> MadeCells<A> {
         requires kept { IsStored cell }
         ensures row { self.new.row ≡ slice_set self.old.row k cell }
         ensures writes { counted self.new ≡ one_more (counted self.old) }
+        ensures small { k < 2 ^ 16 - 1 }
     {
         make(&mut self.row, k + 1);
         self.row[k as usize].set(cell);
@@ -203,7 +204,8 @@ impl<A: Allocator + Copy> MadeCells<A> {
         requires slot { k < self.old.made }
         requires kept { IsStored cell }
         requires few { self.old.writes < 2 ^ 64 - 1 }
-        ensures { self.new ≡ record {
+        ensures small { k < 2 ^ 16 - 1 }
+        ensures cells { self.new ≡ record {
           row = slice_set self.old.row k cell;
           made = self.old.made;
           before = self.old.before;

@@ -1,18 +1,17 @@
-//! A cell of the row in eight bytes.
-ghost use Rattle.std.specs.Prelude.{◌≡◌, ◌*◌, ◌+◌, ◌-◌, ◌^◌, ◌<◌};
+//! A cell of the row in one word of eight bytes.
+ghost use Rattle.std.specs.Prelude.{◌≡◌, ◌*◌, ◌+◌, ◌-◌, ◌/◌, ◌%◌, ◌^◌, ◌<◌, ◌↔◌, false, IfNone, IfSome, IsTrue};
 ghost use Rattle.flow_slots.specs.PackedCell.{IsStored};
-ghost use Rattle.flow_slots.specs.Walk.{waits_before};
+ghost use Rattle.flow_slots.specs.Walk.{waits, waits_before};
 
 use crate::cell::{Cell, Planned};
 use std::marker::Model;
 
-/// What stands in a slot. It takes eight bytes, so that a chain reads and writes little for each flight that it moves.
+/// What stands in a slot. It takes one word, so that a chain reads one and writes one for each flight that it moves.
 #[derive(Clone, Copy, Debug)]
 pub(crate) struct PackedCell {
-    /// The flight, and 0 for none.
-    flight: u32,
-    /// The entry of a flight that waits, and the greatest number where none does.
-    entry: u32,
+    /// The rank of a flight that waits. Where none does, the entry in it is the greatest number, and the flight the
+    /// one that is fixed, and 0 for none.
+    word: u64,
 }
 
 impl Model for PackedCell {
@@ -20,19 +19,37 @@ impl Model for PackedCell {
 
     ghost Value = { Cell };
 
-    ghost use Rattle.flow_slots.specs.PackedCell.{unpacked, entry_number, flight_number, entry_back, flight_back};
+    ghost use Rattle.flow_slots.specs.PackedCell.{cell_of, word_of, word_back};
 
-    ghost view = { λ p. unpacked p.entry p.flight };
+    ghost view = { λ p. cell_of p.word };
 
-    ghost inverse = { λ cell. record { entry = entry_number cell; flight = flight_number cell } };
+    ghost inverse = { λ cell. record { word = word_of cell } };
 
-    ghost inverse_ok = { λ p h i. record {
-      entry = entry_back p.entry p.flight i;
-      flight = flight_back p.entry p.flight i;
-    } };
+    ghost inverse_ok = { λ p h i. record { word = word_back p.word i } };
 }
 
 const _: () = prove!(size_of::<PackedCell>() <= 8);
+
+/// A flight that waits, as its rank: a chain takes it out of one cell and puts it into another as one word.
+#[derive(Clone, Copy, Debug)]
+pub(crate) struct PackedFlight {
+    word: u64,
+}
+
+impl Model for PackedFlight {
+    ghost use Rattle.flow_slots.specs.declared.cell.Planned.{Planned};
+
+    ghost Value = { Planned };
+
+    ghost use Rattle.flow_slots.specs.Order.{rank};
+    ghost use Rattle.flow_slots.specs.PackedCell.{ranked, rank_back};
+
+    ghost view = { λ p. ranked p.word };
+
+    ghost inverse = { λ planned. record { word = rank planned } };
+
+    ghost inverse_ok = { λ p h i. record { word = rank_back p.word i } };
+}
 
 /// The place of a flight in the order, as one number: by its entry, ties by its number.
 #[inline(always)]
@@ -42,6 +59,45 @@ pub(crate) fn rank(entry: u32, flight: u32) -> u64
     4_294_967_296 * u64::from(entry) + u64::from(flight)
 }
 
+/// The entry in a rank.
+#[inline(always)]
+fn entry_in(word: u64) -> u32
+    ensures { result ≡ word / 4_294_967_296 }
+{
+    (word / 4_294_967_296) as u32
+}
+
+/// The flight in a rank.
+#[inline(always)]
+fn flight_in(word: u64) -> u32
+    ensures { result ≡ word % 4_294_967_296 }
+{
+    (word % 4_294_967_296) as u32
+}
+
+impl PackedFlight {
+    /// This flight.
+    #[inline(always)]
+    pub(crate) fn of(planned: Planned) -> Self
+        ensures { result ≡ planned }
+    {
+        PackedFlight {
+            word: planned.rank(),
+        }
+    }
+
+    /// The flight and its entry.
+    #[inline(always)]
+    pub(crate) fn get(self) -> Planned
+        ensures { result ≡ self }
+    {
+        Planned {
+            entry: entry_in(self.word),
+            flight: flight_in(self.word),
+        }
+    }
+}
+
 impl PackedCell {
     /// No flight.
     #[inline(always)]
@@ -49,8 +105,7 @@ impl PackedCell {
         ensures { result ≡ Cell.Empty }
     {
         PackedCell {
-            entry: u32::MAX,
-            flight: 0,
+            word: rank(u32::MAX, 0),
         }
     }
 
@@ -60,47 +115,62 @@ impl PackedCell {
         ensures value { result ≡ self.now }
         ensures kept { IsStored result }
     {
-        if self.entry != u32::MAX {
-            Cell::Waiting(Planned {
-                entry: self.entry,
-                flight: self.flight,
-            })
-        } else if self.flight == 0 {
+        let word = self.word;
+        let entry = entry_in(word);
+        let flight = flight_in(word);
+        if entry != u32::MAX {
+            Cell::Waiting(Planned { entry, flight })
+        } else if flight == 0 {
             Cell::Empty
         } else {
-            Cell::Fixed(self.flight)
+            Cell::Fixed(flight)
         }
     }
 
-    /// Whether a flight waits in the slot that stands before this one. An empty slot and a fixed flight have the greatest entry, so
-    /// one comparison of both numbers tells.
+    /// The flight that waits in the slot, in the same word, so that a chain takes it on as it stands.
+    #[inline(always)]
+    pub(crate) fn waiting(self) -> Option<PackedFlight>
+        ensures value { IfSome result (λ w. Cell.Waiting w ≡ self) }
+        ensures kept { IfSome result (λ w. w.entry < 2 ^ 32 - 1) }
+        ensures none { IfNone result (waits self ≡ false) }
+    {
+        let word = self.word;
+        if entry_in(word) != u32::MAX {
+            Some(PackedFlight { word })
+        } else {
+            None
+        }
+    }
+
+    /// Whether there is no flight in the slot.
+    #[inline(always)]
+    pub(crate) fn is_empty(self) -> bool
+        ensures { IsTrue result ↔ (self ≡ Cell.Empty) }
+    {
+        let word = self.word;
+        entry_in(word) == u32::MAX && flight_in(word) == 0
+    }
+
+    /// Whether a flight waits in the slot that stands before this one. An empty slot and a fixed flight have the
+    /// greatest entry, so one comparison of the words tells.
     #[inline(always)]
     pub(crate) fn waits_before(&self, flight: Planned) -> bool
         requires { flight.entry < 2 ^ 32 - 1 }
         ensures { result ≡ waits_before flight self.now }
     {
-        rank(self.entry, self.flight) < rank(flight.entry, flight.flight)
+        self.word < flight.rank()
     }
 
-    /// Puts a cell in place of this one, number by number, so that they stay in registers of their own.
+    /// Puts a cell in place of this one.
     #[inline(always)]
     pub(crate) fn set(&mut self, cell: Cell)
         requires { IsStored cell }
         ensures { self.new ≡ cell }
     {
         match cell {
-            Cell::Empty => {
-                self.entry = u32::MAX;
-                self.flight = 0;
-            }
-            Cell::Waiting(planned) => {
-                self.entry = planned.entry;
-                self.flight = planned.flight;
-            }
-            Cell::Fixed(flight) => {
-                self.entry = u32::MAX;
-                self.flight = flight;
-            }
+            Cell::Empty => self.word = rank(u32::MAX, 0),
+            Cell::Waiting(planned) => self.word = planned.rank(),
+            Cell::Fixed(flight) => self.word = rank(u32::MAX, flight),
         }
     }
 }

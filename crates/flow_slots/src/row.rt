@@ -1,3 +1,5 @@
+//! The row of slots beside the places of its flights: for each flight, by its number, the slot in which it stands.
+//! Each change here keeps both in step.
 ghost use Rattle.std.specs.Prelude.{◌≡◌, ℕ, [], ◌+◌, ◌<◌, ◌≤◌, ◌++◌, true, length, take, drop, vec_len, IfOk, IsSome, None, replicate, ◌-◌, ◌^◌};
 ghost use Rattle.flow_slots.specs.Changed.{gained};
 ghost use Rattle.flow_slots.specs.Period.{first_slot};
@@ -24,7 +26,8 @@ pub(crate) struct Row<A: Allocator + Copy> {
 impl<A: Allocator + Copy> Row<A> {
     /// A row of empty slots, for flights with numbers up to `last`.
     pub(crate) fn new(alloc: A, len: u32, last: u32) -> Result<Row<A>, AllocError>
-        requires { last < 2 ^ 32 - 1 }
+        requires slots { len < 2 ^ 16 }
+        requires flights { last < 2 ^ 32 - 1 }
         ensures cells { IfOk result (λ r. r.cells ≡ record { row = replicate len Empty; writes = 0 }) }
         ensures places { IfOk result (λ r. r.places.items ≡ replicate (last + 1) None) }
         ensures places_len { IfOk result (λ r. vec_len r.places ≡ last + 1) }
@@ -137,7 +140,6 @@ impl<A: Allocator + Copy> Row<A> {
         requires number { flight < vec_len self.old.places }
         requires absent { place_at self.old.places.items flight ≡ None }
         requires slot { k < length self.old.cells.row }
-        requires small { k < 2 ^ 32 - 1 }
         requires open { (f : ℕ) → cell_at self.old.cells.row k ≡ Cell.Fixed f → ⊥ }
         requires room { (held : Planned) → cell_at self.old.cells.row k ≡ Cell.Waiting held
             → has_empty (drop (k + 1) self.old.cells.row) ≡ true }

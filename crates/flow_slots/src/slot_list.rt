@@ -1,3 +1,4 @@
+//! The slot list with all its calls. Their contracts say what each makes of the lineup, which the row stands for.
 ghost use Rattle.std.specs.Prelude.{◌≡◌, ℕ, ◌+◌, ◌<◌, ◌≤◌, length, [], None, Some, ◌↔◌, IfOk, IfSome, IsSome, IsTrue};
 ghost use Rattle.flow_slots.specs.Period.{IsWithin};
 ghost use Rattle.flow_slots.specs.Changed.{moved_flights};

@@ -24,7 +24,7 @@ loop-next-init g c =
 
 pub loop-next-preserved : goal.loop-next-preserved
 loop-next-preserved g c =
-    rw (c.write_next.ensures, c.of.ensures) (record {
+    rw (c.write_next.ensures.cells, c.of.ensures) (record {
       walk = Closing-move _ _ _ _ _ _ _ _ c.loop-next.hole c.in-Some.next c.in-Some.held c.loop-next.invariant.walk c.in-Some.ensures.found;
       made = c.in-Some.ensures.made;
       few = omega (arith, c.loop-next.invariant.few, c.in-Some.ensures.found.after);
@@ -34,12 +34,12 @@ loop-next-preserved g c =
 pub returns-clause-row : goal.returns-clause-row
 returns-clause-row g c =
     let stays = close-stays (λ e. first_slot c.args.shape.now e) c.loop-next.hole c.loop-next.row.row (omega arith) c.in_default.ensures.none in
-    ap (λ v. v.row) c.write_next-2.ensures ∙ (sym stays ∙ c.loop-next.invariant.walk.target)
+    ap (λ v. v.row) c.write_next-2.ensures.cells ∙ (sym stays ∙ c.loop-next.invariant.walk.target)
 
 pub returns-clause-writes : goal.returns-clause-writes
 returns-clause-writes g c =
     let end = Closing-end _ _ _ _ _ c.loop-next.row.row c.loop-next.row.writes _ c.loop-next.hole c.loop-next.invariant.walk in
-    rw c.write_next-2.ensures (omega (arith, end, c.loop-next.invariant.before))
+    rw c.write_next-2.ensures.cells (omega (arith, end, c.loop-next.invariant.before))
 
 pub returns-clause-more : goal.returns-clause-more
-returns-clause-more g c = rw c.write_next-2.ensures (omega (arith, c.loop-next.invariant.before))
+returns-clause-more g c = rw c.write_next-2.ensures.cells (omega (arith, c.loop-next.invariant.before))

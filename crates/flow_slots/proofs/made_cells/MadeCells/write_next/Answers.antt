@@ -2,7 +2,11 @@ use Rattle.std.proofs.Common.{◌+◌, ap, arith}
 use Rattle.flow_slots.proofs.Filled.{made-set}
 use Rattle.flow_slots.proofs.made_cells.MadeCells.write_next.Goals as goal
 
-pub returns : goal.returns
-returns g c =
+pub returns-clause-small : goal.returns-clause-small
+returns-clause-small g c =
+    omega (arith, ap (λ v. v.made) c.self.view_is, c.requires.slot, c.self.invariant.made, c.self.invariant.slots)
+
+pub returns-clause-cells : goal.returns-clause-cells
+returns-clause-cells g c =
     let s = c.self.inside in
     rw (c.set.ensures, ← c.self.view_is) (made-set s.row.items s.len c.args.k s.before (s.writes + 1) c.args.cell (omega (arith, ap (λ v. v.made) c.self.view_is, c.requires.slot)))

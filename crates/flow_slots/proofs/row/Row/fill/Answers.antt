@@ -1,7 +1,7 @@
 use Rattle.std.proofs.Common.{◌≡◌, ◌-◌, max, length, get_or, arith}
 use Rattle.flow_slots.specs.declared.cell.Planned.{Planned}
 use Rattle.flow_slots.specs.Period.{first_slot}
-use Rattle.flow_slots.proofs.Filling.{Filling-start, Filling-step, Filling-within, comes_next, few_slots}
+use Rattle.flow_slots.proofs.Filling.{Filling-start, Filling-step, Filling-within, comes_next}
 use Rattle.flow_slots.proofs.row.Row.fill.Goals as goal
 
 pub loop-planned-init : goal.loop-planned-init
@@ -21,16 +21,6 @@ write-requires-clause-slot g c =
     let comes = comes_next _ c.args.flights.now c.loop-planned.planned-index none c.requires.may c.loop-planned-test.true in
     let slot : c.max-k.result ≡ max (first_slot c.args.shape.now x.entry) c.loop-planned.next = omega (arith, c.max-k.ensures, c.at.ensures) in
     Filling-within _ _ _ _ c.loop-planned.next c.max-k.result s.cells.row s.places.items x c.loop-planned.invariant.walk comes slot
-
-pub of-requires : goal.of-requires
-of-requires g c =
-    let none : Planned = record { entry = 0; flight = 0 } in
-    let s = c.loop-planned.self in
-    let x : Planned = get_or c.args.flights.now c.loop-planned.planned-index none in
-    let comes = comes_next _ c.args.flights.now c.loop-planned.planned-index none c.requires.may c.loop-planned-test.true in
-    let slot : c.max-k.result ≡ max (first_slot c.args.shape.now x.entry) c.loop-planned.next = omega (arith, c.max-k.ensures, c.at.ensures) in
-    let within = Filling-within _ _ _ _ c.loop-planned.next c.max-k.result s.cells.row s.places.items x c.loop-planned.invariant.walk comes slot in
-    omega (arith, within, few_slots _ _ _ _ c.loop-planned.invariant.walk.kept)
 
 pub loop-planned-preserved : goal.loop-planned-preserved
 loop-planned-preserved g c =

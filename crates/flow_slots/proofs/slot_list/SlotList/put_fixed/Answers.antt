@@ -2,7 +2,6 @@ use Rattle.std.proofs.Common.{refl, ap, ◌∙◌, arith}
 use Rattle.flow_slots.specs.Lineup.{with_fixed}
 use Rattle.flow_slots.specs.Period.{first_slot}
 use Rattle.flow_slots.proofs.Following.{AllFollow-settled}
-use Rattle.flow_slots.proofs.Periods.{slots_before_end-at_most}
 use Rattle.flow_slots.proofs.Gained.{gained-moved}
 use Rattle.flow_slots.proofs.Changes.{may_be_put, row-put, IsKept-put, lineup-put}
 use Rattle.flow_slots.proofs.slot_list.SlotList.put_fixed.Goals as goal
@@ -11,12 +10,6 @@ pub put_fixed-requires-clause-order : goal.put_fixed-requires-clause-order
 put_fixed-requires-clause-order g c =
     let s = c.self.inside in
     AllFollow-settled (λ e. first_slot s.first_slots e) 0 s.row.cells.row c.self.invariant.settled
-
-pub put_fixed-requires-clause-small : goal.put_fixed-requires-clause-small
-put_fixed-requires-clause-small g c =
-    let s = c.self.inside in
-    let may = may_be_put s.first_slots s.capacity s.row.cells.row s.row.places.items c.args.flight c.args.k _ c.self.invariant (ap (λ v. v.lineup) c.self.view_is) c.requires.absent c.requires.first c.requires.last c.requires.slot c.requires.open in
-    omega (arith, may.within, c.self.invariant.len, c.self.invariant.flights, slots_before_end-at_most s.first_slots c.self.invariant.regular)
 
 pub put_fixed-requires-clause-absent : goal.put_fixed-requires-clause-absent
 put_fixed-requires-clause-absent g c =
