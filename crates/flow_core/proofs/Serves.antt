@@ -1,5 +1,5 @@
 -- Answering frames, one after the other.
-use Rattle.std.proofs.Common.{◌≡◌, ℕ, ◌⊎◌, inl, inr, Bool, true, false, cond, List, [], ◌∷◌, ◌++◌, length, take, refl, sym, ap, ◌∙◌, subst, Option, Some, None, append_assoc, ltb, leb, codes, IfSome, Result, Err, IsErrOf}
+use Rattle.std.proofs.Common.{◌≡◌, ◌≤◌, ℕ, ◌⊎◌, inl, inr, Bool, true, false, cond, List, [], ◌∷◌, ◌++◌, length, arith, refl, sym, ap, ◌∙◌, subst, Option, Some, None, append_assoc, ltb, leb, codes, IfSome, Result, Err, IsErrOf}
 use Rattle.std.proofs.lemmas.List.{append-nil}
 use Rattle.std.specs.Io.KnownBytes.{Appends, Keeps}
 use Rattle.std.proofs.KnownBytes.{Appends-nil, Appends-trans, Consumes-nil}
@@ -9,13 +9,13 @@ use Rattle.flow_intake.specs.Reader.{Ahead, Agrees, Came, CameTooMuch}
 use Rattle.flow_intake.specs.NextFrame.{second, filing_of, GaveFirst, GaveNone, Starves}
 use Rattle.flow_intake.specs.Cutting.{CutFront, Overrun}
 use Rattle.flow_intake.specs.Writes.{AppendsFront}
-use Rattle.flow_intake.proofs.Cuttings.{Cutting-start, Cutting-one, Cutting-end, CutFront-came, CutFront-one, CutEnded-read, Overrun-came}
-use Rattle.flow_intake.proofs.Written.{AppendsFront-both, AppendsFront-more}
+use Rattle.flow_intake.proofs.Cuttings.{Cutting-start, Cutting-one, Cutting-end, Cutting-within, CutFront-came, CutFront-one, CutEnded-read, Overrun-came}
+use Rattle.flow_intake.proofs.Written.{AppendsFront-both}
 use Rattle.flow_core.specs.State.{State}
 use Rattle.flow_core.specs.Steps.{step}
 use Rattle.flow_core.specs.Output.{answer_text}
 use Rattle.flow_core.specs.Served.{served, said, output, after, as_input}
-use Rattle.flow_core.specs.Serving.{AnswersFrame, AnswersPart, Serving, Stopped, Starved}
+use Rattle.flow_core.specs.Serving.{Answered, AnswersFrame, AnswersPart, AppendsMore, Serving, Stopped, Starved}
 
 module _ (s : State) (frame : List ℕ) where
   -- a frame that is too long
@@ -101,14 +101,35 @@ output-nil : (s : State) → output s [] ≡ []
 unfolding output
 output-nil s = refl
 
-take-front : (fs gs : List (List ℕ)) → take (length fs) (fs ++ gs) ≡ fs
-take-front [] gs = refl
-take-front (f ∷ fs) gs = ap (λ (hs : List (List ℕ)). f ∷ hs) (take-front fs gs)
-
 AppendsFront-whole : (old new : Option (List ℕ)) (bytes more all : List ℕ) → Appends old new bytes → bytes ++ more ≡ all → AppendsFront old new all
 AppendsFront-whole None new bytes more all a e = tt
 AppendsFront-whole (Some o) None bytes more all a e = absurd a
 AppendsFront-whole (Some o) (Some n) bytes more all a e = (bytes, more, sym e, a)
+
+AppendsMore-whole : (old new : Option (List ℕ)) (bytes : List ℕ) → Appends old new bytes → AppendsMore old new bytes
+AppendsMore-whole old new bytes a = ([], subst (λ (bs : List ℕ). Appends old new bs) (sym (append-nil bytes)) a)
+
+AppendsMore-front : (old mid new : Option (List ℕ)) (bytes more : List ℕ) → Appends old mid bytes → AppendsFront mid new more → AppendsMore old new bytes
+AppendsMore-front None mid new bytes more a f = ([], tt)
+AppendsMore-front (Some o) None new bytes more a f = absurd a
+AppendsMore-front (Some o) (Some m) None bytes more a f = absurd f
+AppendsMore-front (Some o) (Some m) (Some n) bytes more a f = (f.0, f.3 ∙ ap (λ (q : List ℕ). q ++ f.0) a ∙ append_assoc o bytes f.0)
+
+-- where just the output of what was served was written, an end of an answer is missing nowhere
+pub Stopped-answered : (first now : State) (begun written input rest : Option (List ℕ)) → Answered first now begun written input rest → Stopped first now begun written input rest
+Stopped-answered first now begun written input rest a =
+    record {
+      read = a.read;
+      consumed = a.consumed;
+      answered = a.answered;
+      last = [];
+      others = a.others;
+      whole = a.whole;
+      one = omega arith;
+      state = a.state ∙ ap (after first) (sym (append-nil a.answered));
+      most = AppendsMore-whole begun written (output first a.answered) a.appended;
+      front = AppendsFront-whole begun written (output first a.answered) [] (output first (a.answered ++ [])) a.appended (append-nil (output first a.answered) ∙ ap (output first) (sym (append-nil a.answered)));
+    }
 
 -- ---- in the middle
 
@@ -136,29 +157,16 @@ Serving-kept first now begun written kept ahead input mid s k =
 
 module _ (first now : State) (begun written : Option (List ℕ)) (old : Ahead) (input mid : Option (List ℕ)) (s : Serving first now begun written old input mid) where
   -- where handing on failed, nothing more was read
-  pub Stopped-here : Stopped first now begun written input mid
-  Stopped-here =
+  pub Answered-here : Answered first now begun written input mid
+  Answered-here =
       let cut = s.cutting in
-      record {
-        read = cut.read;
-        consumed = cut.consumed;
-        count = length s.done;
-        state = s.state ∙ ap (after first) (sym (ap (take (length s.done)) cut.whole ∙ take-front s.done (frames old.unread)));
-        front = AppendsFront-whole begun written (output first s.done) (output (after first s.done) (frames old.unread)) (output first (frames cut.read)) s.appended
-            (sym (ap (output first) cut.whole ∙ output-append first s.done (frames old.unread)));
-      }
+      record { read = cut.read; consumed = cut.consumed; answered = s.done; others = frames old.unread; whole = cut.whole; state = s.state; appended = s.appended }
 
   -- where reading stopped, the frames that were served are the first of what was read
-  pub Stopped-none : (rest : Option (List ℕ)) → old.ended ≡ false → Came mid rest → Stopped first now begun written input rest
-  Stopped-none rest going m =
+  pub Answered-none : (rest : Option (List ℕ)) → old.ended ≡ false → Came mid rest → Answered first now begun written input rest
+  Answered-none rest going m =
       let cut = CutFront-came s.done old input mid s.cutting rest going m in
-      record {
-        read = cut.read;
-        consumed = cut.consumed;
-        count = length s.done;
-        state = s.state ∙ ap (after first) (sym (ap (take (length s.done)) cut.whole ∙ take-front s.done cut.others));
-        front = AppendsFront-whole begun written (output first s.done) (output (after first s.done) cut.others) (output first (frames cut.read)) s.appended (sym (ap (output first) cut.whole ∙ output-append first s.done cut.others));
-      }
+      record { read = cut.read; consumed = cut.consumed; answered = s.done; others = cut.others; whole = cut.whole; state = s.state; appended = s.appended }
 
   -- where the reader failed, they are those that had ended
   pub Starved-read : (rest : Option (List ℕ)) → old.ended ≡ false → Starves old mid rest → Starved first now begun written input rest
@@ -181,69 +189,82 @@ module _ (first now : State) (begun written : Option (List ℕ)) (old : Ahead) (
   pub Served-state : (new : Ahead) (rest : Option (List ℕ)) → GaveNone old new mid rest → Agrees new rest → IfSome input (λ bytes. now ≡ after first (frames bytes))
   Served-state new rest f agrees = Cutting-end s.done old input mid s.cutting new rest (λ fs. now ≡ after first fs) f agrees s.state
 
+  -- and the input isn't too long
+  pub Served-within : (new : Ahead) (rest : Option (List ℕ)) → GaveNone old new mid rest → Agrees new rest → new.taken ≤ 4000000000 → IfSome input (λ bytes. length bytes ≤ 4000000000)
+  Served-within new rest f agrees within = Cutting-within s.done old input mid s.cutting new rest f agrees within
+
   -- a frame came
   module _ (new : Ahead) (rest : Option (List ℕ)) (filing : Option FilingText) (f : GaveFirst filing old new mid rest) where
+    said-one : output first (s.done ++ f.whole.frame ∷ []) ≡ output first s.done ++ said now f.whole.frame
+    said-one =
+        output-append first s.done (f.whole.frame ∷ []) ∙ ap (λ (t : State). output first s.done ++ output t (f.whole.frame ∷ [])) (sym s.state) ∙ ap (λ (bs : List ℕ). output first s.done ++ bs) (output-one now f.whole.frame)
+
+    served-one : served now f.whole.frame ≡ after first (s.done ++ f.whole.frame ∷ [])
+    served-one = ap (λ (t : State). served t f.whole.frame) s.state ∙ sym (after-append first s.done (f.whole.frame ∷ []) ∙ after-one (after first s.done) f.whole.frame)
+
+    front-one : CutFront (s.done ++ f.whole.frame ∷ []) input rest
+    front-one = CutFront-one s.done old input mid s.cutting new rest filing f
+
     -- and was answered
     pub Serving-one : (next : State) (then : Option (List ℕ)) → AnswersFrame filing now next written then → Serving first next begun then new input rest
     Serving-one next then a =
         let did = a f.whole.frame f.filed in
-        let said-is : output first (s.done ++ f.whole.frame ∷ []) ≡ output first s.done ++ said now f.whole.frame =
-        output-append first s.done (f.whole.frame ∷ []) ∙ ap (λ (t : State). output first s.done ++ output t (f.whole.frame ∷ [])) (sym s.state) ∙ ap (λ (bs : List ℕ). output first s.done ++ bs) (output-one now f.whole.frame) in
         record {
           done = s.done ++ f.whole.frame ∷ [];
           cutting = Cutting-one s.done old input mid s.cutting new rest filing f;
-          state = did.0 ∙ ap (λ (t : State). served t f.whole.frame) s.state ∙ sym (after-append first s.done (f.whole.frame ∷ []) ∙ after-one (after first s.done) f.whole.frame);
-          appended = subst (λ (bs : List ℕ). Appends begun then bs) (sym said-is) (Appends-trans begun written then (output first s.done) (said now f.whole.frame) s.appended did.1);
+          state = did.0 ∙ served-one;
+          appended = subst (λ (bs : List ℕ). Appends begun then bs) (sym said-one) (Appends-trans begun written then (output first s.done) (said now f.whole.frame) s.appended did.1);
         }
 
-    part-state : (read : List ℕ) (others : List (List ℕ)) → frames read ≡ (s.done ++ f.whole.frame ∷ []) ++ others → (next : State) → ((next ≡ now) ⊎ (next ≡ served now f.whole.frame)) → (count : ℕ) × (next ≡ after first (take count (frames read)))
-    part-state read others whole next (inl e) =
-        (length s.done, e ∙ s.state ∙ ap (after first) (sym (ap (take (length s.done)) (whole ∙ append_assoc s.done (f.whole.frame ∷ []) others) ∙ take-front s.done (f.whole.frame ∷ others))))
-    part-state read others whole next (inr e) = (
-      length (s.done ++ f.whole.frame ∷ []),
-      e ∙ ap (λ (t : State). served t f.whole.frame) s.state ∙ sym (after-append first s.done (f.whole.frame ∷ []) ∙ after-one (after first s.done) f.whole.frame)
-          ∙ ap (after first) (sym (ap (take (length (s.done ++ f.whole.frame ∷ []))) whole ∙ take-front (s.done ++ f.whole.frame ∷ []) others)),
-    )
-
-    -- or answering it failed
+    -- or its answer wasn't written whole
     pub Stopped-part : (next : State) (then : Option (List ℕ)) → AnswersPart filing now next written then → Stopped first next begun then input rest
     Stopped-part next then a =
         let did = a f.whole.frame f.filed in
-        let cut : CutFront (s.done ++ f.whole.frame ∷ []) input rest = CutFront-one s.done old input mid s.cutting new rest filing f in
-        let behind : List ℕ = output (served now f.whole.frame) cut.others in
-        let said-is : output first s.done ++ (said now f.whole.frame ++ behind) ≡ output first (frames cut.read) =
-        ap (λ (bs : List ℕ). output first s.done ++ bs) (sym (output-cons now f.whole.frame cut.others)) ∙ ap (λ (t : State). output first s.done ++ output t (f.whole.frame ∷ cut.others)) s.state
-        ∙ sym (ap (output first) (cut.whole ∙ append_assoc s.done (f.whole.frame ∷ []) cut.others) ∙ output-append first s.done (f.whole.frame ∷ cut.others)) in
-        let part = part-state cut.read cut.others cut.whole next did.0 in
+        let cut = front-one in
         record {
           read = cut.read;
           consumed = cut.consumed;
-          count = part.0;
-          state = part.1;
-          front = AppendsFront-both begun written then (output first s.done) (said now f.whole.frame ++ behind) (output first (frames cut.read)) s.appended
-              (AppendsFront-more written then (said now f.whole.frame) behind (said now f.whole.frame ++ behind) did.1 refl) said-is;
+          answered = s.done;
+          last = f.whole.frame ∷ [];
+          others = cut.others;
+          whole = cut.whole ∙ append_assoc s.done (f.whole.frame ∷ []) cut.others;
+          one = omega arith;
+          state = did.0 ∙ served-one;
+          most = AppendsMore-front begun written then (output first s.done) (said now f.whole.frame) s.appended did.1;
+          front = AppendsFront-both begun written then (output first s.done) (said now f.whole.frame) (output first (s.done ++ f.whole.frame ∷ [])) s.appended did.1 (sym said-one);
+        }
+
+    -- or it wasn't served
+    pub Answered-not : (next : State) (then : Option (List ℕ)) → next ≡ now → then ≡ written → Answered first next begun then input rest
+    Answered-not next then same kept =
+        let cut = front-one in
+        record {
+          read = cut.read;
+          consumed = cut.consumed;
+          answered = s.done;
+          others = f.whole.frame ∷ cut.others;
+          whole = cut.whole ∙ append_assoc s.done (f.whole.frame ∷ []) cut.others;
+          state = same ∙ s.state;
+          appended = subst (λ (w : Option (List ℕ)). Appends begun w (output first s.done)) (sym kept) s.appended;
         }
 
 -- memory for serving was refused: nothing was read
-pub Stopped-start : (s : State) (begun input : Option (List ℕ)) → Stopped s s begun begun input input
-Stopped-start s begun input =
+pub Answered-start : (s : State) (begun input : Option (List ℕ)) → Answered s s begun begun input input
+Answered-start s begun input =
     record {
       read = [];
       consumed = Consumes-nil input;
-      count = 0;
+      answered = [];
+      others = frames [];
+      whole = refl;
       state = sym (after-nil s);
-      front = AppendsFront-whole begun begun [] (output s (frames [])) (output s (frames [])) (Appends-nil begun) refl;
+      appended = subst (λ (bs : List ℕ). Appends begun begun bs) (sym (output-nil s)) (Appends-nil begun);
     }
 
-AppendsFront-none : (old : Option (List ℕ)) (bytes : List ℕ) → AppendsFront old old bytes
-AppendsFront-none old bytes = AppendsFront-whole old old [] bytes bytes (Appends-nil old) refl
-
--- a frame that was answered, wholly or in part
-pub long-front : (s : State) (frame : List ℕ) (before now : Option (List ℕ)) → None ≡ filing_of frame → AppendsFront before now (codes "- NO 90 TooLong\n") → ((s ≡ s) ⊎ (s ≡ served s frame)) × AppendsFront before now (said s frame)
-long-front s frame before now k w = (inl refl, rw (said-long s frame k) w)
-
-pub none-front : (s next : State) (frame : List ℕ) (before : Option (List ℕ)) → next ≡ s → ((next ≡ s) ⊎ (next ≡ served s frame)) × AppendsFront before before (said s frame)
-none-front s next frame before e = (inl e, AppendsFront-none before (said s frame))
+-- what holds in each of two cases
+pub in_both : {A B P : Type 0} → A ⊎ B → (A → P) → (B → P) → P
+in_both (inl a) f h = f a
+in_both (inr b) f h = h b
 
 pub err_is : {T E : Type 0} {x y : E} → x ≡ y → IsErrOf {T = T} (Err x) y
 err_is {T} {E} {x} {y} e = let again : E → Result T E = λ z. Err z in ap again e

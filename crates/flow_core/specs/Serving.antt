@@ -1,5 +1,5 @@
 -- How far serving has come, and how it can stop.
-use Rattle.std.specs.Prelude.{◌≡◌, ◌⊎◌, ℕ, List, take, Option}
+use Rattle.std.specs.Prelude.{◌≡◌, ◌≤◌, ℕ, List, ◌++◌, length, Option}
 use Rattle.std.specs.Io.KnownBytes.{Appends, Consumes}
 use Rattle.fpl_message.specs.Filings.{FilingText}
 use Rattle.flow_intake.specs.Frames.{frames, ended_frames}
@@ -10,13 +10,32 @@ use Rattle.flow_intake.specs.Writes.{AppendsFront}
 use Rattle.flow_core.specs.State.{State}
 use Rattle.flow_core.specs.Served.{served, said, output, after}
 
--- serving stopped: bytes were read from the input, the state is that after some first frames of them, and a front of their output was written
+-- these bytes were appended, and perhaps more
+abbrev pub AppendsMore : Option (List ℕ) → Option (List ℕ) → List ℕ → Type 0
+AppendsMore old new bytes = (more : List ℕ) × Appends old new (bytes ++ more)
+
+-- serving stopped: the first frames of the bytes read were served, and of their output all was written but for an end of what is said of the last one
 pub record Stopped (first now : State) (begun written : Option (List ℕ)) (input rest : Option (List ℕ)) : Type 0 where
   pub read : List ℕ
   pub consumed : Consumes input rest read
-  pub count : ℕ
-  pub state : now ≡ after first (take count (frames read))
-  pub front : AppendsFront begun written (output first (frames read))
+  pub answered : List (List ℕ)
+  pub last : List (List ℕ)
+  pub others : List (List ℕ)
+  pub whole : frames read ≡ answered ++ (last ++ others)
+  pub one : length last ≤ 1
+  pub state : now ≡ after first (answered ++ last)
+  pub most : AppendsMore begun written (output first answered)
+  pub front : AppendsFront begun written (output first (answered ++ last))
+
+-- it stopped, but not since the writer failed: just the output of the frames that were served was written
+pub record Answered (first now : State) (begun written : Option (List ℕ)) (input rest : Option (List ℕ)) : Type 0 where
+  pub read : List ℕ
+  pub consumed : Consumes input rest read
+  pub answered : List (List ℕ)
+  pub others : List (List ℕ)
+  pub whole : frames read ≡ answered ++ others
+  pub state : now ≡ after first answered
+  pub appended : Appends begun written (output first answered)
 
 -- it stopped since the reader failed: just the frames that had ended in the bytes read were served, and answered
 pub record Starved (first now : State) (begun written : Option (List ℕ)) (input rest : Option (List ℕ)) : Type 0 where
@@ -31,9 +50,9 @@ pub record Starved (first now : State) (begun written : Option (List ℕ)) (inpu
 abbrev pub AnswersFrame : Option FilingText → State → State → Option (List ℕ) → Option (List ℕ) → Type 0
 AnswersFrame filing old new before now = (frame : List ℕ) → filing ≡ filing_of frame → (new ≡ served old frame) × Appends before now (said old frame)
 
--- it was served or not, and a front of what is said of it was appended
+-- it was served, and a front of what is said of it was appended
 abbrev pub AnswersPart : Option FilingText → State → State → Option (List ℕ) → Option (List ℕ) → Type 0
-AnswersPart filing old new before now = (frame : List ℕ) → filing ≡ filing_of frame → ((new ≡ old) ⊎ (new ≡ served old frame)) × AppendsFront before now (said old frame)
+AnswersPart filing old new before now = (frame : List ℕ) → filing ≡ filing_of frame → (new ≡ served old frame) × AppendsFront before now (said old frame)
 
 -- ---- in the middle of serving
 

@@ -1,11 +1,13 @@
 //! Answer lines and slot notices as text.
-ghost use Rattle.std.specs.Prelude.{◌≡◌, ◌≤◌, ◌+◌, ◌++◌, ◌-◌, ◌^◌, min, OnOk, OnErr, length, codes, decimal, ℕ, ◌/◌, ◌%◌};
+ghost use Rattle.std.specs.Prelude.{◌≡◌, ◌≤◌, ◌+◌, ◌++◌, ◌-◌, ◌^◌, min, OnOk, OnErr, length, codes, decimal, ℕ, ◌/◌};
+ghost use Rattle.std.specs.Prelude.{◌%◌};
 ghost use Rattle.std.specs.List.{flat_map};
 ghost use Rattle.std.specs.Io.KnownBytes.{Appends};
 ghost use Rattle.fpl_message.specs.Numbers.{number_of, name_of};
 ghost use Rattle.flow_intake.specs.Writes.{AppendsFront};
 ghost use Rattle.arrayvec.specs.ArrayVec.{array_vec_len};
-ghost use Rattle.flow_core.specs.Output.{kind_text, window_text, plan_text, refusal_text, verdict_text, answer_line, flight_text, told_text, notice_line};
+ghost use Rattle.flow_core.specs.Output.{kind_text, window_text, plan_text, refusal_text, verdict_text, answer_line};
+ghost use Rattle.flow_core.specs.Output.{flight_text, told_text, notice_line};
 
 use crate::line::{Line, put, put_number};
 use crate::receipt::Receipt;
@@ -192,8 +194,10 @@ fn put_notice(line: &mut Line, notice: &Notice)
 
 /// Writes the answer line of a receipt.
 fn write_line<W: Write>(writer: &mut Counted<W>, receipt: &Receipt) -> Result<(), WriteFault>
-    ensures ok { OnOk result (Appends (W.contents writer.old.device) (W.contents writer.new.device) (answer_line receipt.now)) }
-    ensures err { OnErr result (AppendsFront (W.contents writer.old.device) (W.contents writer.new.device) (answer_line receipt.now)) }
+    ensures ok { OnOk result (Appends (W.contents writer.old.device) (W.contents writer.new.device)
+        (answer_line receipt.now)) }
+    ensures err { OnErr result (AppendsFront (W.contents writer.old.device) (W.contents writer.new.device)
+        (answer_line receipt.now)) }
     ensures calm { OnOk result (writer.new.failures ≡ writer.old.failures) }
     ensures failed { OnErr result (writer.new.failures ≡ min (writer.old.failures + 1) (2 ^ 64 - 1)) }
 {
@@ -204,8 +208,10 @@ fn write_line<W: Write>(writer: &mut Counted<W>, receipt: &Receipt) -> Result<()
 
 /// Writes the line of a notice.
 fn write_notice<W: Write>(writer: &mut Counted<W>, notice: &Notice) -> Result<(), WriteFault>
-    ensures ok { OnOk result (Appends (W.contents writer.old.device) (W.contents writer.new.device) (notice_line notice.now)) }
-    ensures err { OnErr result (AppendsFront (W.contents writer.old.device) (W.contents writer.new.device) (notice_line notice.now)) }
+    ensures ok { OnOk result (Appends (W.contents writer.old.device) (W.contents writer.new.device)
+        (notice_line notice.now)) }
+    ensures err { OnErr result (AppendsFront (W.contents writer.old.device) (W.contents writer.new.device)
+        (notice_line notice.now)) }
     ensures calm { OnOk result (writer.new.failures ≡ writer.old.failures) }
     ensures failed { OnErr result (writer.new.failures ≡ min (writer.old.failures + 1) (2 ^ 64 - 1)) }
 {
@@ -220,8 +226,10 @@ pub(crate) fn write_lines<W: Write>(
     receipt: &Receipt,
     notices: &[Notice],
 ) -> Result<(), WriteFault>
-    ensures ok { OnOk result (Appends (W.contents writer.old.device) (W.contents writer.new.device) (answer_line receipt.now ++ flat_map notice_line notices.now)) }
-    ensures err { OnErr result (AppendsFront (W.contents writer.old.device) (W.contents writer.new.device) (answer_line receipt.now ++ flat_map notice_line notices.now)) }
+    ensures ok { OnOk result (Appends (W.contents writer.old.device) (W.contents writer.new.device)
+        (answer_line receipt.now ++ flat_map notice_line notices.now)) }
+    ensures err { OnErr result (AppendsFront (W.contents writer.old.device) (W.contents writer.new.device)
+        (answer_line receipt.now ++ flat_map notice_line notices.now)) }
     ensures calm { OnOk result (writer.new.failures ≡ writer.old.failures) }
     ensures failed { OnErr result (writer.new.failures ≡ min (writer.old.failures + 1) (2 ^ 64 - 1)) }
 {
@@ -230,8 +238,10 @@ pub(crate) fn write_lines<W: Write>(
 }
 
 fn write_notices<W: Write>(writer: &mut Counted<W>, notices: &[Notice]) -> Result<(), WriteFault>
-    ensures ok { OnOk result (Appends (W.contents writer.old.device) (W.contents writer.new.device) (flat_map notice_line notices.now)) }
-    ensures err { OnErr result (AppendsFront (W.contents writer.old.device) (W.contents writer.new.device) (flat_map notice_line notices.now)) }
+    ensures ok { OnOk result (Appends (W.contents writer.old.device) (W.contents writer.new.device)
+        (flat_map notice_line notices.now)) }
+    ensures err { OnErr result (AppendsFront (W.contents writer.old.device) (W.contents writer.new.device)
+        (flat_map notice_line notices.now)) }
     ensures calm { OnOk result (writer.new.failures ≡ writer.old.failures) }
     ensures failed { OnErr result (writer.new.failures ≡ min (writer.old.failures + 1) (2 ^ 64 - 1)) }
 {

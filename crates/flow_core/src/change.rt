@@ -2,7 +2,8 @@
 ghost use Rattle.std.specs.Prelude.{◌≡◌, ◌<◌, ◌≤◌, ◌-◌, IfSome, IsSome, OnOk, length, slice_get};
 ghost use Rattle.std.specs.Option.{option_map, option_and_then};
 ghost use Rattle.flow_traffic.specs.Traffic.{told_of};
-ghost use Rattle.flow_core.specs.Changes.{same_state, same_told, same_row, row_with, change_to, change_at, changes_between, rows_in};
+ghost use Rattle.flow_core.specs.Changes.{same_state, same_told, same_row, row_with, change_to, change_at};
+ghost use Rattle.flow_core.specs.Changes.{changes_between, rows_in};
 
 use crate::row::{Row, row_at};
 use flow_plans::{PlanState, Status};
@@ -137,7 +138,8 @@ fn change_at<A: Allocator + Copy>(
     requires change { IsSome traffic.now.before }
     requires each { IfSome traffic.now.before (λ before. length before.told ≡ length before.plans) }
     requires told { IfSome traffic.now.before (λ before. told.now ≡ told_of before.told number) }
-    ensures { IfSome traffic.now.before (λ before. result ≡ change_at (rows_in before) (rows_in traffic.now.traffic) number) }
+    ensures { IfSome traffic.now.before (λ before.
+        result ≡ change_at (rows_in before) (rows_in traffic.now.traffic) number) }
 {
     // Most plans that became due stand where they did and are told what they were: their rows aren't built.
     if !traffic.may_have_moved_plans() && is_told(traffic, number, told) {
@@ -153,7 +155,8 @@ pub(crate) fn note_changes<A: Allocator + Copy>(
     changes: &mut Vec<Change, A>,
 ) -> Result<(), AllocError>
     requires { IsSome traffic.now.before }
-    ensures { OnOk result (IfSome traffic.now.before (λ before. changes.new.items ≡ changes_between (rows_in before) (rows_in traffic.now.traffic))) }
+    ensures { OnOk result (IfSome traffic.now.before (λ before.
+        changes.new.items ≡ changes_between (rows_in before) (rows_in traffic.now.traffic))) }
 {
     changes.clear();
     let (numbers, told) = traffic.changed();

@@ -1,5 +1,5 @@
 -- Frames that are cut from an input, one after the other.
-use Rattle.std.proofs.Common.{◌≡◌, ℕ, Bool, true, false, List, [], ◌∷◌, ◌++◌, refl, sym, ap, ◌∙◌, subst, arith, Option, append_assoc, append-nil, IfSome, length-append}
+use Rattle.std.proofs.Common.{◌≡◌, ◌≤◌, ℕ, length, Bool, true, false, List, [], ◌∷◌, ◌++◌, refl, sym, ap, ◌∙◌, subst, arith, Option, append_assoc, append-nil, IfSome, length-append}
 use Rattle.std.proofs.KnownBytes.{Consumes-nil, Consumes-trans, Consumes-whole}
 use Rattle.fpl_message.specs.Filings.{FilingText}
 use Rattle.flow_intake.specs.Frames.{first_cut, frames, ended_frames}
@@ -52,6 +52,13 @@ module _ (done : List (List ℕ)) (old : Ahead) (input mid : Option (List ℕ)) 
   Cutting-end new rest P f agrees p =
       Consumes-whole input rest (s.read ++ f.came) (λ bytes. P (frames bytes)) (Consumes-trans input mid rest s.read f.came s.consumed f.consumed) (agrees f.ended).1
       (subst P (sym (all-cut new rest f old.ended refl)) p)
+
+  -- and the known input isn't too long
+  pub Cutting-within : (new : Ahead) (rest : Option (List ℕ)) → GaveNone old new mid rest → Agrees new rest → new.taken ≤ 4000000000 → IfSome input (λ bytes. length bytes ≤ 4000000000)
+  Cutting-within new rest f agrees within =
+      let none : length new.unread ≡ 0 = ap length (agrees f.ended).0 in
+      Consumes-whole input rest (s.read ++ f.came) (λ bytes. length bytes ≤ 4000000000) (Consumes-trans input mid rest s.read f.came s.consumed f.consumed) (agrees f.ended).1
+      (omega (arith, s.count, f.count, none, within, length-append s.read f.came))
 
   -- a frame came
   module _ (new : Ahead) (rest : Option (List ℕ)) (filing : Option FilingText) (f : GaveFirst filing old new mid rest) where

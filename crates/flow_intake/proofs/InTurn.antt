@@ -4,10 +4,11 @@ use Rattle.std.proofs.Math.ListN.{length-append}
 use Rattle.std.specs.Io.KnownBytes.{prepend_known}
 use Rattle.fpl_message.specs.Filings.{FilingText}
 use Rattle.flow_intake.specs.declared.intake.Frame.{Frame}
+use Rattle.flow_intake.specs.declared.intake.Frame.TheVariants.{Whole}
 use Rattle.flow_intake.specs.declared.intake.IntakeFault.{IntakeFault}
 use Rattle.flow_intake.specs.Frames.{Cut, first_cut, frames}
 use Rattle.flow_intake.specs.Reader.{Ahead}
-use Rattle.flow_intake.specs.NextFrame.{Gives, filing_in, filing_of}
+use Rattle.flow_intake.specs.NextFrame.{Gives, Misses, filing_in, filing_of}
 use Rattle.flow_intake.specs.Source.{IsFirst, CutsFirst, SameTotal}
 use Rattle.flow_intake.specs.InTurn.{filings_of, IsNext, GivesNext, AnswerInTurn, EndsWithin}
 use Rattle.flow_intake.proofs.FrameLists.{frames-some, frames-none}
@@ -68,3 +69,6 @@ pub SameTotal-ok : (A : Type 0) (r : Result (Option (Frame A)) IntakeFault) (old
     → OnOk r (SameTotal taken left new.taken (prepend_known new.unread after))
 SameTotal-ok A (Err e) old new before after left taken f is at = f
 SameTotal-ok A (Ok frame) old new before after left taken f is at = rw (← is, ← at) (SameTotal-given A frame old new before after f)
+
+pub SameTotal-missed : (old new : Ahead) (before after left : Option (List ℕ)) (taken : ℕ) → Misses old new before after → prepend_known old.unread before ≡ left → old.taken ≡ taken → SameTotal taken left new.taken (prepend_known new.unread after)
+SameTotal-missed old new before after left taken m is at = rw (← is, ← at) (SameTotal-given (Unit {0}) (Some (Whole m.0)) old new before after m.1)

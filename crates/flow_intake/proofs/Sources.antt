@@ -2,11 +2,12 @@
 use Rattle.std.proofs.Common.{◌≡◌, ℕ, Bool, true, false, List, [], ◌++◌, refl, sym, ap, ◌∙◌, Option, Some, None, Result, Ok, Err, IfOk, OnOk, append_assoc, append-nil}
 use Rattle.std.specs.Io.KnownBytes.{prepend_known}
 use Rattle.flow_intake.specs.declared.intake.Frame.{Frame}
+use Rattle.flow_intake.specs.declared.intake.Frame.TheVariants.{Whole}
 use Rattle.flow_intake.specs.declared.intake.IntakeFault.{IntakeFault}
 use Rattle.flow_intake.specs.Frames.{first_cut}
 use Rattle.flow_intake.specs.Reader.{Ahead, Agrees}
-use Rattle.flow_intake.specs.NextFrame.{GaveFirst, GaveNone, Gives, filing_in}
-use Rattle.flow_intake.specs.Source.{IsFirst, CutsFirst}
+use Rattle.flow_intake.specs.NextFrame.{GaveFirst, GaveNone, Gives, Misses, filing_in}
+use Rattle.flow_intake.specs.Source.{IsFirst, CutsFirst, MissesFirst}
 use Rattle.flow_intake.proofs.FrameLists.{extended, first_cut-more}
 
 -- the known bytes are those unread, those that came, and the rest
@@ -40,3 +41,6 @@ pub CutsFirst-ok : (A : Type 0) (r : Result (Option (Frame A)) IntakeFault) (old
     → IfOk r (λ frame. CutsFirst frame left (prepend_known new.unread after))
 CutsFirst-ok A (Err e) old new before after left f agrees is = f
 CutsFirst-ok A (Ok frame) old new before after left f agrees is = rw (← is) (CutsFirst-given A frame old new before after f agrees)
+
+pub MissesFirst-given : (old new : Ahead) (before after left : Option (List ℕ)) → Misses old new before after → Agrees new after → prepend_known old.unread before ≡ left → MissesFirst left (prepend_known new.unread after)
+MissesFirst-given old new before after left m agrees is = rw (← is) (m.0, CutsFirst-given (Unit {0}) (Some (Whole m.0)) old new before after m.1 agrees)

@@ -61,6 +61,10 @@ abbrev pub Gives : {A : Type 0} → Option (Frame A) → Ahead → Ahead → Opt
 Gives None old new before after = GaveNone old new before after
 Gives (Some frame) old new before after = GaveFirst (filing_in frame) old new before after
 
+-- a frame was cut off that isn't too long, but its filing isn't answered
+abbrev pub Misses : Ahead → Ahead → Option (List ℕ) → Option (List ℕ) → Type 0
+Misses old new before after = (filing : FilingText) × GaveFirst (Some filing) old new before after
+
 -- where the reader failed, no frame had ended in the bytes that were there
 abbrev pub Starves : Ahead → Option (List ℕ) → Option (List ℕ) → Type 0
 Starves old before after = (came : List ℕ) × Consumes before after came × (ended_frames (old.unread ++ came) ≡ [])

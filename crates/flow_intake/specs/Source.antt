@@ -2,7 +2,9 @@
 use Rattle.std.specs.Prelude.{◌≡◌, ◌+◌, length, ℕ, Bool, List, [], Option, Some, None}
 use Rattle.flow_intake.specs.Frames.{Cut, first_cut}
 use Rattle.flow_intake.specs.NextFrame.{filing_in, filing_of}
+use Rattle.fpl_message.specs.Filings.{FilingText}
 use Rattle.flow_intake.specs.declared.intake.Frame.{Frame}
+use Rattle.flow_intake.specs.declared.intake.Frame.TheVariants.{Whole}
 
 -- the known bytes that no frame was cut from yet, how many bytes were taken, how many calls of the reader failed,
 -- whether the input has ended, and whether it has failed
@@ -23,6 +25,10 @@ abbrev pub CutsFirst : {A : Type 0} → Option (Frame A) → Option (List ℕ) �
 CutsFirst frame None new = Unit {0}
 CutsFirst frame (Some old) None = ⊥
 CutsFirst frame (Some old) (Some new) = IsFirst frame old new
+
+-- the first frame of the bytes, one that isn't too long, was cut off, and what is left is the rest
+abbrev pub MissesFirst : Option (List ℕ) → Option (List ℕ) → Type 0
+MissesFirst old new = (filing : FilingText) × CutsFirst {A = Unit {0}} (Some (Whole filing)) old new
 
 -- as many bytes in all, where they are known
 abbrev pub SameTotal : ℕ → Option (List ℕ) → ℕ → Option (List ℕ) → Type 0

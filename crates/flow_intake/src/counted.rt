@@ -1,5 +1,6 @@
 //! A reader or a writer with the count of its calls that failed.
-ghost use Rattle.std.specs.Prelude.{◌≡◌, ◌+◌, ◌-◌, ◌^◌, ◌<◌, min, length, MatchResult, OnOk, OnErr, OnSome, IfOk, IfSome, IfNone, take, ◌≤◌, if◌then◌else◌};
+ghost use Rattle.std.specs.Prelude.{◌≡◌, ◌+◌, ◌-◌, ◌^◌, ◌<◌, min, length, MatchResult, OnOk, OnErr, OnSome, IfOk};
+ghost use Rattle.std.specs.Prelude.{IfSome, IfNone, take, ◌≤◌, if◌then◌else◌};
 ghost use Rattle.std.specs.Io.{ReadsAtMost, WritesAtMost};
 ghost use Rattle.std.specs.Io.KnownBytes.{ReadConsumes, WriteAppends, Keeps, Appends};
 ghost use Rattle.flow_intake.specs.Writes.{AppendsFront};
@@ -35,7 +36,8 @@ impl<D> Counted<D> {
 
     /// Counts a call that failed.
     fn count(&mut self, failed: bool)
-        ensures failures { self.new.failures ≡ (if failed then min (self.old.failures + 1) (2 ^ 64 - 1) else self.old.failures) }
+        ensures failures { self.new.failures
+            ≡ (if failed then min (self.old.failures + 1) (2 ^ 64 - 1) else self.old.failures) }
         ensures device { self.new.device ≡ self.old.device }
     {
         if failed {
@@ -51,7 +53,8 @@ impl<R: Read> Read for Counted<R> {
     fn read(&mut self, buf: &mut [u8]) -> io::Result<usize>
         ensures bound { ReadsAtMost result buf.new }
         ensures bytes { ReadConsumes (R.remaining self.old.device) (R.remaining self.new.device) result buf.new }
-        ensures counts { MatchResult result (λ _. self.new.failures ≡ self.old.failures) (λ _. self.new.failures ≡ min (self.old.failures + 1) (2 ^ 64 - 1)) }
+        ensures counts { MatchResult result (λ _. self.new.failures ≡ self.old.failures) (λ _.
+            self.new.failures ≡ min (self.old.failures + 1) (2 ^ 64 - 1)) }
     {
         let read = self.device.read(buf);
         self.count(read.is_err());
@@ -67,7 +70,9 @@ impl<W: Write> Write for Counted<W> {
         ensures bytes { WriteAppends (W.contents self.old.device) (W.contents self.new.device) result buf.now }
         ensures calm { IfOk result (λ n. 0 < n → self.new.failures ≡ self.old.failures) }
         ensures empty { length buf.now ≡ 0 → OnOk result (self.new.failures ≡ self.old.failures) }
-        ensures counts { MatchResult result (λ n. n ≡ 0 → 0 < length buf.now → self.new.failures ≡ min (self.old.failures + 1) (2 ^ 64 - 1)) (λ _. self.new.failures ≡ min (self.old.failures + 1) (2 ^ 64 - 1)) }
+        ensures counts { MatchResult result (λ n. n ≡ 0 → 0 < length buf.now
+            → self.new.failures ≡ min (self.old.failures + 1) (2 ^ 64 - 1)) (λ _.
+            self.new.failures ≡ min (self.old.failures + 1) (2 ^ 64 - 1)) }
     {
         let written = self.device.write(buf);
         let failed = match &written {
@@ -80,7 +85,8 @@ impl<W: Write> Write for Counted<W> {
 
     fn flush(&mut self) -> io::Result<()>
         ensures bytes { Keeps (W.contents self.old.device) (W.contents self.new.device) }
-        ensures counts { MatchResult result (λ _. self.new.failures ≡ self.old.failures) (λ _. self.new.failures ≡ min (self.old.failures + 1) (2 ^ 64 - 1)) }
+        ensures counts { MatchResult result (λ _. self.new.failures ≡ self.old.failures) (λ _.
+            self.new.failures ≡ min (self.old.failures + 1) (2 ^ 64 - 1)) }
     {
         let flushed = self.device.flush();
         self.count(flushed.is_err());
@@ -96,7 +102,8 @@ pub struct WriteFault;
 fn write_some<W: Write>(writer: &mut Counted<W>, bytes: &[u8]) -> Option<usize>
     requires { 0 < length bytes.now }
     ensures some { IfSome result (λ n. (0 < n) × (n ≤ length bytes.now)) }
-    ensures written { IfSome result (λ n. Appends (W.contents writer.old.device) (W.contents writer.new.device) (take n bytes.now)) }
+    ensures written { IfSome result (λ n.
+        Appends (W.contents writer.old.device) (W.contents writer.new.device) (take n bytes.now)) }
     ensures calm { OnSome result (writer.new.failures ≡ writer.old.failures) }
     ensures none { IfNone result (Keeps (W.contents writer.old.device) (W.contents writer.new.device)) }
     ensures failed { IfNone result (writer.new.failures ≡ min (writer.old.failures + 1) (2 ^ 64 - 1)) }

@@ -1,9 +1,10 @@
 //! The frames of an input.
-ghost use Rattle.std.specs.Prelude.{◌≡◌, ◌≢◌, ◌≤◌, ◌<◌, ◌+◌, ◌^◌, [], Some, false, min, length, IfErr, IfOk, IfNone, IfSome, IsOkAnd, OnErr, OnOk, OnSome, IsErrOf, Err, IsTrue, IsNone, ◌-◌};
+ghost use Rattle.std.specs.Prelude.{◌≡◌, ◌≢◌, ◌≤◌, ◌<◌, ◌+◌, ◌^◌, [], Some, None, false, min, length, IfErr, IfOk};
+ghost use Rattle.std.specs.Prelude.{IfNone, IfSome, IsOkAnd, OnErr, OnOk, OnSome, IsErrOf, Err, IsTrue, IsNone, ◌-◌};
 ghost use Rattle.flow_intake.specs.Frames.{kept_of};
 ghost use Rattle.flow_intake.specs.InTurn.{EndsWithin, GivesNext};
-ghost use Rattle.flow_intake.specs.NextFrame.{Cuts, Gives, Starves, filing_in, filing_kept};
-ghost use Rattle.flow_intake.specs.Source.{CutsFirst, KeepsTotal};
+ghost use Rattle.flow_intake.specs.NextFrame.{Cuts, Gives, Misses, Starves, filing_in, filing_kept};
+ghost use Rattle.flow_intake.specs.Source.{CutsFirst, KeepsTotal, MissesFirst};
 ghost use Rattle.flow_intake.specs.Reader.{Agrees, Came, CameTooMuch, Finished, Unfinished};
 
 use crate::counted::Counted;
@@ -40,16 +41,20 @@ fn finish<R: Read, A: Allocator>(
     kept: &mut Kept<A>,
 ) -> Result<(), IntakeFault>
     requires { Agrees pieces.old (R.remaining reader.old.device) }
-    ensures took { OnOk result (Finished first pieces.old pieces.new (R.remaining reader.old.device) (R.remaining reader.new.device) kept.old kept.new) }
+    ensures took { OnOk result (Finished first pieces.old pieces.new (R.remaining reader.old.device)
+        (R.remaining reader.new.device) kept.old kept.new) }
     ensures agrees { OnOk result (Agrees pieces.new (R.remaining reader.new.device)) }
     ensures nearer { OnOk result (pieces.old.taken ≤ pieces.new.taken) }
     ensures within { OnOk result (pieces.new.taken ≤ 4000000000) }
     ensures err { OnErr result (Came (R.remaining reader.old.device) (R.remaining reader.new.device)) }
-    ensures read { IsErrOf result IntakeFault.Read → Unfinished first pieces.old (R.remaining reader.old.device) (R.remaining reader.new.device) }
-    ensures much { IsErrOf result IntakeFault.TooMuch → CameTooMuch pieces.old (R.remaining reader.old.device) (R.remaining reader.new.device) }
+    ensures read { IsErrOf result IntakeFault.Read
+        → Unfinished first pieces.old (R.remaining reader.old.device) (R.remaining reader.new.device) }
+    ensures much { IsErrOf result IntakeFault.TooMuch
+        → CameTooMuch pieces.old (R.remaining reader.old.device) (R.remaining reader.new.device) }
     ensures memory { result ≢ Err IntakeFault.OutOfMemory }
     ensures calm { OnOk result (reader.new.failures ≡ reader.old.failures) }
-    ensures failed { IsErrOf result IntakeFault.Read → reader.new.failures ≡ min (reader.old.failures + 1) (2 ^ 64 - 1) }
+    ensures failed { IsErrOf result IntakeFault.Read
+        → reader.new.failures ≡ min (reader.old.failures + 1) (2 ^ 64 - 1) }
 {
     if first == b'(' {
         take_until(reader, pieces, Until::Bracket, kept)?;
@@ -63,6 +68,7 @@ fn finish<R: Read, A: Allocator>(
 fn frame_of<A: Allocator + Copy>(alloc: A, kept: &Kept<A>) -> Result<Frame<A>, IntakeFault>
     ensures ok { IfOk result (λ frame. filing_in frame ≡ filing_kept kept.now) }
     ensures err { IfErr result (λ e. e ≡ IntakeFault.OutOfMemory) }
+    ensures whole { OnErr result (kept.now ≢ None) }
 {
     let Some(bytes) = kept.bytes() else {
         return Ok(Frame::TooLong);
@@ -82,22 +88,28 @@ pub fn cut_frame<R: Read, A: Allocator>(
     kept: &mut Kept<A>,
 ) -> Result<bool, IntakeFault>
     requires { Agrees pieces.old (R.remaining reader.old.device) }
-    ensures cuts { IfOk result (λ found. Cuts found kept.new pieces.old pieces.new (R.remaining reader.old.device) (R.remaining reader.new.device)) }
+    ensures cuts { IfOk result (λ found.
+        Cuts found kept.new pieces.old pieces.new (R.remaining reader.old.device) (R.remaining reader.new.device)) }
     ensures ended { IsTrue pieces.old.ended → IfOk result (λ found. found ≡ false) }
     ensures still { IsTrue pieces.old.ended → (pieces.new ≡ pieces.old) × (reader.new ≡ reader.old) }
     ensures agrees { OnOk result (Agrees pieces.new (R.remaining reader.new.device)) }
     ensures nearer { IfOk result (λ found. IsTrue found → pieces.old.taken < pieces.new.taken) }
     ensures within { IfOk result (λ found. IsTrue found → pieces.new.taken ≤ 4000000000) }
+    ensures most { OnOk result (pieces.new.taken ≤ 4000000000) }
 
     // What the bytes that came show, and when each fault comes.
     ensures err { OnErr result (Came (R.remaining reader.old.device) (R.remaining reader.new.device)) }
     ensures going { OnErr result (pieces.old.ended ≡ false) }
-    ensures read { IsErrOf result IntakeFault.Read → Starves pieces.old (R.remaining reader.old.device) (R.remaining reader.new.device) }
-    ensures much { IsErrOf result IntakeFault.TooMuch → CameTooMuch pieces.old (R.remaining reader.old.device) (R.remaining reader.new.device) }
+    ensures read { IsErrOf result IntakeFault.Read
+        → Starves pieces.old (R.remaining reader.old.device) (R.remaining reader.new.device) }
+    ensures much { IsErrOf result IntakeFault.TooMuch
+        → CameTooMuch pieces.old (R.remaining reader.old.device) (R.remaining reader.new.device) }
     ensures memory { result ≢ Err IntakeFault.OutOfMemory }
     ensures calm { OnOk result (reader.new.failures ≡ reader.old.failures) }
-    ensures failed { IsErrOf result IntakeFault.Read → reader.new.failures ≡ min (reader.old.failures + 1) (2 ^ 64 - 1) }
+    ensures failed { IsErrOf result IntakeFault.Read
+        → reader.new.failures ≡ min (reader.old.failures + 1) (2 ^ 64 - 1) }
 {
+    pieces.are_within();
     if pieces.has_ended() {
         return Ok(false);
     }
@@ -111,7 +123,8 @@ pub fn cut_frame<R: Read, A: Allocator>(
     Ok(true)
 }
 
-/// The next frame of the input. Bytes stay in `pieces` from one call to the next; `kept` is room for the bytes of a frame.
+/// The next frame of the input. Bytes stay in `pieces` from one call to the next; `kept` is room for the bytes of a
+/// frame.
 fn next_frame<R: Read, A: Allocator + Copy>(
     alloc: A,
     reader: &mut Counted<R>,
@@ -119,17 +132,22 @@ fn next_frame<R: Read, A: Allocator + Copy>(
     kept: &mut Kept<A>,
 ) -> Result<Option<Frame<A>>, IntakeFault>
     requires { Agrees pieces.old (R.remaining reader.old.device) }
-    ensures gives { IfOk result (λ frame. Gives frame pieces.old pieces.new (R.remaining reader.old.device) (R.remaining reader.new.device)) }
+    ensures gives { IfOk result (λ frame.
+        Gives frame pieces.old pieces.new (R.remaining reader.old.device) (R.remaining reader.new.device)) }
     ensures ended { IsTrue pieces.old.ended → IfOk result (λ frame. IsNone frame) }
     ensures still { IsTrue pieces.old.ended → (pieces.new ≡ pieces.old) × (reader.new ≡ reader.old) }
     ensures agrees { OnOk result (Agrees pieces.new (R.remaining reader.new.device)) }
 
     // When each fault comes.
     ensures going { OnErr result (pieces.old.ended ≡ false) }
-    ensures much { IsErrOf result IntakeFault.TooMuch → CameTooMuch pieces.old (R.remaining reader.old.device) (R.remaining reader.new.device) }
+    ensures much { IsErrOf result IntakeFault.TooMuch
+        → CameTooMuch pieces.old (R.remaining reader.old.device) (R.remaining reader.new.device) }
     ensures calm { OnOk result (reader.new.failures ≡ reader.old.failures) }
-    ensures failed { IsErrOf result IntakeFault.Read → reader.new.failures ≡ min (reader.old.failures + 1) (2 ^ 64 - 1) }
-    ensures memory { IsErrOf result IntakeFault.OutOfMemory → reader.new.failures ≡ reader.old.failures }
+    ensures failed { IsErrOf result IntakeFault.Read
+        → reader.new.failures ≡ min (reader.old.failures + 1) (2 ^ 64 - 1) }
+    ensures memory { IsErrOf result IntakeFault.OutOfMemory → (reader.new.failures ≡ reader.old.failures)
+        × Misses pieces.old pieces.new (R.remaining reader.old.device) (R.remaining reader.new.device)
+        × Agrees pieces.new (R.remaining reader.new.device) }
 {
     if !cut_frame(reader, pieces, kept)? {
         return Ok(None);
@@ -155,7 +173,13 @@ impl<R: Read, A: Allocator + Copy> Model for Intake<R, A> {
 
     ghost Value = { Source };
 
-    ghost view = { λ a. record { left = prepend_known a.pieces.unread (R.remaining a.reader.device); taken = a.pieces.taken; failures = a.reader.failures; ended = a.pieces.ended; failed = a.failed } };
+    ghost view = { λ a. record {
+      left = prepend_known a.pieces.unread (R.remaining a.reader.device);
+      taken = a.pieces.taken;
+      failures = a.reader.failures;
+      ended = a.pieces.ended;
+      failed = a.failed;
+    } };
 
     ghost invariant = { λ a. a.failed ≡ false → Agrees a.pieces (R.remaining a.reader.device) };
 }
@@ -165,7 +189,14 @@ impl<R: Read, A: Allocator + Copy> Intake<R, A> {
     pub fn new(alloc: A, reader: Counted<R>) -> Result<Self, AllocError>
     where
         R: Drop,
-        ensures { IfOk result (λ intake. intake ≡ record { left = R.remaining reader.device; taken = 0; failures = reader.failures; ended = false; failed = false }) }
+        ensures { IfOk result (λ intake.
+            intake ≡ record {
+              left = R.remaining reader.device;
+              taken = 0;
+              failures = reader.failures;
+              ended = false;
+              failed = false;
+            }) }
     {
         let pieces = Pieces::new(alloc)?;
         let kept = Kept::new(alloc)?;
@@ -192,7 +223,8 @@ impl<R: Read, A: Allocator + Copy> Intake<R, A> {
         ensures frames { IfOk result (λ frame. GivesNext frame self.old.left self.new.left) }
         ensures taken { OnOk result (KeepsTotal self.old self.new) }
         ensures none { IfOk result (λ frame. IfNone frame (IsTrue self.new.ended)) }
-        ensures ended { IsTrue self.old.ended → self.old.failed ≡ false → IsOkAnd result (λ frame. IsNone frame) × (self.new ≡ self.old) }
+        ensures ended { IsTrue self.old.ended → self.old.failed ≡ false → IsOkAnd result (λ frame. IsNone frame)
+            × (self.new ≡ self.old) }
 
         // A fault is the last: from then on the answer is `Read`.
         ensures ok { OnOk result (self.new.failed ≡ false) }
@@ -200,10 +232,14 @@ impl<R: Read, A: Allocator + Copy> Intake<R, A> {
         ensures failed { IsTrue self.old.failed → IsErrOf result IntakeFault.Read × (self.new ≡ self.old) }
 
         // When the first fault comes.
-        ensures read { self.old.failed ≡ false → IsErrOf result IntakeFault.Read → self.new.failures ≡ min (self.old.failures + 1) (2 ^ 64 - 1) }
-        ensures much { IsErrOf result IntakeFault.TooMuch → IfSome self.old.left (λ bytes. 4000000000 < self.old.taken + length bytes) }
+        ensures read { self.old.failed ≡ false → IsErrOf result IntakeFault.Read
+            → self.new.failures ≡ min (self.old.failures + 1) (2 ^ 64 - 1) }
+        ensures much { IsErrOf result IntakeFault.TooMuch
+            → IfSome self.old.left (λ bytes. 4000000000 < self.old.taken + length bytes) }
         ensures calm { OnOk result (self.new.failures ≡ self.old.failures) }
-        ensures memory { IsErrOf result IntakeFault.OutOfMemory → self.new.failures ≡ self.old.failures }
+        ensures memory { IsErrOf result IntakeFault.OutOfMemory → (self.new.failures ≡ self.old.failures)
+            × MissesFirst self.old.left self.new.left × KeepsTotal self.old self.new
+            × (self.new.taken ≤ 4000000000) }
 
         // An input of more than 4,000,000,000 bytes has no end that is answered.
         ensures most { OnOk result (self.new.taken ≤ 4000000000) }

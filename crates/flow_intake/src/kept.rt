@@ -61,7 +61,8 @@ impl<A: Allocator> Kept<A> {
 
     /// The bytes of a frame that isn't too long, at most 2,000. None for one that is.
     pub fn bytes(&self) -> Option<&[u8]>
-        ensures { MatchOption result (self.now ≡ None) (λ bytes. (self.now ≡ Some bytes.now) × (length bytes.now ≤ 2000)) }
+        ensures { MatchOption result (self.now ≡ None) (λ bytes. (self.now ≡ Some bytes.now)
+            × (length bytes.now ≤ 2000)) }
     {
         if self.is_long {
             None

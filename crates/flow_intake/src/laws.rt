@@ -14,7 +14,8 @@ pub fn no_byte_is_lost()
 /// The frames that have ended in some bytes are the first frames of the input, however it goes on, and all frames of
 /// those bytes but the last at most.
 pub fn ended_frames_stay()
-    ensures first { (bytes more : List ℕ) → take (length (ended_frames bytes)) (frames (bytes ++ more)) ≡ ended_frames bytes }
+    ensures first { (bytes more : List ℕ)
+        → take (length (ended_frames bytes)) (frames (bytes ++ more)) ≡ ended_frames bytes }
     ensures all { (bytes : List ℕ) → length (frames bytes) ≤ length (ended_frames bytes) + 1 }
 {}
 

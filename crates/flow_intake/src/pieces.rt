@@ -1,5 +1,6 @@
 //! An input in pieces, from any reader, however it cuts the bytes.
-ghost use Rattle.std.specs.Prelude.{◌≡◌, ◌≢◌, ◌≤◌, ◌<◌, ◌+◌, ◌-◌, ◌^◌, [], false, true, min, length, drop, slice_get, IfOk, OnOk, OnErr, IsErrOf, Err, IsTrue};
+ghost use Rattle.std.specs.Prelude.{◌≡◌, ◌≢◌, ◌≤◌, ◌<◌, ◌+◌, ◌-◌, ◌^◌, [], false, true, min, length, drop, slice_get};
+ghost use Rattle.std.specs.Prelude.{IfOk, OnOk, OnErr, IsErrOf, Err, IsTrue};
 ghost use Rattle.std.specs.List.{position};
 ghost use Rattle.flow_intake.specs.Frames.{is_text};
 ghost use Rattle.std.specs.Io.KnownBytes.{Consumes};
@@ -28,7 +29,8 @@ pub(crate) enum Until {
     OrderEnd,
 }
 
-/// Where the first byte stands that is no blank. Blanks before a frame are few, so a search by vectors would gain nothing.
+/// Where the first byte stands that is no blank. Blanks before a frame are few, so a search by vectors would gain
+/// nothing.
 #[inline(always)]
 fn text_in(bytes: &[u8]) -> Option<usize>
     ensures { result ≡ position is_text bytes.now }
@@ -76,9 +78,14 @@ impl<A: Allocator> Model for Pieces<A> {
 
     ghost Value = { Ahead };
 
-    ghost view = { λ p. record { unread = slice_range p.piece.items p.at p.end; taken = p.total - (p.end - p.at); ended = p.ended } };
+    ghost view = { λ p. record {
+      unread = slice_range p.piece.items p.at p.end;
+      taken = p.total - (p.end - p.at);
+      ended = p.ended;
+    } };
 
-    ghost invariant = { λ p. (p.at ≤ p.end) × (p.end ≤ length p.piece.items) × (length p.piece.items ≡ 65536) × (p.end - p.at ≤ p.total) × (p.total ≤ 4000000000) };
+    ghost invariant = { λ p. (p.at ≤ p.end) × (p.end ≤ length p.piece.items) × (length p.piece.items ≡ 65536)
+        × (p.end - p.at ≤ p.total) × (p.total ≤ 4000000000) };
 }
 
 impl<A: Allocator> Pieces<A> {
@@ -158,15 +165,19 @@ impl<A: Allocator> Pieces<A> {
     fn fill<R: Read>(&mut self, reader: &mut Counted<R>) -> Result<(), IntakeFault>
         requires empty { self.old.unread ≡ [] }
         requires going { self.old.ended ≡ false }
-        ensures came { OnOk result (Consumes (R.remaining reader.old.device) (R.remaining reader.new.device) self.new.unread) }
+        ensures came { OnOk result (Consumes (R.remaining reader.old.device)
+            (R.remaining reader.new.device) self.new.unread) }
         ensures end { OnOk result (self.new.unread ≡ [] → IsTrue self.new.ended) }
         ensures agrees { OnOk result (Agrees self.new (R.remaining reader.new.device)) }
         ensures taken { self.new.taken ≡ self.old.taken }
-        ensures read { IsErrOf result IntakeFault.Read → (self.new ≡ self.old) × (Consumes (R.remaining reader.old.device) (R.remaining reader.new.device) []) }
-        ensures much { IsErrOf result IntakeFault.TooMuch → CameTooMuch self.old (R.remaining reader.old.device) (R.remaining reader.new.device) }
+        ensures read { IsErrOf result IntakeFault.Read → (self.new ≡ self.old)
+            × (Consumes (R.remaining reader.old.device) (R.remaining reader.new.device) []) }
+        ensures much { IsErrOf result IntakeFault.TooMuch
+            → CameTooMuch self.old (R.remaining reader.old.device) (R.remaining reader.new.device) }
         ensures memory { result ≢ Err IntakeFault.OutOfMemory }
         ensures calm { OnOk result (reader.new.failures ≡ reader.old.failures) }
-        ensures failed { IsErrOf result IntakeFault.Read → reader.new.failures ≡ min (reader.old.failures + 1) (2 ^ 64 - 1) }
+        ensures failed { IsErrOf result IntakeFault.Read
+            → reader.new.failures ≡ min (reader.old.failures + 1) (2 ^ 64 - 1) }
     {
         match reader.read(self.piece.as_mut_slice()) {
             Err(_) => Err(IntakeFault::Read),
@@ -195,15 +206,19 @@ fn make_ready<R: Read, A: Allocator>(
     pieces: &mut Pieces<A>,
 ) -> Result<(), IntakeFault>
     requires { Agrees pieces.old (R.remaining reader.old.device) }
-    ensures filled { OnOk result (Filled pieces.old pieces.new (R.remaining reader.old.device) (R.remaining reader.new.device)) }
+    ensures filled { OnOk result (Filled pieces.old pieces.new (R.remaining reader.old.device)
+        (R.remaining reader.new.device)) }
     ensures end { OnOk result (pieces.new.unread ≡ [] → IsTrue pieces.new.ended) }
     ensures agrees { OnOk result (Agrees pieces.new (R.remaining reader.new.device)) }
     ensures taken { pieces.new.taken ≡ pieces.old.taken }
-    ensures read { IsErrOf result IntakeFault.Read → (pieces.old.unread ≡ []) × (pieces.new ≡ pieces.old) × (Consumes (R.remaining reader.old.device) (R.remaining reader.new.device) []) }
-    ensures much { IsErrOf result IntakeFault.TooMuch → CameTooMuch pieces.old (R.remaining reader.old.device) (R.remaining reader.new.device) }
+    ensures read { IsErrOf result IntakeFault.Read → (pieces.old.unread ≡ []) × (pieces.new ≡ pieces.old)
+        × (Consumes (R.remaining reader.old.device) (R.remaining reader.new.device) []) }
+    ensures much { IsErrOf result IntakeFault.TooMuch
+        → CameTooMuch pieces.old (R.remaining reader.old.device) (R.remaining reader.new.device) }
     ensures memory { result ≢ Err IntakeFault.OutOfMemory }
     ensures calm { OnOk result (reader.new.failures ≡ reader.old.failures) }
-    ensures failed { IsErrOf result IntakeFault.Read → reader.new.failures ≡ min (reader.old.failures + 1) (2 ^ 64 - 1) }
+    ensures failed { IsErrOf result IntakeFault.Read
+        → reader.new.failures ≡ min (reader.old.failures + 1) (2 ^ 64 - 1) }
 {
     if !pieces.unread().is_empty() {
         return Ok(());
@@ -237,16 +252,21 @@ pub(crate) fn take_until<R: Read, A: Allocator>(
     kept: &mut Kept<A>,
 ) -> Result<(), IntakeFault>
     requires { Agrees pieces.old (R.remaining reader.old.device) }
-    ensures took { OnOk result (Took (stops_at until) pieces.old pieces.new (R.remaining reader.old.device) (R.remaining reader.new.device) kept.old kept.new) }
+    ensures took { OnOk result (Took (stops_at until) pieces.old pieces.new (R.remaining reader.old.device)
+        (R.remaining reader.new.device) kept.old kept.new) }
     ensures stop { OnOk result (BeginsWithStop (stops_at until) pieces.new.unread) }
     ensures end { OnOk result (pieces.new.unread ≡ [] → IsTrue pieces.new.ended) }
     ensures agrees { OnOk result (Agrees pieces.new (R.remaining reader.new.device)) }
     ensures within { OnOk result (pieces.new.taken ≤ 4000000000) }
-    ensures read { IsErrOf result IntakeFault.Read → (pieces.new.unread ≡ []) × (Took (stops_at until) pieces.old pieces.new (R.remaining reader.old.device) (R.remaining reader.new.device) kept.old kept.new) }
-    ensures much { IsErrOf result IntakeFault.TooMuch → CameTooMuch pieces.old (R.remaining reader.old.device) (R.remaining reader.new.device) }
+    ensures read { IsErrOf result IntakeFault.Read → (pieces.new.unread ≡ [])
+        × (Took (stops_at until) pieces.old pieces.new (R.remaining reader.old.device)
+        (R.remaining reader.new.device) kept.old kept.new) }
+    ensures much { IsErrOf result IntakeFault.TooMuch
+        → CameTooMuch pieces.old (R.remaining reader.old.device) (R.remaining reader.new.device) }
     ensures memory { result ≢ Err IntakeFault.OutOfMemory }
     ensures calm { OnOk result (reader.new.failures ≡ reader.old.failures) }
-    ensures failed { IsErrOf result IntakeFault.Read → reader.new.failures ≡ min (reader.old.failures + 1) (2 ^ 64 - 1) }
+    ensures failed { IsErrOf result IntakeFault.Read
+        → reader.new.failures ≡ min (reader.old.failures + 1) (2 ^ 64 - 1) }
 {
     'pieces: loop {
         make_ready(reader, pieces)?;

@@ -1,5 +1,5 @@
 -- The traffic after an accepted reading, from what the calls left.
-use Rattle.std.proofs.Common.{◌≡◌, ℕ, ◌≤◌, List, [], ◌∷◌, ◌++◌, map, length, Bool, true, false, not, nat_lt, nat_le, if◌then◌else◌, filter, refl, sym, ap, ◌∙◌, subst, arith, Option, Some, None, Result, Ok, Err, MatchResult, MatchOption, IfSome, IfNone, ◌⊎◌, inl, inr}
+use Rattle.std.proofs.Common.{◌≡◌, ℕ, ◌≤◌, List, [], ◌∷◌, ◌++◌, map, length, Bool, true, false, not, nat_lt, nat_le, if◌then◌else◌, filter, refl, sym, ap, ◌∙◌, subst, arith, Option, Some, None, Result, Ok, Err, IsErr, IfOk, MatchResult, MatchOption, ◌⊎◌, inl, inr}
 use Rattle.std.specs.List.{list_any}
 use Rattle.fpl_message.specs.declared.refusal.Refusal.{Refusal}
 use Rattle.fpl_message.specs.declared.refusal.Refusal.TheVariants as refusal
@@ -165,22 +165,22 @@ shape-refused t m r (inl h) = rw h.0 (period-refused t m h.1)
 shape-refused t m r (inr h) = rw h.0 (rate-refused t m h.1 h.2)
 
 -- a fault of the plans
-pub fault-answers : (t new : Traffic) (m : Message) (fault : PlanFault) (v : Option Verdict) → new ≡ t
-    → MatchOption (refusal_of fault) (v ≡ None) (λ r. v ≡ Some (Refused r)) → IsRefusal fault (changed_by t.max_plans t.now t.plans m)
-    → IfSome v (Answers (msg m) t new)
-fault-answers t new m fault v same h e = by (refusal_of fault) h e where
-  by : (o : Option Refusal) → MatchOption o (v ≡ None) (λ r. v ≡ Some (Refused r)) → Refuses o (changed_by t.max_plans t.now t.plans m) → IfSome v (Answers (msg m) t new)
-  by None h e = rw h tt
+pub fault-answers : {E : Type 0} (t new : Traffic) (m : Message) (fault : PlanFault) (v : Result Verdict E) → new ≡ t
+    → MatchOption (refusal_of fault) (IsErr v) (λ r. v ≡ Ok (Refused r)) → IsRefusal fault (changed_by t.max_plans t.now t.plans m)
+    → IfOk v (Answers (msg m) t new)
+fault-answers {E} t new m fault v same h e = by (refusal_of fault) h e where
+  refused-none : (v : Result Verdict E) → IsErr v → IfOk v (Answers (msg m) t new)
+  refused-none (Ok x) e = absurd (cc)
+  refused-none (Err x) e = tt
+
+  by : (o : Option Refusal) → MatchOption o (IsErr v) (λ r. v ≡ Ok (Refused r)) → Refuses o (changed_by t.max_plans t.now t.plans m) → IfOk v (Answers (msg m) t new)
+  by None h e = refused-none v h
   by (Some r) h e = rw (h, same) (refused (msg m) t r (message-refused t m r e))
 
-pub fault-some : (t new : Traffic) (m : Message) (fault : PlanFault) (o : Option Verdict) (v : Verdict) → new ≡ t → o ≡ Some v
-    → MatchOption (refusal_of fault) (o ≡ None) (λ r. o ≡ Some (Refused r)) → IsRefusal fault (changed_by t.max_plans t.now t.plans m)
+pub fault-ok : {E : Type 0} (t new : Traffic) (m : Message) (fault : PlanFault) (o : Result Verdict E) (v : Verdict) → new ≡ t → o ≡ Ok v
+    → MatchOption (refusal_of fault) (IsErr o) (λ r. o ≡ Ok (Refused r)) → IsRefusal fault (changed_by t.max_plans t.now t.plans m)
     → Answers (msg m) t new v
-fault-some t new m fault o v same is h e = let P : Option Verdict → Type 0 = λ w. IfSome w (Answers (msg m) t new) in subst P is (fault-answers t new m fault o same h e)
-
-pub fault-none : (fault : PlanFault) (v : Option Verdict) {P : Type 0} → P → IfNone v P
-fault-none fault None p = p
-fault-none fault (Some v) p = tt
+fault-ok {E} t new m fault o v same is h e = let P : Result Verdict E → Type 0 = λ w. IfOk w (Answers (msg m) t new) in subst P is (fault-answers t new m fault o same h e)
 
 -- closing opens none
 pub fewer-named : (id : List ℕ) (ls : List Listed) → length (without_named id ls) ≤ length ls

@@ -13,8 +13,8 @@ use flow_regulations::Told;
 use std::alloc::Allocator;
 
 impl<A: Allocator + Copy> Traffic<A> {
-    /// The numbers of the plans that the last reading may have changed, rising, and what each of them was told before. All
-    /// other plans are in the same state, with the same off-block moment, and were last told the same.
+    /// The numbers of the plans that the last reading may have changed, rising, and what each of them was told before.
+    /// All other plans are in the same state, with the same off-block moment, and were last told the same.
     pub fn changed(&self) -> (&[u32], &[Option<Told>])
         requires { IsSome self.now.before }
         ensures rising { IsStrictlyIncreasing result.0.now }
@@ -31,8 +31,8 @@ impl<A: Allocator + Copy> Traffic<A> {
         }
     }
 
-    /// Where the plan of this number stood before the last reading, and its off-block moment then. None where it wasn't filed
-    /// yet.
+    /// Where the plan of this number stood before the last reading, and its off-block moment then. None where it wasn't
+    /// filed yet.
     pub fn previous(&self, number: u32) -> Option<Status>
         requires some { 0 < number }
         requires change { IsSome self.now.before }
@@ -44,8 +44,8 @@ impl<A: Allocator + Copy> Traffic<A> {
         }
     }
 
-    /// Whether the last reading may have changed where plans stand, or their off-block moments. A message may, and where it
-    /// was none the plans are what they were.
+    /// Whether the last reading may have changed where plans stand, or their off-block moments. A message may, and
+    /// where it was none the plans are what they were.
     pub fn may_have_moved_plans(&self) -> bool
         ensures { result ≡ false → IfSome self.now.before (λ before. before.plans ≡ self.now.traffic.plans) }
     {

@@ -1,5 +1,7 @@
 //! What messages do to the traffic.
-ghost use Rattle.std.specs.Prelude.{◌≡◌, ◌≤◌, ◌<◌, ◌+◌, ◌∷◌, [], List, Ok, Some, None, OnSome, IfOk, IfSome, IfNone, OnOk, OnErr, IfErr, MatchOption, length, map, slice_get, option_copied, vec_len, vec_capacity, ◌-◌, ◌&&◌, nat_lt};
+ghost use Rattle.std.specs.Prelude.{◌≡◌, ◌≤◌, ◌<◌, ◌+◌, ◌∷◌, [], List, Ok, Some, None, IfOk, IsErr, OnOk, OnErr, IfErr};
+ghost use Rattle.std.specs.Prelude.{MatchOption, length, map, slice_get, option_copied, vec_len, vec_capacity, ◌-◌};
+ghost use Rattle.std.specs.Prelude.{◌&&◌, nat_lt};
 ghost use Rattle.fpl_message.specs.Said.{said_message};
 ghost use Rattle.fpl_message.specs.Reads.{msg};
 ghost use Rattle.flow_plans.specs.Settings.{IsDeskTime};
@@ -28,11 +30,12 @@ use std::alloc::{AllocError, Allocator};
 
 impl<A: Allocator + Copy> Traffic<A> {
     /// Takes in a message, and answers the verdict on it.
-    pub(crate) fn answer_message(&mut self, message: &Message<A>) -> Option<Verdict>
-        ensures answers { IfSome result (Answers (msg (said_message message.now)) self.old.traffic self.new.traffic) }
-        ensures frozen { IfSome result (FrozenPairsStay (msg (said_message message.now)) self.old.traffic self.new.traffic) }
-        ensures before { OnSome result (self.new.before ≡ Some self.old.traffic) }
-        ensures none { IfNone result (self.new ≡ record { traffic = self.old.traffic; before = None }) }
+    pub(crate) fn answer_message(&mut self, message: &Message<A>) -> Result<Verdict, AllocError>
+        ensures answers { IfOk result (Answers (msg (said_message message.now)) self.old.traffic self.new.traffic) }
+        ensures frozen { IfOk result (FrozenPairsStay
+            (msg (said_message message.now)) self.old.traffic self.new.traffic) }
+        ensures before { OnOk result (self.new.before ≡ Some self.old.traffic) }
+        ensures err { OnErr result (self.new ≡ record { traffic = self.old.traffic; before = None }) }
         ensures grow { length self.old.traffic.notices ≤ length self.new.traffic.notices }
         ensures few { length self.new.traffic.notices ≤ length self.old.traffic.notices + 20_000 }
     {
@@ -46,7 +49,7 @@ impl<A: Allocator + Copy> Traffic<A> {
             &mut self.changed,
             &mut self.noted,
         ) else {
-            return None;
+            return Err(AllocError);
         };
         let now = self.time;
         let number = match change_plans(&mut self.plans, now, message) {
@@ -54,7 +57,7 @@ impl<A: Allocator + Copy> Traffic<A> {
             Err(fault) => {
                 let verdict = refused(fault)?;
                 self.last = Last::Refused;
-                return Some(verdict);
+                return Ok(verdict);
             }
         };
         let count = self.plans.count();
@@ -73,7 +76,7 @@ impl<A: Allocator + Copy> Traffic<A> {
             &mut self.notices,
         );
         self.last = Last::Message { number };
-        Some(verdict)
+        Ok(verdict)
     }
 }
 
@@ -130,7 +133,9 @@ fn change_plans<A: Allocator + Copy>(
     message: &Message<A>,
 ) -> Result<u32, PlanFault>
     requires { IsDeskTime now }
-    ensures ok { IfOk result (λ n. changed_by plans.old.max_plans now plans.old.plans (said_message message.now) ≡ Ok (record { plans = plans.new.plans; number = n })) }
+    ensures ok { IfOk result (λ n.
+        changed_by plans.old.max_plans now plans.old.plans (said_message message.now)
+        ≡ Ok (record { plans = plans.new.plans; number = n })) }
     ensures some { IfOk result (λ n. 0 < n) }
     ensures within { IfOk result (λ n. n ≤ length plans.new.plans) }
     ensures same { IfOk result (λ n. AreSameBut n plans.old.plans plans.new.plans) }
@@ -138,7 +143,8 @@ fn change_plans<A: Allocator + Copy>(
     ensures more { length plans.new.plans ≤ length plans.old.plans + 1 }
     ensures last { IfOk result (λ n. length plans.old.plans < length plans.new.plans → n ≡ length plans.new.plans) }
     ensures before { OnOk result (plans.new.before ≡ Some plans.old.plans) }
-    ensures refused { IfErr result (λ e. IsRefusal e (changed_by plans.old.max_plans now plans.old.plans (said_message message.now))) }
+    ensures refused { IfErr result (λ e.
+        IsRefusal e (changed_by plans.old.max_plans now plans.old.plans (said_message message.now))) }
     ensures err { OnErr result (plans.new.plans ≡ plans.old.plans) }
     ensures limit { plans.new.max_plans ≡ plans.old.max_plans }
     ensures taxi { plans.new.taxi ≡ plans.old.taxi }
@@ -152,8 +158,8 @@ fn change_plans<A: Allocator + Copy>(
     }
 }
 
-/// The verdict on an accepted message about the plan of this number. A departure is compared with what the plan was last
-/// told.
+/// The verdict on an accepted message about the plan of this number. A departure is compared with what the plan was
+/// last told.
 #[tactic(auto, unfolding(crate::specs::Asked::verdict_on))]
 fn verdict_on<A: Allocator + Copy>(
     told: &[Option<Told>],
@@ -222,7 +228,8 @@ fn settle_for<A: Allocator + Copy>(
         → IsListed plans.now.taxi regulations.old.max_plans before regulations.old.lists
         → IsSettled plans.now.taxi now before regulations.old.lists
         → AreSameBut number before plans.now.plans
-        → IsSettledFor departs number plans.now.taxi regulations.old.max_plans now before plans.now.plans regulations.old.lists regulations.new.lists }
+        → IsSettledFor departs number plans.now.taxi regulations.old.max_plans now before plans.now.plans
+        regulations.old.lists regulations.new.lists }
 {
     if departs {
         regulations.freeze_departing(number);
@@ -271,9 +278,9 @@ fn make_place<A: Allocator>(count: u32, told: &mut Vec<Option<Told>, A>)
     }
 }
 
-/// The verdict on a message that the plans refused; none where memory was.
-fn refused(fault: PlanFault) -> Option<Verdict>
-    ensures { MatchOption (refusal_of fault) (result ≡ None) (λ r. result ≡ Some (Verdict.Refused r)) }
+/// The verdict on a message that the plans refused, but where memory was.
+fn refused(fault: PlanFault) -> Result<Verdict, AllocError>
+    ensures { MatchOption (refusal_of fault) (IsErr result) (λ r. result ≡ Ok (Verdict.Refused r)) }
 {
     let refusal = match fault {
         PlanFault::AlreadyHeld => Refusal::AlreadyHeld,
@@ -286,7 +293,7 @@ fn refused(fault: PlanFault) -> Option<Verdict>
         PlanFault::Past => Refusal::Past,
         PlanFault::TooEarly => Refusal::TooEarly,
         PlanFault::PlansFull => Refusal::PlansFull,
-        PlanFault::OutOfMemory => return None,
+        PlanFault::OutOfMemory => return Err(AllocError),
     };
-    Some(Verdict::Refused(refusal))
+    Ok(Verdict::Refused(refusal))
 }

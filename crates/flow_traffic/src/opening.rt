@@ -64,8 +64,10 @@ fn is_period(order: &OpenReg) -> bool
 fn shape_of(order: &OpenReg) -> Result<Shape, Refusal>
     requires from { IsDeskTime order.now.from }
     requires to { IsDeskTime order.now.to }
-    ensures ok { IfOk result (λ shape. (is_period order.now ≡ true) × (rates_fit order.now.rate order.now.more ≡ true) × (shape ≡ (regulation_by order.now).period)) }
-    ensures err { IfErr result (λ r. ((r ≡ Refusal.BadPeriod) × (is_period order.now ≡ false)) ⊎ ((r ≡ Refusal.BadRate) × (is_period order.now ≡ true) × (rates_fit order.now.rate order.now.more ≡ false))) }
+    ensures ok { IfOk result (λ shape. (is_period order.now ≡ true) × (rates_fit order.now.rate order.now.more ≡ true)
+        × (shape ≡ (regulation_by order.now).period)) }
+    ensures err { IfErr result (λ r. ((r ≡ Refusal.BadPeriod) × (is_period order.now ≡ false))
+        ⊎ ((r ≡ Refusal.BadRate) × (is_period order.now ≡ true) × (rates_fit order.now.rate order.now.more ≡ false))) }
 {
     let parts = order.more.as_slice();
     if !is_period(order) {
@@ -80,8 +82,8 @@ fn shape_of(order: &OpenReg) -> Result<Shape, Refusal>
     }
 }
 
-/// The shape of a regulation that is to be opened beside these. Refused, in this order, for its period, for a rate, where
-/// one of its name is open, and where as many are open as may be.
+/// The shape of a regulation that is to be opened beside these. Refused, in this order, for its period, for a rate,
+/// where one of its name is open, and where as many are open as may be.
 pub(crate) fn shape_to_open<A: Allocator + Copy>(
     order: &OpenReg,
     regulations: &Regulations<A>,

@@ -1,5 +1,5 @@
 //! What orders do to the traffic.
-ghost use Rattle.std.specs.Prelude.{◌≡◌, ◌≤◌, ◌+◌, Some, None, false, IfSome, IfNone, OnOk, OnErr, OnSome, length, vec_capacity};
+ghost use Rattle.std.specs.Prelude.{◌≡◌, ◌≤◌, ◌+◌, Some, None, false, IfOk, OnOk, OnErr, length, vec_capacity};
 ghost use Rattle.std.specs.List.{list_any};
 ghost use Rattle.fpl_message.specs.Messages.{open_reg, shut_reg, set_time};
 ghost use Rattle.fpl_message.specs.Reads.{ord};
@@ -23,13 +23,13 @@ use std::alloc::{AllocError, Allocator};
 
 impl<A: Allocator + Copy> Traffic<A> {
     /// Opens a regulation, and answers the verdict on it.
-    pub(crate) fn open(&mut self, order: &OpenReg) -> Option<Verdict>
+    pub(crate) fn open(&mut self, order: &OpenReg) -> Result<Verdict, AllocError>
         requires from { IsDeskTime order.now.from }
         requires to { IsDeskTime order.now.to }
-        ensures answers { IfSome result (Answers (ord (open_reg order.now)) self.old.traffic self.new.traffic) }
-        ensures frozen { IfSome result (FrozenPairsStay (ord (open_reg order.now)) self.old.traffic self.new.traffic) }
-        ensures before { OnSome result (self.new.before ≡ Some self.old.traffic) }
-        ensures none { IfNone result (self.new ≡ record { traffic = self.old.traffic; before = None }) }
+        ensures answers { IfOk result (Answers (ord (open_reg order.now)) self.old.traffic self.new.traffic) }
+        ensures frozen { IfOk result (FrozenPairsStay (ord (open_reg order.now)) self.old.traffic self.new.traffic) }
+        ensures before { OnOk result (self.new.before ≡ Some self.old.traffic) }
+        ensures err { OnErr result (self.new ≡ record { traffic = self.old.traffic; before = None }) }
         ensures grow { length self.old.traffic.notices ≤ length self.new.traffic.notices }
         ensures few { length self.new.traffic.notices ≤ length self.old.traffic.notices + 20_000 }
     {
@@ -38,7 +38,7 @@ impl<A: Allocator + Copy> Traffic<A> {
             Ok(shape) => shape,
             Err(refusal) => {
                 self.last = Last::Refused;
-                return Some(Verdict::Refused(refusal));
+                return Ok(Verdict::Refused(refusal));
             }
         };
         let Ok(()) = open_and_note(
@@ -52,7 +52,7 @@ impl<A: Allocator + Copy> Traffic<A> {
             &mut self.noted,
             &mut self.notices,
         ) else {
-            return None;
+            return Err(AllocError);
         };
         self.last = Last::Open;
         self.issued = self.notices.len();
@@ -64,22 +64,22 @@ impl<A: Allocator + Copy> Traffic<A> {
             &mut self.told,
             &mut self.notices,
         );
-        Some(accepted(Kind::Open))
+        Ok(accepted(Kind::Open))
     }
 
     /// Closes a regulation, and answers the verdict on it.
-    pub(crate) fn shut(&mut self, id: &Text<8>) -> Option<Verdict>
-        ensures answers { IfSome result (Answers (ord (shut_reg id.now)) self.old.traffic self.new.traffic) }
-        ensures frozen { IfSome result (FrozenPairsStay (ord (shut_reg id.now)) self.old.traffic self.new.traffic) }
-        ensures before { OnSome result (self.new.before ≡ Some self.old.traffic) }
-        ensures none { IfNone result (self.new ≡ record { traffic = self.old.traffic; before = None }) }
+    pub(crate) fn shut(&mut self, id: &Text<8>) -> Result<Verdict, AllocError>
+        ensures answers { IfOk result (Answers (ord (shut_reg id.now)) self.old.traffic self.new.traffic) }
+        ensures frozen { IfOk result (FrozenPairsStay (ord (shut_reg id.now)) self.old.traffic self.new.traffic) }
+        ensures before { OnOk result (self.new.before ≡ Some self.old.traffic) }
+        ensures err { OnErr result (self.new ≡ record { traffic = self.old.traffic; before = None }) }
         ensures grow { length self.old.traffic.notices ≤ length self.new.traffic.notices }
         ensures few { length self.new.traffic.notices ≤ length self.old.traffic.notices + 20_000 }
     {
         self.last = Last::Nothing;
         if !self.regulations.is_open(id) {
             self.last = Last::Refused;
-            return Some(Verdict::Refused(Refusal::NoRegulation));
+            return Ok(Verdict::Refused(Refusal::NoRegulation));
         }
         let Ok(()) = note_to_tell(
             &self.regulations,
@@ -88,7 +88,7 @@ impl<A: Allocator + Copy> Traffic<A> {
             &mut self.noted,
             &mut self.notices,
         ) else {
-            return None;
+            return Err(AllocError);
         };
         self.closed = self.regulations.shut(id);
         self.last = Last::Shut;
@@ -101,34 +101,34 @@ impl<A: Allocator + Copy> Traffic<A> {
             &mut self.told,
             &mut self.notices,
         );
-        Some(accepted(Kind::Shut))
+        Ok(accepted(Kind::Shut))
     }
 
     /// Sets the desk's time, and answers the verdict on it.
-    pub(crate) fn set_time(&mut self, at: Minute) -> Option<Verdict>
+    pub(crate) fn set_time(&mut self, at: Minute) -> Result<Verdict, AllocError>
         requires { IsDeskTime at }
-        ensures answers { IfSome result (Answers (ord (set_time at)) self.old.traffic self.new.traffic) }
-        ensures frozen { IfSome result (FrozenPairsStay (ord (set_time at)) self.old.traffic self.new.traffic) }
-        ensures before { OnSome result (self.new.before ≡ Some self.old.traffic) }
-        ensures none { IfNone result (self.new ≡ record { traffic = self.old.traffic; before = None }) }
+        ensures answers { IfOk result (Answers (ord (set_time at)) self.old.traffic self.new.traffic) }
+        ensures frozen { IfOk result (FrozenPairsStay (ord (set_time at)) self.old.traffic self.new.traffic) }
+        ensures before { OnOk result (self.new.before ≡ Some self.old.traffic) }
+        ensures err { OnErr result (self.new ≡ record { traffic = self.old.traffic; before = None }) }
         ensures grow { length self.old.traffic.notices ≤ length self.new.traffic.notices }
         ensures few { length self.new.traffic.notices ≤ length self.old.traffic.notices + 20_000 }
     {
         self.last = Last::Nothing;
         if at.minutes() < self.time.minutes() {
             self.last = Last::Refused;
-            return Some(Verdict::Refused(Refusal::TimeBack));
+            return Ok(Verdict::Refused(Refusal::TimeBack));
         }
         self.changed.clear();
         let Ok(()) = self.changed.reserve(self.queue.count()) else {
-            return None;
+            return Err(AllocError);
         };
         self.queue
             .take_due(&self.plans, self.time, at, &mut self.changed);
         let count = self.changed.len();
         let Ok(()) = make_room_to_tell(count, &mut self.noted, &mut self.notices) else {
             self.queue.put_back(&self.plans, &self.changed);
-            return None;
+            return Err(AllocError);
         };
         self.issued = self.notices.len();
         self.regulations.advance_due(&self.changed);
@@ -141,7 +141,7 @@ impl<A: Allocator + Copy> Traffic<A> {
             &mut self.told,
             &mut self.notices,
         );
-        Some(accepted(Kind::Time))
+        Ok(accepted(Kind::Time))
     }
 }
 
@@ -152,8 +152,8 @@ fn accepted(kind: Kind) -> Verdict
     Verdict::Accepted { kind, plan: 0 }
 }
 
-/// Opens the regulation of an order, and notes the flights that keep slots in it. Where memory is refused, the regulations
-/// are as before.
+/// Opens the regulation of an order, and notes the flights that keep slots in it. Where memory is refused, the
+/// regulations are as before.
 fn open_and_note<A: Allocator + Copy>(
     alloc: A,
     order: &OpenReg,
@@ -169,7 +169,8 @@ fn open_and_note<A: Allocator + Copy>(
     requires plans { length plans.now.plans ≤ regulations.old.max_plans }
     requires name { list_any (is_named order.now.id) regulations.old.lists ≡ false }
     ensures limit { regulations.new.max_plans ≡ regulations.old.max_plans }
-    ensures opened { OnOk result (IsOpened plans.now.taxi regulations.old.max_plans now plans.now.plans (regulation_by order.now) regulations.old.lists regulations.new.lists) }
+    ensures opened { OnOk result (IsOpened plans.now.taxi regulations.old.max_plans now plans.now.plans
+        (regulation_by order.now) regulations.old.lists regulations.new.lists) }
     ensures err { OnErr result (regulations.new.lists ≡ regulations.old.lists) }
     ensures fixed { OnOk result (AreFixedIn order.now.id regulations.new.lists changed.new.items) }
     ensures notices { notices.new.items ≡ notices.old.items }
@@ -185,8 +186,8 @@ fn open_and_note<A: Allocator + Copy>(
     Ok(())
 }
 
-/// Notes the flights that keep slots in the open regulation of this name, and makes room for what they were told and for a
-/// notice to each. Refused where memory is.
+/// Notes the flights that keep slots in the open regulation of this name, and makes room for what they were told and
+/// for a notice to each. Refused where memory is.
 fn note_to_tell<A: Allocator + Copy>(
     regulations: &Regulations<A>,
     id: &Text<8>,

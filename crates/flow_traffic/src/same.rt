@@ -8,9 +8,9 @@ use flow_plans::{Plan, PlanStore};
 use std::alloc::Allocator;
 
 impl<A: Allocator + Copy> Traffic<A> {
-    /// Whether both have allocated the same: the same notices were issued, the plans stand alike, by number, and were last
-    /// told the same, and the same regulations are open with the same slot lists, in the same order. Times, and what else the
-    /// plans say, make a difference only where they do to these. It takes no memory.
+    /// Whether both have allocated the same: the same notices were issued, the plans stand alike, by number, and were
+    /// last told the same, and the same regulations are open with the same slot lists, in the same order. Times, and
+    /// what else the plans say, make a difference only where they do to these. It takes no memory.
     pub fn same(&self, other: &Traffic<A>) -> bool
         ensures { IsTrue result ↔ IsSame self.now.traffic other.now.traffic }
     {

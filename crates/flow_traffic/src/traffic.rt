@@ -1,5 +1,6 @@
 //! The traffic of a desk: plans, open regulations, and what each plan was told.
-ghost use Rattle.std.specs.Prelude.{◌≡◌, ◌≤◌, ◌<◌, ◌+◌, ◌-◌, IfSome, IfNone, IsSome, OnSome, Some, None, IsTrue, ◌↔◌, MatchOption, length, slice_get, option_copied};
+ghost use Rattle.std.specs.Prelude.{◌≡◌, ◌≤◌, ◌<◌, ◌+◌, ◌-◌, IfOk, IsSome, OnErr, OnOk, Some, None, IsTrue, ◌↔◌};
+ghost use Rattle.std.specs.Prelude.{MatchOption, length, slice_get, option_copied};
 ghost use Rattle.fpl_message.specs.Said.{said};
 ghost use Rattle.flow_plans.specs.Settings.{IsDeskTime};
 ghost use Rattle.flow_traffic.specs.Traffic.{no_traffic, slots_of};
@@ -13,11 +14,11 @@ use flow_regulations::{Closed, DueQueue, Notice, Place, Regulations, Told};
 use flow_slots::SlotList;
 use fpl_message::{Order, Reading};
 use fpl_text::{Minute, Text};
-use std::alloc::{Allocator, Global};
+use std::alloc::{AllocError, Allocator, Global};
 use std::marker::Model;
 
-/// The desk's time, plans, open regulations with their slot lists, what each plan was last told, and the notices issued.
-/// Contracts see them, and what they were before the last reading, where that can be taken back.
+/// The desk's time, plans, open regulations with their slot lists, what each plan was last told, and the notices
+/// issued. Contracts see them, and what they were before the last reading, where that can be taken back.
 #[derive(Drop)]
 pub struct Traffic<A: Allocator + Copy = Global> {
     pub(crate) alloc: A,
@@ -48,11 +49,14 @@ impl<A: Allocator + Copy> Model for Traffic<A> {
     ghost Value = { Undoable };
 
     ghost view = { λ t. record {
-      traffic = traffic_of t.plans.taxi t.plans.max_plans t.time t.plans.plans t.regulations.lists t.told.items t.notices.items;
-      before = undone t.last t.time t.plans t.regulations.lists t.places.items t.changed.items t.closed t.noted.items t.told.items t.notices.items t.issued;
+      traffic = traffic_of t.plans.taxi t.plans.max_plans t.time t.plans.plans t.regulations.lists t.told.items
+          t.notices.items;
+      before = undone t.last t.time t.plans t.regulations.lists t.places.items t.changed.items t.closed
+          t.noted.items t.told.items t.notices.items t.issued;
     } };
 
-    ghost invariant = { λ t. IsKeptWith t.last t.time t.plans t.regulations t.queue t.told.items t.places.items t.changed.items t.closed t.noted.items };
+    ghost invariant = { λ t. IsKeptWith t.last t.time t.plans t.regulations t.queue t.told.items t.places.items
+        t.changed.items t.closed t.noted.items };
 }
 
 impl<A: Allocator + Copy> Traffic<A> {
@@ -113,20 +117,21 @@ impl<A: Allocator + Copy> Traffic<A> {
 
     /// The slot list of the open regulation of this name. None where none is open.
     pub fn slots(&self, id: &Text<8>) -> Option<&SlotList<A>>
-        ensures { MatchOption result (slots_of self.now.traffic id.now ≡ None) (λ list. slots_of self.now.traffic id.now ≡ Some list.now.lineup) }
+        ensures { MatchOption result (slots_of self.now.traffic id.now ≡ None) (λ list.
+            slots_of self.now.traffic id.now ≡ Some list.now.lineup) }
     {
         self.regulations.slots(id)
     }
 
-    /// Takes in a reading, and answers the verdict on it. A refused one changes nothing. Frozen flights keep their slots,
-    /// but for the flight of an accepted DLA, CHG or CNL, and those of a regulation that is shut. Only want of memory
-    /// answers nothing, and then nothing has changed, but that no reading can be taken back.
-    pub fn answer(&mut self, reading: &Reading<A>) -> Option<Verdict>
+    /// Takes in a reading, and answers the verdict on it. A refused one changes nothing. Frozen flights keep their
+    /// slots, but for the flight of an accepted DLA, CHG or CNL, and those of a regulation that is shut. Where memory
+    /// is refused, nothing has changed, but that no reading can be taken back.
+    pub fn answer(&mut self, reading: &Reading<A>) -> Result<Verdict, AllocError>
         requires { HasDeskMoments (said reading.now) }
-        ensures answers { IfSome result (Answers (said reading.now) self.old.traffic self.new.traffic) }
-        ensures frozen { IfSome result (FrozenPairsStay (said reading.now) self.old.traffic self.new.traffic) }
-        ensures before { OnSome result (self.new.before ≡ Some self.old.traffic) }
-        ensures none { IfNone result (self.new ≡ record { traffic = self.old.traffic; before = None }) }
+        ensures answers { IfOk result (Answers (said reading.now) self.old.traffic self.new.traffic) }
+        ensures frozen { IfOk result (FrozenPairsStay (said reading.now) self.old.traffic self.new.traffic) }
+        ensures before { OnOk result (self.new.before ≡ Some self.old.traffic) }
+        ensures err { OnErr result (self.new ≡ record { traffic = self.old.traffic; before = None }) }
         ensures grow { length self.old.traffic.notices ≤ length self.new.traffic.notices }
         ensures few { length self.new.traffic.notices ≤ length self.old.traffic.notices + 20_000 }
     {
@@ -137,7 +142,7 @@ impl<A: Allocator + Copy> Traffic<A> {
             Reading::Ord(Order::SetTime { at }) => self.set_time(*at),
             Reading::Bad(refusal) => {
                 self.last = Last::Refused;
-                Some(Verdict::Refused(*refusal))
+                Ok(Verdict::Refused(*refusal))
             }
         }
     }

@@ -117,11 +117,13 @@ pub(crate) fn tell_and_note<A: Allocator + Copy>(
     requires numbers { All (λ n. (0 < n) × (n ≤ length plans.now.plans)) changed.now }
     requires room { length notices.old.items + length changed.now ≤ vec_capacity notices.old }
     requires noted { length changed.now ≤ vec_capacity noted.old }
-    requires quiet { AreQuietBut changed.now plans.now.taxi (map regulation_of regulations.now.lists) plans.now.plans told.old.items }
+    requires quiet { AreQuietBut changed.now plans.now.taxi
+        (map regulation_of regulations.now.lists) plans.now.plans told.old.items }
     ensures told { told.new.items
         ≡ told_from 1 plans.now.taxi (map regulation_of regulations.now.lists) plans.now.plans told.old.items }
     ensures notices { notices.new.items
-        ≡ notices.old.items ++ notices_from 1 plans.now.taxi (map regulation_of regulations.now.lists) plans.now.plans told.old.items }
+        ≡ notices.old.items ++ notices_from 1 plans.now.taxi
+        (map regulation_of regulations.now.lists) plans.now.plans told.old.items }
     ensures quiet { AllQuiet plans.now.taxi (map regulation_of regulations.now.lists) plans.now.plans told.new.items }
     ensures each { length told.new.items ≡ length plans.now.plans }
     ensures few { length notices.new.items ≤ length notices.old.items + length changed.now }
@@ -191,9 +193,12 @@ pub(crate) fn put_back<A: Allocator + Copy>(
 )
     requires can { CanUndo last time.old plans.old regulations.old queue.old places.now changed.now closed.old }
     requires covers { Covers time.old plans.old.plans queue.old.flights }
-    ensures time { time.new ≡ (past last time.old plans.old regulations.old.lists places.now changed.now closed.old).time }
-    ensures plans { plans.new.plans ≡ (past last time.old plans.old regulations.old.lists places.now changed.now closed.old).plans }
-    ensures lists { regulations.new.lists ≡ (past last time.old plans.old regulations.old.lists places.now changed.now closed.old).lists }
+    ensures time { time.new ≡ (past last time.old plans.old regulations.old.lists places.now changed.now
+        closed.old).time }
+    ensures plans { plans.new.plans
+        ≡ (past last time.old plans.old regulations.old.lists places.now changed.now closed.old).plans }
+    ensures lists { regulations.new.lists
+        ≡ (past last time.old plans.old regulations.old.lists places.now changed.now closed.old).lists }
     ensures taxi { plans.new.taxi ≡ plans.old.taxi }
     ensures most { plans.new.max_plans ≡ plans.old.max_plans }
     ensures limit { regulations.new.max_plans ≡ regulations.old.max_plans }

@@ -1,4 +1,4 @@
-use Rattle.std.proofs.Common.{sym, ap, ◌∙◌, subst, List, ℕ, arith, ◌≡◌, ◌-◌, length, inl, inr}
+use Rattle.std.proofs.Common.{sym, ap, ◌∙◌, subst, List, ℕ, arith, ◌≡◌, ◌-◌, length, refl}
 use Rattle.std.specs.Io.KnownBytes.{Appends}
 use Rattle.flow_intake.specs.NextFrame.{second}
 use Rattle.flow_intake.specs.Writes.{AppendsFront}
@@ -6,7 +6,7 @@ use Rattle.flow_core.specs.History.{state_of}
 use Rattle.flow_core.specs.Output.{answer_text}
 use Rattle.flow_core.specs.State.{State}
 use Rattle.flow_core.specs.Steps.{step}
-use Rattle.flow_core.proofs.Serves.{served-whole, said-whole, served-full, said-full, none-front, err_is}
+use Rattle.flow_core.proofs.Serves.{served-whole, said-whole, served-full, said-full, err_is}
 use Rattle.flow_core.proofs.serving.answer_filing.Goals as goal
 
 pub returns-in-Ok-write_answer-clause-ok : goal.returns-in-Ok-write_answer-clause-ok
@@ -20,14 +20,14 @@ returns-in-Ok-write_answer-clause-ok g c = λ frame k.
       subst (λ (bs : List ℕ). Appends (g.W.Write.contents c.args.writer.now.device) (g.W.Write.contents c.write_answer.new.writer.device) bs) text c.in-Ok-write_answer.ensures.ok,
     )
 
-pub returns-in-Err-clause-err : goal.returns-in-Err-clause-err
-returns-in-Err-clause-err g c = λ frame k.
+pub returns-in-Err-clause-part : goal.returns-in-Err-clause-part
+returns-in-Err-clause-part g c = λ e frame k.
     let s = state_of c.args.core.now in
     let room = c.in-Ok.ensures.ok.room in
     let last : c.in-Ok.receipt.number - 1 ≡ length (state_of c.args.core.now).journal = omega (arith, c.in-Ok.ensures.ok.number) in
     let text = ap (λ (t : State). answer_text t (c.in-Ok.receipt.number - 1)) c.in-Ok.ensures.ok.state
     ∙ ap (λ (n : ℕ). answer_text (step s (record { feeder = 0; text = second c.args.bytes.now })) n) last ∙ sym (said-whole s frame (second c.args.bytes.now) k room) in (
-      inr (c.in-Ok.ensures.ok.state ∙ sym (served-whole s frame (second c.args.bytes.now) k room)),
+      c.in-Ok.ensures.ok.state ∙ sym (served-whole s frame (second c.args.bytes.now) k room),
       subst (λ (bs : List ℕ). AppendsFront (g.W.Write.contents c.args.writer.now.device) (g.W.Write.contents c.write_answer.new.writer.device) bs) text c.in-Err.ensures.err,
     )
 
@@ -39,12 +39,12 @@ returns-in-Ok-write_bytes-clause-ok g c = λ frame k.
       rw (said-full s frame (second c.args.bytes.now) k full) (rw c.journal_full.ensures at c.in-Ok-write_bytes.ensures.ok),
     )
 
-pub returns-in-Err-write_bytes-clause-err : goal.returns-in-Err-write_bytes-clause-err
-returns-in-Err-write_bytes-clause-err g c = λ frame k.
+pub returns-in-Err-write_bytes-clause-part : goal.returns-in-Err-write_bytes-clause-part
+returns-in-Err-write_bytes-clause-part g c = λ e frame k.
     let full = c.in-Err-JournalFull.ensures.full (err_is c.in-Err-JournalFull.field-0-is) in (
-      inl (ap state_of c.in-Err-JournalFull.ensures.err),
+      ap state_of c.in-Err-JournalFull.ensures.err ∙ sym (served-full (state_of c.args.core.now) frame (second c.args.bytes.now) k full),
       rw (said-full (state_of c.args.core.now) frame (second c.args.bytes.now) k full) (rw c.journal_full.ensures at c.in-Err-write_bytes.ensures.err),
     )
 
-pub returns-in-Err-OutOfMemory-clause-err : goal.returns-in-Err-OutOfMemory-clause-err
-returns-in-Err-OutOfMemory-clause-err g c = λ frame k. none-front (state_of c.args.core.now) (state_of c.file_frame.new.core) frame (g.W.Write.contents c.args.writer.now.device) (ap state_of c.in-Err-OutOfMemory.ensures.err)
+pub returns-in-Err-OutOfMemory-clause-nothing : goal.returns-in-Err-OutOfMemory-clause-nothing
+returns-in-Err-OutOfMemory-clause-nothing g c = λ e. (ap state_of c.in-Err-OutOfMemory.ensures.err, refl)

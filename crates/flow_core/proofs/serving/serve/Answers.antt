@@ -1,15 +1,26 @@
-use Rattle.std.proofs.Common.{◌≡◌, ◌∙◌, refl}
+use Rattle.std.proofs.Common.{◌≡◌, ◌∙◌, refl, sym}
 use Rattle.flow_intake.specs.NextFrame.{filing_kept}
 use Rattle.flow_core.specs.declared.serving.ServeFault.TheVariants as serve
 use Rattle.flow_core.specs.History.{state_of}
-use Rattle.flow_core.proofs.Serves.{Serving-start, Serving-one, Served-output, Served-state, Serving-kept, Stopped-here, Stopped-start, Stopped-none, Stopped-part, Starved-read, Overrun-read, err_is}
+use Rattle.flow_core.proofs.Serves.{Serving-start, Serving-one, Served-output, Served-state, Serving-kept, Served-within, Answered-here, Answered-none, Answered-not, Answered-start, Stopped-answered, Stopped-part, Starved-read, Overrun-read, err_is, in_both}
 use Rattle.flow_core.proofs.serving.serve.Goals as goal
 
+memory-not-write : serve.OutOfMemory ≡ serve.Write → ⊥
+memory-not-write e = cc
+
 pub returns-in_default-clause-fault : goal.returns-in_default-clause-fault
-returns-in_default-clause-fault g c = Stopped-start (state_of c.args.core.now) (g.W.Write.contents c.args.writer.now.device) (g.R.Read.remaining c.args.reader.now.device)
+returns-in_default-clause-fault g c = Stopped-answered (state_of c.args.core.now) (state_of c.args.core.now) (g.W.Write.contents c.args.writer.now.device) (g.W.Write.contents c.args.writer.now.device) (g.R.Read.remaining c.args.reader.now.device) (g.R.Read.remaining c.args.reader.now.device)
+    (Answered-start (state_of c.args.core.now) (g.W.Write.contents c.args.writer.now.device) (g.R.Read.remaining c.args.reader.now.device))
+
+pub returns-in_default-clause-answered : goal.returns-in_default-clause-answered
+returns-in_default-clause-answered g c = λ no. Answered-start (state_of c.args.core.now) (g.W.Write.contents c.args.writer.now.device) (g.R.Read.remaining c.args.reader.now.device)
 
 pub returns-in_default-new-clause-fault : goal.returns-in_default-new-clause-fault
-returns-in_default-new-clause-fault g c = Stopped-start (state_of c.args.core.now) (g.W.Write.contents c.args.writer.now.device) (g.R.Read.remaining c.args.reader.now.device)
+returns-in_default-new-clause-fault g c = Stopped-answered (state_of c.args.core.now) (state_of c.args.core.now) (g.W.Write.contents c.args.writer.now.device) (g.W.Write.contents c.args.writer.now.device) (g.R.Read.remaining c.args.reader.now.device) (g.R.Read.remaining c.args.reader.now.device)
+    (Answered-start (state_of c.args.core.now) (g.W.Write.contents c.args.writer.now.device) (g.R.Read.remaining c.args.reader.now.device))
+
+pub returns-in_default-new-clause-answered : goal.returns-in_default-new-clause-answered
+returns-in_default-new-clause-answered g c = λ no. Answered-start (state_of c.args.core.now) (g.W.Write.contents c.args.writer.now.device) (g.R.Read.remaining c.args.reader.now.device)
 
 pub frames-init : goal.frames-init
 frames-init g c = record {
@@ -20,14 +31,19 @@ frames-init g c = record {
 }
 
 pub returns-in-Err-clause-fault : goal.returns-in-Err-clause-fault
-returns-in-Err-clause-fault g c =
-    Stopped-here (state_of c.args.core.now) (state_of c.frames.core) (g.W.Write.contents c.args.writer.now.device) (g.W.Write.contents c.hand_on.new.writer.device) c.frames.pieces (g.R.Read.remaining c.args.reader.now.device) (g.R.Read.remaining c.frames.reader.device)
-    (Serving-kept (state_of c.args.core.now) (state_of c.frames.core) (g.W.Write.contents c.args.writer.now.device) (g.W.Write.contents c.frames.writer.device) (g.W.Write.contents c.hand_on.new.writer.device) c.frames.pieces (g.R.Read.remaining c.args.reader.now.device) (g.R.Read.remaining c.frames.reader.device) c.frames.invariant.serving c.hand_on.ensures.keeps)
+returns-in-Err-clause-fault g c = Stopped-answered (state_of c.args.core.now) (state_of c.frames.core) (g.W.Write.contents c.args.writer.now.device) (g.W.Write.contents c.hand_on.new.writer.device) (g.R.Read.remaining c.args.reader.now.device) (g.R.Read.remaining c.frames.reader.device)
+    (Answered-here (state_of c.args.core.now) (state_of c.frames.core) (g.W.Write.contents c.args.writer.now.device) (g.W.Write.contents c.hand_on.new.writer.device) c.frames.pieces (g.R.Read.remaining c.args.reader.now.device) (g.R.Read.remaining c.frames.reader.device)
+    (Serving-kept (state_of c.args.core.now) (state_of c.frames.core) (g.W.Write.contents c.args.writer.now.device) (g.W.Write.contents c.frames.writer.device) (g.W.Write.contents c.hand_on.new.writer.device) c.frames.pieces (g.R.Read.remaining c.args.reader.now.device) (g.R.Read.remaining c.frames.reader.device) c.frames.invariant.serving c.hand_on.ensures.keeps))
+
+pub returns-in-Err-cut_frame-clause-answered : goal.returns-in-Err-cut_frame-clause-answered
+returns-in-Err-cut_frame-clause-answered g c = λ no.
+    Answered-none (state_of c.args.core.now) (state_of c.frames.core) (g.W.Write.contents c.args.writer.now.device) (g.W.Write.contents c.hand_on.new.writer.device) c.frames.pieces (g.R.Read.remaining c.args.reader.now.device) (g.R.Read.remaining c.frames.reader.device)
+    (Serving-kept (state_of c.args.core.now) (state_of c.frames.core) (g.W.Write.contents c.args.writer.now.device) (g.W.Write.contents c.frames.writer.device) (g.W.Write.contents c.hand_on.new.writer.device) c.frames.pieces (g.R.Read.remaining c.args.reader.now.device) (g.R.Read.remaining c.frames.reader.device) c.frames.invariant.serving c.hand_on.ensures.keeps) (g.R.Read.remaining c.cut_frame.new.reader.device) c.in-Err-cut_frame.ensures.going c.in-Err-cut_frame.ensures.err
 
 pub returns-in-Err-cut_frame-clause-fault : goal.returns-in-Err-cut_frame-clause-fault
-returns-in-Err-cut_frame-clause-fault g c =
-    Stopped-none (state_of c.args.core.now) (state_of c.frames.core) (g.W.Write.contents c.args.writer.now.device) (g.W.Write.contents c.hand_on.new.writer.device) c.frames.pieces (g.R.Read.remaining c.args.reader.now.device) (g.R.Read.remaining c.frames.reader.device)
-    (Serving-kept (state_of c.args.core.now) (state_of c.frames.core) (g.W.Write.contents c.args.writer.now.device) (g.W.Write.contents c.frames.writer.device) (g.W.Write.contents c.hand_on.new.writer.device) c.frames.pieces (g.R.Read.remaining c.args.reader.now.device) (g.R.Read.remaining c.frames.reader.device) c.frames.invariant.serving c.hand_on.ensures.keeps) (g.R.Read.remaining c.cut_frame.new.reader.device) c.in-Err-cut_frame.ensures.going c.in-Err-cut_frame.ensures.err
+returns-in-Err-cut_frame-clause-fault g c = Stopped-answered (state_of c.args.core.now) (state_of c.frames.core) (g.W.Write.contents c.args.writer.now.device) (g.W.Write.contents c.hand_on.new.writer.device) (g.R.Read.remaining c.args.reader.now.device) (g.R.Read.remaining c.cut_frame.new.reader.device)
+    (Answered-none (state_of c.args.core.now) (state_of c.frames.core) (g.W.Write.contents c.args.writer.now.device) (g.W.Write.contents c.hand_on.new.writer.device) c.frames.pieces (g.R.Read.remaining c.args.reader.now.device) (g.R.Read.remaining c.frames.reader.device)
+    (Serving-kept (state_of c.args.core.now) (state_of c.frames.core) (g.W.Write.contents c.args.writer.now.device) (g.W.Write.contents c.frames.writer.device) (g.W.Write.contents c.hand_on.new.writer.device) c.frames.pieces (g.R.Read.remaining c.args.reader.now.device) (g.R.Read.remaining c.frames.reader.device) c.frames.invariant.serving c.hand_on.ensures.keeps) (g.R.Read.remaining c.cut_frame.new.reader.device) c.in-Err-cut_frame.ensures.going c.in-Err-cut_frame.ensures.err)
 
 pub returns-in-Err-cut_frame-clause-starved : goal.returns-in-Err-cut_frame-clause-starved
 returns-in-Err-cut_frame-clause-starved g c = λ e.
@@ -51,11 +67,28 @@ returns-then-not-found-clause-state g c =
     Served-state (state_of c.args.core.now) (state_of c.frames.core) (g.W.Write.contents c.args.writer.now.device) (g.W.Write.contents c.hand_on.new.writer.device) c.frames.pieces (g.R.Read.remaining c.args.reader.now.device) (g.R.Read.remaining c.frames.reader.device)
     (Serving-kept (state_of c.args.core.now) (state_of c.frames.core) (g.W.Write.contents c.args.writer.now.device) (g.W.Write.contents c.frames.writer.device) (g.W.Write.contents c.hand_on.new.writer.device) c.frames.pieces (g.R.Read.remaining c.args.reader.now.device) (g.R.Read.remaining c.frames.reader.device) c.frames.invariant.serving c.hand_on.ensures.keeps) c.cut_frame.new.pieces (g.R.Read.remaining c.cut_frame.new.reader.device) (rw c.if-not-found.true at c.in-Ok-cut_frame.ensures.cuts) c.in-Ok-cut_frame.ensures.agrees
 
-pub returns-in-Err-answer_frame-clause-fault : goal.returns-in-Err-answer_frame-clause-fault
-returns-in-Err-answer_frame-clause-fault g c =
-    Stopped-part (state_of c.args.core.now) (state_of c.frames.core) (g.W.Write.contents c.args.writer.now.device) (g.W.Write.contents c.hand_on.new.writer.device) c.frames.pieces (g.R.Read.remaining c.args.reader.now.device) (g.R.Read.remaining c.frames.reader.device)
+pub returns-then-not-found-clause-within : goal.returns-then-not-found-clause-within
+returns-then-not-found-clause-within g c =
+    Served-within (state_of c.args.core.now) (state_of c.frames.core) (g.W.Write.contents c.args.writer.now.device) (g.W.Write.contents c.hand_on.new.writer.device) c.frames.pieces (g.R.Read.remaining c.args.reader.now.device) (g.R.Read.remaining c.frames.reader.device)
+    (Serving-kept (state_of c.args.core.now) (state_of c.frames.core) (g.W.Write.contents c.args.writer.now.device) (g.W.Write.contents c.frames.writer.device) (g.W.Write.contents c.hand_on.new.writer.device) c.frames.pieces (g.R.Read.remaining c.args.reader.now.device) (g.R.Read.remaining c.frames.reader.device) c.frames.invariant.serving c.hand_on.ensures.keeps) c.cut_frame.new.pieces (g.R.Read.remaining c.cut_frame.new.reader.device) (rw c.if-not-found.true at c.in-Ok-cut_frame.ensures.cuts) c.in-Ok-cut_frame.ensures.agrees c.in-Ok-cut_frame.ensures.most
+
+answered-not : goal.returns-in-Err-answer_frame-clause-answered
+answered-not g c = λ no. in_both c.in-Err-answer_frame.ensures.kinds (λ w. absurd (no w)) (λ m.
+    let kept = c.in-Err-answer_frame.ensures.nothing (err_is m) in
+    Answered-not (state_of c.args.core.now) (state_of c.frames.core) (g.W.Write.contents c.args.writer.now.device) (g.W.Write.contents c.hand_on.new.writer.device) c.frames.pieces (g.R.Read.remaining c.args.reader.now.device) (g.R.Read.remaining c.frames.reader.device)
     (Serving-kept (state_of c.args.core.now) (state_of c.frames.core) (g.W.Write.contents c.args.writer.now.device) (g.W.Write.contents c.frames.writer.device) (g.W.Write.contents c.hand_on.new.writer.device) c.frames.pieces (g.R.Read.remaining c.args.reader.now.device) (g.R.Read.remaining c.frames.reader.device) c.frames.invariant.serving c.hand_on.ensures.keeps) c.cut_frame.new.pieces (g.R.Read.remaining c.cut_frame.new.reader.device) (filing_kept c.cut_frame.new.kept) (rw c.if-not-found.false at c.in-Ok-cut_frame.ensures.cuts)
-    (state_of c.answer_frame.new.core) (g.W.Write.contents c.answer_frame.new.writer.device) c.in-Err-answer_frame.ensures.err
+    (state_of c.answer_frame.new.core) (g.W.Write.contents c.answer_frame.new.writer.device) kept.0 kept.1)
+
+pub returns-in-Err-answer_frame-clause-answered : goal.returns-in-Err-answer_frame-clause-answered
+returns-in-Err-answer_frame-clause-answered = answered-not
+
+pub returns-in-Err-answer_frame-clause-fault : goal.returns-in-Err-answer_frame-clause-fault
+returns-in-Err-answer_frame-clause-fault g c = in_both c.in-Err-answer_frame.ensures.kinds
+    (λ w. Stopped-part (state_of c.args.core.now) (state_of c.frames.core) (g.W.Write.contents c.args.writer.now.device) (g.W.Write.contents c.hand_on.new.writer.device) c.frames.pieces (g.R.Read.remaining c.args.reader.now.device) (g.R.Read.remaining c.frames.reader.device)
+    (Serving-kept (state_of c.args.core.now) (state_of c.frames.core) (g.W.Write.contents c.args.writer.now.device) (g.W.Write.contents c.frames.writer.device) (g.W.Write.contents c.hand_on.new.writer.device) c.frames.pieces (g.R.Read.remaining c.args.reader.now.device) (g.R.Read.remaining c.frames.reader.device) c.frames.invariant.serving c.hand_on.ensures.keeps) c.cut_frame.new.pieces (g.R.Read.remaining c.cut_frame.new.reader.device) (filing_kept c.cut_frame.new.kept) (rw c.if-not-found.false at c.in-Ok-cut_frame.ensures.cuts)
+    (state_of c.answer_frame.new.core) (g.W.Write.contents c.answer_frame.new.writer.device) (c.in-Err-answer_frame.ensures.part (err_is w)))
+    (λ m. Stopped-answered (state_of c.args.core.now) (state_of c.answer_frame.new.core) (g.W.Write.contents c.args.writer.now.device) (g.W.Write.contents c.answer_frame.new.writer.device) (g.R.Read.remaining c.args.reader.now.device) (g.R.Read.remaining c.cut_frame.new.reader.device)
+    (answered-not g c (λ w. absurd (memory-not-write (sym m ∙ w)))))
 
 pub frames-preserved : goal.frames-preserved
 frames-preserved g c = record {

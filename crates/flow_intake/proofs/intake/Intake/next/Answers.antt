@@ -1,8 +1,8 @@
-use Rattle.std.proofs.Common.{ap}
+use Rattle.std.proofs.Common.{ap, ◌∙◌}
 use Rattle.std.specs.Io.KnownBytes.{prepend_known}
 use Rattle.flow_intake.specs.Source.{Source}
-use Rattle.flow_intake.proofs.InTurn.{EndsWithin-ok, GivesNext-ok, SameTotal-ok}
-use Rattle.flow_intake.proofs.Sources.{CutsFirst-ok}
+use Rattle.flow_intake.proofs.InTurn.{EndsWithin-ok, GivesNext-ok, SameTotal-missed, SameTotal-ok}
+use Rattle.flow_intake.proofs.Sources.{CutsFirst-ok, MissesFirst-given}
 use Rattle.flow_intake.proofs.intake.Intake.next.Goals as goal
 
 pub returns-clause-cuts : goal.returns-clause-cuts
@@ -23,3 +23,14 @@ pub returns-clause-end : goal.returns-clause-end
 returns-clause-end g c =
     EndsWithin-ok g.row.A.Denot c.next_frame-result.result c.args.self.now.taken c.next_frame-result.new.pieces.taken c.args.self.now.left (prepend_known c.next_frame-result.new.pieces.unread (g.R.Read.remaining c.next_frame-result.new.reader.device))
     (returns-clause-cuts g c) (returns-clause-taken g c) c.are_within.ensures
+
+pub returns-clause-memory : goal.returns-clause-memory
+returns-clause-memory g c = λ e.
+    let m = c.next_frame-result.ensures.memory e in
+    let left = ap (λ (s : Source). s.left) c.self.view_is in (
+      m.0 ∙ ap (λ (s : Source). s.failures) c.self.view_is,
+      MissesFirst-given c.self.inside.pieces c.next_frame-result.new.pieces (g.R.Read.remaining c.self.inside.reader.device) (g.R.Read.remaining c.next_frame-result.new.reader.device) c.args.self.now.left m.1 m.2 left,
+      SameTotal-missed c.self.inside.pieces c.next_frame-result.new.pieces (g.R.Read.remaining c.self.inside.reader.device) (g.R.Read.remaining c.next_frame-result.new.reader.device) c.args.self.now.left c.args.self.now.taken m.1 left
+          (ap (λ (s : Source). s.taken) c.self.view_is),
+      c.are_within.ensures,
+    )

@@ -17,7 +17,7 @@ use Rattle.flow_traffic.specs.Undoing.{Past, past, told_past}
 use Rattle.flow_traffic.proofs.ToldAgain.{told-undone}
 use Rattle.flow_traffic.proofs.Noted.{one-noted}
 use Rattle.flow_traffic.proofs.TakenBack.{stands-again, plans-before, told-before, can-forget, was-kept, traffic-before, notices-before, one-within}
-use Rattle.flow_traffic.proofs.Answered.{message-answers, fault-some, settled-count}
+use Rattle.flow_traffic.proofs.Answered.{message-answers, fault-ok, settled-count}
 use Rattle.flow_traffic.proofs.FrozenStay.{frozen-settled}
 use Rattle.fpl_message.specs.Reads.{msg}
 use Rattle.flow_traffic.proofs.traffic.Traffic.answer_message.Goals as goal
@@ -26,7 +26,7 @@ pub returns-in-Err-clause-answers : goal.returns-in-Err-clause-answers
 returns-in-Err-clause-answers g c =
     let t : Traffic = traffic_of c.self.inside.plans.taxi c.self.inside.plans.max_plans c.self.inside.time c.self.inside.plans.plans c.self.inside.regulations.lists c.self.inside.told.items c.self.inside.notices.items in
     rw (sym (ap (λ (v : Undoable). v.traffic) c.self.view_is))
-    (fault-some t _ (said_message c.args.message.now) c.in-Err.fault c.refused.result c.in_ok-verdict-in-Err.verdict
+    (fault-ok t _ (said_message c.args.message.now) c.in-Err.fault c.refused.result c.in_ok-verdict-in-Err.verdict
     (rw (c.change_plans.ensures.taxi, c.change_plans.ensures.limit, c.in-Err.ensures.err, c.make_room.ensures.told, c.make_room.ensures.notices) refl)
     c.in_ok-verdict-in-Err.was c.refused.ensures c.in-Err.ensures.refused)
 
