@@ -1,10 +1,13 @@
 -- What a run with many feeders has come to, from its parts.
-use Rattle.std.proofs.Common.{◌≡◌, ℕ, zero, suc, ◌+◌, ◌-◌, ◌≤◌, ◌<◌, Bool, List, [], ◌∷◌, ◌++◌, length, take, drop, refl, ap, sym, ◌∙◌, subst, arith, Option, Some, None, IfSome, Result, Ok, Err, OnOk, IfErr, length-append, slice_get}
-use Rattle.std.specs.Io.KnownBytes.{Appends}
+use Rattle.std.proofs.Common.{◌≡◌, ◌≢◌, ◌⊎◌, inl, inr, ℕ, zero, suc, ◌+◌, ◌-◌, ◌≤◌, ◌<◌, Bool, List, [], ◌∷◌, ◌++◌, length, take, drop, refl, ap, sym, ◌∙◌, subst, arith, Option, Some, None, IfSome, Result, Ok, Err, OnOk, IfErr, IsErrOf, length-append, slice_get}
+use Rattle.std.specs.Io.KnownBytes.{Appends, Keeps}
+use Rattle.std.specs.List.{All}
+use Rattle.std.proofs.KnownBytes.{Appends-nil, Consumes-nil, Keeps-refl}
 use mathlib.Core.List.{IsPrefix}
 use Rattle.flow_plans.specs.Settings.{Settings}
 use Rattle.flow_intake.specs.Frames.{frames}
-use Rattle.flow_intake.proofs.Written.{Appends-both}
+use Rattle.flow_intake.specs.Writes.{AppendsFront}
+use Rattle.flow_intake.proofs.Written.{Appends-both, AppendsFront-both}
 use Rattle.fpl_message.specs.Filings.{FilingText}
 use Rattle.flow_core.specs.State.{State, Input, Record}
 use Rattle.flow_core.specs.Steps.{run}
@@ -14,17 +17,20 @@ use Rattle.flow_desk.specs.Blanks.{first_beyond}
 use Rattle.flow_core.specs.History.{History, state_of}
 use Rattle.flow_desk.specs.Histories.{own, after}
 use Rattle.flow_runs.specs.Dealing.{dealt}
-use Rattle.flow_runs.specs.Reading.{filings, long_lines, HasRead}
+use Rattle.flow_runs.specs.Reading.{filings, long_lines, HasRead, ToldFirst, ToldEnded, ToldFront, ToldUntil}
+use Rattle.flow_runs.proofs.Readings.{ToldFirst-none, ToldEnded-none, ToldFront-none}
 use Rattle.flow_runs.specs.Filing.{texts, HasFiled}
 use Rattle.flow_runs.specs.declared.fault.RunFault.{RunFault}
-use Rattle.flow_runs.specs.ManyRuns.{answers, end_lines, answers_and_end, RanMany, RanOn, OverrunAfter, HoldsBeyond}
+use Rattle.flow_runs.specs.declared.fault.RunFault.TheVariants as fault
+use Rattle.flow_runs.specs.ManyRuns.{answers, answered, ended, ended_before_replay, end_lines, end_before_replay, answers_and_end, RanMany, RanOn, OverrunAfter, HoldsBeyond, HoldsSome}
+use Rattle.flow_runs.specs.ManyRuns.{HaveFiled, FiledAll, AnsweredUntil, EndedByMemory, EndedBy, EndedBehind, EndedOnBy}
 
 drop-length : {X : Type 0} (xs ys : List X) → drop (length xs) (xs ++ ys) ≡ ys
 drop-length [] ys = refl
 drop-length (x ∷ xs) ys = drop-length xs ys
 
 module _ (setup : Settings) (read : List Record) (feeders : ℕ) (journal : Bool) (input : List (List ℕ)) (feeds : List (List FilingText)) (count : ℕ) (begun mid written : Option (List ℕ)) (core : History) (stop : Option RunFault) (r : ℕ)
-    (h : HasRead feeders input feeds count begun mid) (f : HasFiled setup read feeders feeds core stop) (none : stop ≡ None) (start : r ≡ length read) (a : Appends mid written (answers_and_end (state_of core) r count journal)) where
+    (h : HasRead feeders input feeds count begun mid) (f : HasFiled setup read feeders feeds core stop) (start : r ≡ length read) where
   behind : drop r (state_of core).journal ≡ f.entries
   behind = ap (λ (n : ℕ). drop n (state_of core).journal) start ∙ (ap (drop (length read)) f.journal ∙ drop-length read f.entries)
 
@@ -39,8 +45,8 @@ module _ (setup : Settings) (read : List Record) (feeders : ℕ) (journal : Bool
       ∙ ap (λ (q : State). long_lines input ++ (answers q f.entries ++ end_lines q (length (filings input) - length f.entries) journal)) f.one_thread)
 
   -- all was read, filed and answered
-  pub RanMany-made : RanMany setup read feeders journal input begun written
-  RanMany-made =
+  pub RanMany-made : stop ≡ None → Appends mid written (answers_and_end (state_of core) r count journal) → RanMany setup read feeders journal input begun written
+  RanMany-made none a =
       record {
         entries = f.entries;
         one_thread = ap (λ (q : State). q.journal) (sym f.one_thread) ∙ f.journal;
@@ -51,12 +57,133 @@ module _ (setup : Settings) (read : List Record) (feeders : ℕ) (journal : Bool
             (long_lines input ++ (answers (after setup (read ++ f.entries)) f.entries ++ end_lines (after setup (read ++ f.entries)) (length (filings input) - length f.entries) journal)) h.told a same;
       }
 
+  -- so are the answers alone, and what stands before the replay
+  same-answered : long_lines input ++ answers (state_of core) (drop r (state_of core).journal) ≡ answered setup read input f.entries
+  same-answered =
+      ap (λ (q : List Record). long_lines input ++ answers (state_of core) q) behind ∙ ap (λ (q : State). long_lines input ++ answers q f.entries) f.one_thread
+
+  same-before : long_lines input ++ (answers (state_of core) (drop r (state_of core).journal) ++ end_before_replay (state_of core) (count - (length (state_of core).journal - r)) journal) ≡ ended_before_replay setup read journal input f.entries
+  same-before =
+      ap (λ (q : List Record). long_lines input ++ (answers (state_of core) q ++ end_before_replay (state_of core) (count - (length (state_of core).journal - r)) journal)) behind
+      ∙ (ap (λ (n : ℕ). long_lines input ++ (answers (state_of core) f.entries ++ end_before_replay (state_of core) n journal)) left
+      ∙ ap (λ (q : State). long_lines input ++ (answers q f.entries ++ end_before_replay q (length (filings input) - length f.entries) journal)) f.one_thread)
+
+  -- all was read and filed, and this is so of the entries
+  filed-so : (Is : List Record → Type 0) → Is f.entries → HaveFiled setup read feeders input Is
+  filed-so Is is =
+      record {
+        entries = f.entries;
+        one_thread = ap (λ (q : State). q.journal) (sym f.one_thread) ∙ f.journal;
+        below = f.below;
+        fronts = λ k in_k. f.fronts k (dealt feeders k (filings input)) (h.dealt.each k in_k);
+        is = is;
+      }
+
+  pub front-filed : AppendsFront mid written (answers_and_end (state_of core) r count journal) → HaveFiled setup read feeders input (λ entries. AppendsFront begun written (ended setup read journal input entries))
+  front-filed a =
+      filed-so (λ entries. AppendsFront begun written (ended setup read journal input entries))
+      (AppendsFront-both begun mid written (long_lines input) (answers_and_end (state_of core) r count journal) (ended setup read journal input f.entries) h.told a same)
+
+  its-answers : Appends mid written (answers (state_of core) (drop r (state_of core).journal)) → Appends begun written (answered setup read input f.entries)
+  its-answers a = Appends-both begun mid written (long_lines input) (answers (state_of core) (drop r (state_of core).journal)) (answered setup read input f.entries) h.told a same-answered
+
+  pub answers-filed : Appends mid written (answers (state_of core) (drop r (state_of core).journal)) → HaveFiled setup read feeders input (λ entries. Appends begun written (answered setup read input entries))
+  answers-filed a = filed-so (λ entries. Appends begun written (answered setup read input entries)) (its-answers a)
+
+  pub memory-filed : (Appends mid written (answers (state_of core) (drop r (state_of core).journal))
+      ⊎ ((stop ≡ None) × Appends mid written (answers (state_of core) (drop r (state_of core).journal) ++ end_before_replay (state_of core) (count - (length (state_of core).journal - r)) journal)))
+      → EndedByMemory setup read feeders journal input begun written
+  memory-filed (inl a) =
+      inr (filed-so (λ entries. Appends begun written (answered setup read input entries) ⊎ (FiledAll setup read feeders input entries × Appends begun written (ended_before_replay setup read journal input entries))) (inl (its-answers a)))
+  memory-filed (inr a) =
+      inr (filed-so (λ entries. Appends begun written (answered setup read input entries) ⊎ (FiledAll setup read feeders input entries × Appends begun written (ended_before_replay setup read journal input entries)))
+      (inr (
+        λ few k in_k. f.whole a.0 few k (dealt feeders k (filings input)) (h.dealt.each k in_k),
+        Appends-both begun mid written (long_lines input) (answers (state_of core) (drop r (state_of core).journal) ++ end_before_replay (state_of core) (count - (length (state_of core).journal - r)) journal)
+            (ended_before_replay setup read journal input f.entries) h.told a.1 same-before,
+      )))
+
 -- whatever the input was
 pub RanMany-all : (setup : Settings) (read : List Record) (feeders : ℕ) (journal : Bool) (input : Option (List ℕ)) (feeds : List (List FilingText)) (count : ℕ) (begun mid written : Option (List ℕ)) (core : History) (stop : Option RunFault) (r : ℕ)
     → IfSome input (λ bytes. HasRead feeders (frames bytes) feeds count begun mid) → HasFiled setup read feeders feeds core stop → stop ≡ None → r ≡ length read → Appends mid written (answers_and_end (state_of core) r count journal)
     → IfSome input (λ bytes. RanMany setup read feeders journal (frames bytes) begun written)
 RanMany-all setup read feeders journal None feeds count begun mid written core stop r h f none start a = tt
-RanMany-all setup read feeders journal (Some bytes) feeds count begun mid written core stop r h f none start a = RanMany-made setup read feeders journal (frames bytes) feeds count begun mid written core stop r h f none start a
+RanMany-all setup read feeders journal (Some bytes) feeds count begun mid written core stop r h f none start a = RanMany-made setup read feeders journal (frames bytes) feeds count begun mid written core stop r h f start none a
+
+-- ---- where a run ended with a fault
+
+if-some : {X : Type 0} {P Q : X → Type 0} (o : Option X) → ((x : X) → P x → Q x) → IfSome o P → IfSome o Q
+if-some None f p = p
+if-some (Some x) f p = f x p
+
+module _ (setup : Settings) (read : List Record) (feeders : ℕ) (journal : Bool) where
+  -- while its frames were read
+  pub ended-told : (e : RunFault) (begun written input rest : Option (List ℕ)) → ToldUntil e begun written input rest → EndedBy e setup read feeders journal begun written input rest
+  ended-told fault.Read begun written input rest t = t
+  ended-told fault.TooMuch begun written input rest t = t
+  ended-told fault.Write begun written input rest t = inl t
+  ended-told fault.OutOfMemory begun written input rest t = inl t
+  ended-told fault.NoReader begun written input rest t = absurd t
+  ended-told fault.NotStarted begun written input rest t = absurd t
+  ended-told fault.BadJournal begun written input rest t = absurd t
+  ended-told fault.BadFeeders begun written input rest t = absurd t
+
+  -- before any frame was read
+  pub ended-first : (e : RunFault) (begun input : Option (List ℕ)) → e ≢ fault.NotStarted → EndedBy e setup read feeders journal begun begun input input
+  ended-first fault.Read begun input none = ToldEnded-none begun input
+  ended-first fault.TooMuch begun input none = ToldFirst-none begun input
+  ended-first fault.Write begun input none = inl (ToldFront-none begun input)
+  ended-first fault.OutOfMemory begun input none = inl (ToldFirst-none begun input)
+  ended-first fault.NoReader begun input none = Keeps-refl begun
+  ended-first fault.NotStarted begun input none = absurd (none refl)
+  ended-first fault.BadJournal begun input none = Keeps-refl begun
+  ended-first fault.BadFeeders begun input none = Keeps-refl begun
+
+  -- when all frames were read, for want of memory before a feeder began
+  pub ended-all : (e : RunFault) (feeds : List (List FilingText)) (count : ℕ) (begun mid input rest : Option (List ℕ)) → e ≡ fault.OutOfMemory
+      → IfSome input (λ bytes. HasRead feeders (frames bytes) feeds count begun mid) → EndedBy e setup read feeders journal begun mid input rest
+  ended-all e feeds count begun mid input rest is h =
+      subst (λ (k : RunFault). EndedBy k setup read feeders journal begun mid input rest) (sym is)
+      (inr (if-some {P = λ bytes. HasRead feeders (frames bytes) feeds count begun mid} {Q = λ bytes. EndedByMemory setup read feeders journal (frames bytes) begun mid} input (λ bytes r. inl r.told) h))
+
+  -- when the feeders had filed
+  pub ended-filed : (e : RunFault) (input rest : Option (List ℕ)) (feeds : List (List FilingText)) (count : ℕ) (begun mid written : Option (List ℕ)) (core : History) (stop : Option RunFault) (r : ℕ)
+      → IfSome input (λ bytes. HasRead feeders (frames bytes) feeds count begun mid) → HasFiled setup read feeders feeds core stop → r ≡ length read
+      → AnsweredUntil e stop (state_of core) r count journal mid written → EndedBy e setup read feeders journal begun written input rest
+  ended-filed fault.Write None rest feeds count begun mid written core stop r h f start a = inr tt
+  ended-filed fault.Write (Some bytes) rest feeds count begun mid written core stop r h f start a = inr (front-filed setup read feeders journal (frames bytes) feeds count begun mid written core stop r h f start a)
+  ended-filed fault.OutOfMemory None rest feeds count begun mid written core stop r h f start a = inr tt
+  ended-filed fault.OutOfMemory (Some bytes) rest feeds count begun mid written core stop r h f start a = inr (memory-filed setup read feeders journal (frames bytes) feeds count begun mid written core stop r h f start a)
+  ended-filed fault.NotStarted None rest feeds count begun mid written core stop r h f start a = tt
+  ended-filed fault.NotStarted (Some bytes) rest feeds count begun mid written core stop r h f start a = answers-filed setup read feeders journal (frames bytes) feeds count begun mid written core stop r h f start a
+  ended-filed fault.Read input rest feeds count begun mid written core stop r h f start a = absurd a
+  ended-filed fault.TooMuch input rest feeds count begun mid written core stop r h f start a = absurd a
+  ended-filed fault.NoReader input rest feeds count begun mid written core stop r h f start a = absurd a
+  ended-filed fault.BadJournal input rest feeds count begun mid written core stop r h f start a = absurd a
+  ended-filed fault.BadFeeders input rest feeds count begun mid written core stop r h f start a = absurd a
+
+-- before any frame behind the journal text was read
+pub ended-on-first : (e : RunFault) (feeders : ℕ) (journal : Bool) (begun input rest : Option (List ℕ)) → e ≢ fault.TooMuch → e ≢ fault.Write → e ≢ fault.NotStarted → EndedOnBy e feeders journal begun begun input rest
+ended-on-first fault.Read feeders journal begun input rest much write started = inl (Keeps-refl begun)
+ended-on-first fault.TooMuch feeders journal begun input rest much write started = absurd (much refl)
+ended-on-first fault.Write feeders journal begun input rest much write started = absurd (write refl)
+ended-on-first fault.OutOfMemory feeders journal begun input rest much write started = inl (Keeps-refl begun)
+ended-on-first fault.NoReader feeders journal begun input rest much write started = Keeps-refl begun
+ended-on-first fault.NotStarted feeders journal begun input rest much write started = absurd (started refl)
+ended-on-first fault.BadJournal feeders journal begun input rest much write started = Keeps-refl begun
+ended-on-first fault.BadFeeders feeders journal begun input rest much write started = Keeps-refl begun
+
+-- behind it
+pub ended-on : (e : RunFault) (feeders : ℕ) (journal : Bool) (begun written input rest : Option (List ℕ)) → (e ≢ fault.BadJournal) × (e ≢ fault.BadFeeders) × (e ≢ fault.NoReader) → EndedBehind e feeders journal begun written input rest
+    → EndedOnBy e feeders journal begun written input rest
+ended-on fault.Read feeders journal begun written input rest others b = inr b
+ended-on fault.TooMuch feeders journal begun written input rest others b = b
+ended-on fault.Write feeders journal begun written input rest others b = b
+ended-on fault.OutOfMemory feeders journal begun written input rest others b = inr b
+ended-on fault.NotStarted feeders journal begun written input rest others b = b
+ended-on fault.NoReader feeders journal begun written input rest others b = absurd (others.2 refl)
+ended-on fault.BadJournal feeders journal begun written input rest others b = absurd (others.0 refl)
+ended-on fault.BadFeeders feeders journal begun written input rest others b = absurd (others.1 refl)
 
 -- ---- behind a journal text
 
@@ -67,6 +194,11 @@ RanOn-made setup filed feeders journal None mid begun written h within ran = tt
 RanOn-made setup filed feeders journal (Some bytes) None begun written h within ran = absurd h
 RanOn-made setup filed feeders journal (Some bytes) (Some rest) begun written h within ran =
     record { setup = setup; filed = filed; text = h.0; rest = rest; is = h.1; holds = h.2; within = within; ran = ran }
+
+pub EndedBehind-made : (setup : Settings) (filed : List Input) (e : RunFault) (feeders : ℕ) (journal : Bool) (begun written input mid rest : Option (List ℕ)) → (e ≢ fault.BadJournal) × (e ≢ fault.BadFeeders) × (e ≢ fault.NoReader)
+    → HoldsJournal setup filed input mid → first_beyond feeders 1 (run setup filed).journal ≡ None → EndedBy e setup (run setup filed).journal feeders journal begun written mid rest → EndedOnBy e feeders journal begun written input rest
+EndedBehind-made setup filed e feeders journal begun written input mid rest others h within ended =
+    ended-on e feeders journal begun written input rest others (record { setup = setup; filed = filed; mid = mid; holds = h; within = within; ended = ended })
 
 pub OverrunAfter-made : (setup : Settings) (filed : List Input) (input mid rest : Option (List ℕ)) → HoldsJournal setup filed input mid → Overrun mid rest → OverrunAfter input rest
 OverrunAfter-made setup filed input mid rest h o = record { setup = setup; filed = filed; mid = mid; holds = h; overrun = o }
@@ -87,3 +219,33 @@ on_ok_two (Err e) f p q = tt
 pub if_err_map : {T E : Type 0} {P Q : E → Type 0} (r : Result T E) → ((e : E) → P e → Q e) → IfErr r P → IfErr r Q
 if_err_map (Ok x) f p = tt
 if_err_map (Err e) f p = f e p
+
+pub if_err_both : {T E : Type 0} {P Q S : E → Type 0} (r : Result T E) → ((e : E) → P e → Q e → S e) → IfErr r P → IfErr r Q → IfErr r S
+if_err_both (Ok x) f p q = tt
+if_err_both (Err e) f p q = f e p q
+
+-- ---- a run at the desk that was just made
+
+-- of its setup and its entries
+pub ended-at : {T : Type 0} (r : Result T RunFault) (s t : Settings) (es fs : List Record) (feeders : ℕ) (journal : Bool) (begun written input rest : Option (List ℕ)) → s ≡ t → es ≡ fs
+    → IfErr r (λ e. EndedBy e s es feeders journal begun written input rest) → IfErr r (λ e. EndedBy e t fs feeders journal begun written input rest)
+ended-at (Ok x) s t es fs feeders journal begun written input rest same equal h = tt
+ended-at (Err e) s t es fs feeders journal begun written input rest same equal h =
+    subst (λ (q : Settings). EndedBy e q fs feeders journal begun written input rest) same (subst (λ (q : List Record). EndedBy e s q feeders journal begun written input rest) equal h)
+
+-- and behind a journal text
+pub ended-behind : {T : Type 0} (r : Result T RunFault) (setup s : Settings) (filed : List Input) (es : List Record) (feeders : ℕ) (journal : Bool) (begun written input mid rest : Option (List ℕ)) → HoldsJournal setup filed input mid
+    → first_beyond feeders 1 (run setup filed).journal ≡ None → s ≡ setup → es ≡ (run setup filed).journal → IfErr r (λ e. (e ≢ fault.BadJournal) × (e ≢ fault.BadFeeders) × (e ≢ fault.NoReader))
+    → IfErr r (λ e. EndedBy e s es feeders journal begun written mid rest) → IfErr r (λ e. EndedOnBy e feeders journal begun written input rest)
+ended-behind (Ok x) setup s filed es feeders journal begun written input mid rest h within same equal others ended = tt
+ended-behind (Err e) setup s filed es feeders journal begun written input mid rest h within same equal others ended =
+    EndedBehind-made setup filed e feeders journal begun written input mid rest others h within
+    (subst (λ (q : Settings). EndedBy e q (run setup filed).journal feeders journal begun written mid rest) same (subst (λ (q : List Record). EndedBy e s q feeders journal begun written mid rest) equal ended))
+
+-- it doesn't end for want of a reader's place
+pub no-reader : {T : Type 0} (r : Result T RunFault) → IfErr r (λ e. (e ≢ fault.BadJournal) × (e ≢ fault.BadFeeders) × (e ≢ fault.NoReader)) → IsErrOf r fault.NoReader → ⊥
+no-reader (Ok x) others is = absurd (cc)
+no-reader (Err e) others is = others.2 (cc)
+
+pub HoldsSome-made : (setup : Settings) (filed : List Input) (input rest : Option (List ℕ)) → HoldsJournal setup filed input rest → HoldsSome input rest
+HoldsSome-made setup filed input rest h = record { setup = setup; filed = filed; holds = h }

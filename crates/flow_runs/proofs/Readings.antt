@@ -1,17 +1,21 @@
 -- Frames that are read one after the other.
-use Rattle.std.proofs.Common.{◌≡◌, ◌≢◌, ℕ, ◌+◌, ◌≤◌, ◌<◌, Bool, true, false, cond, leb, List, [], ◌∷◌, ◌++◌, length, codes, refl, ap, sym, ◌∙◌, subst, arith, Option, Some, None, IfSome, append_assoc, length-append}
+use Rattle.std.proofs.Common.{◌≡◌, ◌≢◌, ◌⊎◌, inl, inr, ℕ, ◌+◌, ◌≤◌, ◌<◌, Bool, true, false, cond, leb, List, [], ◌∷◌, ◌++◌, length, take, codes, refl, ap, sym, ◌∙◌, subst, arith, Option, Some, None, IfSome, IfErr, OnErr, Result, Ok, Err, append_assoc, length-append}
 use Rattle.std.proofs.lemmas.List.{append-nil}
 use Rattle.std.specs.Io.KnownBytes.{Appends}
+use Rattle.std.proofs.KnownBytes.{Appends-nil, Consumes-nil}
 use Rattle.fpl_message.specs.Filings.{FilingText}
 use Rattle.flow_intake.specs.NextFrame.{second, filing_of, filing_kept}
-use Rattle.flow_intake.proofs.Written.{Appends-both, Appends-none}
+use Rattle.flow_intake.specs.Writes.{AppendsFront}
+use Rattle.flow_intake.proofs.Written.{Appends-both, Appends-none, AppendsFront-both, AppendsFront-more}
 use Rattle.flow_runs.specs.Dealing.{AreDealt}
-use Rattle.flow_intake.specs.Reader.{Ahead, Agrees, CameTooMuch}
-use Rattle.flow_intake.specs.NextFrame.{GaveFirst, GaveNone}
-use Rattle.flow_intake.specs.Cutting.{Overrun}
-use Rattle.flow_intake.specs.Frames.{frames}
-use Rattle.flow_intake.proofs.Cuttings.{Cutting-start, Cutting-one, Cutting-end, Overrun-came}
-use Rattle.flow_runs.specs.Reading.{filings, long_lines, HasRead, ReadsNext, Reading}
+use Rattle.flow_intake.specs.Reader.{Ahead, Agrees, Came, CameTooMuch}
+use Rattle.flow_intake.specs.NextFrame.{GaveFirst, GaveNone, Starves}
+use Rattle.flow_intake.specs.Cutting.{Overrun, CutFront}
+use Rattle.flow_intake.specs.Frames.{frames, ended_frames, ended_in}
+use Rattle.flow_intake.proofs.Cuttings.{Cutting-start, Cutting-one, Cutting-end, CutFront-came, CutFront-one, CutEnded-read, Overrun-came}
+use Rattle.flow_runs.specs.declared.fault.RunFault.{RunFault}
+use Rattle.flow_runs.specs.declared.fault.RunFault.TheVariants as fault
+use Rattle.flow_runs.specs.Reading.{filings, long_lines, HasRead, ReadsNext, Reading, ToldFirst, ToldEnded, ToldFront, ToldUntil, LeavesNext}
 
 filings-append : (xs ys : List (List ℕ)) → filings (xs ++ ys) ≡ filings xs ++ filings ys
 unfolding filings
@@ -115,3 +119,125 @@ module _ (n : ℕ) (feeds : List (List FilingText)) (count : ℕ) (begun written
   -- more came than may
   pub Overrun-read : (rest : Option (List ℕ)) → CameTooMuch old mid rest → Overrun input rest
   Overrun-read rest m = Overrun-came r.done old input mid r.cutting rest m
+
+-- ---- where reading ended with a fault
+
+take-none : {X : Type 0} (xs : List X) → take 0 xs ≡ []
+take-none [] = refl
+take-none (x ∷ xs) = refl
+
+take-front : {X : Type 0} (xs ys : List X) → take (length xs) (xs ++ ys) ≡ xs
+take-front [] ys = take-none ys
+take-front (x ∷ xs) ys = ap (λ q. x ∷ q) (take-front xs ys)
+
+no-lines : long_lines [] ≡ []
+unfolding long_lines
+no-lines = refl
+
+-- nothing was read, and nothing written
+pub ToldFirst-none : (begun input : Option (List ℕ)) → ToldFirst begun begun input input
+ToldFirst-none begun input =
+    record {
+      read = [];
+      consumed = Consumes-nil input;
+      count = 0;
+      told = subst (λ (q : List ℕ). Appends begun begun q) (sym (ap long_lines (take-none (frames [])) ∙ no-lines)) (Appends-nil begun);
+    }
+
+no-ended : ended_frames [] ≡ []
+unfolding ended_frames ended_in
+no-ended = refl
+
+pub ToldEnded-none : (begun input : Option (List ℕ)) → ToldEnded begun begun input input
+ToldEnded-none begun input =
+    record { read = []; consumed = Consumes-nil input; told = subst (λ (q : List ℕ). Appends begun begun q) (sym (ap long_lines no-ended ∙ no-lines)) (Appends-nil begun) }
+
+front-none : (old : Option (List ℕ)) (bytes : List ℕ) → AppendsFront old old bytes
+front-none None bytes = tt
+front-none (Some xs) bytes = ([], bytes, refl, sym (append-nil xs))
+
+pub ToldFront-none : (begun input : Option (List ℕ)) → ToldFront begun begun input input
+ToldFront-none begun input = record { read = []; consumed = Consumes-nil input; told = front-none begun (long_lines (frames [])) }
+
+-- where memory was refused before anything was read
+pub told-memory : (e : RunFault) (begun input : Option (List ℕ)) → e ≡ fault.OutOfMemory → ToldUntil e begun begun input input
+told-memory e begun input is = subst (λ (k : RunFault). ToldUntil k begun begun input input) (sym is) (ToldFirst-none begun input)
+
+-- where no frame came
+pub told-no_frame : (e : RunFault) (begun written input rest : Option (List ℕ)) → (e ≡ fault.Read → ToldEnded begun written input rest) → ToldFirst begun written input rest
+    → (e ≢ fault.Write) × (e ≢ fault.BadJournal) × (e ≢ fault.BadFeeders) × (e ≢ fault.NoReader) × (e ≢ fault.NotStarted) → ToldUntil e begun written input rest
+told-no_frame fault.Read begun written input rest starved first others = starved refl
+told-no_frame fault.TooMuch begun written input rest starved first others = first
+told-no_frame fault.Write begun written input rest starved first others = absurd (others.0 refl)
+told-no_frame fault.OutOfMemory begun written input rest starved first others = first
+told-no_frame fault.NoReader begun written input rest starved first others = absurd (others.3 refl)
+told-no_frame fault.NotStarted begun written input rest starved first others = absurd (others.4 refl)
+told-no_frame fault.BadJournal begun written input rest starved first others = absurd (others.1 refl)
+told-no_frame fault.BadFeeders begun written input rest starved first others = absurd (others.2 refl)
+
+module _ (n : ℕ) (feeds : List (List FilingText)) (count : ℕ) (begun written : Option (List ℕ)) (old : Ahead) (input mid : Option (List ℕ)) (r : Reading n feeds count begun written old input mid) where
+  -- the lines that were written are those of the first frames of what was read
+  pub ToldFirst-came : (rest : Option (List ℕ)) → old.ended ≡ false → Came mid rest → ToldFirst begun written input rest
+  ToldFirst-came rest going m =
+      let cut = CutFront-came r.done old input mid r.cutting rest going m in
+      record {
+        read = cut.read;
+        consumed = cut.consumed;
+        count = length r.done;
+        told = subst (λ (fs : List (List ℕ)). Appends begun written (long_lines fs)) (sym (ap (take (length r.done)) cut.whole ∙ take-front r.done cut.others)) r.has.told;
+      }
+
+  -- where the reader failed, they are those of the frames that had ended
+  pub ToldEnded-read : (rest : Option (List ℕ)) → old.ended ≡ false → Starves old mid rest → ToldEnded begun written input rest
+  ToldEnded-read rest going m =
+      let cut = CutEnded-read r.done old input mid r.cutting rest going m in
+      record { read = cut.read; consumed = cut.consumed; told = subst (λ (fs : List (List ℕ)). Appends begun written (long_lines fs)) (sym cut.whole) r.has.told }
+
+  -- a frame came, with a fault
+  module _ (new : Ahead) (rest : Option (List ℕ)) (filing : Option FilingText) (f : GaveFirst filing old new mid rest) where
+    pub told-part : (e : RunFault) (now : Option (List ℕ)) → LeavesNext e filing written now → ToldUntil e begun now input rest
+    told-part fault.OutOfMemory now l =
+        let cut : CutFront (r.done ++ f.whole.frame ∷ []) input rest = CutFront-one r.done old input mid r.cutting new rest filing f in
+        let whole : frames cut.read ≡ r.done ++ (f.whole.frame ∷ cut.others) = cut.whole ∙ append_assoc r.done (f.whole.frame ∷ []) cut.others in
+        record {
+          read = cut.read;
+          consumed = cut.consumed;
+          count = length r.done;
+          told = subst (λ (w : Option (List ℕ)). Appends begun w (long_lines (take (length r.done) (frames cut.read)))) (sym l)
+              (subst (λ (fs : List (List ℕ)). Appends begun written (long_lines fs)) (sym (ap (take (length r.done)) whole ∙ take-front r.done (f.whole.frame ∷ cut.others))) r.has.told);
+        }
+    told-part fault.Write now l =
+        let cut : CutFront (r.done ++ f.whole.frame ∷ []) input rest = CutFront-one r.done old input mid r.cutting new rest filing f in
+        let long = is-long f.whole.frame (sym l.0 ∙ f.filed) in
+        let line : List ℕ = codes "- NO 90 TooLong\n" in
+        let behind : List ℕ = long_lines cut.others in
+        let whole : frames cut.read ≡ r.done ++ ((f.whole.frame ∷ []) ++ cut.others) = cut.whole ∙ append_assoc r.done (f.whole.frame ∷ []) cut.others in
+        let is : long_lines r.done ++ (line ++ behind) ≡ long_lines (frames cut.read) =
+        sym (ap long_lines whole ∙ (lines-append r.done ((f.whole.frame ∷ []) ++ cut.others)
+        ∙ ap (λ (q : List ℕ). long_lines r.done ++ q) (lines-append (f.whole.frame ∷ []) cut.others ∙ ap (λ (q : List ℕ). q ++ behind) (line-long f.whole.frame long)))) in
+        record {
+          read = cut.read;
+          consumed = cut.consumed;
+          told = AppendsFront-both begun written now (long_lines r.done) (line ++ behind) (long_lines (frames cut.read)) r.has.told (AppendsFront-more written now line behind (line ++ behind) l.1 refl) is;
+        }
+    told-part fault.Read now l = absurd l
+    told-part fault.TooMuch now l = absurd l
+    told-part fault.NoReader now l = absurd l
+    told-part fault.NotStarted now l = absurd l
+    told-part fault.BadJournal now l = absurd l
+    told-part fault.BadFeeders now l = absurd l
+
+-- a frame that is too long, whose line was not written whole
+pub left-long : (e : RunFault) (kept : Option (List ℕ)) (before after : Option (List ℕ)) → kept ≡ None → e ≡ fault.Write → AppendsFront before after (codes "- NO 90 TooLong\n") → LeavesNext e (filing_kept kept) before after
+left-long fault.Write kept before after none is a = (ap filing_kept none, a)
+left-long fault.Read kept before after none is a = absurd (cc)
+left-long fault.TooMuch kept before after none is a = absurd (cc)
+left-long fault.OutOfMemory kept before after none is a = absurd (cc)
+left-long fault.NoReader kept before after none is a = absurd (cc)
+left-long fault.NotStarted kept before after none is a = absurd (cc)
+left-long fault.BadJournal kept before after none is a = absurd (cc)
+left-long fault.BadFeeders kept before after none is a = absurd (cc)
+
+pub left-result : {T : Type 0} (r : Result T RunFault) (kept before after : Option (List ℕ)) → kept ≡ None → IfErr r (λ e. e ≡ fault.Write) → OnErr r (AppendsFront before after (codes "- NO 90 TooLong\n")) → IfErr r (λ e. LeavesNext e (filing_kept kept) before after)
+left-result (Ok x) kept before after none is a = tt
+left-result (Err e) kept before after none is a = left-long e kept before after none is a

@@ -1,5 +1,5 @@
 -- The fault that feeds ended with, if one did.
-use Rattle.std.proofs.Common.{◌≡◌, ◌⊎◌, ℕ, zero, suc, ◌+◌, ◌<◌, List, [], ◌∷◌, length, map, Option, None, Some, Result, Ok, Err, refl, sym, subst, inl, inr, arith}
+use Rattle.std.proofs.Common.{◌≡◌, ◌≢◌, ◌⊎◌, ℕ, zero, suc, ◌+◌, ◌<◌, List, [], ◌∷◌, length, map, Option, None, Some, Result, Ok, Err, refl, sym, ap, subst, inl, inr, arith}
 use Rattle.std.specs.Prelude.{IfNone, IfSome, OnOk, is_err, false}
 use Rattle.std.specs.List.{All}
 use Rattle.std.proofs.lemmas.Option.{slice_get-get_or}
@@ -17,6 +17,10 @@ ends-well Finished e = inl refl
 ends-well (Stopped step.JournalFull) e = inr refl
 ends-well (Stopped step.OutOfMemory) e = absurd (cc e)
 ends-well NotStarted e = absurd (cc e)
+
+-- where that isn't want of memory, the feed didn't end so
+pub no-memory : (end : End) → fault_of end ≢ Some fault.OutOfMemory → end ≢ Stopped step.OutOfMemory
+no-memory end other is = other (ap fault_of is)
 
 pub fault-kinds : (end : End) → IfSome (fault_of end) (λ e. (e ≡ fault.OutOfMemory) ⊎ (e ≡ fault.NotStarted))
 fault-kinds Finished = tt

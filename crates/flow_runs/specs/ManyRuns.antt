@@ -1,11 +1,12 @@
 -- The run of a program with many feeders.
-use Rattle.std.specs.Prelude.{◌≡◌, ℕ, zero, suc, ◌-◌, ◌<◌, Bool, true, false, List, [], ◌++◌, length, drop, codes, Option, Some, None}
+use Rattle.std.specs.Prelude.{◌≡◌, ◌⊎◌, ℕ, zero, suc, ◌-◌, ◌<◌, Bool, true, false, List, [], ◌++◌, length, drop, codes, Option, Some, None, IfSome}
 use Rattle.std.specs.List.{All, flat_map}
-use Rattle.std.specs.Io.KnownBytes.{Appends}
+use Rattle.std.specs.Io.KnownBytes.{Appends, Keeps}
 use mathlib.Core.List.{IsPrefix}
 use Rattle.flow_plans.specs.Settings.{Settings}
 use Rattle.flow_intake.specs.Frames.{frames}
 use Rattle.flow_intake.specs.Cutting.{Overrun}
+use Rattle.flow_intake.specs.Writes.{AppendsFront}
 use Rattle.flow_core.specs.State.{State, Input, Record}
 use Rattle.flow_core.specs.Steps.{run}
 use Rattle.flow_core.specs.CoreView.{inputs}
@@ -14,7 +15,9 @@ use Rattle.flow_core.specs.Journal.{journal_text, IsJournal, HoldsJournal}
 use Rattle.flow_desk.specs.Histories.{own, after}
 use Rattle.flow_desk.specs.Blanks.{first_beyond}
 use Rattle.flow_runs.specs.Dealing.{dealt}
-use Rattle.flow_runs.specs.Reading.{filings, long_lines}
+use Rattle.flow_runs.specs.declared.fault.RunFault.{RunFault}
+use Rattle.flow_runs.specs.declared.fault.RunFault.TheVariants as fault
+use Rattle.flow_runs.specs.Reading.{filings, long_lines, ToldFirst, ToldEnded, ToldFront}
 use Rattle.flow_runs.specs.Filing.{texts}
 
 -- ---- what is written
@@ -37,9 +40,26 @@ asked_journal true s = journal_text s.setup (inputs s.journal)
 abbrev pub end_lines : State → ℕ → Bool → List ℕ
 end_lines s left journal = full_lines left ++ (asked_journal journal s ++ codes "REPLAY OK\n")
 
+-- that without its last line
+abbrev pub end_before_replay : State → ℕ → Bool → List ℕ
+end_before_replay s left journal = full_lines left ++ asked_journal journal s
+
 -- the answers to the entries behind so many, and what stands after them, where so many filings were dealt
 abbrev pub answers_and_end : State → ℕ → ℕ → Bool → List ℕ
 answers_and_end s read count journal = answers s (drop read s.journal) ++ end_lines s (count - (length s.journal - read)) journal
+
+-- for an input: a line for each frame that is too long, and the answers to these entries, behind those read
+abbrev pub answered : Settings → List Record → List (List ℕ) → List Record → List ℕ
+answered setup read input entries = long_lines input ++ answers (after setup (read ++ entries)) entries
+
+-- and what stands after the last answer, with its last line or without it
+abbrev pub ended : Settings → List Record → Bool → List (List ℕ) → List Record → List ℕ
+ended setup read journal input entries =
+    long_lines input ++ (answers (after setup (read ++ entries)) entries ++ end_lines (after setup (read ++ entries)) (length (filings input) - length entries) journal)
+
+abbrev pub ended_before_replay : Settings → List Record → Bool → List (List ℕ) → List Record → List ℕ
+ended_before_replay setup read journal input entries =
+    long_lines input ++ (answers (after setup (read ++ entries)) entries ++ end_before_replay (after setup (read ++ entries)) (length (filings input) - length entries) journal)
 
 -- ---- a run
 
@@ -52,7 +72,7 @@ pub record RanMany (setup : Settings) (read : List Record) (feeders : ℕ) (jour
   pub below : All (λ e. e.input.feeder < feeders) entries
   pub fronts : (k : ℕ) → k < feeders → IsPrefix (texts (own k entries)) (dealt feeders k (filings input))
   pub whole : length (read ++ entries) < setup.max_entries → (k : ℕ) → k < feeders → texts (own k entries) ≡ dealt feeders k (filings input)
-  pub output : Appends begun written (long_lines input ++ (answers (after setup (read ++ entries)) entries ++ end_lines (after setup (read ++ entries)) (length (filings input) - length entries) journal))
+  pub output : Appends begun written (ended setup read journal input entries)
 
 -- the input begins with a journal text, all of whose entries are of the feeders, and the run goes on from there
 pub record RanOn (bytes : List ℕ) (feeders : ℕ) (journal : Bool) (begun written : Option (List ℕ)) : Type 0 where
@@ -82,3 +102,79 @@ pub record OverrunAfter (input rest : Option (List ℕ)) : Type 0 where
   pub mid : Option (List ℕ)
   pub holds : HoldsJournal setup filed input mid
   pub overrun : Overrun mid rest
+
+-- ---- what was written where a run ended with a fault
+
+-- Behind the entries read there are entries of the feeders, as in a run that is answered, and this is so of them.
+pub record HaveFiled (setup : Settings) (read : List Record) (feeders : ℕ) (input : List (List ℕ)) (Is : List Record → Type 0) : Type 0 where
+  pub entries : List Record
+  pub one_thread : (after setup (read ++ entries)).journal ≡ read ++ entries
+  pub below : All (λ e. e.input.feeder < feeders) entries
+  pub fronts : (k : ℕ) → k < feeders → IsPrefix (texts (own k entries)) (dealt feeders k (filings input))
+  pub is : Is entries
+
+-- each feeder has filed all that is dealt to it, where the journal has fewer entries than it may have
+abbrev pub FiledAll : Settings → List Record → ℕ → List (List ℕ) → List Record → Type 0
+FiledAll setup read feeders input entries = length (read ++ entries) < setup.max_entries → (k : ℕ) → k < feeders → texts (own k entries) ≡ dealt feeders k (filings input)
+
+-- The answers to the core's entries behind so many, where so many filings were dealt, and a feed ended with a fault or none did: those
+-- that were written, and what stands after them, where this fault came.
+abbrev pub AnsweredUntil : RunFault → Option RunFault → State → ℕ → ℕ → Bool → Option (List ℕ) → Option (List ℕ) → Type 0
+AnsweredUntil fault.Write stop s read count journal begun written = AppendsFront begun written (answers_and_end s read count journal)
+AnsweredUntil fault.OutOfMemory stop s read count journal begun written =
+    Appends begun written (answers s (drop read s.journal))
+    ⊎ ((stop ≡ None) × Appends begun written (answers s (drop read s.journal) ++ end_before_replay s (count - (length s.journal - read)) journal))
+AnsweredUntil fault.NotStarted stop s read count journal begun written = Appends begun written (answers s (drop read s.journal))
+AnsweredUntil fault.Read stop s read count journal begun written = ⊥
+AnsweredUntil fault.TooMuch stop s read count journal begun written = ⊥
+AnsweredUntil fault.NoReader stop s read count journal begun written = ⊥
+AnsweredUntil fault.BadJournal stop s read count journal begun written = ⊥
+AnsweredUntil fault.BadFeeders stop s read count journal begun written = ⊥
+
+-- where memory was refused when all was read: before a feeder began; to a feed, so that the answers were written and nothing more; or
+-- to the replay of the journal, so that its line alone is missing
+abbrev pub EndedByMemory : Settings → List Record → ℕ → Bool → List (List ℕ) → Option (List ℕ) → Option (List ℕ) → Type 0
+EndedByMemory setup read feeders journal input begun written =
+    Appends begun written (long_lines input)
+    ⊎ HaveFiled setup read feeders input (λ entries. Appends begun written (answered setup read input entries) ⊎ (FiledAll setup read feeders input entries × Appends begun written (ended_before_replay setup read journal input entries)))
+
+-- What was written where a run ended with this fault. Before the feeders begin nothing is filed, and what is written are lines for
+-- frames that are too long. Where a feed was never begun the answers follow, and nothing more.
+abbrev pub EndedBy : RunFault → Settings → List Record → ℕ → Bool → Option (List ℕ) → Option (List ℕ) → Option (List ℕ) → Option (List ℕ) → Type 0
+EndedBy fault.Read setup read feeders journal begun written input rest = ToldEnded begun written input rest
+EndedBy fault.TooMuch setup read feeders journal begun written input rest = ToldFirst begun written input rest
+EndedBy fault.Write setup read feeders journal begun written input rest =
+    ToldFront begun written input rest ⊎ IfSome input (λ bytes. HaveFiled setup read feeders (frames bytes) (λ entries. AppendsFront begun written (ended setup read journal (frames bytes) entries)))
+EndedBy fault.OutOfMemory setup read feeders journal begun written input rest =
+    ToldFirst begun written input rest ⊎ IfSome input (λ bytes. EndedByMemory setup read feeders journal (frames bytes) begun written)
+EndedBy fault.NotStarted setup read feeders journal begun written input rest =
+    IfSome input (λ bytes. HaveFiled setup read feeders (frames bytes) (λ entries. Appends begun written (answered setup read (frames bytes) entries)))
+EndedBy fault.NoReader setup read feeders journal begun written input rest = Keeps begun written
+EndedBy fault.BadJournal setup read feeders journal begun written input rest = Keeps begun written
+EndedBy fault.BadFeeders setup read feeders journal begun written input rest = Keeps begun written
+
+-- the input begins with a journal text, all of whose entries are of the feeders, and behind it the run ended with this fault
+pub record EndedBehind (why : RunFault) (feeders : ℕ) (journal : Bool) (begun written input rest : Option (List ℕ)) : Type 0 where
+  pub setup : Settings
+  pub filed : List Input
+  pub mid : Option (List ℕ)
+  pub holds : HoldsJournal setup filed input mid
+  pub within : first_beyond feeders 1 (run setup filed).journal ≡ None
+  pub ended : EndedBy why setup (run setup filed).journal feeders journal begun written mid rest
+
+-- what was written where a run that begins with a journal text ended with this fault: nothing before a frame is read
+abbrev pub EndedOnBy : RunFault → ℕ → Bool → Option (List ℕ) → Option (List ℕ) → Option (List ℕ) → Option (List ℕ) → Type 0
+EndedOnBy fault.Read feeders journal begun written input rest = Keeps begun written ⊎ EndedBehind fault.Read feeders journal begun written input rest
+EndedOnBy fault.TooMuch feeders journal begun written input rest = EndedBehind fault.TooMuch feeders journal begun written input rest
+EndedOnBy fault.Write feeders journal begun written input rest = EndedBehind fault.Write feeders journal begun written input rest
+EndedOnBy fault.OutOfMemory feeders journal begun written input rest = Keeps begun written ⊎ EndedBehind fault.OutOfMemory feeders journal begun written input rest
+EndedOnBy fault.NotStarted feeders journal begun written input rest = EndedBehind fault.NotStarted feeders journal begun written input rest
+EndedOnBy fault.NoReader feeders journal begun written input rest = Keeps begun written
+EndedOnBy fault.BadJournal feeders journal begun written input rest = Keeps begun written
+EndedOnBy fault.BadFeeders feeders journal begun written input rest = Keeps begun written
+
+-- the input begins with a journal text, and all after it is left
+pub record HoldsSome (input rest : Option (List ℕ)) : Type 0 where
+  pub setup : Settings
+  pub filed : List Input
+  pub holds : HoldsJournal setup filed input rest

@@ -1,10 +1,14 @@
 -- What is read before the feeders start.
-use Rattle.std.specs.Prelude.{◌≡◌, ℕ, List, [], ◌∷◌, ◌++◌, length, nat_le, if◌then◌else◌, codes, Option}
-use Rattle.std.specs.Io.KnownBytes.{Appends}
+use Rattle.std.specs.Prelude.{◌≡◌, ℕ, List, [], ◌∷◌, ◌++◌, length, take, nat_le, if◌then◌else◌, codes, Option, None}
+use Rattle.std.specs.Io.KnownBytes.{Appends, Consumes}
 use Rattle.fpl_message.specs.Filings.{FilingText}
+use Rattle.flow_intake.specs.Frames.{frames, ended_frames}
+use Rattle.flow_intake.specs.Writes.{AppendsFront}
 use Rattle.flow_intake.specs.NextFrame.{second, filing_of}
 use Rattle.flow_intake.specs.Reader.{Ahead}
 use Rattle.flow_intake.specs.Cutting.{Cutting}
+use Rattle.flow_runs.specs.declared.fault.RunFault.{RunFault}
+use Rattle.flow_runs.specs.declared.fault.RunFault.TheVariants as fault
 use Rattle.flow_runs.specs.Dealing.{AreDealt}
 
 -- the whole filings among some frames
@@ -33,3 +37,46 @@ pub record Reading (feeders : ℕ) (feeds : List (List FilingText)) (count : ℕ
   pub done : List (List ℕ)
   pub cutting : Cutting done ahead input rest
   pub has : HasRead feeders done feeds count begun written
+
+-- ---- where reading ended with a fault
+
+-- bytes were read of the input, and a line was written for each frame that is too long among some first ones of theirs
+pub record ToldFirst (begun written input rest : Option (List ℕ)) : Type 0 where
+  pub read : List ℕ
+  pub consumed : Consumes input rest read
+  pub count : ℕ
+  pub told : Appends begun written (long_lines (take count (frames read)))
+
+-- the same, of just those frames that had ended in the bytes read
+pub record ToldEnded (begun written input rest : Option (List ℕ)) : Type 0 where
+  pub read : List ℕ
+  pub consumed : Consumes input rest read
+  pub told : Appends begun written (long_lines (ended_frames read))
+
+-- bytes were read of the input, and a front of the lines for those frames of theirs that are too long was written
+pub record ToldFront (begun written input rest : Option (List ℕ)) : Type 0 where
+  pub read : List ℕ
+  pub consumed : Consumes input rest read
+  pub told : AppendsFront begun written (long_lines (frames read))
+
+-- what was written where reading ended with this fault
+abbrev pub ToldUntil : RunFault → Option (List ℕ) → Option (List ℕ) → Option (List ℕ) → Option (List ℕ) → Type 0
+ToldUntil fault.Read begun written input rest = ToldEnded begun written input rest
+ToldUntil fault.TooMuch begun written input rest = ToldFirst begun written input rest
+ToldUntil fault.Write begun written input rest = ToldFront begun written input rest
+ToldUntil fault.OutOfMemory begun written input rest = ToldFirst begun written input rest
+ToldUntil fault.NoReader begun written input rest = ⊥
+ToldUntil fault.NotStarted begun written input rest = ⊥
+ToldUntil fault.BadJournal begun written input rest = ⊥
+ToldUntil fault.BadFeeders begun written input rest = ⊥
+
+-- what was written of one frame, of which this is the filing, where the fault came with it
+abbrev pub LeavesNext : RunFault → Option FilingText → Option (List ℕ) → Option (List ℕ) → Type 0
+LeavesNext fault.Write filing before after = (filing ≡ None) × AppendsFront before after (codes "- NO 90 TooLong\n")
+LeavesNext fault.OutOfMemory filing before after = after ≡ before
+LeavesNext fault.Read filing before after = ⊥
+LeavesNext fault.TooMuch filing before after = ⊥
+LeavesNext fault.NoReader filing before after = ⊥
+LeavesNext fault.NotStarted filing before after = ⊥
+LeavesNext fault.BadJournal filing before after = ⊥
+LeavesNext fault.BadFeeders filing before after = ⊥

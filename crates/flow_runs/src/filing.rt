@@ -42,18 +42,19 @@ fn fault_of(end: End) -> Option<RunFault>
     }
 }
 
-/// Want of memory before a feed that was never begun, else the fault of one that has one.
+/// Want of memory before any other fault, and a fault before none.
 fn worse(fault: Option<RunFault>, other: Option<RunFault>) -> Option<RunFault>
     ensures none { result ≡ None → (fault ≡ None) × (other ≡ None) }
     ensures one { (result ≡ fault) ⊎ (result ≡ other) }
+    ensures memory { result ≢ Some RunFault.OutOfMemory → (fault ≢ Some RunFault.OutOfMemory) × (other ≢ Some RunFault.OutOfMemory) }
 {
     match fault {
         None => other,
-        Some(RunFault::NotStarted) => match other {
-            Some(fault) => Some(fault),
-            None => Some(RunFault::NotStarted),
+        Some(RunFault::OutOfMemory) => Some(RunFault::OutOfMemory),
+        Some(fault) => match other {
+            Some(other) => Some(other),
+            None => Some(fault),
         },
-        Some(fault) => Some(fault),
     }
 }
 
@@ -61,6 +62,7 @@ fn worse(fault: Option<RunFault>, other: Option<RunFault>) -> Option<RunFault>
 fn stop_among<N: Name, A: Allocator + Copy>(dones: &[Done<N, A>]) -> Option<RunFault>
     ensures none { IfNone result (All (λ d. EndsWell d.end) dones.now) }
     ensures kinds { IfSome result (λ e. (e ≡ RunFault.OutOfMemory) ⊎ (e ≡ RunFault.NotStarted)) }
+    ensures memory { result ≢ Some RunFault.OutOfMemory → All (λ d. d.end ≢ End.Stopped StepFault.OutOfMemory) dones.now }
 {
     let mut stop = None;
     for done in dones {

@@ -1,10 +1,13 @@
-use Rattle.std.proofs.Common.{◌≡◌, ◌≤◌, ◌<◌, ℕ, List, map, length, arith, ◌∙◌, ap, refl, true, false, IsTrue}
+use Rattle.std.proofs.Common.{◌≡◌, ◌≤◌, ◌<◌, ℕ, List, map, length, arith, ◌∙◌, ap, refl, sym, subst, true, false, IsTrue}
+use Rattle.std.proofs.lemmas.Result.{err_from_is_err_and}
 use Rattle.flow_intake.specs.Reader.{Ahead}
 use Rattle.flow_intake.specs.NextFrame.{filing_kept}
 use Rattle.flow_core.proofs.Serves.{err_is}
+use Rattle.flow_runs.specs.declared.fault.RunFault.{RunFault}
 use Rattle.flow_runs.specs.declared.fault.RunFault.TheVariants as fault
+use Rattle.flow_runs.specs.Reading.{ToldUntil}
 use Rattle.flow_runs.proofs.Dealings.{wide-feeds}
-use Rattle.flow_runs.proofs.Readings.{Reading-start, Reading-one, HasRead-end, Overrun-read}
+use Rattle.flow_runs.proofs.Readings.{Reading-start, Reading-one, HasRead-end, Overrun-read, ToldFirst-none, ToldFirst-came, ToldEnded-read, told-no_frame, told-part, told-memory}
 use Rattle.flow_runs.proofs.dealing.read_all.Goals as goal
 
 pub frames-init : goal.frames-init
@@ -47,3 +50,33 @@ frames-preserved g c =
       reader_calm = c.in-Ok-cut_frame.ensures.calm ∙ c.frames.invariant.reader_calm;
       writer_calm = c.in_default-take_frame.ensures.calm ∙ c.frames.invariant.writer_calm;
     }
+
+pub returns-in_err-dealt-clause-told : goal.returns-in_err-dealt-clause-told
+returns-in_err-dealt-clause-told g c =
+    let p = err_from_is_err_and c.from_residual.result c.from_residual.ensures.1 in
+    rw p.1 (told-memory p.0 (g.W.Write.contents c.args.writer.now.device) (g.R.Read.remaining c.args.reader.now.device) (p.2 ∙ c.in_err-dealt.ensures.fault))
+
+pub returns-in_default-clause-told : goal.returns-in_default-clause-told
+returns-in_default-clause-told g c = ToldFirst-none (g.W.Write.contents c.args.writer.now.device) (g.R.Read.remaining c.args.reader.now.device)
+
+pub returns-in_default-new-clause-told : goal.returns-in_default-new-clause-told
+returns-in_default-new-clause-told g c = ToldFirst-none (g.W.Write.contents c.args.writer.now.device) (g.R.Read.remaining c.args.reader.now.device)
+
+pub returns-in-Err-clause-told : goal.returns-in-Err-clause-told
+returns-in-Err-clause-told g c =
+    let feeds = map (λ v. v.items) c.frames.dealt.feeds.items in
+    let begun = g.W.Write.contents c.args.writer.now.device in
+    let written = g.W.Write.contents c.frames.writer.device in
+    let input = g.R.Read.remaining c.args.reader.now.device in
+    let mid = g.R.Read.remaining c.frames.reader.device in
+    let rest = g.R.Read.remaining c.cut_frame.new.reader.device in
+    told-no_frame c.why_no_frame.result begun written input rest
+    (λ e. ToldEnded-read c.args.feeders feeds c.frames.dealt.count begun written c.frames.pieces input mid c.frames.invariant.reading rest c.in-Err.ensures.going (c.in-Err.ensures.read (err_is (c.why_no_frame.ensures.read e))))
+    (ToldFirst-came c.args.feeders feeds c.frames.dealt.count begun written c.frames.pieces input mid c.frames.invariant.reading rest c.in-Err.ensures.going c.in-Err.ensures.err)
+    c.why_no_frame.ensures.others
+
+pub returns-in-Err-take_frame-clause-told : goal.returns-in-Err-take_frame-clause-told
+returns-in-Err-take_frame-clause-told g c =
+    told-part c.args.feeders (map (λ v. v.items) c.frames.dealt.feeds.items) c.frames.dealt.count (g.W.Write.contents c.args.writer.now.device) (g.W.Write.contents c.frames.writer.device) c.frames.pieces (g.R.Read.remaining c.args.reader.now.device) (g.R.Read.remaining c.frames.reader.device)
+    c.frames.invariant.reading c.cut_frame.new.pieces (g.R.Read.remaining c.cut_frame.new.reader.device) (filing_kept c.cut_frame.new.kept) (rw c.if-not-found.false at c.in-Ok-cut_frame.ensures.cuts)
+    c.in-Err-take_frame.fault (g.W.Write.contents c.take_frame.new.writer.device) c.in-Err-take_frame.ensures.left

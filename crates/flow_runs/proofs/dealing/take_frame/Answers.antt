@@ -1,6 +1,6 @@
 use Rattle.std.proofs.Common.{◌≡◌, ◌++◌, ◌∷◌, [], ℕ, List, map, length, sym, ◌∙◌, ap, Option, None, Some}
 use Rattle.flow_core.proofs.JournalTexts.{OnOk-map}
-use Rattle.flow_runs.proofs.Readings.{ReadsNext-long, ReadsNext-whole}
+use Rattle.flow_runs.proofs.Readings.{ReadsNext-long, ReadsNext-whole, left-result}
 use Rattle.flow_runs.proofs.dealing.take_frame.Goals as goal
 
 pub returns-in_default-clause-next : goal.returns-in_default-clause-next
@@ -14,3 +14,8 @@ pub returns-in-Ok-deal-clause-next : goal.returns-in-Ok-deal-clause-next
 returns-in-Ok-deal-clause-next g c =
     ReadsNext-whole c.args.kept.now c.in-Some.bytes.now c.in-Ok.filing (map (λ v. v.items) c.args.dealt.now.feeds.items) (map (λ v. v.items) c.deal.new.dealt.feeds.items) c.args.dealt.now.count c.deal.new.dealt.count (g.W.Write.contents c.args.writer.now.device)
     c.in-Some.ensures.0 c.in-Ok.ensures.value c.in-Ok-deal.ensures.ok c.in-Ok-deal.ensures.count
+
+pub returns-in_default-clause-left : goal.returns-in_default-clause-left
+returns-in_default-clause-left g c =
+    let none : c.args.kept.now ≡ None = rw c.in_default.is at c.bytes.ensures in
+    left-result c.write_out.result c.args.kept.now (g.W.Write.contents c.args.writer.now.device) (g.W.Write.contents c.write_out.new.writer.device) none c.write_out.ensures.kind c.write_out.ensures.err

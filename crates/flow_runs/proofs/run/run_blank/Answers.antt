@@ -4,7 +4,9 @@ use Rattle.flow_plans.specs.Settings.{Settings}
 use Rattle.flow_intake.proofs.Results.{err_again}
 use Rattle.flow_core.proofs.JournalTexts.{OnOk-map}
 use Rattle.flow_runs.specs.Filing.{HasFiled}
-use Rattle.flow_runs.proofs.Ran.{RanMany-all, on_ok, on_ok_two, if_err_map}
+use Rattle.flow_runs.specs.Reading.{ToldUntil}
+use Rattle.flow_runs.specs.declared.fault.RunFault.{RunFault}
+use Rattle.flow_runs.proofs.Ran.{RanMany-all, on_ok, on_ok_two, if_err_map, ended-told, ended-all, ended-filed}
 use Rattle.flow_runs.proofs.run.run_blank.Goals as goal
 
 pub returns-in_err-feeds-clause-much : goal.returns-in_err-feeds-clause-much
@@ -24,7 +26,7 @@ pub returns-clause-calm : goal.returns-clause-calm
 returns-clause-calm g c = OnOk-map c.answer_all.result (λ w. (c.in_ok-feeds.ensures.calm.0, w ∙ c.in_ok-feeds.ensures.calm.1)) c.answer_all.ensures.calm
 
 pub returns-clause-others : goal.returns-clause-others
-returns-clause-others g c = if_err_map c.answer_all.result (λ e k. (k.2, k.3)) c.answer_all.ensures.kinds
+returns-clause-others g c = if_err_map c.answer_all.result (λ e k. (k.2, k.3, k.4)) c.answer_all.ensures.kinds
 
 pub returns-clause-ran : goal.returns-clause-ran
 returns-clause-ran g c =
@@ -35,3 +37,30 @@ returns-clause-ran g c =
     (g.W.Write.contents c.args.writer.now.device) (g.W.Write.contents c.read_all.new.writer.device) (g.W.Write.contents c.answer_all.new.writer.device) c.in_ok-filed.filed.core c.in_ok-filed.filed.stop c.args.read
     c.in_ok-feeds.ensures.has filed none c.requires.read a)
     c.answer_all.ensures.ok c.answer_all.ensures.whole
+
+pub returns-in_err-feeds-clause-left : goal.returns-in_err-feeds-clause-left
+returns-in_err-feeds-clause-left g c =
+    let p = err_from_is_err_and c.from_residual.result c.from_residual.ensures.1 in
+    let begun = g.W.Write.contents c.args.writer.now.device in
+    let written = g.W.Write.contents c.read_all.new.writer.device in
+    let input = g.R.Read.remaining c.args.reader.now.device in
+    let rest = g.R.Read.remaining c.read_all.new.reader.device in
+    rw p.1
+    (ended-told c.args.blank.setup c.args.blank.entries c.args.feeders c.args.journal p.0 begun written input rest (subst (λ (k : RunFault). ToldUntil k begun written input rest) (sym p.2) c.in_err-feeds.ensures.told))
+
+pub returns-in_err-filed-clause-left : goal.returns-in_err-filed-clause-left
+returns-in_err-filed-clause-left g c =
+    let p = err_from_is_err_and c.from_residual-in_err-filed.result c.from_residual-in_err-filed.ensures.1 in
+    rw p.1
+    (ended-all c.args.blank.setup c.args.blank.entries c.args.feeders c.args.journal p.0 (map (λ v. v.items) c.in_ok-feeds.field-0.feeds.items) c.in_ok-feeds.field-0.count
+    (g.W.Write.contents c.args.writer.now.device) (g.W.Write.contents c.read_all.new.writer.device) (g.R.Read.remaining c.args.reader.now.device) (g.R.Read.remaining c.read_all.new.reader.device) (p.2 ∙ c.in_err-filed.ensures.fault) c.in_ok-feeds.ensures.has)
+
+pub returns-clause-left : goal.returns-clause-left
+returns-clause-left g c =
+    let filed = subst (λ (q : Settings). HasFiled q c.args.blank.entries c.args.feeders (map (λ v. v.items) c.in_ok-feeds.field-0.feeds.items) c.in_ok-filed.filed.core c.in_ok-filed.filed.stop) (sym c.requires.named.1)
+    (subst (λ (n : ℕ). HasFiled g.N.Name.setup c.args.blank.entries n (map (λ v. v.items) c.in_ok-feeds.field-0.feeds.items) c.in_ok-filed.filed.core c.in_ok-filed.filed.stop) (sym c.requires.feeders.0) c.in_ok-filed.ensures.filed) in
+    if_err_map c.answer_all.result
+    (λ e a. ended-filed c.args.blank.setup c.args.blank.entries c.args.feeders c.args.journal e (g.R.Read.remaining c.args.reader.now.device) (g.R.Read.remaining c.read_all.new.reader.device) (map (λ v. v.items) c.in_ok-feeds.field-0.feeds.items) c.in_ok-feeds.field-0.count
+    (g.W.Write.contents c.args.writer.now.device) (g.W.Write.contents c.read_all.new.writer.device) (g.W.Write.contents c.answer_all.new.writer.device) c.in_ok-filed.filed.core c.in_ok-filed.filed.stop c.args.read
+    c.in_ok-feeds.ensures.has filed c.requires.read a)
+    c.answer_all.ensures.left
