@@ -1,5 +1,6 @@
 pub mod Load
 pub mod Opened
 pub mod Opening
+pub mod Scale
 pub mod Shown
 pub mod Totals

@@ -29,7 +29,7 @@ static COUNTS: [Column; 5] = [
 const LONGEST: u64 = 28;
 
 /// The greatest count of the steps.
-fn greatest_of(loads: &[Load]) -> u64 {
+pub fn greatest_of(loads: &[Load]) -> u64 {
     let mut greatest = 0;
     for load in loads {
         greatest = greatest

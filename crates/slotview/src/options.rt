@@ -1,6 +1,8 @@
 //! The words of the command line.
 use clap::builder::ValueParser;
-use clap::{Arg, ArgMatches, Command, Error};
+use clap::error::ErrorKind;
+use clap::parser::ValueSource;
+use clap::{Arg, ArgAction, ArgMatches, Command, Error};
 use flow_plans::MAX_ENTRIES;
 use std::alloc::{AllocError, Global};
 
@@ -15,6 +17,9 @@ const AFTER: &str =
     Times are UTC. The desk of a day, and the slot list of one regulation after entry 12:\n  \
     slotdesk --start 2409010500 --journal < day.txt | slotview\n  \
     slotview --at 12 list RMZ01 < journal.txt";
+
+/// What is said where a picture is asked for in a format of tables.
+const SVG_WITH_FORMAT: &str = "the argument '--svg' cannot be used with '--format <FORMAT>'";
 
 /// The version of the program.
 const VERSION: &str = "0.1.0";
@@ -37,6 +42,8 @@ pub enum Shown<'a> {
     Flight { ident: &'a str },
     /// Demand and slots of the regulation of this name, in steps of so many minutes.
     Load { id: &'a str, step: u32 },
+    /// The same as a picture.
+    Chart { id: &'a str, step: u32 },
 }
 
 /// What the words of the command line ask for.
@@ -88,6 +95,13 @@ fn flight_command<'a>(alloc: Global) -> Result<Command<'a>, AllocError> {
         )
 }
 
+fn svg_argument<'a>(alloc: Global) -> Arg<'a> {
+    Arg::new(alloc, "svg")
+        .long("svg")
+        .action(ArgAction::SetTrue)
+        .help("Draws them as an SVG document, without --format")
+}
+
 fn load_command<'a>(alloc: Global) -> Result<Command<'a>, AllocError> {
     Command::new(alloc, "load")
         .about("Demand and slots of a regulation, by steps of time")
@@ -104,7 +118,8 @@ fn load_command<'a>(alloc: Global) -> Result<Command<'a>, AllocError> {
                 .default_value("20")
                 .value_parser(ValueParser::unsigned(1, 1440))
                 .help("The minutes of a step, 1 to 1440"),
-        )
+        )?
+        .arg(svg_argument(alloc))
 }
 
 fn command<'a>(alloc: Global) -> Result<Command<'a>, AllocError> {
@@ -128,6 +143,16 @@ fn format_of(word: Option<&str>) -> Format {
     }
 }
 
+fn load_by<'a>(matches: &ArgMatches<'a>) -> Shown<'a> {
+    let id = matches.get_str("regulation").unwrap_or("");
+    let step = matches.get_one::<u32>("step").unwrap_or(20);
+    if matches.get_flag("svg") {
+        Shown::Chart { id, step }
+    } else {
+        Shown::Load { id, step }
+    }
+}
+
 fn shown_by<'a>(matches: &ArgMatches<'a>) -> Shown<'a> {
     match matches.subcommand() {
         Some(("list", inner)) => Shown::List {
@@ -136,19 +161,22 @@ fn shown_by<'a>(matches: &ArgMatches<'a>) -> Shown<'a> {
         Some(("flight", inner)) => Shown::Flight {
             ident: inner.get_str("identification").unwrap_or(""),
         },
-        Some(("load", inner)) => Shown::Load {
-            id: inner.get_str("regulation").unwrap_or(""),
-            step: inner.get_one::<u32>("step").unwrap_or(20),
-        },
+        Some(("load", inner)) => load_by(inner),
         _ => Shown::Summary,
     }
 }
 
 /// Reads the words of the command line, of which the first is the program's name.
 pub fn read_options<'a>(alloc: Global, words: &'a [String]) -> Result<Options<'a>, Error> {
-    let matches = command(alloc)?.try_get_matches_from(words)?;
+    let mut command = command(alloc)?;
+    let matches = command.try_get_matches_from_mut(words)?;
+    let shown = shown_by(&matches);
+    let formatted = matches.value_source("format") == Some(ValueSource::CommandLine);
+    if formatted && matches!(shown, Shown::Chart { .. }) {
+        return Err(command.error(ErrorKind::ArgumentConflict, SVG_WITH_FORMAT)?);
+    }
     Ok(Options {
-        shown: shown_by(&matches),
+        shown,
         at: matches.get_one::<u32>("at"),
         format: format_of(matches.get_str("format")),
     })

@@ -1,6 +1,7 @@
 //! A run of the program.
 ghost use Rattle.std.specs.Prelude.{◌≤◌};
 
+use crate::chart::put_chart;
 use crate::fault::{DONE, Fault, NOT_RUN, tell};
 use crate::flight::put_flight;
 use crate::list::put_lists;
@@ -109,6 +110,9 @@ fn show_desk<W: Write + Drop, E: Write>(
 ) -> Result<(), Fault> {
     let regulations = open_regulations(alloc, core)?;
     let all = regulations.as_slice();
+    if let Shown::Chart { id, step } = options.shown {
+        return show_chart(alloc, core, named(all, id, errors)?, step, writer);
+    }
     let mut sheet = Sheet::new(alloc, options.format, writer);
     match options.shown {
         Shown::Summary => put_summary(alloc, &mut sheet, core, all)?,
@@ -121,6 +125,7 @@ fn show_desk<W: Write + Drop, E: Write>(
                 put_loads(alloc, &mut sheet, core, opened, step)?;
             }
         }
+        Shown::Chart { .. } => {}
         Shown::Flight { ident } => {
             if !put_flight(alloc, &mut sheet, core, all, ident.as_bytes())? {
                 tell_flights(core, ident, errors);
@@ -129,6 +134,20 @@ fn show_desk<W: Write + Drop, E: Write>(
         }
     }
     sheet.end()
+}
+
+/// Draws the load of a regulation.
+fn show_chart<W: Write + Drop>(
+    alloc: Global,
+    core: &Core,
+    regulations: &[Opened],
+    step: u32,
+    mut writer: W,
+) -> Result<(), Fault> {
+    for opened in regulations {
+        put_chart(alloc, &mut writer, core, opened, step)?;
+    }
+    Ok(())
 }
 
 /// Writes that there is no such flight, and the flights that there are.

@@ -1,0 +1,71 @@
+//! Shares of a length, and round numbers.
+ghost use Rattle.std.specs.Prelude.{◌≡◌, ◌≤◌, ◌<◌, ◌*◌, IfSome};
+ghost use Rattle.flow_view.specs.Scale.{share, first_reaching, count_between, minutes_between};
+
+/// How many lines lie above the lowest one of a panel at most.
+const MOST_LINES: u32 = 5;
+
+/// The greatest count that is shown.
+pub const MOST_FLIGHTS: u32 = 50_000;
+
+/// How many flights lie between two lines.
+const ROUND_COUNTS: [u32; 13] = [1, 2, 5, 10, 20, 50, 100, 200, 500, 1000, 2000, 5000, 10_000];
+
+/// How far labels lie apart at least, in tenths of a pixel.
+const LABEL_WIDTH: u32 = 560;
+
+/// How wide a panel of a chart is, in tenths of a pixel.
+pub const PANEL_WIDTH: u32 = 7120;
+
+/// How many minutes lie between two labels. Each divides the day.
+const ROUND_TIMES: [u32; 11] = [1, 2, 5, 10, 15, 20, 30, 60, 120, 180, 240];
+
+/// The longest period, in minutes.
+pub const LONGEST: u32 = 1440;
+
+/// So much of a length as a part is of a whole, rounded down, and all of it where the part is greater.
+pub fn share(length: u32, part: u32, whole: u32) -> u32
+    requires { 0 < whole }
+    ensures value { result ≡ share length part whole }
+    ensures most { result ≤ length }
+{
+    let product = u64::from(length) * u64::from(part.min(whole));
+    (product / u64::from(whole)) as u32
+}
+
+/// The first number of a list of which so many reach what is wanted.
+fn first_reaching(numbers: &[u32], times: u32, wanted: u32) -> Option<u32>
+    ensures first { result ≡ first_reaching times wanted numbers.now }
+    ensures reaches { IfSome result (λ n. wanted ≤ times * n) }
+{
+    let (times, wanted) = (u64::from(times), u64::from(wanted));
+    numbers
+        .iter()
+        .copied()
+        .find(|number| wanted <= times * u64::from(*number))
+}
+
+/// How many flights lie between two lines of a panel: the least round number of which few lines reach a count.
+#[tactic(auto, unfolding(crate::specs::Scale::count_between))]
+pub fn count_between(greatest: u32) -> u32
+    requires { greatest ≤ MOST_FLIGHTS }
+    ensures value { result ≡ count_between greatest }
+    ensures few { greatest ≤ MOST_LINES * result }
+    ensures some { 0 < result }
+    ensures round { result ≤ 10_000 }
+{
+    first_reaching(&ROUND_COUNTS, MOST_LINES, greatest).unwrap_or(10_000)
+}
+
+/// How many minutes lie between two labels: the least round number that takes the width of a label in a panel of so
+/// many minutes.
+#[tactic(auto, unfolding(crate::specs::Scale::minutes_between))]
+pub fn minutes_between(minutes: u32) -> u32
+    requires { minutes ≤ LONGEST }
+    ensures value { result ≡ minutes_between minutes }
+    ensures apart { LABEL_WIDTH * minutes ≤ PANEL_WIDTH * result }
+    ensures some { 0 < result }
+    ensures most { result ≤ 240 }
+{
+    first_reaching(&ROUND_TIMES, PANEL_WIDTH, LABEL_WIDTH * minutes).unwrap_or(240)
+}

@@ -1,0 +1,94 @@
+//! The words and numbers of a picture.
+use crate::summary::place_text;
+use flow_view::Opened;
+use fpl_text::{Minute, Part};
+use std::alloc::{AllocError, Global};
+use std::fmt;
+
+/// A length in tenths of a pixel, written in pixels.
+#[derive(Clone, Copy)]
+pub struct Pixels(pub u32);
+
+impl fmt::Display for Pixels {
+    fn fmt<W: fmt::Write>(&self, f: &mut fmt::Formatter<W>) -> fmt::Result {
+        let Pixels(tenths) = *self;
+        let whole = tenths / 10;
+        let rest = tenths % 10;
+        write!(f, "{whole}.{rest}")
+    }
+}
+
+/// The time of day of a moment, with a colon.
+#[derive(Clone, Copy)]
+pub struct Clock(pub Minute);
+
+impl fmt::Display for Clock {
+    fn fmt<W: fmt::Write>(&self, f: &mut fmt::Formatter<W>) -> fmt::Result {
+        let minute = self.0.minutes() % 1440;
+        let hours = minute / 60;
+        let minutes = minute % 60;
+        write!(f, "{hours:02}:{minutes:02}")
+    }
+}
+
+/// The date of a moment: its year, month and day.
+#[derive(Clone, Copy)]
+struct DateOf(Minute);
+
+impl fmt::Display for DateOf {
+    fn fmt<W: fmt::Write>(&self, f: &mut fmt::Formatter<W>) -> fmt::Result {
+        let date = self.0.day().date();
+        let year = date.year();
+        let month = date.month();
+        let day = date.day();
+        write!(f, "{year:04}-{month:02}-{day:02}")
+    }
+}
+
+/// The name of a regulation, its place and its period.
+pub fn heading_of(alloc: Global, opened: &Opened) -> Result<String, AllocError> {
+    let place = place_text(alloc, opened.place())?;
+    let place = str::from_utf8(place.as_slice()).unwrap_or("");
+    let name = str::from_utf8(opened.id().as_bytes()).unwrap_or("");
+    let (start, end) = opened.period();
+    let date = DateOf(start);
+    let from = Clock(start);
+    let to = Clock(end);
+    let mut text = format!(in alloc; "{name}, {place}, {date} {from} to ")?;
+    if start.minutes() / 1440 != end.minutes() / 1440 {
+        let date = DateOf(end);
+        write!(text, "{date} ")?;
+    }
+    write!(text, "{to} UTC")?;
+    Ok(text)
+}
+
+/// How many sub-periods stand in the first line of rates.
+const IN_FIRST_LINE: usize = 4;
+
+/// The hourly rates of the sub-periods, in two lines.
+pub fn rates_of(alloc: Global, opened: &Opened) -> Result<(String, String), AllocError> {
+    let (start, _) = opened.period();
+    let rate = opened.rate();
+    let from = Clock(start);
+    let mut first = format!(in alloc; "Slots an hour: {rate} from {from}")?;
+    let mut second = String::new(alloc);
+    for (index, part) in opened.parts().iter().enumerate() {
+        if index + 1 < IN_FIRST_LINE {
+            add_rate(&mut first, part)?;
+        } else {
+            add_rate(&mut second, part)?;
+        }
+    }
+    Ok((first, second))
+}
+
+/// Appends the rate of a further sub-period to a line.
+fn add_rate(line: &mut String, part: &Part) -> Result<(), AllocError> {
+    if !line.is_empty() {
+        line.push_str(", ")?;
+    }
+    let rate = part.rate;
+    let from = Clock(part.from);
+    write!(line, "{rate} from {from}")
+}
