@@ -118,6 +118,22 @@ fn items_of_field_18(rt: HostRuntime) -> Result<(), Fail> {
     Ok(())
 }
 
+/// Places of any length are told apart, also past the eighth.
+#[test]
+fn places_of_estimates(rt: HostRuntime) -> Result<(), Fail> {
+    let other = Other18::read(
+        rt.alloc(),
+        b"EET/EISN0026 EGGX0111 20W0136 CYQX0228 A0229 123456789AB0230 EDMM0231 LOVV0232 LIMRI0233 LIMR0234",
+    )?;
+    assert_eq!(rt; other.elapsed(b"20W"), Some(96));
+    assert_eq!(rt; other.elapsed(b"A"), Some(149));
+    assert_eq!(rt; other.elapsed(b"123456789AB"), Some(150));
+    assert_eq!(rt; other.elapsed(b"123456789ABC"), None::<u32>);
+    assert_eq!(rt; other.elapsed(b"LIMRI"), Some(153));
+    assert_eq!(rt; other.elapsed(b"LIMR"), Some(154));
+    Ok(())
+}
+
 #[test]
 fn no_items(rt: HostRuntime) -> Result<(), Fail> {
     let none = Other18::read(rt.alloc(), b"0")?;

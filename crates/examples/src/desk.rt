@@ -1,0 +1,75 @@
+//! A desk of one thread, with flow_core alone.
+ghost use Rattle.std.specs.Prelude.{◌≡◌, ◌++◌, ◌∷◌, [], true, OnOk, length};
+ghost use Rattle.std.specs.Option.{option_and_then};
+ghost use Rattle.std.specs.Io.KnownBytes.{Appends};
+ghost use Rattle.flow_intake.specs.NextFrame.{second};
+ghost use Rattle.flow_slots.specs.Lineup.{held_slot};
+ghost use Rattle.flow_traffic.specs.Traffic.{slots_of};
+ghost use Rattle.flow_core.specs.History.{state_of};
+ghost use Rattle.flow_core.specs.Output.{answer_text};
+ghost use Rattle.flow_core.specs.Journal.{journal_text};
+
+use flow_core::{Core, Counted, StepFault};
+use fpl_message::Filing;
+use fpl_text::Text;
+use std::alloc::Allocator;
+use std::io::Write;
+
+/// Why a text got no answer.
+#[derive(Clone, Copy, Debug, PartialEq, Eq)]
+pub enum AnswerFault {
+    /// It has more than 2,000 bytes, or memory was refused. Nothing was filed.
+    Unread,
+    /// It wasn't filed: the journal is full, or memory was refused.
+    Unfiled(StepFault),
+    /// It was filed, and the writer failed.
+    Unwritten,
+}
+
+/// Files a text at a desk as its feeder 0, and writes the answer behind what the writer has: the line of its receipt,
+/// and one for each slot notice that it caused.
+pub fn answer<W: Write, A: Allocator + Copy>(
+    alloc: A,
+    core: &mut Core<A>,
+    text: &[u8],
+    writer: &mut Counted<W>,
+) -> Result<(), AnswerFault>
+    ensures filed { OnOk result (core.new ≡ record {
+      setup = core.old.setup;
+      filed = core.old.filed ++ record { feeder = 0; text = second text.now } ∷ [];
+      undoable = true;
+    }) }
+    ensures answer { OnOk result (Appends (W.contents writer.old.device) (W.contents writer.new.device)
+        (answer_text (state_of core.new) (length (state_of core.old).journal))) }
+{
+    // `new` promises a filing of just these bytes, and that only their number and memory can refuse it.
+    let Ok(filing) = Filing::new(alloc, text) else {
+        return Err(AnswerFault::Unread);
+    };
+    // `step` promises that the desk is then that of one more filing, or after an `Err` as it was.
+    let receipt = match core.step(filing, 0) {
+        Ok(receipt) => receipt,
+        Err((fault, _)) => return Err(AnswerFault::Unfiled(fault)),
+    };
+    // `write_answer` promises the bytes of the answer to that entry, or after an `Err` a front of them.
+    match core.write_answer(receipt.number, writer) {
+        Ok(()) => Ok(()),
+        Err(_) => Err(AnswerFault::Unwritten),
+    }
+}
+
+/// The slot that a plan holds in an open regulation. None where the regulation isn't open, or its plan holds none.
+pub fn slot_in<A: Allocator + Copy>(core: &Core<A>, id: &Text<8>, plan: u32) -> Option<u32>
+    ensures { result ≡ option_and_then (λ l. held_slot l plan) (slots_of (state_of core.now).traffic id.now) }
+{
+    // `slots` promises the slot list of that regulation, and `slot_of` the place of a flight in it.
+    core.slots(id)?.slot_of(plan)
+}
+
+/// Writes the journal of a desk. Read again by `read_journal`, it gives the same desk.
+pub fn write_whole<W: Write, A: Allocator + Copy>(core: &Core<A>, writer: &mut Counted<W>) -> bool
+    ensures { result ≡ true → Appends (W.contents writer.old.device) (W.contents writer.new.device)
+        (journal_text core.now.setup core.now.filed) }
+{
+    core.write_journal(writer).is_ok()
+}

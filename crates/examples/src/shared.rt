@@ -1,0 +1,39 @@
+//! A desk that many feeders share, with flow_desk alone.
+ghost use Rattle.std.specs.Prelude.{◌≡◌, Some, IfSome};
+ghost use Rattle.flow_core.specs.declared.receipt.Receipt.{Receipt as Given};
+ghost use Rattle.flow_desk.specs.Histories.{row_at};
+ghost use Rattle.flow_desk.specs.Passes.{PassView, Filed, SawMore};
+
+use flow_core::Row;
+use flow_desk::{Desk, Name, Pass};
+use fpl_message::Filing;
+use std::alloc::Allocator;
+use std::sync::Wait;
+
+/// Files a text for a feeder, and looks at the plan of this number then. Other feeders may have filed between the two:
+/// what is seen is a plan in a history that begins with all that the pass had seen, and this entry.
+///
+/// None where the text wasn't filed, where no version of the board was given, and where no plan has that number.
+pub fn row_after<N: Name, Q: Wait + Drop, W: Wait, A: Allocator + Copy>(
+    wait: &W,
+    alloc: A,
+    desk: &Desk<N, Q, A>,
+    pass: &mut Pass<N, A>,
+    filing: Filing<A>,
+    plan: u32,
+) -> Option<Row>
+    ensures { IfSome result (λ row. (filed : PassView) × (receipt : Given)
+        × Filed N.setup pass.old filing receipt filed × SawMore filed pass.new
+        × (row_at N.setup pass.new.seen plan ≡ Some row)) }
+{
+    // `file` promises one step of the one history, which begins with all that the pass had seen.
+    match desk.file(wait, alloc, pass, filing) {
+        Ok(_receipt) => {}
+        Err(_) => return None,
+    }
+    // `look` waits for nobody, and promises a history that begins with what the pass has seen, so with that entry, too.
+    match desk.look(pass, plan) {
+        Ok(row) => row,
+        Err(_) => None,
+    }
+}
