@@ -105,8 +105,8 @@ fn fill<'a>(alloc: Global, heap: &'a LocalHeap) -> Result<Blocks<'a>, AllocError
     Err(AllocError)
 }
 
-/// Whether a desk takes a text, whose filing is kept elsewhere. Where memory is refused the desk is the same as one that
-/// was kept.
+/// Whether a desk takes a text, whose filing is kept elsewhere. Where memory is refused the desk is the same as one
+/// that was kept.
 fn is_taken<'a>(
     rt: &impl Abort,
     elsewhere: &'a LocalHeap,
@@ -150,8 +150,8 @@ fn is_refused_first<'a>(
     is_taken_at_last(rt, elsewhere, core, &kept, blocks, text)
 }
 
-/// Whether memory is refused to a text before a new desk over a heap takes it. At the desk the worked row caused one notice,
-/// and so many texts were refused.
+/// Whether memory is refused to a text before a new desk over a heap takes it. At the desk the worked row caused one
+/// notice, and so many texts were refused.
 fn is_refused_at_new<'a>(
     rt: &(impl AllocGlobal + Abort),
     heap: &'a LocalHeap,

@@ -80,7 +80,8 @@ fn step<A: Allocator + Copy>(
     number_of(rt, core.step(filing, feeder), text)
 }
 
-/// Whether a text that a feeder files gets an entry. Where memory is refused there are as many entries and notices as before.
+/// Whether a text that a feeder files gets an entry. Where memory is refused there are as many entries and notices as
+/// before.
 pub(crate) fn is_filed_by<A: Allocator + Copy>(
     rt: &impl Abort,
     alloc: A,

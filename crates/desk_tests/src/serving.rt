@@ -1,4 +1,5 @@
-//! Inputs served from readers that cut them anywhere or fail, to writers that take little or fail, over memory that runs out.
+//! Inputs served from readers that cut them anywhere or fail, to writers that take little or fail, over memory that
+//! runs out.
 use crate::desks::setup;
 use crate::devices::{Cutter, Failing, Taker};
 use flow_core::{Core, ServeFault, serve};

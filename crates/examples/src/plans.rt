@@ -8,8 +8,8 @@ use fpl_message::Fpl;
 use fpl_text::Minute;
 use std::alloc::Allocator;
 
-/// Whether a flight plan would be accepted at this time: it is filed, and taken back again. With it comes the number that it would
-/// have. The store's last change can't be taken back after that.
+/// Whether a flight plan would be accepted at this time: it is filed, and taken back again. With it comes the number
+/// that it would have. The store's last change can't be taken back after that.
 ///
 /// # Errors
 /// Why it would be refused, or OutOfMemory.
@@ -19,7 +19,8 @@ pub fn would_accept<A: Allocator + Copy>(
     now: Minute,
 ) -> Result<u32, PlanFault>
     requires { IsDeskTime now }
-    ensures accepted { IfOk result (λ number. (after : _) × (filed store.old.max_plans now store.old.plans message.now ≡ Ok after) × (number ≡ length after)) }
+    ensures accepted { IfOk result (λ number. (after : _) × (filed store.old.max_plans now store.old.plans message.now
+        ≡ Ok after) × (number ≡ length after)) }
     ensures refused { IfErr result (λ e. IsRefusal e (filed store.old.max_plans now store.old.plans message.now)) }
     ensures same { store.new.plans ≡ store.old.plans }
 {

@@ -15,7 +15,8 @@ pub fn refusal_of<A: Allocator + Copy>(
     alloc: A,
     bytes: &[u8],
 ) -> Result<Option<Refusal>, FilingFault>
-    ensures refusal { IfOk result (λ r. r ≡ refusal_in (reading_of (record { edition = Edition.Second; bytes = bytes.now }))) }
+    ensures refusal { IfOk result (λ r. r ≡ refusal_in (reading_of
+        (record { edition = Edition.Second; bytes = bytes.now }))) }
     ensures long { IsErrOf result FilingFault.TooLong ↔ (2000 < length bytes.now) }
 {
     let filing = Filing::new(alloc, bytes)?;

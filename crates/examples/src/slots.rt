@@ -7,7 +7,8 @@ use flow_slots::SlotList;
 use fpl_text::Minute;
 use std::alloc::Allocator;
 
-/// Gives a flight that holds a slot another entry moment within the period, and tells the slot that it holds then. Slots count from 0.
+/// Gives a flight that holds a slot another entry moment within the period, and tells the slot that it holds then.
+/// Slots count from 0.
 pub fn plan_again<A: Allocator + Copy>(
     list: &mut SlotList<A>,
     flight: u32,
@@ -15,7 +16,8 @@ pub fn plan_again<A: Allocator + Copy>(
 ) -> Option<u32>
     requires held { IsSome (held_slot list.old.lineup flight) }
     requires entry { IsWithin list.old.lineup.period entry }
-    ensures lineup { list.new.lineup ≡ with_waiting (record { entry = entry; flight = flight }) (without_flight flight list.old.lineup) }
+    ensures lineup { list.new.lineup ≡ with_waiting (record { entry = entry; flight = flight })
+        (without_flight flight list.old.lineup) }
     ensures slot { result ≡ held_slot list.new.lineup flight }
 {
     list.remove(flight);

@@ -1,5 +1,6 @@
 //! A desk that has no name yet.
-ghost use Rattle.std.specs.Prelude.{◌≡◌, ◌≢◌, ◌<◌, ◌≤◌, ◌⊎◌, ◌↔◌, ℕ, true, None, Some, [], length, replicate, slice_get, IfOk, IfErr, IsErrOf, IsTrue, IsFalse};
+ghost use Rattle.std.specs.Prelude.{◌≡◌, ◌≢◌, ◌<◌, ◌≤◌, ◌⊎◌, ◌↔◌, ℕ, true, None, Some, [], length, replicate};
+ghost use Rattle.std.specs.Prelude.{slice_get, IfOk, IfErr, IsErrOf, IsTrue, IsFalse};
 ghost use Rattle.std.specs.List.{All};
 ghost use Rattle.flow_core.specs.State.{Record};
 ghost use Rattle.flow_core.specs.History.{state_of};
@@ -30,7 +31,8 @@ pub enum DeskFault {
     OutOfMemory,
 }
 
-/// A desk before it is opened: its core, its history, its board and a place for each feeder. Contracts see which desk it will be.
+/// A desk before it is opened: its core, its history, its board and a place for each feeder. Contracts see which desk
+/// it will be.
 #[derive(Drop)]
 pub struct Blank<R: Wait + Drop, A: Allocator + Copy = Global> {
     pub(crate) core: Core<A>,
@@ -50,7 +52,12 @@ impl<R: Wait + Drop, A: Allocator + Copy> Model for Blank<R, A> {
     ghost use Rattle.flow_core.specs.History.{state_of};
     ghost use Rattle.flow_desk.specs.Blanks.{IsBlank};
 
-    ghost view = { λ b. record { book = b.head; setup = b.core.setup; feeders = length b.seats.items; entries = (state_of b.core).journal } };
+    ghost view = { λ b. record {
+      book = b.head;
+      setup = b.core.setup;
+      feeders = length b.seats.items;
+      entries = (state_of b.core).journal;
+    } };
 
     ghost invariant = { λ b. IsBlank b.core b.head b.front b.counts.items b.publisher b.seats.items };
 }
@@ -72,7 +79,8 @@ fn seats_for<R: Wait + Drop, A: Allocator + Copy>(
     requires { publisher.old.knows ≡ true }
     ensures publisher { publisher.new ≡ publisher.old }
     ensures count { IfOk result (λ v. length v.items ≡ feeders) }
-    ensures free { IfOk result (λ v. All (IsFree publisher.old.book publisher.old.setup publisher.old.entries) v.items) }
+    ensures free { IfOk result
+        (λ v. All (IsFree publisher.old.book publisher.old.setup publisher.old.entries) v.items) }
     ensures fault { IfErr result (λ e. (e ≡ DeskFault.OutOfMemory) ⊎ (e ≡ DeskFault.NoReader)) }
 {
     let mut seats = Vec::new(alloc);
@@ -152,7 +160,8 @@ fn parts_for<R: Wait + Drop, A: Allocator + Copy>(
 ) -> Result<Parts<R, A>, DeskFault>
     requires feeders { (0 < feeders) × (feeders ≤ 64) }
     requires within { first_beyond feeders 1 (state_of core.now).journal ≡ None }
-    ensures made { IfOk result (λ p. (length p.seats.items ≡ feeders) × IsBlank core.now p.head p.front p.counts.items p.publisher p.seats.items) }
+    ensures made { IfOk result (λ p. (length p.seats.items ≡ feeders)
+        × IsBlank core.now p.head p.front p.counts.items p.publisher p.seats.items) }
     ensures fault { IfErr result (λ e. (e ≡ DeskFault.OutOfMemory) ⊎ (e ≡ DeskFault.NoReader)) }
 {
     let mut counts = no_counts(alloc, feeders)?;
@@ -181,7 +190,8 @@ fn made_of<R: Wait + Drop, A: Allocator + Copy>(
 ) -> Result<Blank<R, A>, (DeskFault, Core<A>)>
     requires feeders { (0 < feeders) × (feeders ≤ 64) }
     requires within { first_beyond feeders 1 (state_of core).journal ≡ None }
-    ensures made { IfOk result (λ b. (b.setup ≡ core.setup) × (b.feeders ≡ feeders) × (b.entries ≡ (state_of core).journal)) }
+    ensures made { IfOk result (λ b. (b.setup ≡ core.setup) × (b.feeders ≡ feeders)
+        × (b.entries ≡ (state_of core).journal)) }
     ensures back { IfErr result (λ e. e.1 ≡ core) }
     ensures fault { IfErr result (λ e. (e.0 ≡ DeskFault.OutOfMemory) ⊎ (e.0 ≡ DeskFault.NoReader)) }
 {
@@ -210,7 +220,8 @@ fn made_of<R: Wait + Drop, A: Allocator + Copy>(
 impl<R: Wait + Drop, A: Allocator + Copy> Blank<R, A> {
     /// Makes a desk at which nothing was filed, with one reader place for each of 1 to 64 feeders.
     pub fn new(rt: R, alloc: A, setup: Setup, feeders: usize) -> Result<Self, DeskFault>
-        ensures made { IfOk result (λ b. (b.setup ≡ setup) × (b.feeders ≡ feeders) × (b.entries ≡ []) × (0 < feeders) × (feeders ≤ 64)) }
+        ensures made { IfOk result (λ b. (b.setup ≡ setup) × (b.feeders ≡ feeders) × (b.entries ≡ []) × (0 < feeders)
+            × (feeders ≤ 64)) }
         ensures feeders { IsErrOf result DeskFault.Feeders ↔ ((feeders ≡ 0) ⊎ (64 < feeders)) }
         ensures beyond { IfErr result (λ e. (n : ℕ) → e ≢ DeskFault.FeederBeyond n) }
     {
@@ -226,18 +237,20 @@ impl<R: Wait + Drop, A: Allocator + Copy> Blank<R, A> {
         }
     }
 
-    /// Makes a desk that goes on from this core, with one reader place for each of 1 to 64 feeders. Each entry's feeder is below
-    /// that number. A refused core comes back.
+    /// Makes a desk that goes on from this core, with one reader place for each of 1 to 64 feeders. Each entry's feeder
+    /// is below that number. A refused core comes back.
     pub fn resume(
         rt: R,
         alloc: A,
         core: Core<A>,
         feeders: usize,
     ) -> Result<Self, (DeskFault, Core<A>)>
-        ensures made { IfOk result (λ b. (b.setup ≡ core.setup) × (b.feeders ≡ feeders) × (b.entries ≡ (state_of core).journal) × (0 < feeders) × (feeders ≤ 64)) }
+        ensures made { IfOk result (λ b. (b.setup ≡ core.setup) × (b.feeders ≡ feeders)
+            × (b.entries ≡ (state_of core).journal) × (0 < feeders) × (feeders ≤ 64)) }
         ensures within { IfOk result (λ b. first_beyond feeders 1 (state_of core).journal ≡ None) }
         ensures feeders { IfErr result (λ e. (e.0 ≡ DeskFault.Feeders) ↔ ((feeders ≡ 0) ⊎ (64 < feeders))) }
-        ensures beyond { IfErr result (λ e. (n : ℕ) → (e.0 ≡ DeskFault.FeederBeyond n) ↔ ((0 < feeders) × (feeders ≤ 64) × (first_beyond feeders 1 (state_of core).journal ≡ Some n))) }
+        ensures beyond { IfErr result (λ e. (n : ℕ) → (e.0 ≡ DeskFault.FeederBeyond n)
+            ↔ ((0 < feeders) × (feeders ≤ 64) × (first_beyond feeders 1 (state_of core).journal ≡ Some n))) }
         ensures back { IfErr result (λ e. e.1 ≡ core) }
     {
         if !is_desk_size(feeders) {

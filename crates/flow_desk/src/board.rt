@@ -56,7 +56,13 @@ impl<A: Allocator + Copy> Model for Board<A> {
 
     ghost Value = { Shown };
 
-    ghost view = { λ b. record { book = b.front.book; setup = b.setup; entries = b.front.entries; count = b.count; rows = b.rows.items } };
+    ghost view = { λ b. record {
+      book = b.front.book;
+      setup = b.setup;
+      entries = b.front.entries;
+      count = b.count;
+      rows = b.rows.items;
+    } };
 }
 
 /// The rows of a core, one for each plan that there may be.
@@ -86,7 +92,13 @@ impl<A: Allocator + Copy> Board<A> {
     /// The board of a core, whose journal is this history.
     pub fn new(alloc: A, front: &Front, core: &Core<A>) -> Result<Self, AllocError>
         requires { front.now.entries ≡ (state_of core.now).journal }
-        ensures { IfOk result (λ b. b ≡ record { book = front.now.book; setup = core.now.setup; entries = (state_of core.now).journal; count = length (state_of core.now).journal; rows = padded core.now.setup.max_plans (rows_at core.now) }) }
+        ensures { IfOk result (λ b. b ≡ record {
+          book = front.now.book;
+          setup = core.now.setup;
+          entries = (state_of core.now).journal;
+          count = length (state_of core.now).journal;
+          rows = padded core.now.setup.max_plans (rows_at core.now);
+        }) }
     {
         let rows = rows_of(alloc, core)?;
         Ok(Board {

@@ -1,5 +1,6 @@
 //! Feeders that file at the same time, each its own feed.
-ghost use Rattle.std.specs.Prelude.{◌≡◌, ◌<◌, ◌≤◌, ◌+◌, ◌++◌, ℕ, [], Some, length, map, vec_len, vec_capacity, slice_get, slice_index_or, IfOk, IfErr, OnOk, OnErr, IsTrue, IsFalse};
+ghost use Rattle.std.specs.Prelude.{◌≡◌, ◌<◌, ◌≤◌, ◌+◌, ◌++◌, ℕ, [], Some, length, map, vec_len, vec_capacity};
+ghost use Rattle.std.specs.Prelude.{slice_get, slice_index_or, IfOk, IfErr, OnOk, OnErr, IsTrue, IsFalse};
 ghost use Rattle.std.specs.List.{All};
 ghost use Rattle.flow_desk.specs.Feeds.{Ran, HasRun, HaveRun, EndsAs, IsFresh};
 
@@ -34,7 +35,8 @@ pub enum End {
     NotStarted,
 }
 
-/// A feed that has run: the pass, the receipts of the filings that have one, the filings that have none, and how it ended.
+/// A feed that has run: the pass, the receipts of the filings that have one, the filings that have none, and how it
+/// ended.
 #[derive(Drop)]
 pub struct Done<N: Name, A: Allocator + Copy = Global> {
     pub pass: Pass<N, A>,
@@ -62,8 +64,10 @@ fn file_next<N: Name, Q: Wait + Drop, G: Gate, W: Wait, A: Allocator + Copy>(
 ) -> bool
     requires room { vec_len feed.old.receipts + length feed.old.left.items ≤ vec_capacity feed.old.receipts }
     ensures room { vec_len feed.new.receipts + length feed.new.left.items ≤ vec_capacity feed.new.receipts }
-    ensures ran { (p : _) (texts : _) → Ran p texts feed.old.pass feed.old.receipts.items feed.old.left.items → Ran p texts feed.new.pass feed.new.receipts.items feed.new.left.items }
-    ensures ends { IsFalse result → EndsAs N.setup feed.new.end feed.new.pass feed.new.receipts.items feed.new.left.items }
+    ensures ran { (p : _) (texts : _) → Ran p texts feed.old.pass feed.old.receipts.items feed.old.left.items
+        → Ran p texts feed.new.pass feed.new.receipts.items feed.new.left.items }
+    ensures ends { IsFalse result
+        → EndsAs N.setup feed.new.end feed.new.pass feed.new.receipts.items feed.new.left.items }
     ensures goes { IsTrue result → length feed.new.left.items + 1 ≡ length feed.old.left.items }
 {
     let Some(filing) = feed.left.pop_front() else {
@@ -97,7 +101,8 @@ fn run_feed<N: Name, Q: Wait + Drop, G: Gate, W: Wait, A: Allocator + Copy>(
     feed: &mut Feed<N, A>,
 )
     requires { IsFresh feed.old.receipts.items feed.old.left.items (vec_capacity feed.old.receipts) }
-    ensures { HasRun N.setup feed.old.pass feed.old.left.items feed.new.pass feed.new.receipts.items feed.new.left.items feed.new.end }
+    ensures { HasRun N.setup feed.old.pass feed.old.left.items feed.new.pass feed.new.receipts.items
+        feed.new.left.items feed.new.end }
 {
     while file_next(wait, alloc, desk, gate, feed) {}
 }
@@ -113,7 +118,10 @@ fn run_all<
 >(rt: &R, wait: &W, alloc: A, desk: &Desk<N, Q, A>, gate: &G, feeds: &mut Vec<Feed<N, A>, A>)
     requires { All (λ f. IsFresh f.receipts.items f.left.items (vec_capacity f.receipts)) feeds.old.items }
     ensures len { length feeds.new.items ≡ length feeds.old.items }
-    ensures each { (i : ℕ) (d : _) → i < length feeds.old.items → HasRun N.setup (slice_index_or feeds.old.items i d).pass (slice_index_or feeds.old.items i d).left.items (slice_index_or feeds.new.items i d).pass (slice_index_or feeds.new.items i d).receipts.items (slice_index_or feeds.new.items i d).left.items (slice_index_or feeds.new.items i d).end }
+    ensures each { (i : ℕ) (d : _) → i < length feeds.old.items
+        → HasRun N.setup (slice_index_or feeds.old.items i d).pass (slice_index_or feeds.old.items i d).left.items
+        (slice_index_or feeds.new.items i d).pass (slice_index_or feeds.new.items i d).receipts.items
+        (slice_index_or feeds.new.items i d).left.items (slice_index_or feeds.new.items i d).end }
 {
     let threads = feeds.len().max(1);
     thread::for_each_mut(
@@ -146,12 +154,16 @@ fn gather<N: Name, A: Allocator + Copy>(
     requires each { length passes.old.items ≡ length texts.old.items }
     requires room { vec_len feeds.old + length passes.old.items ≤ vec_capacity feeds.old }
     requires fresh { All (λ f. IsFresh f.receipts.items f.left.items (vec_capacity f.receipts)) feeds.old.items }
-    ensures passes { OnOk result (map (λ f. f.pass) feeds.new.items ≡ map (λ f. f.pass) feeds.old.items ++ passes.old.items) }
-    ensures texts { OnOk result (map (λ f. f.left.items) feeds.new.items ≡ map (λ f. f.left.items) feeds.old.items ++ map (λ v. v.items) texts.old.items) }
-    ensures fresh { OnOk result (All (λ f. IsFresh f.receipts.items f.left.items (vec_capacity f.receipts)) feeds.new.items) }
+    ensures passes { OnOk result (map (λ f. f.pass) feeds.new.items ≡ map (λ f. f.pass) feeds.old.items
+        ++ passes.old.items) }
+    ensures texts { OnOk result (map (λ f. f.left.items) feeds.new.items ≡ map (λ f. f.left.items) feeds.old.items
+        ++ map (λ v. v.items) texts.old.items) }
+    ensures fresh { OnOk result (All (λ f. IsFresh f.receipts.items f.left.items
+        (vec_capacity f.receipts)) feeds.new.items) }
     ensures len { OnOk result (vec_len feeds.new ≡ vec_len feeds.old + length passes.old.items) }
     ensures back { OnErr result ((passes.new.items ≡ passes.old.items) × (texts.new.items ≡ texts.old.items)) }
-    ensures rooms { (vec_capacity feeds.new ≡ vec_capacity feeds.old) × (vec_capacity passes.new ≡ vec_capacity passes.old) × (vec_capacity texts.new ≡ vec_capacity texts.old) }
+    ensures rooms { (vec_capacity feeds.new ≡ vec_capacity feeds.old)
+        × (vec_capacity passes.new ≡ vec_capacity passes.old) × (vec_capacity texts.new ≡ vec_capacity texts.old) }
 {
     let Some(pass) = passes.pop() else {
         return Ok(());
@@ -188,10 +200,14 @@ fn hand_over<N: Name, A: Allocator + Copy>(
     dones: &mut Vec<Done<N, A>, A>,
 )
     requires room { vec_len dones.old + length feeds.old.items ≤ vec_capacity dones.old }
-    ensures passes { map (λ d. d.pass) dones.new.items ≡ map (λ d. d.pass) dones.old.items ++ map (λ f. f.pass) feeds.old.items }
-    ensures receipts { map (λ d. d.receipts.items) dones.new.items ≡ map (λ d. d.receipts.items) dones.old.items ++ map (λ f. f.receipts.items) feeds.old.items }
-    ensures left { map (λ d. d.left.items) dones.new.items ≡ map (λ d. d.left.items) dones.old.items ++ map (λ f. f.left.items) feeds.old.items }
-    ensures ends { map (λ d. d.end) dones.new.items ≡ map (λ d. d.end) dones.old.items ++ map (λ f. f.end) feeds.old.items }
+    ensures passes { map (λ d. d.pass) dones.new.items ≡ map (λ d. d.pass) dones.old.items
+        ++ map (λ f. f.pass) feeds.old.items }
+    ensures receipts { map (λ d. d.receipts.items) dones.new.items ≡ map (λ d. d.receipts.items) dones.old.items
+        ++ map (λ f. f.receipts.items) feeds.old.items }
+    ensures left { map (λ d. d.left.items) dones.new.items ≡ map (λ d. d.left.items) dones.old.items
+        ++ map (λ f. f.left.items) feeds.old.items }
+    ensures ends { map (λ d. d.end) dones.new.items ≡ map (λ d. d.end) dones.old.items
+        ++ map (λ f. f.end) feeds.old.items }
     ensures len { vec_len dones.new ≡ vec_len dones.old + length feeds.old.items }
     ensures room { vec_capacity dones.new ≡ vec_capacity dones.old }
 {
@@ -213,9 +229,10 @@ fn hand_over<N: Name, A: Allocator + Copy>(
     });
 }
 
-/// Files the feeds, each by its pass, and calls the gate round each filing: one thread files a feed in order, in a thread of its own
-/// where one can be made. Feed by feed it answers the pass, the receipts in order, the filings that have none, and how it ended.
-/// Where memory is refused before any feed is begun, passes and feeds come back as they were.
+/// Files the feeds, each by its pass, and calls the gate round each filing: one thread files a feed in order, in a
+/// thread of its own where one can be made. Feed by feed it answers the pass, the receipts in order, the filings that
+/// have none, and how it ended. Where memory is refused before any feed is begun, passes and feeds come back as they
+/// were.
 pub fn run_feeders<
     N: Name + Send + Sync,
     Q: Wait + Drop + Send,
@@ -233,7 +250,9 @@ pub fn run_feeders<
     gate: &G,
 ) -> Result<Vec<Done<N, A>, A>, (AllocError, Vec<Pass<N, A>, A>, Vec<Vec<Filing<A>, A>, A>)>
     requires { length passes.items ≡ length feeds.items }
-    ensures run { IfOk result (λ ds. HaveRun N.setup passes.items (map (λ v. v.items) feeds.items) (map (λ d. d.pass) ds.items) (map (λ d. d.receipts.items) ds.items) (map (λ d. d.left.items) ds.items) (map (λ d. d.end) ds.items)) }
+    ensures run { IfOk result (λ ds. HaveRun N.setup passes.items (map (λ v. v.items) feeds.items)
+        (map (λ d. d.pass) ds.items) (map (λ d. d.receipts.items) ds.items) (map (λ d. d.left.items) ds.items)
+        (map (λ d. d.end) ds.items)) }
     ensures refused { IfErr result (λ e. (e.1.items ≡ passes.items) × (e.2.items ≡ feeds.items)) }
 {
     let mut work = Vec::new(alloc);

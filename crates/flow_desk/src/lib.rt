@@ -1,21 +1,24 @@
 //! A desk that many feeders share: filings go one by one under a lock, and looking takes no lock.
 //!
-//! Each answered filing is one step of one history that begins with all its caller had seen: it appends one journal entry and
-//! answers that entry's outcome; whenever the lock is free, plans, slot lists and notices are those of the one-thread desk over
-//! the journal; in every regulation the unfrozen flights, by planned entry, each hold the first free slot not before it, and
-//! frozen flights keep theirs.
+//! Each answered filing is one step of one history that begins with all its caller had seen: it appends one journal
+//! entry and answers that entry's outcome; whenever the lock is free, plans, slot lists and notices are those of the
+//! one-thread desk over the journal; in every regulation the unfrozen flights, by planned entry, each hold the first
+//! free slot not before it, and frozen flights keep theirs.
 //!
-//! - *each answered filing is one step of one history*: `filed` of `Desk::file`, a `Filed`: its `before` is the history until
-//!   then, and its `step` the step of the one-thread desk. The histories of all passes are beginnings of one, the journal of the
-//!   core that `Desk::close` gives (`passes`).
-//! - *that begins with all its caller had seen*: `later` of that `Filed`. What a pass has seen is carried from call to call, and
-//!   `Desk::look` and `Desk::slots` add to it (`seen`).
-//! - *it appends one journal entry and answers that entry's outcome*: `step` and `seen` of that `Filed`; after a refusal `refused`
-//!   of `Desk::file`: nothing of the feeder's was appended. JournalFull comes only where the journal is full (`full`).
-//! - *whenever the lock is free, plans, slot lists and notices are those of the one-thread desk over the journal*: the invariant
-//!   of `Locked` (`one_thread` of `IsLocked`), `row` of `Desk::look`, `slots` of `Desk::slots`, `one_thread` of `Desk::close`.
-//! - *in every regulation the unfrozen flights, by planned entry, each hold the first free slot not before it*: `slots` of
-//!   `Desk::slots` reads the lineups of that state; of a lineup `SlotList::cells` of flow_slots says it (`first_served`).
+//! - *each answered filing is one step of one history*: `filed` of `Desk::file`, a `Filed`: its `before` is the history
+//!   until then, and its `step` the step of the one-thread desk. The histories of all passes are beginnings of one, the
+//!   journal of the core that `Desk::close` gives (`passes`).
+//! - *that begins with all its caller had seen*: `later` of that `Filed`. What a pass has seen is carried from call to
+//!   call, and `Desk::look` and `Desk::slots` add to it (`seen`).
+//! - *it appends one journal entry and answers that entry's outcome*: `step` and `seen` of that `Filed`; after a
+//!   refusal `refused` of `Desk::file`: nothing of the feeder's was appended. JournalFull comes only where the journal
+//!   is full (`full`).
+//! - *whenever the lock is free, plans, slot lists and notices are those of the one-thread desk over the journal*: the
+//!   invariant of `Locked` (`one_thread` of `IsLocked`), `row` of `Desk::look`, `slots` of `Desk::slots`, `one_thread`
+//!   of `Desk::close`.
+//! - *in every regulation the unfrozen flights, by planned entry, each hold the first free slot not before it*: `slots`
+//!   of `Desk::slots` reads the lineups of that state; of a lineup `SlotList::cells` of flow_slots says it
+//!   (`first_served`).
 //! - *and frozen flights keep theirs*: `frozen` of `Core::step` of flow_core.
 #![tactic(auto)]
 

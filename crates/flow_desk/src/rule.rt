@@ -8,8 +8,8 @@ use crossbeam_utils::rule::{Outcome, Protocol};
 use flow_plans::Setup;
 use std::alloc::Allocator;
 
-/// What a reader knows of the desk that it reads: whether it has been told, the setup, and the history so far. No value of it is
-/// made.
+/// What a reader knows of the desk that it reads: whether it has been told, the setup, and the history so far. No value
+/// of it is made.
 pub struct View {
     pub knows: bool,
     pub setup: Setup,

@@ -28,7 +28,12 @@ impl<A: Allocator + Copy> Model for Seat<A> {
 
     ghost Value = { SeatView };
 
-    ghost view = { λ s. record { knows = (view_of s.reader.place).knows; book = (view_of s.reader.place).front.book; setup = (view_of s.reader.place).setup; read = (view_of s.reader.place).front.entries } };
+    ghost view = { λ s. record {
+      knows = (view_of s.reader.place).knows;
+      book = (view_of s.reader.place).front.book;
+      setup = (view_of s.reader.place).setup;
+      read = (view_of s.reader.place).front.entries;
+    } };
 }
 
 /// What one version shows: the history so far, and the number of its entries.
@@ -68,9 +73,18 @@ where
 
     ghost use Rattle.flow_desk.specs.Boards.{absorbed};
 
-    ghost view = { λ p. record { knows = (view_of p.writer.desk.place).knows; book = p.writer.desk.shown.value.book; setup = p.writer.desk.shown.value.setup; entries = p.writer.desk.shown.value.entries } };
+    ghost view = { λ p. record {
+      knows = (view_of p.writer.desk.place).knows;
+      book = p.writer.desk.shown.value.book;
+      setup = p.writer.desk.shown.value.setup;
+      entries = p.writer.desk.shown.value.entries;
+    } };
 
-    ghost invariant = { λ p. (fold absorbed p.writer.desk.shown.value (drop p.writer.behind p.writer.log.items) ≡ p.writer.desk.shown.value) × ((view_of p.writer.desk.place).knows ≡ true → ((view_of p.writer.desk.place).front.book ≡ p.writer.desk.shown.value.book) × ((view_of p.writer.desk.place).setup ≡ p.writer.desk.shown.value.setup) × ((view_of p.writer.desk.place).front.entries ≡ p.writer.desk.shown.value.entries)) };
+    ghost invariant = { λ p. (fold absorbed p.writer.desk.shown.value (drop p.writer.behind p.writer.log.items)
+        ≡ p.writer.desk.shown.value) × ((view_of p.writer.desk.place).knows ≡ true
+        → ((view_of p.writer.desk.place).front.book ≡ p.writer.desk.shown.value.book)
+        × ((view_of p.writer.desk.place).setup ≡ p.writer.desk.shown.value.setup)
+        × ((view_of p.writer.desk.place).front.entries ≡ p.writer.desk.shown.value.entries)) };
 }
 
 /// Waits for the readers, and ends the board.
@@ -85,7 +99,8 @@ impl<A: Allocator + Copy> Seat<A> {
     /// The row of a plan in one version, without waiting. The seat comes back.
     pub fn look(self, plan: u32) -> (Self, Result<Option<Row>, NoVersion>)
         ensures none { IfErr result.1 (λ e. result.0 ≡ self) }
-        ensures known { IfOk result.1 (λ row. (result.0.knows ≡ true) × (self.knows ≡ true → (result.0.book ≡ self.book) × (result.0.setup ≡ self.setup))) }
+        ensures known { IfOk result.1 (λ row. (result.0.knows ≡ true)
+            × (self.knows ≡ true → (result.0.book ≡ self.book) × (result.0.setup ≡ self.setup))) }
         ensures later { IfOk result.1 (λ row. IsPrefix self.read result.0.read) }
         ensures row { IfOk result.1 (λ row. row ≡ row_at result.0.setup result.0.read plan) }
     {
@@ -103,7 +118,8 @@ impl<A: Allocator + Copy> Seat<A> {
     /// What one version shows, without waiting. Where none was given, the seat comes back.
     pub fn read(self) -> Result<(Self, Version), Self>
         ensures none { IfErr result (λ s. s ≡ self) }
-        ensures known { IfOk result (λ r. (r.0.knows ≡ true) × (self.knows ≡ true → (r.0.book ≡ self.book) × (r.0.setup ≡ self.setup))) }
+        ensures known { IfOk result (λ r. (r.0.knows ≡ true) × (self.knows ≡ true
+            → (r.0.book ≡ self.book) × (r.0.setup ≡ self.setup))) }
         ensures later { IfOk result (λ r. IsPrefix self.read r.0.read) }
         ensures front { IfOk result (λ r. (r.1.front.book ≡ r.0.book) × (r.1.front.entries ≡ r.0.read)) }
         ensures count { IfOk result (λ r. r.1.count ≡ length r.0.read) }
@@ -125,8 +141,8 @@ impl<A: Allocator + Copy> Seat<A> {
 }
 
 impl<R: Wait + Drop, A: Allocator + Copy> Publisher<R, A> {
-    /// Makes the board of a core, whose journal is this history, with room for so many readers. An operation that changes nothing
-    /// makes room for all that follow, so that publishing takes no memory.
+    /// Makes the board of a core, whose journal is this history, with room for so many readers. An operation that
+    /// changes nothing makes room for all that follow, so that publishing takes no memory.
     pub fn new(
         rt: R,
         alloc: A,
@@ -136,7 +152,8 @@ impl<R: Wait + Drop, A: Allocator + Copy> Publisher<R, A> {
     ) -> Result<Self, AllocError>
         requires readers { (0 < readers) × (readers < 2 ^ 32) }
         requires journal { front.now.entries ≡ (state_of core.now).journal }
-        ensures { IfOk result (λ p. (p.book ≡ front.now.book) × (p.setup ≡ core.now.setup) × (p.entries ≡ (state_of core.now).journal)) }
+        ensures { IfOk result (λ p. (p.book ≡ front.now.book) × (p.setup ≡ core.now.setup)
+            × (p.entries ≡ (state_of core.now).journal)) }
     {
         let first = Board::new(alloc, front, core)?;
         let second = Board::new(alloc, front, core)?;
@@ -153,7 +170,8 @@ impl<R: Wait + Drop, A: Allocator + Copy> Publisher<R, A> {
 
     /// Publishes what is pending, which changes nothing. The writer then knows its desk.
     pub fn settle(self) -> Self
-        ensures { (result.knows ≡ true) × (result.book ≡ self.book) × (result.setup ≡ self.setup) × (result.entries ≡ self.entries) }
+        ensures { (result.knows ≡ true) × (result.book ≡ self.book) × (result.setup ≡ self.setup)
+            × (result.entries ≡ self.entries) }
     {
         let Publisher { writer, rt } = self;
         let (writer, _published) = writer.publish_as::<Sees, R>(&rt);
@@ -164,7 +182,8 @@ impl<R: Wait + Drop, A: Allocator + Copy> Publisher<R, A> {
     pub fn seat(&mut self) -> Result<Seat<A>, AllocError>
         requires { self.old.knows ≡ true }
         ensures publisher { self.new ≡ self.old }
-        ensures seat { IfOk result (λ s. (s.knows ≡ true) × (s.book ≡ self.old.book) × (s.setup ≡ self.old.setup) × (s.read ≡ self.old.entries)) }
+        ensures seat { IfOk result (λ s. (s.knows ≡ true) × (s.book ≡ self.old.book) × (s.setup ≡ self.old.setup)
+            × (s.read ≡ self.old.entries)) }
     {
         let mut reader = self.writer.factory().reader()?;
         reader.learn::<Tells>(self.writer.tell::<Tells>());
@@ -176,8 +195,10 @@ impl<R: Wait + Drop, A: Allocator + Copy> Publisher<R, A> {
         requires book { operation.front.book ≡ self.book }
         requires later { IsPrefix self.entries operation.front.entries }
         requires number { operation.number ≡ length operation.front.entries }
-        requires rows { put_all (padded self.setup.max_plans (rows_after self.setup self.entries)) operation.changes ≡ padded self.setup.max_plans (rows_after self.setup operation.front.entries) }
-        ensures { (result.knows ≡ true) × (result.book ≡ self.book) × (result.setup ≡ self.setup) × (result.entries ≡ operation.front.entries) }
+        requires rows { put_all (padded self.setup.max_plans (rows_after self.setup self.entries)) operation.changes
+            ≡ padded self.setup.max_plans (rows_after self.setup operation.front.entries) }
+        ensures { (result.knows ≡ true) × (result.book ≡ self.book) × (result.setup ≡ self.setup)
+            × (result.entries ≡ operation.front.entries) }
     {
         let mut waiting = (self, operation);
         for _ in wait.forever() {
@@ -193,8 +214,10 @@ impl<R: Wait + Drop, A: Allocator + Copy> Publisher<R, A> {
         requires book { operation.front.book ≡ self.book }
         requires later { IsPrefix self.entries operation.front.entries }
         requires number { operation.number ≡ length operation.front.entries }
-        requires rows { put_all (padded self.setup.max_plans (rows_after self.setup self.entries)) operation.changes ≡ padded self.setup.max_plans (rows_after self.setup operation.front.entries) }
-        ensures { MatchResult result (λ p. (p.knows ≡ true) × (p.book ≡ self.book) × (p.setup ≡ self.setup) × (p.entries ≡ operation.front.entries)) (λ e. (e.0 ≡ self) × (e.1 ≡ operation)) }
+        requires rows { put_all (padded self.setup.max_plans (rows_after self.setup self.entries)) operation.changes
+            ≡ padded self.setup.max_plans (rows_after self.setup operation.front.entries) }
+        ensures { MatchResult result (λ p. (p.knows ≡ true) × (p.book ≡ self.book) × (p.setup ≡ self.setup)
+            × (p.entries ≡ operation.front.entries)) (λ e. (e.0 ≡ self) × (e.1 ≡ operation)) }
     {
         let Publisher { mut writer, rt } = self;
         if let Err(operation) = writer.append(operation) {

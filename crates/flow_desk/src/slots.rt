@@ -38,7 +38,8 @@ fn note<A: Allocator + Copy>(
     slot: u32,
 ) -> Result<(), AllocError>
     requires { slot < len_of list.now.lineup }
-    ensures { OnOk result (held.new.items ≡ held.old.items ++ held_at list.now.lineup slot (held_flight list.now.lineup slot)) }
+    ensures { OnOk result (held.new.items ≡ held.old.items ++ held_at list.now.lineup slot
+        (held_flight list.now.lineup slot)) }
 {
     let _len = list.len();
     let Some(plan) = list.holder(slot) else {
@@ -70,7 +71,8 @@ pub fn slots_of<A: Allocator + Copy>(
     core: &Core<A>,
     id: &Text<8>,
 ) -> Result<Option<Vec<SlotRow, A>>, AllocError>
-    ensures { IfOk result (λ r. option_map (λ v. v.items) r ≡ option_map held_slots (slots_of (state_of core.now).traffic id.now)) }
+    ensures { IfOk result (λ r. option_map (λ v. v.items) r ≡ option_map held_slots
+        (slots_of (state_of core.now).traffic id.now)) }
 {
     match core.slots(id) {
         Some(list) => Ok(Some(held_of(alloc, list)?)),

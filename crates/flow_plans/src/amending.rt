@@ -1,11 +1,13 @@
 //! What a CHG makes of a plan.
-ghost use Rattle.std.specs.Prelude.{◌≡◌, ◌≤◌, ◌<◌, Ok, List, ℕ, true, IfOk, IfErr, IfSome, length, unwrap_or, option_copied};
+ghost use Rattle.std.specs.Prelude.{◌≡◌, ◌≤◌, ◌<◌, Ok, List, ℕ, true, IfOk, IfErr, IfSome, length, unwrap_or};
+ghost use Rattle.std.specs.Prelude.{option_copied};
 ghost use Rattle.std.specs.Option.{option_map_or};
 ghost use Rattle.fpl_items.specs.Items.{is_exempt};
 ghost use Rattle.flow_plans.specs.Settings.{IsDeskTime};
 ghost use Rattle.flow_plans.specs.Plans.{is_held, plan_at, with_plan};
 ghost use Rattle.flow_plans.specs.Chains.{AreChained};
-ghost use Rattle.flow_plans.specs.Changes.{moved_to, elapsed_after, alternates_after, key_after, amended, Answers, IsRefusal};
+ghost use Rattle.flow_plans.specs.Changes.{moved_to, elapsed_after, alternates_after, key_after, amended, Answers};
+ghost use Rattle.flow_plans.specs.Changes.{IsRefusal};
 
 use crate::chains::Chains;
 use crate::fault::PlanFault;
@@ -101,9 +103,11 @@ pub(crate) fn amended<A: Allocator + Copy>(
     requires now { IsDeskTime now }
     requires few { length plans.now ≤ 20_000 }
     requires chained { AreChained chains.now plans.now }
-    ensures ok { IfOk result (λ r. amended now plans.now message.now ≡ Ok (record { plans = with_plan plans.now r.0 r.1; number = r.0 })) }
+    ensures ok { IfOk result (λ r. amended now plans.now message.now
+        ≡ Ok (record { plans = with_plan plans.now r.0 r.1; number = r.0 })) }
     ensures within { IfOk result (λ r. (0 < r.0) × (r.0 ≤ length plans.now)) }
-    ensures held { IfOk result (λ r. (is_held r.1.state ≡ true) × IfSome (plan_at plans.now r.0) (λ p. is_held p.state ≡ true)) }
+    ensures held { IfOk result (λ r. (is_held r.1.state ≡ true)
+        × IfSome (plan_at plans.now r.0) (λ p. is_held p.state ≡ true)) }
     ensures refused { IfErr result (λ e. IsRefusal e (amended now plans.now message.now)) }
 {
     let number = matching(plans, chains, message.parts())?;

@@ -1,10 +1,13 @@
 //! Finding plans by identification, departure and destination, without a walk over all plans.
-ghost use Rattle.std.specs.Prelude.{◌≡◌, ◌≤◌, ◌<◌, ◌+◌, ◌-◌, ◌++◌, ◌∷◌, [], ℕ, Bool, true, None, if◌then◌else◌, OnOk, OnErr, IfSome, length, take, slice_index};
+ghost use Rattle.std.specs.Prelude.{◌≡◌, ◌≤◌, ◌<◌, ◌+◌, ◌-◌, ◌++◌, ◌∷◌, [], ℕ, Bool, true, None, if◌then◌else◌, OnOk};
+ghost use Rattle.std.specs.Prelude.{OnErr, IfSome, length, take, slice_index};
 ghost use Rattle.std.specs.Map.{lookup};
 ghost use Rattle.indexmap.specs.IndexMap.{spare};
 ghost use Rattle.flow_plans.specs.Plans.{is_held, plan_at};
 ghost use Rattle.flow_plans.specs.Changes.{others};
-ghost use Rattle.flow_plans.specs.Chains.{base_256, flight_named, flight_of_key, flight_of_parts, same_flight, newest, GoDown, AreLinks, IsNewest, AreChained, HasRoomFor, IsUpdated, KeepNames, StayChained};
+ghost use Rattle.flow_plans.specs.Chains.{base_256, flight_named, flight_of_key, flight_of_parts, same_flight, newest};
+ghost use Rattle.flow_plans.specs.Chains.{GoDown, AreLinks, IsNewest, AreChained, HasRoomFor, IsUpdated, KeepNames};
+ghost use Rattle.flow_plans.specs.Chains.{StayChained};
 
 use crate::places::letters_of;
 use crate::plan::{Key, Plan};
@@ -15,8 +18,8 @@ use std::alloc::{AllocError, Allocator, Global};
 use std::hash::{BuildHasherDefault, FoldHasher};
 use std::marker::Model;
 
-/// What plans of all days of a flight have in common: the identification as one number, and the letters of the departure and the
-/// destination as another. Equal flights have equal names.
+/// What plans of all days of a flight have in common: the identification as one number, and the letters of the
+/// departure and the destination as another. Equal flights have equal names.
 #[derive(Clone, Copy, PartialEq, Eq, Hash)]
 pub(crate) struct FlightName {
     ident: u64,
@@ -62,9 +65,9 @@ fn number_of(bytes: &[u8]) -> u64
     number
 }
 
-/// From a flight name to the number of the newest plan that is held under it, and beside each plan the number of the next older
-/// one; 0 where there is none. So a chain has the held plans of one name, from the newest to the oldest, and no others: a plan
-/// that is cancelled or gets another name is taken out.
+/// From a flight name to the number of the newest plan that is held under it, and beside each plan the number of the
+/// next older one; 0 where there is none. So a chain has the held plans of one name, from the newest to the oldest, and
+/// no others: a plan that is cancelled or gets another name is taken out.
 #[derive(Drop)]
 pub(crate) struct Chains<A: Allocator + Copy = Global> {
     heads: Heads<A>,
@@ -180,8 +183,8 @@ impl<A: Allocator + Copy> Chains<A> {
         self.older[later] = number;
     }
 
-    /// Takes the last of these plans out of its chain, and forgets its flight where no other plan is held under that name. It takes
-    /// no memory.
+    /// Takes the last of these plans out of its chain, and forgets its flight where no other plan is held under that
+    /// name. It takes no memory.
     pub(crate) fn pop(&mut self, plans: &[Plan<A>])
         requires some { 0 < length plans.now }
         requires few { length plans.now ≤ 20_000 }

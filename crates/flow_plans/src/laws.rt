@@ -1,5 +1,6 @@
-//! Laws over the definitions that the contracts cite: two held plans never have the same key, and a number always names the
-//! plan that it was given to. Plans are found by chains that have held plans alone. The plans are those before a message and after it, and those of whole runs.
+//! Laws over the definitions that the contracts cite: two held plans never have the same key, and a number always names
+//! the plan that it was given to. Plans are found by chains that have held plans alone. The plans are those before a
+//! message and after it, and those of whole runs.
 
 ghost use Rattle.std.specs.Prelude.{◌≡◌, ◌<◌, ◌+◌, ◌↔◌, ℕ, true, List, [], ◌∷◌, length, Ok, Some, None};
 ghost use Rattle.fpl_message.specs.declared.short_message.Dla.{Dla};
@@ -12,7 +13,8 @@ ghost use Rattle.flow_plans.specs.Chains.{Chained, newest, AreChained, chain_fro
 ghost use Rattle.flow_plans.specs.Plans.{Plan, is_held, same_key, plan_at};
 ghost use Rattle.flow_plans.specs.Changes.{Changed, plan_of, moment_of, filed, delayed, cancelled, departed, amended};
 ghost use Rattle.flow_plans.specs.Distinct.{AreDistinct, KeepKeys, KeepFlights};
-ghost use Rattle.flow_plans.specs.Runs.{Change, change_of, changed_all, Turn, changes, takes_back, Held, after_turns, nothing_held};
+ghost use Rattle.flow_plans.specs.Runs.{Change, change_of, changed_all, Turn, changes, takes_back, Held, after_turns};
+ghost use Rattle.flow_plans.specs.Runs.{nothing_held};
 
 /// Keys that the desk takes for the same are equal.
 pub fn same_keys_are_equal()
@@ -86,21 +88,22 @@ pub fn amended_plans_stay_distinct()
         → plan_at later.plans number ≡ plan_at plans number }
 {}
 
-/// Whatever messages come to a desk, and whichever last change is taken back between them, held plans of different numbers
-/// have different keys.
+/// Whatever messages come to a desk, and whichever last change is taken back between them, held plans of different
+/// numbers have different keys.
 pub fn held_keys_always_differ()
     ensures { (turns : List Turn) → AreDistinct (after_turns turns nothing_held).plans }
 {}
 
-/// Over all messages to come a number names the flight that it was given to, and a plan filed later has a greater number.
+/// Over all messages to come a number names the flight that it was given to, and a plan filed later has a greater
+/// number.
 pub fn numbers_are_given_once()
     ensures flights { (messages : List Change) (plans : List Plan) → KeepFlights plans (changed_all messages plans) }
     ensures greater { (messages : List Change) (plans : List Plan) (max now : ℕ) (m : Fpl) (later : List Plan)
         → filed max now (changed_all messages plans) m ≡ Ok later → length plans < length later }
 {}
 
-/// A change that was taken back leaves no trace but that nothing can be taken back. What is held after any turns is what
-/// changes alone make.
+/// A change that was taken back leaves no trace but that nothing can be taken back. What is held after any turns is
+/// what changes alone make.
 pub fn what_is_taken_back_is_gone()
     ensures at_once { (held : Held) (change : Change) (later : List Plan) → change_of held.plans change ≡ Ok later
         → after_turns (changes change ∷ takes_back ∷ []) held ≡ record { plans = held.plans; before = None } }
@@ -108,8 +111,8 @@ pub fn what_is_taken_back_is_gone()
         → (messages : List Change) × ((after_turns turns nothing_held).plans ≡ changed_all messages []) }
 {}
 
-/// The chain of a flight, by which its plans are found, has the numbers of the plans that are held under its name, the newest first,
-/// each once, and no others. So a message costs those, whatever was filed, amended and cancelled before.
+/// The chain of a flight, by which its plans are found, has the numbers of the plans that are held under its name, the
+/// newest first, each once, and no others. So a message costs those, whatever was filed, amended and cancelled before.
 pub fn chains_have_held_plans_alone()
     ensures { (chains : Chained) (plans : List Plan) (name : FlightName) → AreChained chains plans
         → chain_from (length plans) chains.older (newest chains.heads name) ≡ held_numbers name plans (length plans) }

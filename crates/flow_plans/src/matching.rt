@@ -3,7 +3,8 @@ ghost use Rattle.std.specs.Prelude.{◌≡◌, ◌≤◌, ◌<◌, ℕ, true, fa
 ghost use Rattle.std.specs.List.{list_any};
 ghost use Rattle.flow_plans.specs.Plans.{plan_at, is_held_as};
 ghost use Rattle.flow_plans.specs.Matching.{is_candidate, is_gone, matching};
-ghost use Rattle.flow_plans.specs.Searching.{with_candidate, with_gone, with_one_more, passes_at, IsSound, IsCounted, IsFreeAt, IsHeldBeside};
+ghost use Rattle.flow_plans.specs.Searching.{with_candidate, with_gone, with_one_more, passes_at, IsSound, IsCounted};
+ghost use Rattle.flow_plans.specs.Searching.{IsFreeAt, IsHeldBeside};
 ghost use Rattle.flow_plans.specs.Chains.{AreChained};
 ghost use Rattle.flow_plans.specs.Changes.{Answers, others};
 
@@ -64,7 +65,8 @@ fn with_place<A: Allocator + Copy>(
     place: usize,
     parts: &Parts,
 ) -> Found
-    ensures { result ≡ with_one_more (passes_at (is_candidate parts.now) plans.now place) (passes_at (is_gone parts.now) plans.now place) place found }
+    ensures { result ≡ with_one_more (passes_at (is_candidate parts.now) plans.now place)
+        (passes_at (is_gone parts.now) plans.now place) place found }
 {
     match plans.get(place) {
         Some(plan) => found.with(place, plan, parts),
@@ -131,7 +133,8 @@ fn is_held_beside<A: Allocator + Copy>(
     place != but && is_held_at(plans, place, key)
 }
 
-/// Whether a plan, but the one at a place, is held with this key, looked for among those held under the name of its flight.
+/// Whether a plan, but the one at a place, is held with this key, looked for among those held under the name of its
+/// flight.
 fn is_held_in<A: Allocator + Copy>(
     plans: &[Plan<A>],
     chains: &Chains<A>,

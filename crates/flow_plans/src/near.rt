@@ -1,7 +1,7 @@
 //! What stands in a table of words for the places to which a flight comes.
 //!
-//! The table has a row for each kind of place and each bit of a place, so 192 rows: departures, arrivals and places on the way have
-//! 64 each.
+//! The table has a row for each kind of place and each bit of a place, so 192 rows: departures, arrivals and places on
+//! the way have 64 each.
 ghost use Rattle.std.specs.Prelude.{◌≡◌, ◌+◌, ◌<◌, ◌≤◌, ℕ};
 ghost use Rattle.std.specs.Int.{bit_at};
 ghost use Rattle.flow_plans.specs.Near.{row_of, word_at, HasBitsOf};

@@ -1,6 +1,7 @@
 //! Where and when a regulation may apply to a flight, and whether its plan is filed, in few bytes.
 //!
-//! Most flights never come to the place of a regulation, or not while it lasts. Their outlines say so without a look at their plans.
+//! Most flights never come to the place of a regulation, or not while it lasts. Their outlines say so without a look at
+//! their plans.
 ghost use Rattle.std.specs.Prelude.{◌≡◌};
 ghost use Rattle.flow_plans.specs.Outlines.{may_come, may_fly, outlined_moment, IsOutlineOf};
 

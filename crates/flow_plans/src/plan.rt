@@ -6,7 +6,8 @@ ghost use Rattle.fpl_message.specs.declared.order.Spot.{Spot};
 ghost use Rattle.flow_plans.specs.Near.{row_of, word_at, HasBitsOf};
 ghost use Rattle.flow_plans.specs.Outlines.{may_be_subject};
 ghost use Rattle.fpl_items.specs.Places.{may_have};
-ghost use Rattle.flow_plans.specs.Plans.{is_held, is_filed, is_visual, same_key, is_held_as, text_of, status_of, with_state, with_off_block};
+ghost use Rattle.flow_plans.specs.Plans.{is_held, is_filed, is_visual, same_key, is_held_as, text_of, status_of};
+ghost use Rattle.flow_plans.specs.Plans.{with_state, with_off_block};
 ghost use Rattle.flow_plans.specs.Matching.{agrees, is_candidate, is_gone};
 ghost use Rattle.flow_plans.specs.Changes.{plan_of, key_of, changes_key, key_after, amended_plan};
 ghost use Rattle.std.specs.Option.{option_map_or};
@@ -77,8 +78,8 @@ impl Key {
             && self.dest.as_bytes() == parts.dest.as_bytes()
     }
 
-    /// Whether a message would make another flight of the plan: it amends the departure to another place, or field 18 to a
-    /// DOF item of another day.
+    /// Whether a message would make another flight of the plan: it amends the departure to another place, or field 18
+    /// to a DOF item of another day.
     #[tactic(auto, unfolding(crate::specs::Changes::changes_key))]
     pub(crate) fn is_changed_by<A: Allocator + Copy>(&self, message: &Chg<A>) -> bool
         ensures { result ≡ changes_key message.now self.now }
@@ -135,8 +136,8 @@ fn is_place(aerodrome: &[u8], place: &[u8]) -> bool
 
 /// A flight plan as the desk holds it.
 ///
-/// What says where the flight enters a place stands together, since opening a regulation looks at it in each plan whose flight may
-/// come there: from the key to the first notes of the estimates, with which the texts begin.
+/// What says where the flight enters a place stands together, since opening a regulation looks at it in each plan whose
+/// flight may come there: from the key to the first notes of the estimates, with which the texts begin.
 #[derive(Drop)]
 pub struct Plan<A: Allocator + Copy = Global> {
     alternates: Alternates,
@@ -198,7 +199,8 @@ impl<A: Allocator + Copy> Plan<A> {
         })
     }
 
-    /// The plan with the amendments of a message made, with that key and that off-block moment. Refused as a new plan is.
+    /// The plan with the amendments of a message made, with that key and that off-block moment. Refused as a new plan
+    /// is.
     #[tactic(auto, unfolding(crate::specs::Changes::amended_plan))]
     pub(crate) fn amended(
         &self,
@@ -416,11 +418,12 @@ impl<A: Allocator + Copy> Plan<A> {
         Some(moment)
     }
 
-    /// The bits of the words in a table that stand in the rows of the places to which the flight comes. None where no regulation
-    /// applies to it, wherever it is.
+    /// The bits of the words in a table that stand in the rows of the places to which the flight comes. None where no
+    /// regulation applies to it, wherever it is.
     #[inline]
     pub(crate) fn near(&self, table: &[u64]) -> u64
-        ensures { (taxi start end : ℕ) (spot : Spot) → IsSome (subject taxi spot start end self.now) → HasBitsOf result (word_at table.now (row_of spot)) }
+        ensures { (taxi start end : ℕ) (spot : Spot) → IsSome (subject taxi spot start end self.now)
+            → HasBitsOf result (word_at table.now (row_of spot)) }
     {
         if !self.is_filed() {
             return 0;
@@ -432,8 +435,8 @@ impl<A: Allocator + Copy> Plan<A> {
         ends | self.texts.near(table)
     }
 
-    /// Whether regulations may apply to the flight, wherever they are: the plan is filed, not flown by visual rules throughout and
-    /// not exempt.
+    /// Whether regulations may apply to the flight, wherever they are: the plan is filed, not flown by visual rules
+    /// throughout and not exempt.
     pub(crate) fn may_be_subject(&self) -> bool
         ensures { result ≡ may_be_subject self.now }
     {

@@ -1,10 +1,13 @@
 //! Plans, each beside its outline.
 //!
-//! The outlines stand in a dense row of their own, so that a look at which flights may come to a place reads little memory.
-ghost use Rattle.std.specs.Prelude.{◌≡◌, ◌+◌, ◌≤◌, ◌<◌, ◌-◌, ◌++◌, ◌∷◌, ℕ, [], None, true, false, length, take, OnOk, OnErr, IfSome};
+//! The outlines stand in a dense row of their own, so that a look at which flights may come to a place reads little
+//! memory.
+ghost use Rattle.std.specs.Prelude.{◌≡◌, ◌+◌, ◌≤◌, ◌<◌, ◌-◌, ◌++◌, ◌∷◌, ℕ, [], None, true, false, length, take, OnOk};
+ghost use Rattle.std.specs.Prelude.{OnErr, IfSome};
 ghost use Rattle.flow_plans.specs.Chains.{AreChained, StayChained};
 ghost use Rattle.flow_plans.specs.Entries.{subject};
-ghost use Rattle.flow_plans.specs.Plans.{is_held, plan_at, filed_off_block, with_plan, changed_at, with_state, with_off_block};
+ghost use Rattle.flow_plans.specs.Plans.{is_held, plan_at, filed_off_block, with_plan, changed_at, with_state};
+ghost use Rattle.flow_plans.specs.Plans.{with_off_block};
 
 use crate::chains::Chains;
 use crate::outline::Outline;
@@ -72,8 +75,8 @@ impl<A: Allocator + Copy> PlanList<A> {
         }
     }
 
-    /// Whether the flight of the plan of this number may come to a place in a period. Where it may not, no regulation of that place
-    /// and period applies to it.
+    /// Whether the flight of the plan of this number may come to a place in a period. Where it may not, no regulation
+    /// of that place and period applies to it.
     #[inline(always)]
     pub(crate) fn may_come(
         &self,
@@ -84,14 +87,15 @@ impl<A: Allocator + Copy> PlanList<A> {
         end: Minute,
     ) -> bool
         requires { (0 < number) × (number ≤ length self.now) }
-        ensures { result ≡ false → IfSome (plan_at self.now number) (λ plan. subject taxi spot.now start end plan ≡ None) }
+        ensures { result ≡ false → IfSome (plan_at self.now number)
+            (λ plan. subject taxi spot.now start end plan ≡ None) }
     {
         let outline = &self.outlines[(number - 1) as usize];
         outline.may_come(spot) && outline.may_fly(taxi, start, end)
     }
 
-    /// The first number from this one on of a plan whose flight may come to a place in a period, or one more than there are. To the
-    /// flights of the plans before it no regulation of that place and period applies.
+    /// The first number from this one on of a plan whose flight may come to a place in a period, or one more than there
+    /// are. To the flights of the plans before it no regulation of that place and period applies.
     pub(crate) fn next_coming(
         &self,
         from: u32,
@@ -103,7 +107,8 @@ impl<A: Allocator + Copy> PlanList<A> {
         requires some { 0 < from }
         requires few { length self.now ≤ 20_000 }
         ensures from { from ≤ result }
-        ensures passed { (n : ℕ) → from ≤ n → n < result → IfSome (plan_at self.now n) (λ plan. subject taxi spot.now start end plan ≡ None) }
+        ensures passed { (n : ℕ) → from ≤ n → n < result
+            → IfSome (plan_at self.now n) (λ plan. subject taxi spot.now start end plan ≡ None) }
         ensures end { length self.now < from → result ≡ from }
         ensures most { from ≤ length self.now → result ≤ length self.now + 1 }
     {

@@ -30,11 +30,26 @@ impl Model for Setup {
 
     ghost Value = { Settings };
 
-    ghost view = { λ s. record { start = s.start; taxi = s.taxi; max_plans = s.max_plans; max_entries = s.max_entries } };
+    ghost view = { λ s. record {
+      start = s.start;
+      taxi = s.taxi;
+      max_plans = s.max_plans;
+      max_entries = s.max_entries;
+    } };
 
-    ghost invariant = { λ s. IsWithinLimits (record { start = s.start; taxi = s.taxi; max_plans = s.max_plans; max_entries = s.max_entries }) };
+    ghost invariant = { λ s. IsWithinLimits (record {
+      start = s.start;
+      taxi = s.taxi;
+      max_plans = s.max_plans;
+      max_entries = s.max_entries;
+    }) };
 
-    ghost inverse = { λ s. record { start = s.start; taxi = s.taxi; max_plans = s.max_plans; max_entries = s.max_entries } };
+    ghost inverse = { λ s. record {
+      start = s.start;
+      taxi = s.taxi;
+      max_plans = s.max_plans;
+      max_entries = s.max_entries;
+    } };
 }
 
 impl Setup {
@@ -42,8 +57,14 @@ impl Setup {
     ///
     /// None where a limit is passed: a taxi time of 0 to 120 minutes, 1 to 20,000 flight plans, 1 to 1,000,000 entries.
     pub fn new(now: Minute, taxi: u32, max_plans: u32, max_entries: u32) -> Option<Setup>
-        ensures limits { IsSome result ↔ IsWithinLimits (record { start = now; taxi = taxi; max_plans = max_plans; max_entries = max_entries }) }
-        ensures value { IfSome result (λ s. s ≡ record { start = now; taxi = taxi; max_plans = max_plans; max_entries = max_entries }) }
+        ensures limits { IsSome result ↔ IsWithinLimits (record
+            { start = now; taxi = taxi; max_plans = max_plans; max_entries = max_entries }) }
+        ensures value { IfSome result (λ s. s ≡ record {
+          start = now;
+          taxi = taxi;
+          max_plans = max_plans;
+          max_entries = max_entries;
+        }) }
     {
         if !is_desk_time(now) || taxi > MAX_TAXI {
             return None;

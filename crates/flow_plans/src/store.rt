@@ -1,16 +1,20 @@
 //! The plans by number.
-ghost use Rattle.std.specs.Prelude.{◌≡◌, ◌≢◌, ◌≤◌, ◌<◌, ◌+◌, ◌-◌, ◌*◌, ◌++◌, ◌∷◌, ℕ, [], Ok, Err, Some, None, IfOk, IfErr, IfNone, OnOk, OnErr, IfSome, IsSome, IsTrue, ◌↔◌, MatchOption, true, length, slice_get, option_copied};
+ghost use Rattle.std.specs.Prelude.{◌≡◌, ◌≢◌, ◌≤◌, ◌<◌, ◌+◌, ◌-◌, ◌*◌, ◌++◌, ◌∷◌, ℕ, [], Ok, Err, Some, None, IfOk};
+ghost use Rattle.std.specs.Prelude.{IfErr, IfNone, OnOk, OnErr, IfSome, IsSome, IsTrue, ◌↔◌, MatchOption, true, length};
+ghost use Rattle.std.specs.Prelude.{slice_get, option_copied};
 ghost use Rattle.std.specs.List.{list_any};
 ghost use Rattle.flow_plans.specs.Settings.{IsDeskTime};
 ghost use Rattle.flow_plans.specs.Entries.{take_off, entry_at, subject};
 ghost use Rattle.flow_plans.specs.Undoing.{undone, IsOf, CanReturn};
 ghost use Rattle.flow_plans.specs.Chains.{flight_of_key, AreChained, HasRoomFor, KeepNames, StayChained};
-ghost use Rattle.flow_plans.specs.Plans.{is_held, is_held_as, plan_at, filed_off_block, status_at, with_plan, changed_at, with_state, with_off_block};
+ghost use Rattle.flow_plans.specs.Plans.{is_held, is_held_as, plan_at, filed_off_block, status_at, with_plan};
+ghost use Rattle.flow_plans.specs.Plans.{changed_at, with_state, with_off_block};
 ghost use Rattle.fpl_message.specs.declared.order.Spot.{Spot};
 ghost use Rattle.flow_plans.specs.Near.{row_of, word_at, HasBitsOf};
 ghost use Rattle.flow_plans.specs.Matching.{matching};
 ghost use Rattle.flow_plans.specs.Times.{first_from, delayed_to};
-ghost use Rattle.flow_plans.specs.Changes.{plan_of, moment_of, filed, cancelled, departed, delayed, amended, IsRefusal, IsJustRefusal, Answers};
+ghost use Rattle.flow_plans.specs.Changes.{plan_of, moment_of, filed, cancelled, departed, delayed, amended, IsRefusal};
+ghost use Rattle.flow_plans.specs.Changes.{IsJustRefusal, Answers};
 
 use crate::amending::amended;
 use crate::chains::{Chains, FlightName};
@@ -26,8 +30,8 @@ use std::alloc::{AllocError, Allocator, Global};
 use std::marker::Model;
 use std::mem;
 
-/// Flight plans by number, from 1. Contracts see how many are accepted, the taxi time, the plans, and those before the last
-/// accepted change.
+/// Flight plans by number, from 1. Contracts see how many are accepted, the taxi time, the plans, and those before the
+/// last accepted change.
 #[derive(Drop)]
 pub struct PlanStore<A: Allocator + Copy = Global> {
     alloc: A,
@@ -100,7 +104,8 @@ impl<A: Allocator + Copy> PlanStore<A> {
     /// plan may have the same key (AlreadyHeld), and there must be room (PlansFull).
     pub fn file(&mut self, message: &Fpl<A>, now: Minute) -> Result<u32, PlanFault>
         requires { IsDeskTime now }
-        ensures ok { IfOk result (λ n. (filed self.old.max_plans now self.old.plans message.now ≡ Ok self.new.plans) × (n ≡ length self.new.plans)) }
+        ensures ok { IfOk result (λ n. (filed self.old.max_plans now self.old.plans message.now ≡ Ok self.new.plans)
+            × (n ≡ length self.new.plans)) }
         ensures next { IfOk result (λ n. n ≡ length self.old.plans + 1) }
         ensures refused { IfErr result (λ e. IsRefusal e (filed self.old.max_plans now self.old.plans message.now)) }
         ensures before { OnOk result (self.new.before ≡ Some self.old.plans) }
@@ -131,9 +136,9 @@ impl<A: Allocator + Copy> PlanStore<A> {
 
     /// The number of the plan that a message with these parts is about.
     ///
-    /// It is the one filed plan with that identification, departure and destination, and with that day where the message
-    /// names one. Several such plans are Ambiguous. Where there is none, it is AlreadyDeparted if a departed plan agrees,
-    /// else NoPlan.
+    /// It is the one filed plan with that identification, departure and destination, and with that day where the
+    /// message names one. Several such plans are Ambiguous. Where there is none, it is AlreadyDeparted if a departed
+    /// plan agrees, else NoPlan.
     pub fn find(&self, parts: &Parts) -> Result<u32, PlanFault>
         ensures value { Answers result (matching self.now.plans parts.now) }
         ensures within { IfOk result (λ n. (0 < n) × (n ≤ length self.now.plans)) }
@@ -141,11 +146,12 @@ impl<A: Allocator + Copy> PlanStore<A> {
         matching(self.plans.as_slice(), &self.chains, parts)
     }
 
-    /// Cancels the plan that a message is about, which frees its key, and answers its number. It takes no memory. After an
-    /// `Err` the store is as it was.
+    /// Cancels the plan that a message is about, which frees its key, and answers its number. It takes no memory. After
+    /// an `Err` the store is as it was.
     #[tactic(auto, unfolding(crate::specs::Changes::cancelled))]
     pub fn cancel(&mut self, message: &Cnl) -> Result<u32, PlanFault>
-        ensures ok { IfOk result (λ n. cancelled self.old.plans message.now ≡ Ok (record { plans = self.new.plans; number = n })) }
+        ensures ok { IfOk result (λ n. cancelled self.old.plans message.now
+            ≡ Ok (record { plans = self.new.plans; number = n })) }
         ensures within { IfOk result (λ n. (0 < n) × (n ≤ length self.new.plans)) }
         ensures refused { IfErr result (λ e. IsJustRefusal e (cancelled self.old.plans message.now)) }
         ensures before { OnOk result (self.new.before ≡ Some self.old.plans) }
@@ -164,11 +170,12 @@ impl<A: Allocator + Copy> PlanStore<A> {
         Ok(number)
     }
 
-    /// Notes the departure of the plan that a message is about, and answers its number. It takes no memory. After an `Err`
-    /// the store is as it was.
+    /// Notes the departure of the plan that a message is about, and answers its number. It takes no memory. After an
+    /// `Err` the store is as it was.
     #[tactic(auto, unfolding(crate::specs::Changes::departed))]
     pub fn depart(&mut self, message: &Dep) -> Result<u32, PlanFault>
-        ensures ok { IfOk result (λ n. departed self.old.plans message.now ≡ Ok (record { plans = self.new.plans; number = n })) }
+        ensures ok { IfOk result (λ n. departed self.old.plans message.now
+            ≡ Ok (record { plans = self.new.plans; number = n })) }
         ensures within { IfOk result (λ n. (0 < n) × (n ≤ length self.new.plans)) }
         ensures refused { IfErr result (λ e. IsJustRefusal e (departed self.old.plans message.now)) }
         ensures before { OnOk result (self.new.before ≡ Some self.old.plans) }
@@ -187,14 +194,15 @@ impl<A: Allocator + Copy> PlanStore<A> {
         Ok(number)
     }
 
-    /// Delays the plan that a message is about to the first moment at its time of day after the off-block moment held, and
-    /// answers its number. It takes no memory. After an `Err` the store is as it was.
+    /// Delays the plan that a message is about to the first moment at its time of day after the off-block moment held,
+    /// and answers its number. It takes no memory. After an `Err` the store is as it was.
     ///
-    /// The same time of day is NotLater, more than 720 minutes DelayTooLong, a moment before the desk's time Past, and one
-    /// more than 120 hours after it TooEarly, the first of these that applies.
+    /// The same time of day is NotLater, more than 720 minutes DelayTooLong, a moment before the desk's time Past, and
+    /// one more than 120 hours after it TooEarly, the first of these that applies.
     pub fn delay(&mut self, message: &Dla, now: Minute) -> Result<u32, PlanFault>
         requires { IsDeskTime now }
-        ensures ok { IfOk result (λ n. delayed now self.old.plans message.now ≡ Ok (record { plans = self.new.plans; number = n })) }
+        ensures ok { IfOk result (λ n. delayed now self.old.plans message.now
+            ≡ Ok (record { plans = self.new.plans; number = n })) }
         ensures within { IfOk result (λ n. (0 < n) × (n ≤ length self.new.plans)) }
         ensures refused { IfErr result (λ e. IsJustRefusal e (delayed now self.old.plans message.now)) }
         ensures before { OnOk result (self.new.before ≡ Some self.old.plans) }
@@ -208,15 +216,16 @@ impl<A: Allocator + Copy> PlanStore<A> {
         Ok(number)
     }
 
-    /// Amends the plan that a message is about, and answers its number: each amended field replaces the one held, all of them
-    /// or none. After an `Err` the store is as it was.
+    /// Amends the plan that a message is about, and answers its number: each amended field replaces the one held, all
+    /// of them or none. After an `Err` the store is as it was.
     ///
-    /// An amended field 16 without a time keeps the elapsed time and the alternates. An amended field 13 moves the off-block
-    /// moment as a delay does. One that names another departure, and a DOF item of another day in an amended field 18, are
-    /// KeyChange, before any fault of the delay; last, another held plan with the new key is AlreadyHeld.
+    /// An amended field 16 without a time keeps the elapsed time and the alternates. An amended field 13 moves the
+    /// off-block moment as a delay does. One that names another departure, and a DOF item of another day in an amended
+    /// field 18, are KeyChange, before any fault of the delay; last, another held plan with the new key is AlreadyHeld.
     pub fn amend(&mut self, message: &Chg<A>, now: Minute) -> Result<u32, PlanFault>
         requires { IsDeskTime now }
-        ensures ok { IfOk result (λ n. amended now self.old.plans message.now ≡ Ok (record { plans = self.new.plans; number = n })) }
+        ensures ok { IfOk result (λ n. amended now self.old.plans message.now
+            ≡ Ok (record { plans = self.new.plans; number = n })) }
         ensures within { IfOk result (λ n. (0 < n) × (n ≤ length self.new.plans)) }
         ensures refused { IfErr result (λ e. IsRefusal e (amended now self.old.plans message.now)) }
         ensures before { OnOk result (self.new.before ≡ Some self.old.plans) }
@@ -246,8 +255,8 @@ impl<A: Allocator + Copy> PlanStore<A> {
         }
     }
 
-    /// Where the plan of this number stood before the last change, and its off-block moment then. None where it wasn't filed
-    /// yet.
+    /// Where the plan of this number stood before the last change, and its off-block moment then. None where it wasn't
+    /// filed yet.
     pub fn previous(&self, number: u32) -> Option<Status>
         requires some { 0 < number }
         requires change { IsSome self.now.before }
@@ -286,8 +295,8 @@ impl<A: Allocator + Copy> PlanStore<A> {
         self.plans.filed_off_block(number)
     }
 
-    /// The moment at which the plan of this number enters a place: its take-off at the departure, and later by the elapsed
-    /// times of fields 16 and 18 at the destination and on the way. None where the flight does not come there.
+    /// The moment at which the plan of this number enters a place: its take-off at the departure, and later by the
+    /// elapsed times of fields 16 and 18 at the destination and on the way. None where the flight does not come there.
     pub fn entry(&self, number: u32, spot: &Spot) -> Option<Minute>
         requires some { 0 < number }
         requires within { number ≤ length self.now.plans }
@@ -297,37 +306,40 @@ impl<A: Allocator + Copy> PlanStore<A> {
     }
 
     /// The entry of the plan of this number, where a regulation of that place applies to it: one from `start` to before
-    /// `end`, of a filed plan that is not flown by visual rules throughout, does not depart in the air (AFIL) and is not
-    /// exempt.
+    /// `end`, of a filed plan that is not flown by visual rules throughout, does not depart in the air (AFIL) and is
+    /// not exempt.
     #[inline(always)]
     pub fn subject(&self, number: u32, spot: &Spot, start: Minute, end: Minute) -> Option<Minute>
         requires some { 0 < number }
         requires within { number ≤ length self.now.plans }
-        ensures { IfSome (plan_at self.now.plans number) (λ plan. result ≡ subject self.now.taxi spot.now start end plan) }
+        ensures { IfSome (plan_at self.now.plans number)
+            (λ plan. result ≡ subject self.now.taxi spot.now start end plan) }
     {
         self.plans.as_slice()[(number - 1) as usize].subject(self.taxi, spot, start, end)
     }
 
-    /// The first number from this one on of a plan to whose flight a regulation of that place and period may apply; where there is
-    /// none, the first number that no plan has, or `from` where that is later. To the flights of the plans before it none applies.
-    /// It reads 24 bytes a plan.
+    /// The first number from this one on of a plan to whose flight a regulation of that place and period may apply;
+    /// where there is none, the first number that no plan has, or `from` where that is later. To the flights of the
+    /// plans before it none applies. It reads 24 bytes a plan.
     pub fn next_coming(&self, from: u32, spot: &Spot, start: Minute, end: Minute) -> u32
         requires { 0 < from }
         ensures from { from ≤ result }
-        ensures passed { (n : ℕ) → from ≤ n → n < result → IfSome (plan_at self.now.plans n) (λ plan. subject self.now.taxi spot.now start end plan ≡ None) }
+        ensures passed { (n : ℕ) → from ≤ n → n < result
+            → IfSome (plan_at self.now.plans n) (λ plan. subject self.now.taxi spot.now start end plan ≡ None) }
         ensures end { length self.now.plans < from → result ≡ from }
         ensures most { from ≤ length self.now.plans → result ≤ length self.now.plans + 1 }
     {
         self.plans.next_coming(from, self.taxi, spot, start, end)
     }
 
-    /// The bits of the words in a table that stand in the rows of the places to which the flight of the plan of this number comes:
-    /// wherever a regulation applies to it, at any time, the bits of that row are among them.
+    /// The bits of the words in a table that stand in the rows of the places to which the flight of the plan of this
+    /// number comes: wherever a regulation applies to it, at any time, the bits of that row are among them.
     pub fn near(&self, number: u32, table: &[u64]) -> u64
         requires some { 0 < number }
         requires within { number ≤ length self.now.plans }
         ensures { (start end : ℕ) (spot : Spot) → IfSome (plan_at self.now.plans number)
-            (λ plan. IsSome (subject self.now.taxi spot start end plan) → HasBitsOf result (word_at table.now (row_of spot))) }
+            (λ plan. IsSome (subject self.now.taxi spot start end plan)
+            → HasBitsOf result (word_at table.now (row_of spot))) }
     {
         self.plans.as_slice()[(number - 1) as usize].near(table)
     }
@@ -345,14 +357,16 @@ fn amend_plan<A: Allocator + Copy>(
     requires now { IsDeskTime now }
     requires few { length plans.old ≤ 20_000 }
     requires chained { AreChained chains.old plans.old }
-    ensures ok { IfOk result (λ r. amended now plans.old message.now ≡ Ok (record { plans = plans.new; number = r.0 })) }
+    ensures ok { IfOk result (λ r. amended now plans.old message.now
+        ≡ Ok (record { plans = plans.new; number = r.0 })) }
     ensures within { IfOk result (λ r. (0 < r.0) × (r.0 ≤ length plans.new)) }
     ensures back { IfOk result (λ r. with_plan plans.new r.0 r.1 ≡ plans.old) }
     ensures refused { IfErr result (λ e. IsRefusal e (amended now plans.old message.now)) }
     ensures count { length plans.new ≡ length plans.old }
     ensures err { OnErr result (plans.new ≡ plans.old) }
     ensures chained { AreChained chains.new plans.new }
-    ensures held { IfOk result (λ r. (is_held r.1.state ≡ true) × IfSome (plan_at plans.new r.0) (λ p. is_held p.state ≡ true)) }
+    ensures held { IfOk result (λ r. (is_held r.1.state ≡ true)
+        × IfSome (plan_at plans.new r.0) (λ p. is_held p.state ≡ true)) }
     ensures room { OnOk result (0 < chains.new.room) }
     ensures kept { OnErr result (StayChained chains.old chains.new) }
 {
@@ -365,8 +379,8 @@ fn amend_plan<A: Allocator + Copy>(
     Ok((number, held))
 }
 
-/// Puts a plan in the place of that number and into the chain of its flight, which has room for it, and answers the plan that
-/// stood there. It takes no memory.
+/// Puts a plan in the place of that number and into the chain of its flight, which has room for it, and answers the
+/// plan that stood there. It takes no memory.
 fn exchange<A: Allocator + Copy>(
     plans: &mut PlanList<A>,
     chains: &mut Chains<A>,
@@ -425,7 +439,8 @@ fn undo<A: Allocator + Copy>(plans: &mut PlanList<A>, chains: &mut Chains<A>, la
     }
 }
 
-/// Makes the plan of this number filed again, and puts it into the chain of its flight where it is in none. It takes no memory.
+/// Makes the plan of this number filed again, and puts it into the chain of its flight where it is in none. It takes no
+/// memory.
 fn file_again<A: Allocator + Copy>(plans: &mut PlanList<A>, chains: &mut Chains<A>, number: u32)
     requires number { (0 < number) × (number ≤ length plans.old) }
     requires room { IfSome (plan_at plans.old number) (λ p. HasRoomFor chains.old (flight_of_key p.key)) }
@@ -544,7 +559,8 @@ fn delay_plan<A: Allocator + Copy>(
     requires now { IsDeskTime now }
     requires few { length plans.old ≤ 20_000 }
     requires chained { AreChained chains.now plans.old }
-    ensures ok { IfOk result (λ r. delayed now plans.old message.now ≡ Ok (record { plans = plans.new; number = r.0 })) }
+    ensures ok { IfOk result (λ r. delayed now plans.old message.now
+        ≡ Ok (record { plans = plans.new; number = r.0 })) }
     ensures within { IfOk result (λ r. (0 < r.0) × (r.0 ≤ length plans.new) × (r.1 < 67_855_680)) }
     ensures back { IfOk result (λ r. changed_at (with_off_block r.1) r.0 plans.new ≡ plans.old) }
     ensures refused { IfErr result (λ e. IsJustRefusal e (delayed now plans.old message.now)) }
@@ -617,7 +633,8 @@ fn moment_on(day: Day, time: TimeOfDay) -> Option<Minute>
 /// The off-block moment that a flight plan asks for. None where it lies too far ahead for any desk.
 fn moment_of<A: Allocator + Copy>(message: &Fpl<A>, now: Minute) -> Option<Minute>
     requires { IsDeskTime now }
-    ensures { MatchOption result (100_000_000 < moment_of now message.now) (λ moment. moment ≡ moment_of now message.now) }
+    ensures { MatchOption result (100_000_000 < moment_of now message.now)
+        (λ moment. moment ≡ moment_of now message.now) }
 {
     let time = message.departure().time;
     match message.other().day() {
@@ -637,7 +654,8 @@ fn why_refused<A: Allocator + Copy>(
 ) -> Result<Minute, PlanFault>
     requires now { IsDeskTime now }
     requires chained { AreChained chains.now plans.now }
-    ensures ok { IfOk result (λ moment. filed max_plans now plans.now message.now ≡ Ok (plans.now ++ plan_of moment message.now ∷ [])) }
+    ensures ok { IfOk result (λ moment. filed max_plans now plans.now message.now
+        ≡ Ok (plans.now ++ plan_of moment message.now ∷ [])) }
     ensures room { OnOk result (length plans.now < max_plans) }
     ensures bound { IfOk result (λ moment. moment < 67_855_680) }
     ensures refused { IfErr result (λ e. IsRefusal e (filed max_plans now plans.now message.now)) }

@@ -1,5 +1,6 @@
 //! The field texts that a plan holds.
-ghost use Rattle.std.specs.Prelude.{◌≡◌, ◌≤◌, ◌<◌, ◌+◌, ◌++◌, true, length, List, ℕ, option_copied, MatchOption, IfOk, IfSome, IsSome};
+ghost use Rattle.std.specs.Prelude.{◌≡◌, ◌≤◌, ◌<◌, ◌+◌, ◌++◌, true, length, List, ℕ, option_copied, MatchOption, IfOk};
+ghost use Rattle.std.specs.Prelude.{IfSome, IsSome};
 ghost use Rattle.fpl_text.specs.Words.{words_of};
 ghost use Rattle.fpl_items.specs.Items.{items_of, elapsed_to};
 ghost use Rattle.fpl_items.specs.Estimates.{AreEstimatesOf};
@@ -43,7 +44,8 @@ impl<A: Allocator + Copy> Model for Texts<A> {
       field18 = slice_range t.bytes.items t.end15 (length t.bytes.items);
     } };
 
-    ghost invariant = { λ t. (t.end8 ≤ t.end9) × (t.end9 ≤ t.end10) × (t.end10 ≤ t.end15) × (t.end15 ≤ length t.bytes.items)
+    ghost invariant = { λ t. (t.end8 ≤ t.end9) × (t.end9 ≤ t.end10) × (t.end10 ≤ t.end15)
+        × (t.end15 ≤ length t.bytes.items)
         × AreEstimatesOf (items_of (words_of (slice_range t.bytes.items t.end15 (length t.bytes.items)))) t.estimates };
 }
 
@@ -61,7 +63,8 @@ fn estimates_after<'a, A: Allocator + Copy>(
     held: &'a Estimates<A>,
     amended: Option<&'a Other18<A>>,
 ) -> &'a Estimates<A>
-    ensures { MatchOption (option_copied amended.entry) (result.now ≡ held.now) (λ items. AreEstimatesOf items result.now) }
+    ensures { MatchOption (option_copied amended.entry) (result.now ≡ held.now)
+        (λ items. AreEstimatesOf items result.now) }
 {
     match amended {
         Some(other) => other.estimates(),
@@ -81,7 +84,13 @@ impl<A: Allocator + Copy> Texts<A> {
         estimates: &Estimates<A>,
     ) -> Result<Self, AllocError>
         requires { AreEstimatesOf (items_of (words_of field18.now)) estimates.now }
-        ensures { IfOk result (λ t. t ≡ record { field8 = field8.now; field9 = field9.now; field10 = field10.now; field15 = field15.now; field18 = field18.now }) }
+        ensures { IfOk result (λ t. t ≡ record {
+          field8 = field8.now;
+          field9 = field9.now;
+          field10 = field10.now;
+          field15 = field15.now;
+          field18 = field18.now;
+        }) }
     {
         let estimates = estimates.copied(alloc)?;
         let small = field8
@@ -172,21 +181,24 @@ impl<A: Allocator + Copy> Texts<A> {
     /// The bits of the words in a table that stand in the rows of the places of the way, by the EET items of field 18.
     #[inline]
     pub(crate) fn near(&self, table: &[u64]) -> u64
-        ensures { (place : List ℕ) → IsSome (elapsed_to place (items_of (words_of self.now.field18))) → HasBitsOf result (word_at table.now (128 + bit_of place)) }
+        ensures { (place : List ℕ) → IsSome (elapsed_to place (items_of (words_of self.now.field18)))
+            → HasBitsOf result (word_at table.now (128 + bit_of place)) }
     {
         words_on_way(table, self.estimates.places())
     }
 
     /// A set that has each place of the way, by the EET items of field 18.
     pub(crate) fn way(&self) -> u64
-        ensures { (place : List ℕ) → IsSome (elapsed_to place (items_of (words_of self.now.field18))) → may_have result place ≡ true }
+        ensures { (place : List ℕ) → IsSome (elapsed_to place (items_of (words_of self.now.field18)))
+            → may_have result place ≡ true }
     {
         self.estimates.places()
     }
 
     /// The minutes from take-off to the last place of the way, by the EET items of field 18, or more.
     pub(crate) fn longest(&self) -> u32
-        ensures { (place : List ℕ) → IfSome (elapsed_to place (items_of (words_of self.now.field18))) (λ minutes. minutes ≤ result) }
+        ensures { (place : List ℕ) → IfSome (elapsed_to place (items_of (words_of self.now.field18)))
+            (λ minutes. minutes ≤ result) }
     {
         self.estimates.longest()
     }

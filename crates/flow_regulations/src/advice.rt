@@ -46,7 +46,8 @@ fn delay_in<A: Allocator + Copy>(
     requires some { 0 < number }
     requires within { number ≤ length plans.now.plans }
     ensures value { IfSome (plan_at plans.now.plans number)
-        (λ p. result ≡ option_map (caused_by (regulation_of regulation.now)) (delay_in plans.now.taxi number p (regulation_of regulation.now))) }
+        (λ p. result ≡ option_map (caused_by (regulation_of regulation.now))
+        (delay_in plans.now.taxi number p (regulation_of regulation.now))) }
     ensures bound { IfSome (plan_at plans.now.plans number)
         (λ p. IfSome result (λ d. take_off plans.now.taxi p + d.minutes ≤ 100_000_000)) }
 {
@@ -75,9 +76,9 @@ pub(crate) fn worse(first: Option<Delay>, later: Option<Delay>) -> Option<Delay>
     }
 }
 
-/// What the flight of a plan is to be told: its take-off delayed by the most penalising of the regulations where it keeps
-/// a slot, of equal ones by the one opened first, and the name of that one. None where it keeps no slot. The regulations
-/// stand in the order of opening. The word marks those where the flight may be held: no other is asked.
+/// What the flight of a plan is to be told: its take-off delayed by the most penalising of the regulations where it
+/// keeps a slot, of equal ones by the one opened first, and the name of that one. None where it keeps no slot. The
+/// regulations stand in the order of opening. The word marks those where the flight may be held: no other is asked.
 pub(crate) fn advice_of<A: Allocator + Copy>(
     regulations: &[Regulation<A>],
     plans: &PlanStore<A>,

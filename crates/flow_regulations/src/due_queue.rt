@@ -1,5 +1,6 @@
 //! The flights that aren't due yet, by off-block moment.
-ghost use Rattle.std.specs.Prelude.{◌≡◌, ◌∷◌, [], ◌+◌, ◌<◌, ◌≤◌, ℕ, true, false, List, Some, OnOk, OnErr, IfSome, IfNone, map, length, vec_capacity};
+ghost use Rattle.std.specs.Prelude.{◌≡◌, ◌∷◌, [], ◌+◌, ◌<◌, ◌≤◌, ℕ, true, false, List, Some, OnOk, OnErr, IfSome};
+ghost use Rattle.std.specs.Prelude.{IfNone, map, length, vec_capacity};
 ghost use Rattle.std.specs.List.{All, AllByRecursion, Contains};
 ghost use Rattle.std.specs.List.Sorted.{IsPermutation, IsStrictlyIncreasing};
 ghost use Rattle.std.specs.BinaryHeap.{IsHeap, heap_items, heap_len, heap_capacity};
@@ -15,8 +16,8 @@ use std::cmp::Reverse;
 use std::collections::BinaryHeap;
 use std::marker::Model;
 
-/// A flight that isn't due yet, with the off-block moment that its plan had when it was noted, in minutes from 1970-01-01
-/// 00:00 UTC.
+/// A flight that isn't due yet, with the off-block moment that its plan had when it was noted, in minutes from
+/// 1970-01-01 00:00 UTC.
 #[derive(Clone, Copy, Debug, PartialEq, Eq, PartialOrd, Ord)]
 pub struct Awaited {
     pub off_block: u32,
@@ -74,15 +75,18 @@ impl<A: Allocator + Copy> DueQueue<A> {
     pub fn note(&mut self, number: u32, off_block: Minute)
         requires some { 0 < number }
         requires room { length self.old.flights < self.old.room }
-        ensures flights { IsPermutation (record { off_block = off_block; number = number } ∷ self.old.flights) self.new.flights }
+        ensures flights { IsPermutation (record {
+          off_block = off_block;
+          number = number;
+        } ∷ self.old.flights) self.new.flights }
         ensures room { self.old.room ≤ self.new.room }
     {
         let off_block = off_block.minutes();
         push_reserved(&mut self.heap, Awaited { off_block, number });
     }
 
-    /// Takes out the flights that have become due from `earlier` to `now`, by rising number and none twice, with all those
-    /// whose off-block moment as noted says so.
+    /// Takes out the flights that have become due from `earlier` to `now`, by rising number and none twice, with all
+    /// those whose off-block moment as noted says so.
     pub fn take_due(
         &mut self,
         plans: &PlanStore<A>,
@@ -93,8 +97,10 @@ impl<A: Allocator + Copy> DueQueue<A> {
         requires { length self.old.flights ≤ vec_capacity due.old }
         ensures became { All (BecameDue earlier now plans.now.plans) due.new.items }
         ensures rising { IsStrictlyIncreasing due.new.items }
-        ensures each { Covers earlier plans.now.plans self.old.flights → HoldNewlyDue earlier now plans.now.plans due.new.items }
-        ensures covers { earlier ≤ now → Covers earlier plans.now.plans self.old.flights → Covers now plans.now.plans self.new.flights }
+        ensures each { Covers earlier plans.now.plans self.old.flights
+            → HoldNewlyDue earlier now plans.now.plans due.new.items }
+        ensures covers { earlier ≤ now → Covers earlier plans.now.plans self.old.flights
+            → Covers now plans.now.plans self.new.flights }
         ensures left { length self.new.flights + length due.new.items ≤ length self.old.flights }
         ensures fits { length self.new.flights + length due.new.items ≤ self.new.room }
         ensures room { self.new.room ≡ self.old.room }
@@ -106,8 +112,8 @@ impl<A: Allocator + Copy> DueQueue<A> {
         due.dedup();
     }
 
-    /// Puts the flights back that were taken when they became due, for the time before that. It takes no memory: the room
-    /// that they left is there.
+    /// Puts the flights back that were taken when they became due, for the time before that. It takes no memory: the
+    /// room that they left is there.
     pub fn put_back(&mut self, plans: &PlanStore<A>, due: &[u32])
         requires some { All (λ n. 0 < n) due.now }
         requires room { length self.old.flights + length due.now ≤ self.old.room }
@@ -171,7 +177,8 @@ fn awaits<A: Allocator + Copy>(plans: &PlanStore<A>, flight: &Awaited, earlier: 
     off_block == flight.off_block && earlier.minutes() + 120 < off_block
 }
 
-/// Takes out all flights whose off-block moment is at most two hours after `now`, and appends those that have become due.
+/// Takes out all flights whose off-block moment is at most two hours after `now`, and appends those that have become
+/// due.
 fn take_from<A: Allocator + Copy>(
     heap: &mut BinaryHeap<Reverse<Awaited>, A>,
     plans: &PlanStore<A>,
@@ -188,7 +195,8 @@ fn take_from<A: Allocator + Copy>(
     ensures became { All (BecameDue earlier now plans.now.plans) due.new.items }
     ensures taken { (x : Reverse Awaited) → Contains (heap_items heap.old) x → x.0.off_block ≤ now + 120
         → awaits earlier plans.now.plans x.0 ≡ true → Contains due.new.items x.0.number }
-    ensures left { (x : Reverse Awaited) → Contains (heap_items heap.old) x → now + 120 < x.0.off_block → Contains (heap_items heap.new) x }
+    ensures left { (x : Reverse Awaited) → Contains (heap_items heap.old) x → now + 120 < x.0.off_block
+        → Contains (heap_items heap.new) x }
     ensures fewer { heap_len heap.new + length due.new.items ≤ heap_len heap.old }
     ensures room { heap_capacity heap.new ≡ heap_capacity heap.old }
     ensures capacity { vec_capacity due.new ≡ vec_capacity due.old }

@@ -69,7 +69,8 @@ pub(crate) fn entry_of<A: Allocator + Copy>(
 ) -> Option<Minute>
     requires some { 0 < number }
     requires within { number ≤ length plans.now.plans }
-    ensures { (p : Plan) → plan_at plans.now.plans number ≡ Some p → result ≡ subject plans.now.taxi spot.now 0 100_000_000 p }
+    ensures { (p : Plan) → plan_at plans.now.plans number ≡ Some p
+        → result ≡ subject plans.now.taxi spot.now 0 100_000_000 p }
 {
     plans.subject(
         number,

@@ -1,5 +1,5 @@
-//! Laws over the definitions that the contracts cite: which frozen slots stay, and which plans need not be looked at when
-//! plans are told their slots.
+//! Laws over the definitions that the contracts cite: which frozen slots stay, and which plans need not be looked at
+//! when plans are told their slots.
 ghost use Rattle.std.specs.Prelude.{◌≡◌, ℕ, ◌<◌, ◌++◌, ◌∷◌, [], true, false, List, Option, None, length};
 ghost use Rattle.std.specs.List.{AllByRecursion};
 ghost use Rattle.flow_plans.specs.Plans.{Plan, is_departed};
@@ -12,8 +12,8 @@ ghost use Rattle.flow_regulations.specs.Notices.{told_to_plan, notices_from, tol
 ghost use Rattle.flow_regulations.specs.Quiet.{IsQuiet, AreQuietBut, AllQuiet, KeepsSlots, IsUntouched};
 ghost use Rattle.flow_regulations.specs.declared.notice.Told.{Told};
 
-/// A frozen flight keeps its slot while it has departed, or is filed, subject and due with a slot that is not before its
-/// entry: settling takes no other pair away, and the departure of any flight takes none.
+/// A frozen flight keeps its slot while it has departed, or is filed, subject and due with a slot that is not before
+/// its entry: settling takes no other pair away, and the departure of any flight takes none.
 pub fn frozen_pairs_stay()
     ensures settling { (taxi now : ℕ) (plans : List Plan) (r : Regulation) (a : Placed)
         → stays taxi now plans r a ≡ true → HasPair a r.fixed → HasPair a (settled taxi now plans r).fixed }
@@ -25,12 +25,13 @@ pub fn frozen_pairs_stay()
 pub fn quiet_stays()
     ensures advice { (taxi number : ℕ) (p : Plan) (before after : List Regulation) → KeepsSlots number before after
         → advice taxi number p after ≡ advice taxi number p before }
-    ensures quiet { (taxi number : ℕ) (p : Plan) (told : Option Told) (before after : List Regulation) → KeepsSlots number before after
+    ensures quiet { (taxi number : ℕ) (p : Plan) (told : Option Told) (before after : List Regulation)
+        → KeepsSlots number before after
         → IsQuiet taxi number before p told → IsQuiet taxi number after p told }
 {}
 
-/// Where nothing was to be said to any plan, nothing is to be said to those that are as before, whose told time is and whose
-/// advice is.
+/// Where nothing was to be said to any plan, nothing is to be said to those that are as before, whose told time is and
+/// whose advice is.
 pub fn untouched_are_quiet()
     ensures { (taxi : ℕ) (changed : List ℕ) (before : List Regulation) (plans : List Plan) (told : List (Option Told))
         (after : List Regulation) (plans_after : List Plan) (told_after : List (Option Told))
@@ -41,13 +42,15 @@ pub fn untouched_are_quiet()
 
 /// A regulation in which the flight has no frozen slot makes no difference to its advice: it may be opened or shut.
 pub fn other_regulation()
-    ensures { (taxi number : ℕ) (p : Plan) (r : Regulation) (before after : List Regulation) → pairs_of number r.fixed ≡ []
+    ensures { (taxi number : ℕ) (p : Plan) (r : Regulation) (before after : List Regulation)
+        → pairs_of number r.fixed ≡ []
         → advice taxi number p (before ++ r ∷ after) ≡ advice taxi number p (before ++ after) }
 {}
 
 /// To a departed plan nothing is to be said, and what it was told stays.
 pub fn departed_is_quiet()
-    ensures quiet { (taxi number : ℕ) (regulations : List Regulation) (p : Plan) (told : Option Told) → is_departed p.state ≡ true
+    ensures quiet { (taxi number : ℕ) (regulations : List Regulation) (p : Plan) (told : Option Told)
+        → is_departed p.state ≡ true
         → IsQuiet taxi number regulations p told }
     ensures stays { (taxi number : ℕ) (regulations : List Regulation) (p : Plan) (told : Option Told)
         → IsQuiet taxi number regulations p told → told_to_plan p told (advice taxi number p regulations) ≡ told }
@@ -68,8 +71,8 @@ pub fn nowhere_frozen()
         → AllByRecursion (λ r. pairs_of number r.fixed ≡ []) regulations → advice taxi number p regulations ≡ None }
 {}
 
-/// A flight keeps its slots where nothing changes, over one change after another, and over two lists of regulations where
-/// it does over each.
+/// A flight keeps its slots where nothing changes, over one change after another, and over two lists of regulations
+/// where it does over each.
 pub fn slots_are_kept()
     ensures same { (number : ℕ) (regulations : List Regulation) → KeepsSlots number regulations regulations }
     ensures in_turn { (number : ℕ) (first middle last : List Regulation) → KeepsSlots number first middle

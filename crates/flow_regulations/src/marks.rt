@@ -1,12 +1,13 @@
 //! Where flights may be held.
 //!
-//! Each flight has a word, of which each bit is for one of the first 64 open regulations, in the order of opening. Where
-//! the bit isn't set, the flight isn't held in that regulation, whose slot list need not be asked; where it is set, it may
-//! be held or not. A flight that has no word may be held in each regulation, and so may each flight from the 65th
-//! regulation on.
+//! Each flight has a word, of which each bit is for one of the first 64 open regulations, in the order of opening.
+//! Where the bit isn't set, the flight isn't held in that regulation, whose slot list need not be asked; where it is
+//! set, it may be held or not. A flight that has no word may be held in each regulation, and so may each flight from
+//! the 65th regulation on.
 ghost use Rattle.std.specs.Prelude.{◌≡◌, ◌<◌, ◌≤◌, ℕ, suc, true, false, length};
 ghost use Rattle.flow_plans.specs.Near.{row_of};
-ghost use Rattle.flow_regulations.specs.Marks.{may_stand, word_of, Keeps, KeepsBelow, MovesUp, IsOut, IsOpenedTo, IsOpenedIn};
+ghost use Rattle.flow_regulations.specs.Marks.{may_stand, word_of, Keeps, KeepsBelow, MovesUp, IsOut, IsOpenedTo};
+ghost use Rattle.flow_regulations.specs.Marks.{IsOpenedIn};
 
 use crate::regulation::Regulation;
 use std::alloc::{AllocError, Allocator};
@@ -74,8 +75,8 @@ pub(crate) fn mark_where(word: u64, index: usize, is_held: bool) -> u64
     }
 }
 
-/// The word of a flight where one more regulation is opened, at this place, in which the flight is held or not. No place
-/// after it is marked.
+/// The word of a flight where one more regulation is opened, at this place, in which the flight is held or not. No
+/// place after it is marked.
 fn with_place(word: u64, index: usize, is_held: bool) -> u64
     ensures before { KeepsBelow index word result }
     ensures marked { is_held ≡ true → may_stand result index ≡ true }
@@ -146,8 +147,9 @@ fn open_place<A: Allocator + Copy>(words: &mut [u64], index: usize, regulation: 
     mark_held(words, index, regulation);
 }
 
-/// Clears the marks from this place on, where all flights have the first of them. No flight has the number 0, so its word tells:
-/// it has the marks that all flights were given when the words were made or a regulation was closed, and no others.
+/// Clears the marks from this place on, where all flights have the first of them. No flight has the number 0, so its
+/// word tells: it has the marks that all flights were given when the words were made or a regulation was closed, and no
+/// others.
 fn clear_from(words: &mut [u64], index: usize)
     requires { index < 64 }
     ensures { (f : ℕ) → KeepsBelow index (word_of words.old f) (word_of words.new f) }
@@ -180,7 +182,8 @@ pub(crate) fn open_last_row<A: Allocator + Copy>(
     regulations: &[Regulation<A>],
     opened: &Regulation<A>,
 )
-    ensures { (row : ℕ) → IsOpenedIn (row_of opened.now.spot) (length regulations.now) row (word_of table.old row) (word_of table.new row) }
+    ensures { (row : ℕ) → IsOpenedIn (row_of opened.now.spot) (length regulations.now) row (word_of table.old row)
+        (word_of table.new row) }
 {
     open_row(table, regulations.len(), opened.row());
 }

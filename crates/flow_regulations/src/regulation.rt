@@ -1,17 +1,22 @@
 //! An open regulation.
-ghost use Rattle.std.specs.Prelude.{◌≡◌, ◌<◌, ◌≤◌, ℕ, List, None, Some, true, false, IfSome, IsSome, IfOk, OnOk, IsTrue, ◌↔◌, length};
+ghost use Rattle.std.specs.Prelude.{◌≡◌, ◌<◌, ◌≤◌, ℕ, List, None, Some, true, false, IfSome, IsSome, IfOk, OnOk};
+ghost use Rattle.std.specs.Prelude.{IsTrue, ◌↔◌, length};
 ghost use Rattle.std.specs.List.{All};
 ghost use Rattle.flow_plans.specs.Plans.{Plan as Held, plan_at, is_departed, is_filed};
 ghost use Rattle.flow_plans.specs.Entries.{subject};
 ghost use Rattle.flow_plans.specs.Near.{row_of};
-ghost use Rattle.flow_slots.specs.Lineup.{held_slot, fixed_slot, without_flight, waiting_entry, len_of, with_all_waiting, MayFill, IsLineup};
+ghost use Rattle.flow_slots.specs.Lineup.{held_slot, fixed_slot, without_flight, waiting_entry, len_of};
+ghost use Rattle.flow_slots.specs.Lineup.{with_all_waiting, MayFill, IsLineup};
 ghost use Rattle.flow_slots.specs.Period.{IsWithin, IsRegular};
 ghost use Rattle.flow_regulations.specs.Asked.{IsAsked};
 ghost use Rattle.flow_regulations.specs.Places.{IsPlaceOf, MayStand, stood};
 ghost use Rattle.flow_regulations.specs.Marks.{IsOut, IsInOrder};
 ghost use Rattle.flow_regulations.specs.Regulations.{subject_to};
 ghost use Rattle.flow_regulations.specs.Settling.{is_due, pairs_of};
-ghost use Rattle.flow_regulations.specs.Listing.{Listed, regulation_of, with_lineup, without_in, released_in, keeps_slot, placed, with_no_flights, is_named, fixed_waiting, IsListedIn, IsSettledBut, AreSameBut, IsRenewed, IsFixedWaiting, IsLookedAgain, is_due_flight};
+ghost use Rattle.flow_regulations.specs.Listing.{Listed, regulation_of, with_lineup, without_in, released_in};
+ghost use Rattle.flow_regulations.specs.Listing.{keeps_slot, placed, with_no_flights, is_named, fixed_waiting};
+ghost use Rattle.flow_regulations.specs.Listing.{IsListedIn, IsSettledBut, AreSameBut, IsRenewed, IsFixedWaiting};
+ghost use Rattle.flow_regulations.specs.Listing.{IsLookedAgain, is_due_flight};
 
 use crate::entry_asked::{EntryAsked, entry_of};
 use crate::places::Place;
@@ -97,8 +102,8 @@ impl<A: Allocator + Copy> Regulation<A> {
         self.list.max_plans()
     }
 
-    /// The first number from this one on of a flight that it holds, or one past the last, after which it holds none. The flights
-    /// before it aren't held.
+    /// The first number from this one on of a flight that it holds, or one past the last, after which it holds none.
+    /// The flights before it aren't held.
     pub(crate) fn next_held(&self, from: u32) -> u32
         ensures from { from ≤ result }
         ensures passed { (f : ℕ) → from ≤ f → f < result → IsOut f self.now }
@@ -116,8 +121,8 @@ impl<A: Allocator + Copy> Regulation<A> {
         let _no_flight_twice = self.list.cells();
     }
 
-    /// The first number from this one on of a plan to whose flight the regulation may apply, or one more than there are. To the
-    /// flights of the plans before it the regulation doesn't apply.
+    /// The first number from this one on of a plan to whose flight the regulation may apply, or one more than there
+    /// are. To the flights of the plans before it the regulation doesn't apply.
     pub(crate) fn next_coming(&self, plans: &PlanStore<A>, from: u32) -> u32
         requires { 0 < from }
         ensures from { from ≤ result }
@@ -141,7 +146,8 @@ impl<A: Allocator + Copy> Regulation<A> {
     pub(crate) fn subject(&self, plans: &PlanStore<A>, number: u32) -> Option<Minute>
         requires some { 0 < number }
         requires within { number ≤ length plans.now.plans }
-        ensures { (p : Held) → plan_at plans.now.plans number ≡ Some p → result ≡ subject_to plans.now.taxi (regulation_of self.now) p }
+        ensures { (p : Held) → plan_at plans.now.plans number ≡ Some p
+            → result ≡ subject_to plans.now.taxi (regulation_of self.now) p }
     {
         self.subject_from(&entry_of(plans, number, &self.spot))
     }
@@ -149,7 +155,8 @@ impl<A: Allocator + Copy> Regulation<A> {
     /// This entry at its place, where it lies in the period.
     #[inline(always)]
     fn subject_from(&self, entry: &Option<Minute>) -> Option<Minute>
-        ensures { (taxi : ℕ) (p : Held) → entry.now ≡ subject taxi self.now.spot 0 100_000_000 p → result ≡ subject_to taxi (regulation_of self.now) p }
+        ensures { (taxi : ℕ) (p : Held) → entry.now ≡ subject taxi self.now.spot 0 100_000_000 p
+            → result ≡ subject_to taxi (regulation_of self.now) p }
     {
         let shape = self.list.shape();
         let Some(entry) = entry else {
@@ -182,7 +189,8 @@ impl<A: Allocator + Copy> Regulation<A> {
     fn keeps(&self, plans: &PlanStore<A>, number: u32, now: Minute, entry: &Option<Minute>) -> bool
         requires some { 0 < number }
         requires within { number ≤ length plans.now.plans }
-        requires entry { (p : Held) → plan_at plans.now.plans number ≡ Some p → entry.now ≡ subject_to plans.now.taxi (regulation_of self.now) p }
+        requires entry { (p : Held) → plan_at plans.now.plans number ≡ Some p
+            → entry.now ≡ subject_to plans.now.taxi (regulation_of self.now) p }
         ensures { (p : Held) → plan_at plans.now.plans number ≡ Some p
             → result ≡ keeps_slot plans.now.taxi now (regulation_of self.now) number p self.now.lineup }
     {
@@ -222,13 +230,14 @@ impl<A: Allocator + Copy> Regulation<A> {
         }
     }
 
-    /// Lets a flight wait from this entry on, wherever it stood, and fixes it where it waits if it is due. Nothing moves
-    /// where it waits from there already.
+    /// Lets a flight wait from this entry on, wherever it stood, and fixes it where it waits if it is due. Nothing
+    /// moves where it waits from there already.
     fn stand(&mut self, number: u32, entry: Minute, due: bool)
         requires first { 0 < number }
         requires last { number ≤ self.old.lineup.capacity }
         requires entry { IsWithin self.old.lineup.period entry }
-        ensures { self.new ≡ with_lineup (placed (Some entry) due number (without_flight number self.old.lineup)) self.old }
+        ensures { self.new ≡ with_lineup (placed (Some entry) due number
+            (without_flight number self.old.lineup)) self.old }
     {
         if !self.waits_from(number, entry) {
             self.take_out(number);
@@ -286,8 +295,10 @@ impl<A: Allocator + Copy> Regulation<A> {
     pub(crate) fn put_back(&mut self, number: u32, place: Place)
         requires first { 0 < number }
         requires last { number ≤ self.old.lineup.capacity }
-        requires before { (before : Listed) × IsPlaceOf number place before × (without_in number self.old ≡ without_in number before) }
-        ensures { (before : Listed) → IsPlaceOf number place before → without_in number self.old ≡ without_in number before → self.new ≡ before }
+        requires before { (before : Listed) × IsPlaceOf number place before
+            × (without_in number self.old ≡ without_in number before) }
+        ensures { (before : Listed) → IsPlaceOf number place before
+            → without_in number self.old ≡ without_in number before → self.new ≡ before }
     {
         if self.place_of(number).is(&place) {
             return;
@@ -341,9 +352,9 @@ impl<A: Allocator + Copy> Regulation<A> {
         }
     }
 
-    /// Settles the regulation after a message about one flight, which touches that flight alone, and answers whether the
-    /// flight may be held then. One that may not be held before is let in where the regulation applies to it. The entry of the
-    /// flight at the regulation's place is asked for where that isn't the place that was asked last.
+    /// Settles the regulation after a message about one flight, which touches that flight alone, and answers whether
+    /// the flight may be held then. One that may not be held before is let in where the regulation applies to it. The
+    /// entry of the flight at the regulation's place is asked for where that isn't the place that was asked last.
     #[inline(always)]
     pub(crate) fn look_where(
         &mut self,
@@ -380,11 +391,13 @@ impl<A: Allocator + Copy> Regulation<A> {
     fn look_again(&mut self, plans: &PlanStore<A>, number: u32, now: Minute, entry: &Option<Minute>)
         requires some { 0 < number }
         requires within { number ≤ length plans.now.plans }
-        requires entry { (p : Held) → plan_at plans.now.plans number ≡ Some p → entry.now ≡ subject_to plans.now.taxi (regulation_of self.old) p }
+        requires entry { (p : Held) → plan_at plans.now.plans number ≡ Some p
+            → entry.now ≡ subject_to plans.now.taxi (regulation_of self.old) p }
         requires room { number ≤ self.old.lineup.capacity }
         ensures same { self.new ≡ with_lineup self.new.lineup self.old }
         ensures capacity { self.new.lineup.capacity ≡ self.old.lineup.capacity }
-        ensures others { (f : ℕ) → (f ≡ number → ⊥) → pairs_of f self.new.lineup.fixed ≡ pairs_of f self.old.lineup.fixed }
+        ensures others { (f : ℕ) → (f ≡ number → ⊥)
+            → pairs_of f self.new.lineup.fixed ≡ pairs_of f self.old.lineup.fixed }
         ensures alone { without_in number self.new ≡ without_in number self.old }
         ensures renewed { (max : ℕ) (before : List Held)
             → IsListedIn plans.now.taxi max before self.old

@@ -1,12 +1,19 @@
 //! The open regulations.
-ghost use Rattle.std.specs.Prelude.{◌≡◌, ◌<◌, ◌≤◌, ◌+◌, ◌-◌, ◌++◌, ℕ, List, [], false, true, ◌∷◌, None, Some, IfSome, IfNone, IfOk, IsTrue, ◌↔◌, MatchOption, OnOk, OnErr, length, map, replicate, vec_capacity};
+ghost use Rattle.std.specs.Prelude.{◌≡◌, ◌<◌, ◌≤◌, ◌+◌, ◌-◌, ◌++◌, ℕ, List, [], false, true, ◌∷◌, None, Some, IfSome};
+ghost use Rattle.std.specs.Prelude.{IfNone, IfOk, IsTrue, ◌↔◌, MatchOption, OnOk, OnErr, length, map, replicate};
+ghost use Rattle.std.specs.Prelude.{vec_capacity};
 ghost use Rattle.std.specs.List.{All, AllByRecursion, insert, list_any};
 ghost use Rattle.std.specs.List.Sorted.{IsNonDecreasing, IsStrictlyIncreasing};
 ghost use Rattle.flow_plans.specs.Plans.{Plan, plan_at};
 ghost use Rattle.flow_slots.specs.Assignment.{is_in};
 ghost use Rattle.flow_regulations.specs.Advice.{advice};
 ghost use Rattle.flow_regulations.specs.Awaiting.{HaveBecomeDue};
-ghost use Rattle.flow_regulations.specs.Listing.{Listed, Walked, without_in, IsLookedAgain, IsListed, AreSettledBut, AreSameBut, AreRenewed, IsFixedWaiting, AreFrozen, IsSettled, IsAdvancing, is_below, is_among, with_fixed_waiting, AreDue, HoldNewlyDue, HaveCapacity, names_in, IsReleased, IsOpened, opened, is_named, without_named, lineup_named, keeps_slot_in, IsNamedAt, MayReopen, pairs_in, regulation_of};
+ghost use Rattle.flow_regulations.specs.Listing.{Listed, Walked, without_in, IsLookedAgain, IsListed, AreSettledBut};
+ghost use Rattle.flow_regulations.specs.Listing.{AreSameBut, AreRenewed, IsFixedWaiting, AreFrozen, IsSettled};
+ghost use Rattle.flow_regulations.specs.Listing.{IsAdvancing, is_below, is_among, with_fixed_waiting, AreDue};
+ghost use Rattle.flow_regulations.specs.Listing.{HoldNewlyDue, HaveCapacity, names_in, IsReleased, IsOpened, opened};
+ghost use Rattle.flow_regulations.specs.Listing.{is_named, without_named, lineup_named, keeps_slot_in, IsNamedAt};
+ghost use Rattle.flow_regulations.specs.Listing.{MayReopen, pairs_in, regulation_of};
 ghost use Rattle.flow_regulations.specs.Marks.{may_stand, Keeps, Covers, AreMarked, AreInRows, MarksNear};
 ghost use Rattle.flow_regulations.specs.Regulations.{coming_from};
 ghost use Rattle.flow_regulations.specs.Settling.{pairs_of};
@@ -59,7 +66,11 @@ impl<A: Allocator + Copy> Model for Regulations<A> {
 
     ghost Value = { Listing };
 
-    ghost view = { λ r. record { max_plans = r.max_plans; lists = r.regulations.items; room = vec_capacity r.regulations } };
+    ghost view = { λ r. record {
+      max_plans = r.max_plans;
+      lists = r.regulations.items;
+      room = vec_capacity r.regulations;
+    } };
 
     ghost invariant = { λ r. (0 < r.max_plans) × (r.max_plans ≤ 20_000) × HaveCapacity r.max_plans r.regulations.items
         × AreApart (names_in r.regulations.items) × AreMarked r.words.items r.regulations.items
@@ -91,16 +102,16 @@ impl<A: Allocator + Copy> Regulations<A> {
         self.regulations.len()
     }
 
-    /// Whether the same regulations are open, of the same names and places and with the same slot lists, in the same order.
-    /// It takes no memory.
+    /// Whether the same regulations are open, of the same names and places and with the same slot lists, in the same
+    /// order. It takes no memory.
     pub fn same(&self, other: &Regulations<A>) -> bool
         ensures { IsTrue result ↔ (self.now.lists ≡ other.now.lists) }
     {
         are_same(&self.regulations, &other.regulations)
     }
 
-    /// Opens one more regulation, the last in order, of a name that isn't open: the flights that it applies to wait in it,
-    /// and those that are due are fixed. Refused where memory is; then nothing has changed.
+    /// Opens one more regulation, the last in order, of a name that isn't open: the flights that it applies to wait in
+    /// it, and those that are due are fixed. Refused where memory is; then nothing has changed.
     pub fn open(
         &mut self,
         alloc: A,
@@ -113,7 +124,8 @@ impl<A: Allocator + Copy> Regulations<A> {
         requires plans { length plans.now.plans ≤ self.old.max_plans }
         requires name { list_any (is_named id) self.old.lists ≡ false }
         ensures limit { self.new.max_plans ≡ self.old.max_plans }
-        ensures opened { OnOk result (IsOpened plans.now.taxi self.old.max_plans now plans.now.plans (record { id = id; spot = spot; period = shape; fixed = [] }) self.old.lists self.new.lists) }
+        ensures opened { OnOk result (IsOpened plans.now.taxi self.old.max_plans now plans.now.plans
+            (record { id = id; spot = spot; period = shape; fixed = [] }) self.old.lists self.new.lists) }
         ensures err { OnErr result (self.new.lists ≡ self.old.lists) }
     {
         let mut regulation = Regulation::new(alloc, id, spot, shape, self.max_plans)?;
@@ -137,13 +149,14 @@ impl<A: Allocator + Copy> Regulations<A> {
 
     /// The slot list of the open regulation of this name.
     pub fn slots(&self, id: &Text<8>) -> Option<&SlotList<A>>
-        ensures { MatchOption result (lineup_named id.now self.now.lists ≡ None) (λ list. lineup_named id.now self.now.lists ≡ Some list.now.lineup) }
+        ensures { MatchOption result (lineup_named id.now self.now.lists ≡ None)
+            (λ list. lineup_named id.now self.now.lists ≡ Some list.now.lineup) }
     {
         list_named(&self.regulations, id)
     }
 
-    /// Notes the flights that keep slots in the open regulation of this name, by rising number; none where none of this name
-    /// is open. To the advice of no other flight does the regulation make a difference. Refused where memory is.
+    /// Notes the flights that keep slots in the open regulation of this name, by rising number; none where none of this
+    /// name is open. To the advice of no other flight does the regulation make a difference. Refused where memory is.
     pub fn note_fixed(&self, id: &Text<8>, flights: &mut Vec<u32, A>) -> Result<(), AllocError>
         ensures rising { OnOk result (IsStrictlyIncreasing flights.new.items) }
         ensures each { OnOk result (All (λ n. keeps_slot_in id.now self.now.lists n ≡ true) flights.new.items) }
@@ -161,8 +174,8 @@ impl<A: Allocator + Copy> Regulations<A> {
         }
     }
 
-    /// Closes the regulation of this name, with its slot list, and answers it. The others stay as they are. None where none
-    /// of this name is open. It takes no memory.
+    /// Closes the regulation of this name, with its slot list, and answers it. The others stay as they are. None where
+    /// none of this name is open. It takes no memory.
     pub fn shut(&mut self, id: &Text<8>) -> Option<Closed<A>>
         ensures limit { self.new.max_plans ≡ self.old.max_plans }
         ensures lists { self.new.lists ≡ without_named id.now self.old.lists }
@@ -178,8 +191,8 @@ impl<A: Allocator + Copy> Regulations<A> {
         Some(Closed { index, regulation })
     }
 
-    /// Opens a closed regulation again in its place, as it was. It takes no memory: the room that it left is there. The marks
-    /// are given up: from then on each of these regulations is asked of each flight.
+    /// Opens a closed regulation again in its place, as it was. It takes no memory: the room that it left is there. The
+    /// marks are given up: from then on each of these regulations is asked of each flight.
     pub fn reopen(&mut self, closed: Closed<A>)
         requires { MayReopen closed self.old }
         ensures limit { self.new.max_plans ≡ self.old.max_plans }
@@ -194,14 +207,15 @@ impl<A: Allocator + Copy> Regulations<A> {
     /// Takes the regulation that was opened last out again.
     pub fn take_last(&mut self)
         ensures limit { self.new.max_plans ≡ self.old.max_plans }
-        ensures lists { (before : List Listed) (l : Listed) → self.old.lists ≡ before ++ l ∷ [] → self.new.lists ≡ before }
+        ensures lists { (before : List Listed) (l : Listed) → self.old.lists ≡ before ++ l ∷ []
+            → self.new.lists ≡ before }
     {
         let _last = self.regulations.pop();
     }
 
     /// Settles the regulations after a message about the plan of this number, which changed it or added it as the last.
-    /// Where the flight keeps no slot any more, or waits with another entry, it is taken out and let in afresh, and it is
-    /// fixed where it is due. In each slot list it is the one flight that is touched.
+    /// Where the flight keeps no slot any more, or waits with another entry, it is taken out and let in afresh, and it
+    /// is fixed where it is due. In each slot list it is the one flight that is touched.
     pub fn look_again(&mut self, plans: &PlanStore<A>, number: u32, now: Minute)
         requires some { 0 < number }
         requires within { number ≤ length plans.now.plans }
@@ -221,8 +235,9 @@ impl<A: Allocator + Copy> Regulations<A> {
         set_word(&mut self.words, number, word);
     }
 
-    /// Settles the regulations when the desk's time has advanced: these flights, which are due now, are fixed where they
-    /// wait, and no other flight is touched. With each flight among them that has become due, the regulations are settled.
+    /// Settles the regulations when the desk's time has advanced: these flights, which are due now, are fixed where
+    /// they wait, and no other flight is touched. With each flight among them that has become due, the regulations are
+    /// settled.
     pub fn advance_due(&mut self, due: &[u32])
         ensures limit { self.new.max_plans ≡ self.old.max_plans }
         ensures lists { self.new.lists ≡ map (with_fixed_waiting due.now) self.old.lists }
@@ -237,8 +252,8 @@ impl<A: Allocator + Copy> Regulations<A> {
         advance_in(&mut self.regulations, &self.words, due);
     }
 
-    /// Lets flights wait again that were fixed when they became due, each with the entry of its plan: the regulations are
-    /// those before `advance_due`. It takes no memory.
+    /// Lets flights wait again that were fixed when they became due, each with the entry of its plan: the regulations
+    /// are those before `advance_due`. It takes no memory.
     pub fn release_all(&mut self, plans: &PlanStore<A>, due: &[u32])
         requires { All (λ n. (0 < n) × (n ≤ length plans.now.plans)) due.now }
         ensures limit { self.new.max_plans ≡ self.old.max_plans }
@@ -264,8 +279,8 @@ impl<A: Allocator + Copy> Regulations<A> {
         fix_waiting_in(&mut self.regulations, number, word);
     }
 
-    /// Notes where a flight stands in each regulation, in the order of opening, for `put_back`. The caller keeps room for
-    /// as many places as regulations are open.
+    /// Notes where a flight stands in each regulation, in the order of opening, for `put_back`. The caller keeps room
+    /// for as many places as regulations are open.
     pub fn note_places(&self, number: u32, places: &mut Vec<Place, A>)
         requires { length self.now.lists ≤ vec_capacity places.old }
         ensures places { ArePlaces number places.new.items self.now.lists }
@@ -275,12 +290,13 @@ impl<A: Allocator + Copy> Regulations<A> {
         note_places_in(&self.regulations, number, word, places);
     }
 
-    /// Puts a flight back where it stood in each regulation before `look_again` or `freeze_departing`, as its places were
-    /// noted then. The regulations are those of that time. It takes no memory.
+    /// Puts a flight back where it stood in each regulation before `look_again` or `freeze_departing`, as its places
+    /// were noted then. The regulations are those of that time. It takes no memory.
     pub fn put_back(&mut self, number: u32, places: &[Place])
         requires some { 0 < number }
         requires room { number ≤ self.old.max_plans }
-        requires before { (before : List Listed) × ArePlaces number places.now before × (map (without_in number) self.old.lists ≡ map (without_in number) before) }
+        requires before { (before : List Listed) × ArePlaces number places.now before
+            × (map (without_in number) self.old.lists ≡ map (without_in number) before) }
         ensures limit { self.new.max_plans ≡ self.old.max_plans }
         ensures lists { (before : List Listed) → ArePlaces number places.now before
             → map (without_in number) self.old.lists ≡ map (without_in number) before → self.new.lists ≡ before }
@@ -303,8 +319,8 @@ impl<A: Allocator + Copy> Regulations<A> {
     }
 
     /// Compares the advice of these plans with what each was last told, by plan number, and appends a notice where the
-    /// take-off time is another: a slot allocation message (SAM), its revision (SRM) or its cancellation (SLC). From then
-    /// on the plan is told the advice.
+    /// take-off time is another: a slot allocation message (SAM), its revision (SRM) or its cancellation (SLC). From
+    /// then on the plan is told the advice.
     ///
     /// The numbers of the plans rise, and hold each plan whose advice may be another than it was told; the caller keeps
     /// room for as many notices. Then no plan is left to which anything is to be said.
@@ -319,11 +335,13 @@ impl<A: Allocator + Copy> Regulations<A> {
         requires rising { IsNonDecreasing changed.now }
         requires numbers { All (λ n. (0 < n) × (n ≤ length plans.now.plans)) changed.now }
         requires room { length notices.old.items + length changed.now ≤ vec_capacity notices.old }
-        requires quiet { AreQuietBut changed.now plans.now.taxi (map regulation_of self.now.lists) plans.now.plans told.old.items }
+        requires quiet { AreQuietBut changed.now plans.now.taxi
+            (map regulation_of self.now.lists) plans.now.plans told.old.items }
         ensures told { told.new.items
             ≡ told_from 1 plans.now.taxi (map regulation_of self.now.lists) plans.now.plans told.old.items }
         ensures notices { notices.new.items
-            ≡ notices.old.items ++ notices_from 1 plans.now.taxi (map regulation_of self.now.lists) plans.now.plans told.old.items }
+            ≡ notices.old.items ++ notices_from 1 plans.now.taxi
+            (map regulation_of self.now.lists) plans.now.plans told.old.items }
         ensures quiet { AllQuiet plans.now.taxi (map regulation_of self.now.lists) plans.now.plans told.new.items }
         ensures each { length told.new.items ≡ length plans.now.plans }
         ensures few { length notices.new.items ≤ length notices.old.items + length changed.now }
@@ -349,8 +367,8 @@ fn are_same<A: Allocator + Copy>(regulations: &[Regulation<A>], others: &[Regula
     true
 }
 
-/// Each regulation looks again at one flight, which the word marks, and answers the word that marks it then. No other regulation
-/// applies to the flight than those marked near it.
+/// Each regulation looks again at one flight, which the word marks, and answers the word that marks it then. No other
+/// regulation applies to the flight than those marked near it.
 fn look_again_in<A: Allocator + Copy>(
     regulations: &mut [Regulation<A>],
     plans: &PlanStore<A>,
@@ -363,8 +381,10 @@ fn look_again_in<A: Allocator + Copy>(
     requires within { number ≤ length plans.now.plans }
     requires room { AllByRecursion (λ l. number ≤ l.lineup.capacity) regulations.old }
     requires covers { Covers word number 0 regulations.old }
-    requires near { (p : Plan) → plan_at plans.now.plans number ≡ Some p → MarksNear near plans.now.taxi p regulations.old }
-    ensures walked { Walked (IsLookedAgain number plans.now.taxi now plans.now.plans) (length regulations.new) regulations.old regulations.new }
+    requires near { (p : Plan) → plan_at plans.now.plans number ≡ Some p
+        → MarksNear near plans.now.taxi p regulations.old }
+    ensures walked { Walked (IsLookedAgain number plans.now.taxi now plans.now.plans)
+        (length regulations.new) regulations.old regulations.new }
     ensures covers { Covers result number 0 regulations.new }
 {
     are_in_order(regulations);
@@ -423,7 +443,8 @@ fn put_back_in<A: Allocator + Copy>(
 )
     requires some { 0 < number }
     requires room { AllByRecursion (λ l. number ≤ l.lineup.capacity) regulations.old }
-    requires before { (before : List Listed) × ArePlaces number places.now before × (map (without_in number) regulations.old ≡ map (without_in number) before) }
+    requires before { (before : List Listed) × ArePlaces number places.now before
+        × (map (without_in number) regulations.old ≡ map (without_in number) before) }
     ensures { (before : List Listed) → ArePlaces number places.now before
         → map (without_in number) regulations.old ≡ map (without_in number) before → regulations.new ≡ before }
 {
@@ -451,7 +472,8 @@ fn advance_in<A: Allocator + Copy>(regulations: &mut [Regulation<A>], words: &[u
     ensures lists { regulations.new ≡ map (with_fixed_waiting due.now) regulations.old }
     ensures marked { AreMarked words.now regulations.new }
     ensures walked { (taxi now : ℕ) (plans : List Plan) → AreDue now plans due.now
-        → Walked (IsAdvancing (is_among due.now) taxi now plans) (length regulations.new) regulations.old regulations.new }
+        → Walked (IsAdvancing (is_among due.now) taxi now plans)
+        (length regulations.new) regulations.old regulations.new }
 {
     for number in due {
         fix_waiting_in(regulations, *number, word_of(words, *number));
@@ -488,15 +510,16 @@ fn release_in<A: Allocator + Copy>(
 )
     requires some { 0 < number }
     requires within { number ≤ length plans.now.plans }
-    ensures { Walked (IsReleased number plans.now.taxi plans.now.plans) (length regulations.new) regulations.old regulations.new }
+    ensures { Walked (IsReleased number plans.now.taxi plans.now.plans)
+        (length regulations.new) regulations.old regulations.new }
 {
     for regulation in regulations.iter_mut() {
         regulation.release(plans, number);
     }
 }
 
-/// Lets the flights that a new regulation applies to wait in it: they are noted in memory that is kept, put in order, and taken in at
-/// once. Refused where memory is.
+/// Lets the flights that a new regulation applies to wait in it: they are noted in memory that is kept, put in order,
+/// and taken in at once. Refused where memory is.
 fn let_all_in<A: Allocator + Copy>(
     regulation: &mut Regulation<A>,
     plans: &PlanStore<A>,
@@ -544,7 +567,8 @@ fn note_coming<A: Allocator + Copy>(
 
 /// Fixes the flights that are due, where they wait.
 fn settle<A: Allocator + Copy>(regulation: &mut Regulation<A>, plans: &PlanStore<A>, now: Minute)
-    ensures { IsAdvancing (is_below (length plans.now.plans + 1)) plans.now.taxi now plans.now.plans regulation.old regulation.new }
+    ensures { IsAdvancing
+        (is_below (length plans.now.plans + 1)) plans.now.taxi now plans.now.plans regulation.old regulation.new }
 {
     let count = plans.count();
     let mut number = regulation.next_held(1);
@@ -566,7 +590,8 @@ fn list_named<'a, A: Allocator + Copy>(
     regulations: &'a [Regulation<A>],
     id: &Text<8>,
 ) -> Option<&'a SlotList<A>>
-    ensures { MatchOption result (lineup_named id.now regulations.now ≡ None) (λ list. lineup_named id.now regulations.now ≡ Some list.now.lineup) }
+    ensures { MatchOption result (lineup_named id.now regulations.now ≡ None)
+        (λ list. lineup_named id.now regulations.now ≡ Some list.now.lineup) }
 {
     for regulation in regulations {
         if regulation.is_named(id) {

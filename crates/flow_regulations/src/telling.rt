@@ -37,7 +37,13 @@ pub(crate) fn says(told: &Option<Told>, advice: &Option<Told>) -> Option<Said>
 
 /// A notice to a plan.
 fn notice_to<A: Allocator + Copy>(plan: &Plan<A>, says: Said) -> Notice
-    ensures { result ≡ record { ident = plan.now.key.ident; dep = plan.now.key.dep; dest = plan.now.key.dest; off_block = plan.now.off_block; says = says } }
+    ensures { result ≡ record {
+      ident = plan.now.key.ident;
+      dep = plan.now.key.dep;
+      dest = plan.now.key.dest;
+      off_block = plan.now.off_block;
+      says = says;
+    } }
 {
     let key = plan.key();
     Notice {
@@ -90,7 +96,8 @@ fn tell_number<A: Allocator + Copy>(
     ensures told { IfSome (plan_at plans.now.plans number) (λ p. told.new
         ≡ told_to_plan p told.old (advice plans.now.taxi number p (map regulation_of regulations.now))) }
     ensures notices { IfSome (plan_at plans.now.plans number) (λ p. notices.new.items
-        ≡ notices.old.items ++ notices_to p told.old (advice plans.now.taxi number p (map regulation_of regulations.now))) }
+        ≡ notices.old.items ++ notices_to p told.old
+        (advice plans.now.taxi number p (map regulation_of regulations.now))) }
     ensures few { length notices.new.items ≤ length notices.old.items + 1 }
     ensures capacity { vec_capacity notices.new ≡ vec_capacity notices.old }
 {
@@ -104,8 +111,9 @@ fn tell_number<A: Allocator + Copy>(
 /// take-off time is another: a slot allocation message (SAM), its revision (SRM) or its cancellation (SLC). From then
 /// on the plan is told the advice.
 ///
-/// The numbers of the plans rise, and hold each plan whose advice may be another than it was told; the caller keeps room
-/// for as many notices. Then no plan is left to which anything is to be said. The words mark where flights may be held.
+/// The numbers of the plans rise, and hold each plan whose advice may be another than it was told; the caller keeps
+/// room for as many notices. Then no plan is left to which anything is to be said. The words mark where flights may be
+/// held.
 pub(crate) fn tell<A: Allocator + Copy>(
     regulations: &[Regulation<A>],
     words: &[u64],
@@ -118,12 +126,14 @@ pub(crate) fn tell<A: Allocator + Copy>(
     requires rising { IsNonDecreasing changed.now }
     requires numbers { All (λ n. (0 < n) × (n ≤ length plans.now.plans)) changed.now }
     requires room { length notices.old.items + length changed.now ≤ vec_capacity notices.old }
-    requires quiet { AreQuietBut changed.now plans.now.taxi (map regulation_of regulations.now) plans.now.plans told.old.items }
+    requires quiet { AreQuietBut changed.now plans.now.taxi
+        (map regulation_of regulations.now) plans.now.plans told.old.items }
     requires marked { AreMarked words.now regulations.now }
     ensures told { told.new.items
         ≡ told_from 1 plans.now.taxi (map regulation_of regulations.now) plans.now.plans told.old.items }
     ensures notices { notices.new.items
-        ≡ notices.old.items ++ notices_from 1 plans.now.taxi (map regulation_of regulations.now) plans.now.plans told.old.items }
+        ≡ notices.old.items ++ notices_from 1 plans.now.taxi
+        (map regulation_of regulations.now) plans.now.plans told.old.items }
     ensures quiet { AllQuiet plans.now.taxi (map regulation_of regulations.now) plans.now.plans told.new.items }
     ensures each { length told.new.items ≡ length plans.now.plans }
     ensures few { length notices.new.items ≤ length notices.old.items + length changed.now }

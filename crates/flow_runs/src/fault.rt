@@ -27,7 +27,8 @@ pub enum RunFault {
 pub(crate) fn why_no_frame(fault: IntakeFault) -> RunFault
     ensures read { result ≡ RunFault.Read → fault ≡ IntakeFault.Read }
     ensures much { result ≡ RunFault.TooMuch → fault ≡ IntakeFault.TooMuch }
-    ensures others { (result ≢ RunFault.Write) × (result ≢ RunFault.BadJournal) × (result ≢ RunFault.BadFeeders) × (result ≢ RunFault.NoReader) × (result ≢ RunFault.NotStarted) }
+    ensures others { (result ≢ RunFault.Write) × (result ≢ RunFault.BadJournal) × (result ≢ RunFault.BadFeeders)
+        × (result ≢ RunFault.NoReader) × (result ≢ RunFault.NotStarted) }
 {
     match fault {
         IntakeFault::Read => RunFault::Read,
@@ -39,7 +40,8 @@ pub(crate) fn why_no_frame(fault: IntakeFault) -> RunFault
 pub(crate) fn why_no_journal(fault: JournalFault) -> RunFault
     ensures read { result ≡ RunFault.Read → fault ≡ JournalFault.Read }
     ensures bad { result ≡ RunFault.BadJournal → fault ≡ JournalFault.NotAJournal }
-    ensures others { (result ≢ RunFault.TooMuch) × (result ≢ RunFault.Write) × (result ≢ RunFault.BadFeeders) × (result ≢ RunFault.NoReader) × (result ≢ RunFault.NotStarted) }
+    ensures others { (result ≢ RunFault.TooMuch) × (result ≢ RunFault.Write) × (result ≢ RunFault.BadFeeders)
+        × (result ≢ RunFault.NoReader) × (result ≢ RunFault.NotStarted) }
 {
     match fault {
         JournalFault::Read => RunFault::Read,
@@ -52,7 +54,8 @@ pub(crate) fn why_no_journal(fault: JournalFault) -> RunFault
 pub(crate) fn why_no_desk(fault: DeskFault) -> RunFault
     requires { fault ≢ DeskFault.Feeders }
     ensures beyond { result ≡ RunFault.BadFeeders → (n : ℕ) × (fault ≡ DeskFault.FeederBeyond n) }
-    ensures others { (result ≢ RunFault.Read) × (result ≢ RunFault.TooMuch) × (result ≢ RunFault.Write) × (result ≢ RunFault.BadJournal) × (result ≢ RunFault.NotStarted) }
+    ensures others { (result ≢ RunFault.Read) × (result ≢ RunFault.TooMuch) × (result ≢ RunFault.Write)
+        × (result ≢ RunFault.BadJournal) × (result ≢ RunFault.NotStarted) }
 {
     match fault {
         DeskFault::Feeders => unreachable!(),

@@ -1,5 +1,6 @@
 //! Runs the feeders of a desk over their feeds, and closes it.
-ghost use Rattle.std.specs.Prelude.{◌≡◌, ◌≢◌, ◌<◌, ◌≤◌, ◌+◌, ◌⊎◌, ◌++◌, [], None, Some, length, map, vec_len, vec_capacity, IfOk, IfErr, IfNone, IfSome, OnOk};
+ghost use Rattle.std.specs.Prelude.{◌≡◌, ◌≢◌, ◌<◌, ◌≤◌, ◌+◌, ◌⊎◌, ◌++◌, [], None, Some, length, map, vec_len};
+ghost use Rattle.std.specs.Prelude.{vec_capacity, IfOk, IfErr, IfNone, IfSome, OnOk};
 ghost use Rattle.std.specs.List.{All};
 ghost use Rattle.flow_core.specs.History.{state_of};
 ghost use Rattle.flow_desk.specs.Histories.{after};
@@ -46,7 +47,8 @@ fn fault_of(end: End) -> Option<RunFault>
 fn worse(fault: Option<RunFault>, other: Option<RunFault>) -> Option<RunFault>
     ensures none { result ≡ None → (fault ≡ None) × (other ≡ None) }
     ensures one { (result ≡ fault) ⊎ (result ≡ other) }
-    ensures memory { result ≢ Some RunFault.OutOfMemory → (fault ≢ Some RunFault.OutOfMemory) × (other ≢ Some RunFault.OutOfMemory) }
+    ensures memory { result ≢ Some RunFault.OutOfMemory
+        → (fault ≢ Some RunFault.OutOfMemory) × (other ≢ Some RunFault.OutOfMemory) }
 {
     match fault {
         None => other,
@@ -62,7 +64,8 @@ fn worse(fault: Option<RunFault>, other: Option<RunFault>) -> Option<RunFault>
 fn stop_among<N: Name, A: Allocator + Copy>(dones: &[Done<N, A>]) -> Option<RunFault>
     ensures none { IfNone result (All (λ d. EndsWell d.end) dones.now) }
     ensures kinds { IfSome result (λ e. (e ≡ RunFault.OutOfMemory) ⊎ (e ≡ RunFault.NotStarted)) }
-    ensures memory { result ≢ Some RunFault.OutOfMemory → All (λ d. d.end ≢ End.Stopped StepFault.OutOfMemory) dones.now }
+    ensures memory { result ≢ Some RunFault.OutOfMemory
+        → All (λ d. d.end ≢ End.Stopped StepFault.OutOfMemory) dones.now }
 {
     let mut stop = None;
     for done in dones {
@@ -88,7 +91,8 @@ fn take_passes<N: Name, A: Allocator + Copy>(
     passes.push_reserved(done.pass);
 }
 
-/// Opens the desk, runs its feeders over their feeds, and closes it. Where memory is refused before any feed is begun nothing was filed.
+/// Opens the desk, runs its feeders over their feeds, and closes it. Where memory is refused before any feed is begun
+/// nothing was filed.
 pub(crate) fn file_all<
     N: Name + Send + Sync,
     Q: Wait + Drop + Send,
@@ -105,7 +109,8 @@ pub(crate) fn file_all<
     requires named { (blank.book ≡ N.book) × (blank.setup ≡ N.setup) × (blank.feeders ≡ N.feeders) }
     requires some { 0 < N.feeders }
     requires each { length feeds.items ≡ N.feeders }
-    ensures filed { IfOk result (λ f. HasFiled N.setup blank.entries N.feeders (map (λ v. v.items) feeds.items) f.core f.stop) }
+    ensures filed { IfOk result (λ f. HasFiled N.setup blank.entries N.feeders
+        (map (λ v. v.items) feeds.items) f.core f.stop) }
     ensures stops { IfOk result (λ f. IfSome f.stop (λ e. (e ≡ RunFault.OutOfMemory) ⊎ (e ≡ RunFault.NotStarted))) }
     ensures fault { IfErr result (λ e. e ≡ RunFault.OutOfMemory) }
 {

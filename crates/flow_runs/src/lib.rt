@@ -1,5 +1,5 @@
-//! Runs with many feeders: an input is read whole, its filings are dealt to the feeders in turn, these file at the same time, and then
-//! all is answered in the order of the journal.
+//! Runs with many feeders: an input is read whole, its filings are dealt to the feeders in turn, these file at the same
+//! time, and then all is answered in the order of the journal.
 #![tactic(auto)]
 
 mod answers;

@@ -1,5 +1,6 @@
 //! The slot that a flight holds.
-ghost use Rattle.std.specs.Prelude.{◌≡◌, ◌<◌, ◌≤◌, ◌-◌, ◌^◌, ◌↔◌, ℕ, None, Some, IsSome, IsTrue, length, slice_index_or};
+ghost use Rattle.std.specs.Prelude.{◌≡◌, ◌<◌, ◌≤◌, ◌-◌, ◌^◌, ◌↔◌, ℕ, None, Some, IsSome, IsTrue, length};
+ghost use Rattle.std.specs.Prelude.{slice_index_or};
 ghost use Rattle.std.specs.List.{All};
 
 use std::marker::Model;

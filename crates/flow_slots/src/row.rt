@@ -1,6 +1,7 @@
 //! The row of slots beside the places of its flights: for each flight, by its number, the slot in which it stands.
 //! Each change here keeps both in step.
-ghost use Rattle.std.specs.Prelude.{◌≡◌, ℕ, [], ◌+◌, ◌<◌, ◌≤◌, ◌++◌, true, length, take, drop, vec_len, IfOk, IsSome, None, replicate, ◌-◌, ◌^◌};
+ghost use Rattle.std.specs.Prelude.{◌≡◌, ℕ, [], ◌+◌, ◌<◌, ◌≤◌, ◌++◌, true, length, take, drop, vec_len, IfOk, IsSome};
+ghost use Rattle.std.specs.Prelude.{None, replicate, ◌-◌, ◌^◌};
 ghost use Rattle.flow_slots.specs.Changed.{gained};
 ghost use Rattle.flow_slots.specs.Period.{first_slot};
 ghost use Rattle.flow_slots.specs.Lineup.{IsKept, MayFill};
@@ -50,8 +51,8 @@ impl<A: Allocator + Copy> Row<A> {
         }
     }
 
-    /// The first number from this one on of a flight that stands in a slot. Where no later one does, the first number after
-    /// all, or `from` where that is later.
+    /// The first number from this one on of a flight that stands in a slot. Where no later one does, the first number
+    /// after all, or `from` where that is later.
     pub(crate) fn next_placed(&self, from: u32) -> u32
         requires { vec_len self.now.places < 2 ^ 32 }
         ensures from { from ≤ result }
@@ -89,8 +90,8 @@ impl<A: Allocator + Copy> Row<A> {
         self.cells = Cells::from_made(displace(cells, self.places.as_mut_slice(), k, flight));
     }
 
-    /// Takes flights, which stand in the order, into an empty row: each gets the later of the first slot of its entry and the
-    /// slot after that of the flight before it.
+    /// Takes flights, which stand in the order, into an empty row: each gets the later of the first slot of its entry
+    /// and the slot after that of the flight before it.
     pub(crate) fn fill(&mut self, shape: &FirstSlots<A>, flights: &[Planned])
         requires kept { IsKept shape.now (length self.old.places.items - 1) self.old.cells.row self.old.places.items }
         requires may { MayFill flights.now (record {

@@ -1,7 +1,8 @@
 //! The period of a regulation with its rates: which times its slots have, and which of them is the first not before
 //! an entry.
 ghost use Rattle.std.specs.Prelude.{◌≡◌, ℕ, ◌+◌, ◌-◌, ◌*◌, ◌<◌, ◌≤◌, ◌↔◌, IsSome, IfSome, IsTrue, length};
-ghost use Rattle.flow_slots.specs.Period.{Period, IsRegular, IsWithin, AreSubperiods, slots_in, time_from, first_from, slot_time, first_slot, slots_before_end, IsFirstSlot};
+ghost use Rattle.flow_slots.specs.Period.{Period, IsRegular, IsWithin, AreSubperiods, slots_in, time_from, first_from};
+ghost use Rattle.flow_slots.specs.Period.{slot_time, first_slot, slots_before_end, IsFirstSlot};
 
 use fpl_text::{Minute, Part};
 use std::marker::Model;

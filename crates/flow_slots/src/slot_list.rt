@@ -5,7 +5,8 @@ ghost use Rattle.flow_slots.specs.Changed.{moved_flights};
 ghost use Rattle.flow_slots.specs.Delay.{HasLeastDelay, Rise, waiting_slots};
 ghost use Rattle.flow_slots.specs.FirstServed.{IsFirstServed};
 ghost use Rattle.flow_slots.specs.Row.{flight_at};
-ghost use Rattle.flow_slots.specs.Lineup.{len_of, held_slot, held_flight, fixed_slot, with_waiting, with_fixed, without_flight, fixed_at, IsLineup, waiting_entry, with_all_waiting, MayFill};
+ghost use Rattle.flow_slots.specs.Lineup.{len_of, held_slot, held_flight, fixed_slot, with_waiting, with_fixed};
+ghost use Rattle.flow_slots.specs.Lineup.{without_flight, fixed_at, IsLineup, waiting_entry, with_all_waiting, MayFill};
 ghost use Rattle.flow_slots.specs.LineupLaws.{IsSound};
 
 use crate::cell::{Cell, Planned};
@@ -60,7 +61,10 @@ impl<A: Allocator + Copy> SlotList<A> {
         requires some { 0 < max_plans }
         requires most { max_plans ≤ 20000 }
         ensures { IfOk result
-            (λ s. s ≡ record { lineup = record { period = shape; capacity = max_plans; waiting = []; fixed = [] }; writes = 0 }) }
+            (λ s. s ≡ record {
+              lineup = record { period = shape; capacity = max_plans; waiting = []; fixed = [] };
+              writes = 0;
+            }) }
     {
         let row = Row::new(alloc, shape.slots_before_end() + max_plans, max_plans)?;
         let first_slots = FirstSlots::new(alloc, shape)?;
@@ -128,8 +132,8 @@ impl<A: Allocator + Copy> SlotList<A> {
         self.row.place(flight)
     }
 
-    /// The first number from this one on of a flight that is held. Where no later one is, the first number after `max_plans`, or
-    /// `from` where that is later.
+    /// The first number from this one on of a flight that is held. Where no later one is, the first number after
+    /// `max_plans`, or `from` where that is later.
     pub fn next_held(&self, from: u32) -> u32
         ensures from { from ≤ result }
         ensures passed { (f : ℕ) → from ≤ f → f < result → held_slot self.now.lineup f ≡ None }
@@ -192,10 +196,10 @@ impl<A: Allocator + Copy> SlotList<A> {
         self.row.displace(from, Planned { entry, flight });
     }
 
-    /// Takes flights into a list that holds none, in one pass. They stand in the order of their entries, ties by the lower number,
-    /// none twice; their numbers are from 1 to `max_plans`, and their entries lie in the period. All of them wait then, as if they
-    /// had been inserted one by one: each takes the later of the first slot not before its entry and the slot after that of the
-    /// flight before it. A flight costs one write.
+    /// Takes flights into a list that holds none, in one pass. They stand in the order of their entries, ties by the
+    /// lower number, none twice; their numbers are from 1 to `max_plans`, and their entries lie in the period. All of
+    /// them wait then, as if they had been inserted one by one: each takes the later of the first slot not before its
+    /// entry and the slot after that of the flight before it. A flight costs one write.
     pub fn fill(&mut self, flights: &[Planned])
         requires { MayFill flights.now self.old.lineup }
         ensures lineup { self.new.lineup ≡ with_all_waiting flights.now self.old.lineup }

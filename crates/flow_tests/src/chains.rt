@@ -285,8 +285,8 @@ fn answer(
     Ok(post(rt.alloc(), store, &text, now))
 }
 
-/// Hands the message that a number stands for to a store and to the list, which must answer alike. Half of the accepted ones are
-/// taken back at once.
+/// Hands the message that a number stands for to a store and to the list, which must answer alike. Half of the accepted
+/// ones are taken back at once.
 fn step(
     rt: &(impl AllocGlobal + Abort),
     store: &mut PlanStore,
@@ -323,7 +323,8 @@ fn stands(store: &PlanStore, number: u32, flight: Flight) -> bool {
     }
 }
 
-/// Some messages to a store of their own and to a list, after which both must hold the same plans. Answers the next number.
+/// Some messages to a store of their own and to a list, after which both must hold the same plans. Answers the next
+/// number.
 fn row(rt: &(impl AllocGlobal + Abort), first: u32) -> Result<u32, AllocError> {
     let now = moment(rt, b"2409010500");
     let mut store = PlanStore::new(rt.alloc(), &setup(rt, 1000));

@@ -25,7 +25,8 @@ pub(crate) fn setup(rt: &impl Abort, max_plans: u32) -> Setup {
     Setup::new(moment(rt, b"2409010500"), 10, max_plans, 1000).expect(rt, "a setup")
 }
 
-/// What the store answers to a text. Another text than a message of a plan, and want of memory for its reading, are None.
+/// What the store answers to a text. Another text than a message of a plan, and want of memory for its reading, are
+/// None.
 pub(crate) fn post<A: Allocator + Copy>(
     alloc: A,
     store: &mut PlanStore<A>,

@@ -1,5 +1,5 @@
-//! A worked example of 2024-09-01: arrivals regulated from 10:00 to 12:00, twenty an hour, with one flight that enters at
-//! 10:04 and leaves its stand at 08:00.
+//! A worked example of 2024-09-01: arrivals regulated from 10:00 to 12:00, twenty an hour, with one flight that enters
+//! at 10:04 and leaves its stand at 08:00.
 
 ghost use Rattle.std.specs.Prelude.{◌≡◌, ◌<◌, ◌≤◌, length};
 

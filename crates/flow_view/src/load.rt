@@ -110,7 +110,8 @@ fn load_at(shape: &Shape, rows: &[SlotRow], step: u32, index: u32) -> Load
     requires some { 0 < step }
     requires within { step * index < shape.now.end - shape.now.start }
     requires long { step ≤ 1440 }
-    ensures { result ≡ load_in shape.now rows.now (shape.now.start + step * index) (min (shape.now.start + step * index + step) shape.now.end) }
+    ensures { result ≡ load_in shape.now rows.now (shape.now.start + step * index)
+        (min (shape.now.start + step * index + step) shape.now.end) }
 {
     let (start, end) = shape.period();
     let from = start.minutes() + step * index;

@@ -35,7 +35,8 @@ pub fn row_at<A: Allocator + Copy>(
     slot: u32,
 ) -> Option<SlotRow>
     requires { slot < len_of list.now.lineup }
-    ensures { result ≡ option_map (λ f. row_of core.now.setup.taxi (state_of core.now).traffic spot.now list.now.lineup (record { flight = f; slot = slot })) (held_flight list.now.lineup slot) }
+    ensures { result ≡ option_map (λ f. row_of core.now.setup.taxi (state_of core.now).traffic spot.now list.now.lineup
+        (record { flight = f; slot = slot })) (held_flight list.now.lineup slot) }
 {
     let Some(plan) = list.holder(slot) else {
         return None;

@@ -4,7 +4,8 @@ ghost use Rattle.fpl_items.specs.Places.{name_of};
 
 use crate::places::name_of;
 
-/// The elapsed time to a place of the way. The place stands in the note itself, which is told without a look at the field.
+/// The elapsed time to a place of the way. The place stands in the note itself, which is told without a look at the
+/// field.
 #[derive(Clone, Copy, Debug)]
 pub struct Estimate {
     /// The place: its bytes, zeros up to the eleventh, and how many bytes it has.

@@ -1,6 +1,7 @@
 //! The items of field 18.
 
-ghost use Rattle.std.specs.Prelude.{◌≡◌, ◌≤◌, ◌==◌, ◌&&◌, ◌∷◌, ◌++◌, [], nat_le, nat_lt, List, ℕ, true, IsTrue, length, take, slice_index, MatchOption, IfSome};
+ghost use Rattle.std.specs.Prelude.{◌≡◌, ◌≤◌, ◌==◌, ◌&&◌, ◌∷◌, ◌++◌, [], nat_le, nat_lt, List, ℕ, true, IsTrue, length};
+ghost use Rattle.std.specs.Prelude.{take, slice_index, MatchOption, IfSome};
 ghost use Rattle.std.specs.Iterator.{YieldsFirst, YieldsFirstRef, item_count};
 ghost use Rattle.std.specs.List.{prefix_len};
 ghost use Rattle.fpl_text.specs.Bytes.{is_letter, is_letter_or_digit};
@@ -120,14 +121,15 @@ fn skip_to_stroke(words: &mut Words<'_>)
     words.skip_to(b'/');
 }
 
-/// Takes the next item off the words, and passes over those before it. Most items follow on the first word of the one before
-/// them, so a stroke is searched for only where the next word begins no item.
+/// Takes the next item off the words, and passes over those before it. Most items follow on the first word of the one
+/// before them, so a stroke is searched for only where the next word begins no item.
 #[inline(always)]
 fn next_item<'a>(words: &mut Words<'a>) -> Option<Item<'a>>
     ensures { MatchOption result ((items_of words.old ≡ []) × (words.new ≡ []))
         (λ item. items_of words.old ≡ item ∷ items_of words.new) }
 {
-    // The words that are left stay in registers: an item that took them from where they were just written would wait for that.
+    // The words that are left stay in registers: an item that took them from where they were just written would wait
+    // for that.
     let mut left = words.duplicate();
     'words: while let Some(measured) = left.next_measured() {
         if begins_item(&measured) {

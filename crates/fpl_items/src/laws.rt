@@ -7,16 +7,16 @@ ghost use Rattle.fpl_items.specs.Items.{Item, items_of, items_or_fault};
 ghost use Rattle.fpl_items.specs.Routes.{Path, path_or_fault};
 ghost use Rattle.fpl_items.specs.RouteLaws.{AreElements, AreInOrder};
 
-/// The elements of a route are the words behind its first one, each with its place in the field and the first kind that fits,
-/// in the order in which they stand.
+/// The elements of a route are the words behind its first one, each with its place in the field and the first kind that
+/// fits, in the order in which they stand.
 pub fn elements_are_words()
     ensures words { (field : List ℕ) (path : Path) → path_or_fault field ≡ Ok path
         → AreElements field (drop 1 (words_of field)) path.elements }
     ensures order { (field : List ℕ) (path : Path) → path_or_fault field ≡ Ok path → AreInOrder 0 path.elements }
 {}
 
-/// The items of field 18 make up its words: each is spelled by the word that begins it, with a stroke behind its name, and by
-/// the words up to the next one. No other list of items is spelled by these words. A field that is 0 has none.
+/// The items of field 18 make up its words: each is spelled by the word that begins it, with a stroke behind its name,
+/// and by the words up to the next one. No other list of items is spelled by these words. A field that is 0 has none.
 pub fn items_are_words()
     ensures found { (words : List (List ℕ)) → BeginWithItem words → SpellItems (items_of words) words }
     ensures only { (items : List Item) (words : List (List ℕ)) → SpellItems items words → items_of words ≡ items }

@@ -1,7 +1,7 @@
 //! Which places there may be estimates for.
 //!
-//! Each place has one of 64 bits. A set of places is kept by the bits of those in it: where the bit of a place isn't set, the
-//! place isn't in the set.
+//! Each place has one of 64 bits. A set of places is kept by the bits of those in it: where the bit of a place isn't
+//! set, the place isn't in the set.
 ghost use Rattle.std.specs.Prelude.{◌≡◌, ◌<◌, ◌≤◌, true, List, ℕ, length};
 ghost use Rattle.fpl_items.specs.Places.{bit_of, may_have, name_of};
 

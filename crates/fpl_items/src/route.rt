@@ -4,7 +4,9 @@ ghost use Rattle.std.specs.Prelude.{◌≡◌, ◌≤◌, ◌<◌, ◌+◌, [], 
 ghost use Rattle.std.specs.List.{list_all, prefix_len};
 ghost use Rattle.fpl_text.specs.Bytes.{is_letter, is_letter_or_digit};
 ghost use Rattle.fpl_items.specs.Routes.{path_or_fault, is_route, elements_of, total_len, Gives};
-ghost use Rattle.fpl_items.specs.Kinds.{is_name, is_coordinate, is_point, is_change, is_climb_range, is_climb_speed, is_climb_from, is_climb, is_designator, is_route_byte, kind_of, before_stroke, height_len};
+ghost use Rattle.fpl_items.specs.Kinds.{is_name, is_coordinate, is_point, is_change, is_climb_range, is_climb_speed};
+ghost use Rattle.fpl_items.specs.Kinds.{is_climb_from, is_climb, is_designator, is_route_byte, kind_of, before_stroke};
+ghost use Rattle.fpl_items.specs.Kinds.{height_len};
 
 use crate::fault::ItemFault;
 use crate::speed::{is_height, is_speed, is_speed_and_level, speed_and_level, speed_len};
@@ -261,8 +263,8 @@ fn kind_of(measured: &Measured<'_>) -> Option<Kind>
     kind_with_other(measured.word)
 }
 
-/// The elements that words are, of which the first stands at `start`, in an empty list that has room for them. None where a word
-/// has no kind. Takes no memory.
+/// The elements that words are, of which the first stands at `start`, in an empty list that has room for them. None
+/// where a word has no kind. Takes no memory.
 fn elements_in<A: Allocator + Copy>(
     room: Vec<Element, A>,
     start: usize,
@@ -271,7 +273,8 @@ fn elements_in<A: Allocator + Copy>(
     requires empty { room.items ≡ [] }
     requires room { length words ≤ vec_capacity room }
     requires fits { start + total_len words ≤ usize.MAX }
-    ensures { MatchOption result (elements_of start words.entry ≡ None) (λ v. elements_of start words.entry ≡ Some v.items) }
+    ensures { MatchOption result (elements_of start words.entry ≡ None)
+        (λ v. elements_of start words.entry ≡ Some v.items) }
 {
     let mut elements = room;
     let mut from = start;
@@ -305,8 +308,8 @@ fn all_routed(mut words: Words<'_>) -> bool
     true
 }
 
-/// Whether field 15 can be read: a speed and a level, and words of letters, digits and strokes, since a word of these has a
-/// kind. Its elements are told by `Route::read`, which takes memory for them.
+/// Whether field 15 can be read: a speed and a level, and words of letters, digits and strokes, since a word of these
+/// has a kind. Its elements are told by `Route::read`, which takes memory for them.
 pub fn is_route(field: &[u8]) -> bool
     ensures { result ≡ is_route field.now }
 {

@@ -1,7 +1,8 @@
 //! Speeds and levels.
 
 ghost use Rattle.std.specs.Prelude.{◌≡◌, ◌<◌, ◌≤◌, ◌+◌, IsTrue, Some, None, if◌then◌else◌, take, drop, length};
-ghost use Rattle.fpl_items.specs.Speeds.{is_letter_and_digits, is_speed, is_height, is_level, is_speed_and_level, speed_len};
+ghost use Rattle.fpl_items.specs.Speeds.{is_letter_and_digits, is_speed, is_height, is_level, is_speed_and_level};
+ghost use Rattle.fpl_items.specs.Speeds.{speed_len};
 
 use fpl_text::Text;
 use fpl_text::byte::all_digits;

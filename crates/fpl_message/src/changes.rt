@@ -3,7 +3,9 @@ ghost use Rattle.std.specs.Prelude.{◌≡◌, ◌≢◌, Err, ◌≤◌, ◌<�
 ghost use Rattle.fpl_text.specs.Fields.{begins_amendment};
 ghost use Rattle.fpl_message.specs.Refusals.{Gives};
 ghost use Rattle.fpl_message.specs.Messages.{field};
-ghost use Rattle.fpl_message.specs.Modifications.{amended_number, amended_text, amend_rules, amend_craft, amend_equipment, amend_departure, amend_route, amend_destination, amend_other, amend_numbered, amend, amended, unamended};
+ghost use Rattle.fpl_message.specs.Modifications.{amended_number, amended_text, amend_rules, amend_craft};
+ghost use Rattle.fpl_message.specs.Modifications.{amend_equipment, amend_departure, amend_route, amend_destination};
+ghost use Rattle.fpl_message.specs.Modifications.{amend_other, amend_numbered, amend, amended, unamended};
 ghost use Rattle.fpl_message.specs.KeptChanges.{kept, StandAmong};
 
 use crate::fault::Fault;

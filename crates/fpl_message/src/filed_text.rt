@@ -37,8 +37,8 @@ impl<A: Allocator + Copy> FiledText<A> {
         }
     }
 
-    /// Copies these bytes over those that were there. The memory grows to just their length where it is too small; if that is
-    /// refused, there are no bytes.
+    /// Copies these bytes over those that were there. The memory grows to just their length where it is too small; if
+    /// that is refused, there are no bytes.
     pub(crate) fn renew(&mut self, edition: Edition, bytes: &[u8]) -> Result<(), AllocError>
         requires { length bytes.now ≤ 2000 }
         ensures ok { OnOk result (self.new ≡ record { edition = edition; bytes = bytes.now }) }

@@ -72,13 +72,14 @@ impl<A: Allocator + Copy> Filing<A> {
         Ok(filing)
     }
 
-    /// Reads other bytes by the rules of today, in the memory of this filing, in place of what it was. After TooLong nothing has
-    /// changed; after OutOfMemory it is a filing of no bytes.
+    /// Reads other bytes by the rules of today, in the memory of this filing, in place of what it was. After TooLong
+    /// nothing has changed; after OutOfMemory it is a filing of no bytes.
     pub fn renew(&mut self, alloc: A, bytes: &[u8]) -> Result<(), FilingFault>
         ensures value { OnOk result (self.new ≡ record { edition = Edition.Second; bytes = bytes.now }) }
         ensures long { IsErrOf result FilingFault.TooLong ↔ (2000 < length bytes.now) }
         ensures same { IsErrOf result FilingFault.TooLong → self.new ≡ self.old }
-        ensures none { IsErrOf result FilingFault.OutOfMemory → self.new ≡ record { edition = Edition.Second; bytes = [] } }
+        ensures none { IsErrOf result FilingFault.OutOfMemory
+            → self.new ≡ record { edition = Edition.Second; bytes = [] } }
     {
         self.renew_as(alloc, Edition::Second, bytes)
     }
@@ -94,7 +95,8 @@ impl<A: Allocator + Copy> Filing<A> {
         }
     }
 
-    /// Reads other bytes by the rules of that edition. What the last ones said is let go first, so that its memory serves too.
+    /// Reads other bytes by the rules of that edition. What the last ones said is let go first, so that its memory
+    /// serves too.
     fn renew_as(&mut self, alloc: A, edition: Edition, bytes: &[u8]) -> Result<(), FilingFault>
         ensures value { OnOk result (self.new ≡ record { edition = edition; bytes = bytes.now }) }
         ensures long { IsErrOf result FilingFault.TooLong ↔ (2000 < length bytes.now) }

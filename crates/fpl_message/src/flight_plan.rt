@@ -116,7 +116,8 @@ impl<A: Allocator + Copy> Fpl<A> {
         &self.departure
     }
 
-    /// Field 15: the route, read anew at each call, since a desk never asks for it. It is right: no fault comes but want of memory.
+    /// Field 15: the route, read anew at each call, since a desk never asks for it. It is right: no fault comes but
+    /// want of memory.
     pub fn route<B: Allocator + Copy>(&self, alloc: B) -> Result<Route<B>, ItemFault>
         ensures ok { IfOk result (λ route. path_or_fault (field self.now.fields 6) ≡ Ok route) }
         ensures err { IfErr result (λ fault. fault ≡ ItemFault.OutOfMemory) }

@@ -16,8 +16,8 @@ use fpl_text::{Departure, Destination, Fields, Rules};
 use std::alloc::{Allocator, Global};
 use std::marker::Model;
 
-/// A modification: the plan that it is about, and the amended fields, each at most once. A field that it does not amend is
-/// None.
+/// A modification: the plan that it is about, and the amended fields, each at most once. A field that it does not amend
+/// is None.
 #[derive(Drop)]
 pub struct Chg<A: Allocator + Copy = Global> {
     fields: Fields<A>,

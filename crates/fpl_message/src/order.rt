@@ -2,7 +2,8 @@
 ghost use Rattle.std.specs.Prelude.{◌≡◌, length, codes};
 ghost use Rattle.fpl_items.specs.Kinds.{is_text};
 ghost use Rattle.fpl_message.specs.Refusals.{Gives};
-ghost use Rattle.fpl_message.specs.Orders.{is_regulation, is_way_point, regulation_of, way_point_of, aerodrome_of, spot_of, open_of, shut_of, time_of, order_or_refusal};
+ghost use Rattle.fpl_message.specs.Orders.{is_regulation, is_way_point, regulation_of, way_point_of, aerodrome_of};
+ghost use Rattle.fpl_message.specs.Orders.{spot_of, open_of, shut_of, time_of, order_or_refusal};
 ghost use Rattle.fpl_message.specs.SaidOrders.{said_order};
 
 use crate::fault::{Fault, boxed};
@@ -37,8 +38,8 @@ impl Spot {
     }
 }
 
-/// An order to open a regulation, in the form that it must have. Its limits are the desk's: that the period is 1 to 1,440
-/// minutes long, that its sub-periods rise within it, that a rate is at most 240.
+/// An order to open a regulation, in the form that it must have. Its limits are the desk's: that the period is 1 to
+/// 1,440 minutes long, that its sub-periods rise within it, that a rate is at most 240.
 #[derive(Drop)]
 pub struct OpenReg {
     /// The name of the regulation: a letter, and then at most 7 letters or digits.

@@ -17,8 +17,9 @@ use fpl_text::{Fields, Squeezed, Title};
 use std::alloc::{AllocError, Allocator};
 use std::mem::replace;
 
-/// Reads at most 2,000 bytes by the rules of an edition: what they say takes the place of another reading. They are squeezed in
-/// this room, which is there for the next text then, unless the message or a fault keeps it. Refused where memory is.
+/// Reads at most 2,000 bytes by the rules of an edition: what they say takes the place of another reading. They are
+/// squeezed in this room, which is there for the next text then, unless the message or a fault keeps it. Refused where
+/// memory is.
 #[tactic(auto, unfolding(crate::specs::Reads::reading_of))]
 pub(crate) fn read<A: Allocator + Copy>(
     alloc: A,
@@ -49,7 +50,8 @@ fn read_filed<A: Allocator + Copy>(
     bytes: &[u8],
 ) -> Result<(), Fault>
     requires { length bytes.now ≤ 2000 }
-    ensures { Gives (λ _. said reading.new) result (reading_or_refusal (record { edition = edition; bytes = bytes.now })) }
+    ensures { Gives (λ _. said reading.new) result
+        (reading_or_refusal (record { edition = edition; bytes = bytes.now })) }
 {
     let squeezed = squeezed(replace(room, Vec::new(alloc)), bytes)?;
     if !begins_message(squeezed.as_bytes()) {
@@ -95,8 +97,8 @@ fn begins_message(text: &[u8]) -> bool
     }
 }
 
-/// Reads the fields of a message. Those of a FPL and of a CHG stay in the message; the room of the others is left for the next
-/// text.
+/// Reads the fields of a message. Those of a FPL and of a CHG stay in the message; the room of the others is left for
+/// the next text.
 fn read_message<A: Allocator + Copy>(
     alloc: A,
     room: &mut Vec<u8, A>,

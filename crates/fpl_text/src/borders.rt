@@ -1,6 +1,7 @@
 //! Where the fields of a message stand.
 
-ghost use Rattle.std.specs.Prelude.{◌≡◌, ◌<◌, ◌≤◌, ◌+◌, length, false, not, slice_get, slice_range, Some, MatchOption, option_copied, ◌==◌};
+ghost use Rattle.std.specs.Prelude.{◌≡◌, ◌<◌, ◌≤◌, ◌+◌, length, false, not, slice_get, slice_range, Some, MatchOption};
+ghost use Rattle.std.specs.Prelude.{option_copied, ◌==◌};
 ghost use Rattle.std.specs.List.{list_all, position_or_len};
 ghost use Rattle.fpl_text.specs.Bytes.{is_border};
 ghost use Rattle.fpl_text.specs.Fields.{is_bracket};
@@ -40,8 +41,8 @@ impl Look {
     }
 }
 
-/// Where the first border from a place on stands, before `end`, behind which 16 more bytes stand; and the last look that was
-/// taken. The look before the search, `look`, has the byte at `from` or ends just before it.
+/// Where the first border from a place on stands, before `end`, behind which 16 more bytes stand; and the last look
+/// that was taken. The look before the search, `look`, has the byte at `from` or ends just before it.
 #[inline(always)]
 fn next_border(bytes: &[u8], look: Look, from: usize, end: usize) -> (usize, Look)
     requires room { end + 16 ≤ length bytes.now }
@@ -79,8 +80,8 @@ fn note(places: &mut ArrayVec<u16, 13>, count: usize, place: usize)
     }
 }
 
-/// Cuts what stands between two brackets at its hyphens, where it has no further bracket: the bytes from 1 to `end`, behind
-/// which 16 more stand.
+/// Cuts what stands between two brackets at its hyphens, where it has no further bracket: the bytes from 1 to `end`,
+/// behind which 16 more stand.
 pub(crate) fn borders_of(bytes: &[u8], end: usize) -> Option<Borders>
     requires room { end + 16 ≤ length bytes.now }
     requires some { 1 ≤ end }
@@ -114,8 +115,8 @@ fn scanned_part(text: &[u8], place: usize) -> Option<&[u8]>
 }
 
 impl Borders {
-    /// The part at that place of what has these borders. Only one beyond the noted borders has to be looked for, which no
-    /// message has that is accepted.
+    /// The part at that place of what has these borders. Only one beyond the noted borders has to be looked for, which
+    /// no message has that is accepted.
     pub(crate) fn part<'a>(&self, inside: &'a [u8], place: usize) -> &'a [u8]
         requires cut { IsCut inside.now self.now.places.items self.now.count }
         requires place { place < self.now.count }

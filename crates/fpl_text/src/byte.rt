@@ -2,7 +2,8 @@
 
 ghost use Rattle.std.specs.Prelude.{◌≡◌, ◌≤◌, length};
 ghost use Rattle.std.specs.List.{list_all, prefix_len};
-ghost use Rattle.fpl_text.specs.Bytes.{is_letter, is_digit, is_letter_or_digit, is_blank, is_border, is_other_mark, is_plain};
+ghost use Rattle.fpl_text.specs.Bytes.{is_letter, is_digit, is_letter_or_digit, is_blank, is_border, is_other_mark};
+ghost use Rattle.fpl_text.specs.Bytes.{is_plain};
 
 /// A letter, A to Z.
 #[tactic(auto, unfolding(crate::specs::Bytes::is_letter))]

@@ -4,7 +4,8 @@ ghost use Rattle.std.specs.Prelude.{◌≡◌, ◌≤◌, ◌<◌, ◌+◌, ◌-
 ghost use Rattle.std.specs.List.{prefix_len};
 ghost use Rattle.std.specs.Option.{ok_or};
 ghost use Rattle.fpl_text.specs.Bytes.{is_digit};
-ghost use Rattle.fpl_text.specs.Craft.{flight_rules_of, flight_kind_of, flight_kind_in, rules_of, wake_of, craft_number, is_craft_kind, craft_of};
+ghost use Rattle.fpl_text.specs.Craft.{flight_rules_of, flight_kind_of, flight_kind_in, rules_of, wake_of};
+ghost use Rattle.fpl_text.specs.Craft.{craft_number, is_craft_kind, craft_of};
 
 use crate::byte::{all_letters_or_digits, is_digit, is_letter};
 use crate::fault::FieldFault;
@@ -59,8 +60,8 @@ pub enum Wake {
     Super,
 }
 
-/// Field 9: number and type of aircraft, and wake turbulence category (ICAO Doc 4444, appendix 3, field type 9). The number
-/// stands where it is given, from 0 to 99.
+/// Field 9: number and type of aircraft, and wake turbulence category (ICAO Doc 4444, appendix 3, field type 9). The
+/// number stands where it is given, from 0 to 99.
 #[derive(Debug, Drop, PartialEq, Eq)]
 pub struct Craft {
     pub number: Option<u8>,
@@ -206,8 +207,8 @@ fn craft_of(text: &[u8]) -> Option<Craft>
 }
 
 impl Craft {
-    /// Reads field 9: nothing or 1 or 2 digits, a type of 2 to 4 letters or digits that begins with a letter, a stroke, and one of
-    /// L, M, H and J.
+    /// Reads field 9: nothing or 1 or 2 digits, a type of 2 to 4 letters or digits that begins with a letter, a stroke,
+    /// and one of L, M, H and J.
     pub fn read(field: &[u8]) -> Result<Craft, FieldFault>
         ensures { result ≡ ok_or (craft_of field.now) (FieldFault.BadField 9) }
     {

@@ -1,10 +1,12 @@
 //! The fields of a message.
 
-ghost use Rattle.std.specs.Prelude.{[], ◌≡◌, ◌<◌, List, ℕ, IsTrue, Some, length, slice_get, slice_index_or, MatchOption, IfOk, IfErr, Err, true, false};
+ghost use Rattle.std.specs.Prelude.{[], ◌≡◌, ◌<◌, List, ℕ, IsTrue, Some, length, slice_get, slice_index_or};
+ghost use Rattle.std.specs.Prelude.{MatchOption, IfOk, IfErr, Err, true, false};
 ghost use Rattle.fpl_text.specs.Words.{words_of};
 ghost use Rattle.fpl_text.specs.Squeezing.{Gives};
 ghost use Rattle.fpl_text.specs.Borders.{parts, IsCut, IsMessage};
-ghost use Rattle.fpl_text.specs.Fields.{stands_in_brackets, is_bracketed, inside, fields_of, first_field, title_of, begins_amendment, has_its_fields, fields_or_fault, split_or_fault};
+ghost use Rattle.fpl_text.specs.Fields.{stands_in_brackets, is_bracketed, inside, fields_of, first_field, title_of};
+ghost use Rattle.fpl_text.specs.Fields.{begins_amendment, has_its_fields, fields_or_fault, split_or_fault};
 
 use crate::borders::{Borders, borders_of};
 use crate::byte::is_digit;
@@ -185,8 +187,8 @@ impl<A: Allocator + Copy> Fields<A> {
 }
 
 impl<A: Allocator + Copy> Squeezed<A> {
-    /// Cuts the text at its hyphens into the fields of a message, or says why it is none: no pair of brackets round it, an
-    /// unknown title, a number of fields that the title does not have. Takes no memory.
+    /// Cuts the text at its hyphens into the fields of a message, or says why it is none: no pair of brackets round it,
+    /// an unknown title, a number of fields that the title does not have. Takes no memory.
     #[tactic(auto, unfolding(crate::specs::Fields::fields_of, crate::specs::Fields::fields_or_fault))]
     pub fn into_fields(self) -> Result<Fields<A>, TextFault>
         ensures { result ≡ fields_or_fault self }
@@ -200,8 +202,8 @@ impl<A: Allocator + Copy> Squeezed<A> {
     }
 }
 
-/// The fields of a message text, or its first fault: nothing but blanks, a byte that is not accepted, no pair of brackets round
-/// it, an unknown title, a number of fields that the title does not have.
+/// The fields of a message text, or its first fault: nothing but blanks, a byte that is not accepted, no pair of
+/// brackets round it, an unknown title, a number of fields that the title does not have.
 #[tactic(auto, unfolding(crate::specs::Fields::split_or_fault))]
 pub fn split<A: Allocator + Copy>(alloc: A, text: &[u8]) -> Result<Fields<A>, TextFault>
     ensures { Gives result (split_or_fault text.now) }

@@ -11,8 +11,8 @@ use crate::fault::FieldFault;
 use crate::fields::{Title, title_of};
 use crate::text::Text;
 
-/// Field 3: the title, the number of the message, and the number of the message to which it refers. The numbers are kept
-/// and have no effect (ICAO Doc 4444, appendix 3, field type 3).
+/// Field 3: the title, the number of the message, and the number of the message to which it refers. The numbers are
+/// kept and have no effect (ICAO Doc 4444, appendix 3, field type 3).
 #[derive(Debug, Drop, PartialEq, Eq)]
 pub struct Heading {
     pub title: Title,
@@ -116,8 +116,8 @@ fn heading_of(text: &[u8]) -> Option<Heading>
 }
 
 impl Heading {
-    /// Reads field 3: a title of three letters, and then nothing, a number, or a number and a reference. Both are 1 to 4 letters, a
-    /// stroke, 1 to 4 letters, and 3 digits.
+    /// Reads field 3: a title of three letters, and then nothing, a number, or a number and a reference. Both are 1 to
+    /// 4 letters, a stroke, 1 to 4 letters, and 3 digits.
     #[inline(always)]
     pub fn read(field: &[u8]) -> Result<Heading, FieldFault>
         ensures { result ≡ ok_or (heading_of field.now) (FieldFault.BadField 3) }

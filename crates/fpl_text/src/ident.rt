@@ -8,8 +8,8 @@ use crate::byte::leading_letters_or_digits;
 use crate::fault::FieldFault;
 use crate::text::Text;
 
-/// Field 7: an aircraft identification, and the SSR code of its transponder where it is given (ICAO Doc 4444, appendix 3, field
-/// type 7). The code's four digits 0 to 7 are an octal number. It is no part of a plan's key.
+/// Field 7: an aircraft identification, and the SSR code of its transponder where it is given (ICAO Doc 4444, appendix
+/// 3, field type 7). The code's four digits 0 to 7 are an octal number. It is no part of a plan's key.
 #[derive(Debug, Drop, PartialEq, Eq)]
 pub struct Ident {
     pub name: Text<7>,

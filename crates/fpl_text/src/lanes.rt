@@ -1,8 +1,10 @@
 //! Sixteen bytes at once.
 
-ghost use Rattle.std.specs.Prelude.{◌≡◌, ◌≤◌, ◌<◌, ◌+◌, ◌↔◌, ◌==◌, ◌&&◌, ◌||◌, if◌then◌else◌, nat_le, not, ℕ, Bool, true, false, length, slice_index, take, drop, count_by};
+ghost use Rattle.std.specs.Prelude.{◌≡◌, ◌≤◌, ◌<◌, ◌+◌, ◌↔◌, ◌==◌, ◌&&◌, ◌||◌, if◌then◌else◌, nat_le, not, ℕ, Bool};
+ghost use Rattle.std.specs.Prelude.{true, false, length, slice_index, take, drop, count_by};
 ghost use Rattle.std.specs.Int.{bit_at};
-ghost use Rattle.fpl_text.specs.Bytes.{is_blank, is_border, is_letter, is_digit, is_letter_or_digit, is_other_mark, is_plain};
+ghost use Rattle.fpl_text.specs.Bytes.{is_blank, is_border, is_letter, is_digit, is_letter_or_digit, is_other_mark};
+ghost use Rattle.fpl_text.specs.Bytes.{is_plain};
 ghost use Rattle.fpl_text.specs.Lanes.{HasLanes, HasFlags, behind, is_kept};
 
 use std::simd::prelude::*;
@@ -168,12 +170,13 @@ pub(crate) fn border_bits(v: u8x16) -> u64
     top_bits(border_lanes(v))
 }
 
-/// How many of the first lanes are kept by a pass, of which `plain` are plain bytes, behind a border or not; and whether the
-/// last of them is a border, or the byte before them all where none is kept.
+/// How many of the first lanes are kept by a pass, of which `plain` are plain bytes, behind a border or not; and
+/// whether the last of them is a border, or the byte before them all where none is kept.
 #[inline(always)]
 pub(crate) fn kept_front(plain: u8x16, borders: u8x16, blanks: u8x16, border: bool) -> (usize, bool)
     ensures bound { result.0 ≤ 16 }
-    ensures each { (p q r : ℕ → Bool) → HasFlags plain p → HasFlags borders q → HasFlags blanks r → (k : ℕ) → k < result.0 → is_kept border p q r k ≡ true }
+    ensures each { (p q r : ℕ → Bool) → HasFlags plain p → HasFlags borders q → HasFlags blanks r → (k : ℕ)
+        → k < result.0 → is_kept border p q r k ≡ true }
     ensures last { (q : ℕ → Bool) → HasFlags borders q → result.1 ≡ behind border q result.0 }
 {
     let plain = top_bits(plain);

@@ -34,8 +34,8 @@ pub fn moment_reads_back()
         → moment_of (day_digits (minute / 1440) ++ hhmm_of (minute % 1440)) ≡ Some minute }
 {}
 
-/// Squeezing keeps all bytes but blanks, in their order. Where blanks stood between two bytes of words one space is left,
-/// and where two bytes stood together they stay so.
+/// Squeezing keeps all bytes but blanks, in their order. Where blanks stood between two bytes of words one space is
+/// left, and where two bytes stood together they stay so.
 pub fn squeezing_keeps_the_words()
     ensures bytes { (text : List ℕ) → unblanked (squeezed text) ≡ unblanked text }
     ensures apart { (front gap rest : List ℕ) (x y : ℕ) → list_all is_blank gap ≡ true → 0 < length gap
@@ -45,16 +45,17 @@ pub fn squeezing_keeps_the_words()
         → KeepsPair (squeezed (front ++ (x ∷ (y ∷ rest)))) front rest [] x y }
 {}
 
-/// A squeezed text has no blanks but spaces, no two of them one after the other, and none at the ends or beside a hyphen
-/// or a bracket; squeezing leaves just these texts as they are, so a text that is squeezed twice is that squeezed once.
+/// A squeezed text has no blanks but spaces, no two of them one after the other, and none at the ends or beside a
+/// hyphen or a bracket; squeezing leaves just these texts as they are, so a text that is squeezed twice is that
+/// squeezed once.
 pub fn squeezing_ends()
     ensures squeezed { (text : List ℕ) → IsSqueezed (squeezed text) }
     ensures stays { (text : List ℕ) → IsSqueezed text ↔ (squeezed text ≡ text) }
     ensures again { (text : List ℕ) → squeezed (squeezed text) ≡ squeezed text }
 {}
 
-/// Field 3, and a message number in it, are exactly their parts one after the other: so these parts, joined again, are the
-/// field, and a text that they make is read as them.
+/// Field 3, and a message number in it, are exactly their parts one after the other: so these parts, joined again, are
+/// the field, and a text that they make is read as them.
 pub fn headings_are_their_parts()
     ensures field { (text : List ℕ) (heading : Heading) → (heading_of text ≡ Some heading) ↔ IsHeading text heading }
     ensures number { (text : List ℕ) → (is_number text ≡ true) ↔ IsMessageNumber text }

@@ -3,7 +3,8 @@
 ghost use Rattle.std.specs.Prelude.{◌≡◌, ◌<◌, ◌≤◌, ◌+◌, ◌-◌, ◌*◌, ◌%◌, ◌/◌, ℕ, pos, unsigned_abs};
 ghost use Rattle.jiff_core.specs.Calendar.{IsBetween};
 ghost use Rattle.jiff_core.specs.Date.{epoch_day};
-ghost use Rattle.fpl_text.specs.Moments.{minute_of, moment_of, moment_within, digit_pair, yymmdd_of, hhmm_of, day_digits, IsYymmdd};
+ghost use Rattle.fpl_text.specs.Moments.{minute_of, moment_of, moment_within, digit_pair, yymmdd_of, hhmm_of};
+ghost use Rattle.fpl_text.specs.Moments.{day_digits, IsYymmdd};
 
 use crate::date::read_date;
 use crate::day::Day;

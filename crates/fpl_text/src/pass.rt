@@ -1,6 +1,7 @@
 //! One pass over a text squeezes it.
 
-ghost use Rattle.std.specs.Prelude.{◌≡◌, ◌<◌, ◌≤◌, ◌+◌, ◌&&◌, ◌++◌, ◌∷◌, [], if◌then◌else◌, not, ℕ, List, true, false, length, take, slice_index, IfOk, IfErr, MatchOption, Ok, Err};
+ghost use Rattle.std.specs.Prelude.{◌≡◌, ◌<◌, ◌≤◌, ◌+◌, ◌&&◌, ◌++◌, ◌∷◌, [], if◌then◌else◌, not, ℕ, List, true, false};
+ghost use Rattle.std.specs.Prelude.{length, take, slice_index, IfOk, IfErr, MatchOption, Ok, Err};
 ghost use Rattle.fpl_text.specs.Squeezing.{squeezed_or_fault, blanks};
 ghost use Rattle.fpl_text.specs.Lanes.{HasLanes};
 ghost use Rattle.fpl_text.specs.Passes.{IsPass, StandsAt, gap, is_easy, border_behind, as_space};
@@ -87,7 +88,8 @@ fn pass_byte(text: &[u8], out: &mut [u8], pass: Pass) -> Option<Pass>
     })
 }
 
-/// Passes bytes one by one, up to one that is no blank, or to the end. The error is the place of one that is not accepted.
+/// Passes bytes one by one, up to one that is no blank, or to the end. The error is the place of one that is not
+/// accepted.
 fn pass_bytes(text: &[u8], out: &mut [u8], from: Pass) -> Result<Pass, usize>
     requires { IsPass text.now out.old from }
     ensures pass { IfOk result (λ to. IsPass text.now out.new to) }
@@ -125,8 +127,10 @@ struct Front {
 fn easy_front(bytes: &[u8], at: usize, border: bool) -> Front
     requires { at + 16 ≤ length bytes.now }
     ensures bound { result.count ≤ 16 }
-    ensures easy { (text : List ℕ) (place : ℕ) → StandsAt text place bytes.now at → (k : ℕ) → k < result.count → is_easy text place border k ≡ true }
-    ensures border { (text : List ℕ) (place : ℕ) → StandsAt text place bytes.now at → result.border ≡ border_behind text place border result.count }
+    ensures easy { (text : List ℕ) (place : ℕ) → StandsAt text place bytes.now at → (k : ℕ) → k < result.count
+        → is_easy text place border k ≡ true }
+    ensures border { (text : List ℕ) (place : ℕ) → StandsAt text place bytes.now at
+        → result.border ≡ border_behind text place border result.count }
     ensures lanes { HasLanes result.lanes (λ k. as_space (slice_index bytes.now (at + k))) }
 {
     let here = load(bytes, at);
@@ -139,9 +143,9 @@ fn easy_front(bytes: &[u8], at: usize, border: bool) -> Front
     }
 }
 
-/// Looks at the 16 bytes of a text from a place on, behind a border or not. The text stands in `out` too, behind 16 bytes more, where
-/// zeros follow it. Where 16 bytes are left, they are looked at in the text itself, since the processor waits for bytes that
-/// were stored in `out` just before.
+/// Looks at the 16 bytes of a text from a place on, behind a border or not. The text stands in `out` too, behind 16
+/// bytes more, where zeros follow it. Where 16 bytes are left, they are looked at in the text itself, since the
+/// processor waits for bytes that were stored in `out` just before.
 #[inline(always)]
 fn front_at(text: &[u8], out: &[u8], place: usize, border: bool) -> Front
     requires within { place ≤ length text.now }
@@ -186,8 +190,8 @@ fn pass_easy(text: &[u8], out: &mut [u8], from: Pass) -> Pass
     pass
 }
 
-/// Squeezes a text, which stands in `out` between two gaps, into the front of `out`. Gives how many bytes it has then, or the
-/// place of the first byte that is not accepted.
+/// Squeezes a text, which stands in `out` between two gaps, into the front of `out`. Gives how many bytes it has then,
+/// or the place of the first byte that is not accepted.
 pub(crate) fn squeeze(text: &[u8], out: &mut [u8]) -> Result<usize, usize>
     requires { out.old ≡ gap ++ (text.now ++ gap) }
     ensures empty { IfOk result (λ made. made ≡ 0 → squeezed_or_fault text.now ≡ Err Empty) }

@@ -12,8 +12,8 @@ use crate::words::Words;
 use arrayvec::ArrayVec;
 use std::marker::Model;
 
-/// Field 13: a departure aerodrome and a time (ICAO Doc 4444, appendix 3, field type 13): of off-block, or in a DEP of take-off.
-/// AFIL and ZZZZ stand for departures too.
+/// Field 13: a departure aerodrome and a time (ICAO Doc 4444, appendix 3, field type 13): of off-block, or in a DEP of
+/// take-off. AFIL and ZZZZ stand for departures too.
 #[derive(Debug, Drop, PartialEq, Eq)]
 pub struct Departure {
     pub place: Text<4>,
@@ -67,8 +67,8 @@ fn copied_places(places: &[Text<4>]) -> ArrayVec<Text<4>, 2>
     copies
 }
 
-/// Field 16: a destination, the total estimated elapsed time in minutes where it is given, and alternates (ICAO Doc 4444,
-/// appendix 3, field type 16). A flight plan has to give the time; other messages may leave it out.
+/// Field 16: a destination, the total estimated elapsed time in minutes where it is given, and alternates (ICAO Doc
+/// 4444, appendix 3, field type 16). A flight plan has to give the time; other messages may leave it out.
 #[derive(Debug, Drop, PartialEq, Eq)]
 pub struct Destination {
     pub place: Text<4>,
@@ -155,8 +155,8 @@ fn destination_of(field: &[u8]) -> Option<Destination>
 }
 
 impl Destination {
-    /// Reads field 16: four letters, then nothing or an elapsed time hhmm, which is at most 5,999 minutes, and then at most two
-    /// words of four letters.
+    /// Reads field 16: four letters, then nothing or an elapsed time hhmm, which is at most 5,999 minutes, and then at
+    /// most two words of four letters.
     pub fn read(field: &[u8]) -> Result<Destination, FieldFault>
         ensures value { result ≡ ok_or (destination_of field.now) (FieldFault.BadField 16) }
         ensures bound { IfOk result (λ destination. IfSome destination.elapsed (λ minutes. minutes < 6000)) }

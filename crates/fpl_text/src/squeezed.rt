@@ -45,8 +45,8 @@ fn between_gaps<A: Allocator + Copy>(
 }
 
 impl<A: Allocator + Copy> Squeezed<A> {
-    /// Squeezes a text in one pass over its bytes. A text of blanks alone is Empty; else the first byte that is not accepted is
-    /// BadByte.
+    /// Squeezes a text in one pass over its bytes. A text of blanks alone is Empty; else the first byte that is not
+    /// accepted is BadByte.
     pub fn read(alloc: A, text: &[u8]) -> Result<Self, TextFault>
         ensures { Gives result (squeezed_or_fault text.now) }
     {
