@@ -110,6 +110,23 @@ pub RanMany-all : (setup : Settings) (read : List Record) (feeders : ℕ) (journ
 RanMany-all setup read feeders journal None feeds count begun mid written core stop r h f none start a = tt
 RanMany-all setup read feeders journal (Some bytes) feeds count begun mid written core stop r h f none start a = RanMany-made setup read feeders journal (frames bytes) feeds count begun mid written core stop r h f start none a
 
+-- the answers were written, and then what stands after them, or how far that was
+pub answered-rest : {T : Type 0} (r : Result T RunFault) (stop : Option RunFault) (s : State) (read count : ℕ) (journal : Bool) (begun mid written : Option (List ℕ)) → stop ≡ None → Appends begun mid (answers s (drop read s.journal))
+    → IfErr r (λ e. (e ≡ fault.Write) ⊎ (e ≡ fault.OutOfMemory))
+    → (IsErrOf r fault.Write → AppendsFront mid written (end_lines s (count - (length s.journal - read)) journal))
+    → (IsErrOf r fault.OutOfMemory → Appends mid written (end_before_replay s (count - (length s.journal - read)) journal))
+    → IfErr r (λ e. AnsweredUntil e stop s read count journal begun written)
+answered-rest (Ok x) stop s read count journal begun mid written none told kinds write memory = tt
+answered-rest {T} (Err e) stop s read count journal begun mid written none told (inl is) write memory =
+    let failed : RunFault → Result T RunFault = λ z. Err z in
+    subst (λ (k : RunFault). AnsweredUntil k stop s read count journal begun written) (sym is)
+    (AppendsFront-both begun mid written (answers s (drop read s.journal)) (end_lines s (count - (length s.journal - read)) journal) (answers_and_end s read count journal) told (write (ap failed is)) refl)
+answered-rest {T} (Err e) stop s read count journal begun mid written none told (inr is) write memory =
+    let failed : RunFault → Result T RunFault = λ z. Err z in
+    let before : List ℕ = end_before_replay s (count - (length s.journal - read)) journal in
+    subst (λ (k : RunFault). AnsweredUntil k stop s read count journal begun written) (sym is)
+    (inr (none, Appends-both begun mid written (answers s (drop read s.journal)) before (answers s (drop read s.journal) ++ before) told (memory (ap failed is)) refl))
+
 -- ---- where a run ended with a fault
 
 if-some : {X : Type 0} {P Q : X → Type 0} (o : Option X) → ((x : X) → P x → Q x) → IfSome o P → IfSome o Q

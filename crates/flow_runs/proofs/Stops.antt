@@ -1,32 +1,11 @@
 -- The fault that feeds ended with, if one did.
-use Rattle.std.proofs.Common.{◌≡◌, ◌≢◌, ◌⊎◌, ℕ, zero, suc, ◌+◌, ◌<◌, List, [], ◌∷◌, length, map, Option, None, Some, Result, Ok, Err, refl, sym, ap, subst, inl, inr, arith}
-use Rattle.std.specs.Prelude.{IfNone, IfSome, OnOk, is_err, false}
+use Rattle.std.proofs.Common.{◌≡◌, ℕ, zero, suc, ◌+◌, ◌<◌, List, [], ◌∷◌, length, map, Option, None, Some, Result, Ok, Err, refl, sym, subst, arith}
+use Rattle.std.specs.Prelude.{IfNone, OnOk, is_err, false}
 use Rattle.std.specs.List.{All}
 use Rattle.std.proofs.lemmas.Option.{slice_get-get_or}
 use native.Mathlib.Decide.{ℕ_discrete}
 use lib.ListN.{get_or}
-use Rattle.flow_core.specs.declared.desk.StepFault.TheVariants as step
-use Rattle.flow_desk.specs.declared.feeders.End.{End}
-use Rattle.flow_desk.specs.declared.feeders.End.TheVariants.{Finished, Stopped, NotStarted}
 use Rattle.flow_runs.specs.declared.fault.RunFault.{RunFault}
-use Rattle.flow_runs.specs.declared.fault.RunFault.TheVariants as fault
-use Rattle.flow_runs.specs.Ends.{EndsWell, fault_of}
-
-pub ends-well : (end : End) → fault_of end ≡ None → EndsWell end
-ends-well Finished e = inl refl
-ends-well (Stopped step.JournalFull) e = inr refl
-ends-well (Stopped step.OutOfMemory) e = absurd (cc e)
-ends-well NotStarted e = absurd (cc e)
-
--- where that isn't want of memory, the feed didn't end so
-pub no-memory : (end : End) → fault_of end ≢ Some fault.OutOfMemory → end ≢ Stopped step.OutOfMemory
-no-memory end other is = other (ap fault_of is)
-
-pub fault-kinds : (end : End) → IfSome (fault_of end) (λ e. (e ≡ fault.OutOfMemory) ⊎ (e ≡ fault.NotStarted))
-fault-kinds Finished = tt
-fault-kinds (Stopped step.JournalFull) = tt
-fault-kinds (Stopped step.OutOfMemory) = inl refl
-fault-kinds NotStarted = inr refl
 
 pub if-none : (stop : Option RunFault) (A : Type 0) → (stop ≡ None → A) → IfNone stop A
 if-none None A f = f refl

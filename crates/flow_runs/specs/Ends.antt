@@ -1,8 +1,8 @@
--- How feeds end, and which fault that is.
-use Rattle.std.specs.Prelude.{◌≡◌, ◌⊎◌, Option, Some, None}
+-- How feeds end, and with which fault a run.
+use Rattle.std.specs.Prelude.{◌≡◌, ◌⊎◌, Option, IfSome}
 use Rattle.flow_core.specs.declared.desk.StepFault.TheVariants as step
 use Rattle.flow_desk.specs.declared.feeders.End.{End}
-use Rattle.flow_desk.specs.declared.feeders.End.TheVariants.{Finished, Stopped, NotStarted}
+use Rattle.flow_desk.specs.declared.feeders.End.TheVariants.{Finished, Stopped}
 use Rattle.flow_runs.specs.declared.fault.RunFault.{RunFault}
 use Rattle.flow_runs.specs.declared.fault.RunFault.TheVariants as fault
 
@@ -10,9 +10,6 @@ use Rattle.flow_runs.specs.declared.fault.RunFault.TheVariants as fault
 abbrev pub EndsWell : End → Type 0
 EndsWell end = (end ≡ Finished) ⊎ (end ≡ Stopped step.JournalFull)
 
--- the fault that the end of a feed is, if it is one
-abbrev pub fault_of : End → Option RunFault
-fault_of Finished = None
-fault_of (Stopped step.JournalFull) = None
-fault_of (Stopped step.OutOfMemory) = Some fault.OutOfMemory
-fault_of NotStarted = Some fault.NotStarted
+-- a feed's fault that ends a run, or none
+abbrev pub IsStop : Option RunFault → Type 0
+IsStop stop = IfSome stop (λ e. (e ≡ fault.OutOfMemory) ⊎ (e ≡ fault.NotStarted))

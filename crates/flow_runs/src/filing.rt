@@ -4,7 +4,7 @@ ghost use Rattle.std.specs.Prelude.{vec_capacity, IfOk, IfErr, IfNone, IfSome, O
 ghost use Rattle.std.specs.List.{All};
 ghost use Rattle.flow_core.specs.History.{state_of};
 ghost use Rattle.flow_desk.specs.Histories.{after};
-ghost use Rattle.flow_runs.specs.Ends.{EndsWell, fault_of};
+ghost use Rattle.flow_runs.specs.Ends.{EndsWell, IsStop};
 ghost use Rattle.flow_runs.specs.Filing.{HasFiled};
 
 use crate::fault::RunFault;
@@ -31,31 +31,21 @@ pub(crate) struct Filed<A: Allocator + Copy = Global> {
     pub stop: Option<RunFault>,
 }
 
-/// The fault that the end of a feed is, if it is one.
-fn fault_of(end: End) -> Option<RunFault>
-    ensures { result ≡ fault_of end }
+/// The fault that some feeds ended with, if one did, with one more feed that ended so: want of memory before a feed that
+/// was never begun.
+fn stop_with(stop: Option<RunFault>, end: End) -> Option<RunFault>
+    ensures none { result ≡ None → (stop ≡ None) × EndsWell end }
+    ensures memory { result ≢ Some RunFault.OutOfMemory
+        → (stop ≢ Some RunFault.OutOfMemory) × (end ≢ End.Stopped StepFault.OutOfMemory) }
+    ensures kinds { IsStop stop → IsStop result }
 {
     match end {
-        End::Finished => None,
-        End::Stopped(StepFault::JournalFull) => None,
+        End::Finished => stop,
+        End::Stopped(StepFault::JournalFull) => stop,
         End::Stopped(StepFault::OutOfMemory) => Some(RunFault::OutOfMemory),
-        End::NotStarted => Some(RunFault::NotStarted),
-    }
-}
-
-/// Want of memory before any other fault, and a fault before none.
-fn worse(fault: Option<RunFault>, other: Option<RunFault>) -> Option<RunFault>
-    ensures none { result ≡ None → (fault ≡ None) × (other ≡ None) }
-    ensures one { (result ≡ fault) ⊎ (result ≡ other) }
-    ensures memory { result ≢ Some RunFault.OutOfMemory
-        → (fault ≢ Some RunFault.OutOfMemory) × (other ≢ Some RunFault.OutOfMemory) }
-{
-    match fault {
-        None => other,
-        Some(RunFault::OutOfMemory) => Some(RunFault::OutOfMemory),
-        Some(fault) => match other {
-            Some(other) => Some(other),
-            None => Some(fault),
+        End::NotStarted => match stop {
+            Some(fault) => Some(fault),
+            None => Some(RunFault::NotStarted),
         },
     }
 }
@@ -63,13 +53,13 @@ fn worse(fault: Option<RunFault>, other: Option<RunFault>) -> Option<RunFault>
 /// The fault that a feed ended with, if one did: want of memory before a feed that was never begun.
 fn stop_among<N: Name, A: Allocator + Copy>(dones: &[Done<N, A>]) -> Option<RunFault>
     ensures none { IfNone result (All (λ d. EndsWell d.end) dones.now) }
-    ensures kinds { IfSome result (λ e. (e ≡ RunFault.OutOfMemory) ⊎ (e ≡ RunFault.NotStarted)) }
+    ensures kinds { IsStop result }
     ensures memory { result ≢ Some RunFault.OutOfMemory
         → All (λ d. d.end ≢ End.Stopped StepFault.OutOfMemory) dones.now }
 {
     let mut stop = None;
     for done in dones {
-        stop = worse(stop, fault_of(done.end));
+        stop = stop_with(stop, done.end);
     }
     stop
 }
@@ -111,7 +101,7 @@ pub(crate) fn file_all<
     requires each { length feeds.items ≡ N.feeders }
     ensures filed { IfOk result (λ f. HasFiled N.setup blank.entries N.feeders
         (map (λ v. v.items) feeds.items) f.core f.stop) }
-    ensures stops { IfOk result (λ f. IfSome f.stop (λ e. (e ≡ RunFault.OutOfMemory) ⊎ (e ≡ RunFault.NotStarted))) }
+    ensures stops { IfOk result (λ f. IsStop f.stop) }
     ensures fault { IfErr result (λ e. e ≡ RunFault.OutOfMemory) }
 {
     let mut back = Vec::new(alloc);

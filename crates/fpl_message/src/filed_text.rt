@@ -1,7 +1,7 @@
 //! The text of a filing.
-ghost use Rattle.std.specs.Prelude.{◌≡◌, ◌≤◌, [], length, OnOk, OnErr};
+ghost use Rattle.std.specs.Prelude.{◌≡◌, ◌≤◌, ◌<◌, ◌↔◌, [], length, IfOk, OnOk, OnErr, IsErrOf};
 
-use crate::filing::Edition;
+use crate::filing::{Edition, FilingFault, MAX_BYTES};
 use std::alloc::{AllocError, Allocator, Global};
 use std::marker::Model;
 
@@ -34,6 +34,21 @@ impl<A: Allocator + Copy> FiledText<A> {
         FiledText {
             bytes: Vec::new(alloc),
             edition,
+        }
+    }
+
+    /// A text of these bytes, to be read by the rules of today. After an `Err` there is none.
+    pub fn new(alloc: A, bytes: &[u8]) -> Result<Self, FilingFault>
+        ensures value { IfOk result (λ text. text ≡ record { edition = Edition.Second; bytes = bytes.now }) }
+        ensures long { IsErrOf result FilingFault.TooLong ↔ (2000 < length bytes.now) }
+    {
+        if bytes.len() > MAX_BYTES {
+            return Err(FilingFault::TooLong);
+        }
+        let mut text = FiledText::empty(alloc, Edition::Second);
+        match text.renew(Edition::Second, bytes) {
+            Ok(()) => Ok(text),
+            Err(AllocError) => Err(FilingFault::OutOfMemory),
         }
     }
 

@@ -1,5 +1,5 @@
 //! A filing: its bytes, and the reading of them.
-ghost use Rattle.std.specs.Prelude.{◌≡◌, ◌≤◌, ◌<◌, ◌↔◌, [], length, IfOk, OnOk, IsErrOf};
+ghost use Rattle.std.specs.Prelude.{◌≡◌, ◌≤◌, ◌<◌, ◌↔◌, [], length, IfOk, IfErr, OnOk, IsErrOf};
 ghost use Rattle.fpl_message.specs.Reads.{reading_of};
 ghost use Rattle.fpl_message.specs.Said.{said};
 
@@ -7,7 +7,7 @@ use crate::filed_text::FiledText;
 use crate::message::Reading;
 use crate::reading::read;
 use crate::refusal::Refusal;
-use std::alloc::{Allocator, Global};
+use std::alloc::{AllocError, Allocator, Global};
 use std::marker::Model;
 
 /// The bytes of a filing at most.
@@ -82,6 +82,27 @@ impl<A: Allocator + Copy> Filing<A> {
             → self.new ≡ record { edition = Edition.Second; bytes = [] } }
     {
         self.renew_as(alloc, Edition::Second, bytes)
+    }
+
+    /// The filing of a text, which is read in this room. The room is there for the next text then, unless the message or
+    /// a fault keeps it. Where memory is refused the text comes back.
+    pub fn of_text(
+        alloc: A,
+        room: &mut Vec<u8, A>,
+        text: FiledText<A>,
+    ) -> Result<Self, (AllocError, FiledText<A>)>
+        ensures value { IfOk result (λ filing. filing ≡ text) }
+        ensures back { IfErr result (λ refused. refused.1 ≡ text) }
+    {
+        let mut reading = Reading::Bad(Refusal::Empty);
+        match read(alloc, room, &mut reading, text.edition(), text.text()) {
+            Ok(()) => Ok(Filing {
+                text,
+                room: Vec::new(alloc),
+                reading,
+            }),
+            Err(AllocError) => Err((AllocError, text)),
+        }
     }
 
     /// A filing of no bytes, and no memory.

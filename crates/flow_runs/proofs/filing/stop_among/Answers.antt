@@ -1,30 +1,23 @@
-use Rattle.std.proofs.Common.{◌≡◌, ◌≢◌, ◌⊎◌, ◌∙◌, Option, Some, inl, inr, sym, subst, arith}
-use Rattle.std.specs.Prelude.{IfSome}
+use Rattle.std.proofs.Common.{◌≢◌, arith}
 use Rattle.std.specs.List.{All}
 use Rattle.flow_core.specs.declared.desk.StepFault.TheVariants as step
 use Rattle.flow_desk.specs.declared.feeders.Done.{Done}
 use Rattle.flow_desk.specs.declared.feeders.End.TheVariants.{Stopped}
-use Rattle.flow_runs.specs.declared.fault.RunFault.{RunFault}
-use Rattle.flow_runs.specs.declared.fault.RunFault.TheVariants.{OutOfMemory, NotStarted}
 use Rattle.flow_runs.specs.Ends.{EndsWell}
-use Rattle.flow_runs.proofs.Stops.{ends-well, no-memory, fault-kinds, if-none, one-more}
+use Rattle.flow_runs.proofs.Stops.{if-none, one-more}
 use Rattle.flow_runs.proofs.filing.stop_among.Goals as goal
 
 pub loop-done-preserved : goal.loop-done-preserved
 loop-done-preserved g c =
     let well : Done g.row.N.Denot g.row.A.Denot → Type 0 = λ d. EndsWell d.end in
-    let kinds : Option RunFault → Type 0 = λ o. IfSome o (λ e. (e ≡ OutOfMemory) ⊎ (e ≡ NotStarted)) in
     let fed : Done g.row.N.Denot g.row.A.Denot → Type 0 = λ d. d.end ≢ Stopped step.OutOfMemory in
     let f = c.done-item.result in
     record {
-      well = λ i d lt none. (let both = c.worse-stop.ensures.none none in
-          one-more well c.args.dones.now c.loop-done.done-index f c.loop-done-test.true c.done-item.is (λ j e lt. c.loop-done.invariant.well j e lt both.0) (ends-well f.end (sym c.fault_of.ensures ∙ both.1)) i d lt);
-      memory = λ i d lt other. (let both = c.worse-stop.ensures.memory other in
-          one-more fed c.args.dones.now c.loop-done.done-index f c.loop-done-test.true c.done-item.is (λ j e lt. c.loop-done.invariant.memory j e lt both.0) (no-memory f.end (λ e. both.1 (c.fault_of.ensures ∙ e))) i d lt);
-      kinds = elim c.worse-stop.ensures.one [
-        | inl e ↦ subst kinds (sym e) c.loop-done.invariant.kinds
-        | inr e ↦ subst kinds (sym (e ∙ c.fault_of.ensures)) (fault-kinds f.end)
-      ];
+      well = λ i d lt none. (let both = c.stop_with-stop.ensures.none none in
+          one-more well c.args.dones.now c.loop-done.done-index f c.loop-done-test.true c.done-item.is (λ j e lt. c.loop-done.invariant.well j e lt both.0) both.1 i d lt);
+      memory = λ i d lt other. (let both = c.stop_with-stop.ensures.memory other in
+          one-more fed c.args.dones.now c.loop-done.done-index f c.loop-done-test.true c.done-item.is (λ j e lt. c.loop-done.invariant.memory j e lt both.0) both.1 i d lt);
+      kinds = c.stop_with-stop.ensures.kinds c.loop-done.invariant.kinds;
     }
 
 pub returns-clause-none : goal.returns-clause-none

@@ -1,14 +1,13 @@
-use Rattle.std.proofs.Common.{◌≡◌, ◌≢◌, ◌⊎◌, ◌<◌, ℕ, None, Some, slice_index_or}
-use Rattle.std.specs.Prelude.{IfSome}
+use Rattle.std.proofs.Common.{◌≡◌, ◌≢◌, ◌<◌, ℕ, None, Some, slice_index_or}
 use Rattle.flow_core.specs.declared.desk.StepFault.TheVariants as step
 use Rattle.flow_desk.specs.declared.feeders.End.TheVariants.{Stopped}
-use Rattle.flow_runs.specs.declared.fault.RunFault.TheVariants.{OutOfMemory, NotStarted}
-use Rattle.flow_runs.specs.Ends.{EndsWell}
+use Rattle.flow_runs.specs.declared.fault.RunFault.TheVariants.{OutOfMemory}
+use Rattle.flow_runs.specs.Ends.{EndsWell, IsStop}
 use Rattle.flow_runs.proofs.filing.stop_among.Given as goal
 
 abbrev pub invariant-loop-done : goal.invariant-loop-done
 invariant-loop-done g l = record {
   well : (i : ℕ) (d : _) → i < l.done-index → l.stop ≡ None → EndsWell (slice_index_or l.dones i d).end;
   memory : (i : ℕ) (d : _) → i < l.done-index → l.stop ≢ Some OutOfMemory → (slice_index_or l.dones i d).end ≢ Stopped step.OutOfMemory;
-  kinds : IfSome l.stop (λ e. (e ≡ OutOfMemory) ⊎ (e ≡ NotStarted));
+  kinds : IsStop l.stop;
 }

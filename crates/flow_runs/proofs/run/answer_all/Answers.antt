@@ -1,0 +1,27 @@
+use Rattle.std.proofs.Common.{◌≡◌, ◌-◌, ◌∙◌, List, ℕ, length, drop, refl, sym, subst}
+use Rattle.std.proofs.lemmas.Result.{err_from_is_err_and}
+use Rattle.flow_core.specs.State.{State}
+use Rattle.flow_core.specs.History.{state_of}
+use Rattle.flow_intake.proofs.Written.{AppendsFront-more}
+use Rattle.flow_runs.specs.declared.fault.RunFault.{RunFault}
+use Rattle.flow_runs.specs.ManyRuns.{answers, end_lines, answers_and_end, AnsweredUntil}
+use Rattle.flow_runs.proofs.Ran.{answered-rest}
+use Rattle.flow_runs.proofs.run.answer_all.Goals as goal
+
+pub returns-in_err-write_answers-clause-left : goal.returns-in_err-write_answers-clause-left
+returns-in_err-write_answers-clause-left g c =
+    let p = err_from_is_err_and c.from_residual.result c.from_residual.ensures.1 in
+    let s : State = state_of c.args.filed.now.core in
+    let old = g.W.Write.contents c.args.writer.now.device in
+    let new = g.W.Write.contents c.write_answers.new.writer.device in
+    let told : List ℕ = answers s (drop c.args.read s.journal) in
+    let rest : List ℕ = end_lines s (c.args.count - (length s.journal - c.args.read)) c.args.journal in
+    rw p.1
+    (subst (λ (k : RunFault). AnsweredUntil k c.args.filed.now.stop s c.args.read c.args.count c.args.journal old new) (sym (p.2 ∙ c.in_err-write_answers.ensures.kind))
+    (AppendsFront-more old new told rest (answers_and_end s c.args.read c.args.count c.args.journal) c.in_err-write_answers.ensures.err refl))
+
+pub returns-in-None-clause-left : goal.returns-in-None-clause-left
+returns-in-None-clause-left g c =
+    answered-rest c.write_rest.result c.args.filed.now.stop (state_of c.args.filed.now.core) c.args.read c.args.count c.args.journal
+    (g.W.Write.contents c.args.writer.now.device) (g.W.Write.contents c.write_answers.new.writer.device) (g.W.Write.contents c.write_rest.new.writer.device)
+    c.in-None.is c.in_ok-write_answers.ensures.ok c.write_rest.ensures.kinds c.write_rest.ensures.write c.write_rest.ensures.memory
