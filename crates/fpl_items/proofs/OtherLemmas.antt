@@ -15,7 +15,7 @@ use Rattle.std.specs.Prelude.{is_some}
 use Rattle.std.specs.Option.{option_or}
 use Rattle.fpl_items.specs.Items.{Item, begins_item, is_estimate, items_of, field_fault, first_fault, exempts, is_exempt, day_of_items, estimate_for, elapsed_to, Say, SaysAfter}
 use Rattle.fpl_items.specs.declared.estimate.Estimate.{Estimate}
-use Rattle.fpl_items.specs.Estimates.{first_for}
+use Rattle.fpl_items.specs.Estimates.{first_for, noted_of_items}
 
 -- what the items before the ones that are left said: the rest of all is what these say
 pub record SaySoFar (day : Option ℕ) (exempt : Bool) (left all : List Item) : Type 0 where
@@ -86,7 +86,13 @@ estimate-measured word n same least most =
 pub record NotedSoFar (before notes : List Estimate) (left all : List (List ℕ)) : Type 0 where
   pub rest : list_all is_estimate left ≡ list_all is_estimate all
   pub added : (place : List ℕ) → option_or (first_for place notes) (estimate_for place left) ≡ option_or (first_for place before) (estimate_for place all)
+  pub no_fewer : length before ≤ length notes
+  pub count : length notes + prefix_len is_estimate left ≡ length before + prefix_len is_estimate all
 
 -- so were the items before the ones that are left
 abbrev pub TellSoFar : List Estimate → List Item → List Item → Type 0
 TellSoFar notes left all = (place : List ℕ) → option_or (first_for place notes) (elapsed_to place left) ≡ elapsed_to place all
+
+-- and counted
+abbrev pub CountSoFar : List Estimate → Bool → List Item → List Item → Type 0
+CountSoFar notes dof left all = length notes + noted_of_items dof left ≡ noted_of_items false all

@@ -1,9 +1,11 @@
 -- What is noted of EET items (ICAO Doc 4444, appendix 3, field type 18), so that field 18 is read once.
-use Rattle.std.specs.Prelude.{◌≡◌, ℕ, Bool, false, ◌&&◌, nat_le, if◌then◌else◌, List, [], ◌∷◌, length, Option, Some, None}
+use Rattle.std.specs.Prelude.{◌≡◌, ◌<◌, ℕ, ◌+◌, Bool, false, ◌&&◌, ◌||◌, nat_le, if◌then◌else◌, List, [], ◌∷◌, length, slice_index_or, Option, Some, None, is_some, codes}
+use Rattle.std.specs.List.{prefix_len}
 use Rattle.std.specs.Option.{option_or}
+use Rattle.fpl_text.specs.Words.{words_of}
 use Rattle.fpl_items.specs.declared.estimate.Estimate.{Estimate}
 use Rattle.fpl_items.specs.Kinds.{is_text}
-use Rattle.fpl_items.specs.Items.{Item, estimate_for, elapsed_to}
+use Rattle.fpl_items.specs.Items.{Item, begins_item, items_of, is_estimate, is_dof, item_fault, estimate_for, elapsed_to}
 use Rattle.fpl_items.specs.Places.{may_have, name_of}
 
 -- whether a note is for a place
@@ -35,6 +37,25 @@ AddsItem before after item =
 -- notes that say of every place what items say
 abbrev pub AreEstimatesOf : List Item → List Estimate → Type 0
 AreEstimatesOf items notes = (place : List ℕ) → first_for place notes ≡ elapsed_to place items
+
+-- of so many more estimates, noted after those before, one comes past the eighth
+abbrev pub PastTheEighth : List Estimate → ℕ → Type 0
+PastTheEighth before more = (0 < more) × (8 < length before + more)
+
+-- how many estimates are noted of an item: those that an EET item begins with
+abbrev pub noted_of_item : Item → ℕ
+noted_of_item item = if is_text (codes "EET") item.name then prefix_len is_estimate item.words else 0
+
+-- of items, up to the first fault, where a DOF stood before or not
+abbrev pub noted_of_items : Bool → List Item → ℕ
+noted_of_items dof [] = 0
+noted_of_items dof (item ∷ items) =
+    noted_of_item item + (if is_some (item_fault dof item) then 0 else noted_of_items (dof || is_dof item) items)
+
+-- and of a field, which has a fault where it doesn't begin with an item
+abbrev pub noted_of_field : List ℕ → ℕ
+noted_of_field field =
+    if begins_item (slice_index_or (words_of field) 0 []) then noted_of_items false (items_of (words_of field)) else 0
 
 -- a set of places that has the place of each note
 abbrev pub HasPlacesOf : ℕ → List Estimate → Type 0

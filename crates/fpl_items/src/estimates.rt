@@ -52,12 +52,13 @@ impl<A: Allocator + Copy> Estimates<A> {
         })
     }
 
-    /// Appends the note of a place. After an `Err` all is as it was.
+    /// Appends the note of a place. Past the eighth it takes memory. After an `Err` all is as it was.
     pub(crate) fn push(&mut self, place: &[u8], note: Estimate) -> Result<(), AllocError>
         requires place { length place.now ≤ 11 }
         requires note { note.name ≡ name_of place.now }
         ensures ok { OnOk result (self.new ≡ self.old ++ note ∷ []) }
         ensures err { OnErr result (self.new ≡ self.old) }
+        ensures full { OnErr result (8 ≤ length self.old) }
     {
         self.notes.push(note)?;
         self.places = with_place(self.places, place);

@@ -1,5 +1,5 @@
 //! The notes of a field, the first of them in place.
-ghost use Rattle.std.specs.Prelude.{◌≡◌, [], ◌∷◌, ◌++◌, IfOk, OnOk, OnErr};
+ghost use Rattle.std.specs.Prelude.{◌≡◌, ◌≤◌, [], ◌∷◌, ◌++◌, length, IfOk, OnOk, OnErr};
 
 use crate::estimate::Estimate;
 use arrayvec::ArrayVec;
@@ -48,10 +48,11 @@ impl<A: Allocator + Copy> NoteList<A> {
         Ok(NoteList { few, more })
     }
 
-    /// Appends a note. After an `Err` the notes are as they were.
+    /// Appends a note. Past the eighth it takes memory. After an `Err` the notes are as they were.
     pub(crate) fn push(&mut self, note: Estimate) -> Result<(), AllocError>
         ensures ok { OnOk result (self.new ≡ self.old ++ note ∷ []) }
         ensures err { OnErr result (self.new ≡ self.old) }
+        ensures full { OnErr result (8 ≤ length self.old) }
     {
         if self.few.is_full() {
             self.more.push(note)?;

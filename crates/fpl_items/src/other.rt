@@ -1,16 +1,13 @@
 //! Field 18: other information.
 
-ghost use Rattle.std.specs.Prelude.{◌≡◌, ◌≢◌, ◌≤◌, ◌<◌, ◌-◌, true, false, is_some, slice_index_or, length, drop, []};
-ghost use Rattle.std.specs.Prelude.{None, Some, IfSome, IfOk, IfErr};
+ghost use Rattle.std.specs.Prelude.{◌≡◌, ◌≢◌, ◌≤◌, ◌<◌, ◌+◌, ◌-◌, true, false, is_some, slice_index_or, length, drop, [], None, Some, IfSome, IfOk, IfErr};
 ghost use Rattle.std.specs.List.{list_all, list_any, prefix_len};
 ghost use Rattle.fpl_text.specs.Bytes.{is_letter_or_digit};
 ghost use Rattle.fpl_text.specs.Times.{elapsed_time};
-ghost use Rattle.fpl_items.specs.Estimates.{AddsWord, AddsWords, AddsItem, AreEstimatesOf};
+ghost use Rattle.fpl_items.specs.Estimates.{AddsWord, AddsWords, AddsItem, AreEstimatesOf, PastTheEighth, noted_of_item, noted_of_items, noted_of_field};
 ghost use Rattle.fpl_items.specs.Kinds.{is_text};
 ghost use Rattle.fpl_text.specs.Words.{words_of};
-ghost use Rattle.fpl_items.specs.Items.{begins_item, words_before, is_estimate, is_day, item_fault, first_fault};
-ghost use Rattle.fpl_items.specs.Items.{items_of, field_fault, items_or_fault, elapsed_to, is_exempt, day_of_words};
-ghost use Rattle.fpl_items.specs.Items.{day_of_items, Say, SaysAfter};
+ghost use Rattle.fpl_items.specs.Items.{begins_item, words_before, is_estimate, is_day, item_fault, first_fault, items_of, field_fault, items_or_fault, elapsed_to, is_exempt, day_of_words, day_of_items, Say, SaysAfter};
 ghost use Rattle.fpl_items.specs.Routes.{Gives};
 
 use crate::estimate::Estimate;
@@ -31,9 +28,12 @@ fn note_split<A: Allocator + Copy>(
     requires most { length word.now ≤ 15 }
     ensures time { IfOk result (λ _. is_some (elapsed_time (drop (length word.now - 4) word.now)) ≡ true) }
     ensures noted { IfOk result (λ _. AddsWord estimates.old estimates.new word.now) }
+    ensures count { IfOk result (λ _. length estimates.new ≡ length estimates.old + 1) }
     ensures fault { IfErr result (λ fault. fault ≢ ItemFault.OutOfMemory → fault ≡ ItemFault.BadField 18) }
     ensures no_time { IfErr result (λ fault. fault ≢ ItemFault.OutOfMemory
         → is_some (elapsed_time (drop (length word.now - 4) word.now)) ≡ false) }
+    ensures memory { IfErr result (λ fault. fault ≡ ItemFault.OutOfMemory
+        → (is_some (elapsed_time (drop (length word.now - 4) word.now)) ≡ true) × (8 ≤ length estimates.old)) }
 {
     let (place, time) = word.split_at(word.len() - 4);
     let Some(minutes) = read_elapsed(time) else {
@@ -53,8 +53,11 @@ fn note_word<A: Allocator + Copy>(
 ) -> Result<(), ItemFault>
     ensures is { IfOk result (λ _. is_estimate word.now ≡ true) }
     ensures noted { IfOk result (λ _. AddsWord estimates.old estimates.new word.now) }
+    ensures count { IfOk result (λ _. length estimates.new ≡ length estimates.old + 1) }
     ensures fault { IfErr result (λ fault. fault ≢ ItemFault.OutOfMemory → fault ≡ ItemFault.BadField 18) }
     ensures none { IfErr result (λ fault. fault ≢ ItemFault.OutOfMemory → is_estimate word.now ≡ false) }
+    ensures memory { IfErr result (λ fault. fault ≡ ItemFault.OutOfMemory
+        → (is_estimate word.now ≡ true) × (8 ≤ length estimates.old)) }
 {
     if word.len() < 5 || word.len() > 15 {
         return Err(ItemFault::BadField(18));
@@ -75,8 +78,11 @@ fn note_measured<A: Allocator + Copy>(
     requires { measured.now.letters_or_digits ≡ prefix_len is_letter_or_digit measured.now.word.now }
     ensures is { IfOk result (λ _. is_estimate measured.now.word.now ≡ true) }
     ensures noted { IfOk result (λ _. AddsWord estimates.old estimates.new measured.now.word.now) }
+    ensures count { IfOk result (λ _. length estimates.new ≡ length estimates.old + 1) }
     ensures fault { IfErr result (λ fault. fault ≢ ItemFault.OutOfMemory → fault ≡ ItemFault.BadField 18) }
     ensures none { IfErr result (λ fault. fault ≢ ItemFault.OutOfMemory → is_estimate measured.now.word.now ≡ false) }
+    ensures memory { IfErr result (λ fault. fault ≡ ItemFault.OutOfMemory
+        → (is_estimate measured.now.word.now ≡ true) × (8 ≤ length estimates.old)) }
 {
     let word = measured.word;
     if word.len() < 5 {
@@ -98,9 +104,13 @@ fn note_before_item<A: Allocator + Copy>(
 ) -> Result<(), ItemFault>
     ensures are { IfOk result (λ _. list_all is_estimate (words_before words.entry) ≡ true) }
     ensures noted { IfOk result (λ _. AddsWords estimates.old estimates.new (words_before words.entry)) }
+    ensures count { IfOk result (λ _. length estimates.new
+        ≡ length estimates.old + prefix_len is_estimate (words_before words.entry)) }
     ensures fault { IfErr result (λ fault. fault ≢ ItemFault.OutOfMemory → fault ≡ ItemFault.BadField 18) }
     ensures other { IfErr result (λ fault. fault ≢ ItemFault.OutOfMemory
         → list_all is_estimate (words_before words.entry) ≡ false) }
+    ensures memory { IfErr result (λ fault. fault ≡ ItemFault.OutOfMemory
+        → PastTheEighth estimates.old (prefix_len is_estimate (words_before words.entry))) }
 {
     'words: while let Some(measured) = words.next_measured() {
         if begins_item(&measured) {
@@ -118,8 +128,12 @@ fn note_words<A: Allocator + Copy>(
 ) -> Result<(), ItemFault>
     ensures are { IfOk result (λ _. list_all is_estimate words.entry ≡ true) }
     ensures noted { IfOk result (λ _. AddsWords estimates.old estimates.new words.entry) }
+    ensures count { IfOk result (λ _. length estimates.new
+        ≡ length estimates.old + prefix_len is_estimate words.entry) }
     ensures fault { IfErr result (λ fault. fault ≢ ItemFault.OutOfMemory → fault ≡ ItemFault.BadField 18) }
     ensures other { IfErr result (λ fault. fault ≢ ItemFault.OutOfMemory → list_all is_estimate words.entry ≡ false) }
+    ensures memory { IfErr result (λ fault. fault ≡ ItemFault.OutOfMemory
+        → PastTheEighth estimates.old (prefix_len is_estimate words.entry)) }
 {
     let ItemWords { own, following } = words;
     if let Some(word) = own {
@@ -164,8 +178,11 @@ impl Effects {
     ) -> Result<Effects, ItemFault>
         ensures says { IfOk result (λ next. SaysAfter self.day self.exempt item.now next.day next.exempt) }
         ensures noted { IfOk result (λ _. AddsItem estimates.old estimates.new item.now) }
+        ensures count { IfOk result (λ _. length estimates.new ≡ length estimates.old + noted_of_item item.now) }
         ensures fault { IfErr result (λ fault. fault ≢ ItemFault.OutOfMemory
             → item_fault (is_some self.day) item.now ≡ Some fault) }
+        ensures memory { IfErr result (λ fault. fault ≡ ItemFault.OutOfMemory
+            → PastTheEighth estimates.old (noted_of_item item.now)) }
     {
         let name = item.name();
         if name == b"DOF".as_slice() {
@@ -202,6 +219,7 @@ fn read_items<A: Allocator + Copy>(
     ensures says { IfOk result (λ all. Say items.entry all.day all.exempt) }
     ensures noted { IfOk result (λ _. AreEstimatesOf items.entry estimates.new) }
     ensures fault { IfErr result (λ fault. fault ≢ ItemFault.OutOfMemory → first_fault false items.entry ≡ Some fault) }
+    ensures memory { IfErr result (λ fault. fault ≡ ItemFault.OutOfMemory → 8 < noted_of_items false items.entry) }
 {
     let mut effects = Effects {
         day: None,
@@ -233,8 +251,7 @@ impl<A: Allocator + Copy> Model for Other18<A> {
 
     ghost view = { λ o. items_of (words_of o.text.items) };
 
-    ghost invariant = { λ o. Say (items_of (words_of o.text.items)) o.day o.exempt
-        × AreEstimatesOf (items_of (words_of o.text.items)) o.estimates };
+    ghost invariant = { λ o. Say (items_of (words_of o.text.items)) o.day o.exempt × AreEstimatesOf (items_of (words_of o.text.items)) o.estimates };
 }
 
 /// Whether the first word of a field begins an item.
@@ -259,6 +276,7 @@ fn read_field<A: Allocator + Copy>(
     ensures says { IfOk result (λ all. Say (items_of (words_of field.now)) all.day all.exempt) }
     ensures noted { IfOk result (λ _. AreEstimatesOf (items_of (words_of field.now)) estimates.new) }
     ensures fault { IfErr result (λ fault. fault ≢ ItemFault.OutOfMemory → field_fault field.now ≡ Some fault) }
+    ensures memory { IfErr result (λ fault. fault ≡ ItemFault.OutOfMemory → 8 < noted_of_field field.now) }
 {
     if field == b"0".as_slice() {
         return Ok(Effects {
@@ -273,10 +291,9 @@ fn read_field<A: Allocator + Copy>(
 }
 
 impl<A: Allocator + Copy> Other18<A> {
-    /// Reads field 18: `0`, or one or more items. The first fault counts, from the left: BadField for a field that does
-    /// not begin with an item, and for an EET item with a word that is no place with an elapsed time; BadDate for a DOF
-    /// item that is not exactly one date; DuplicateItem for a second DOF. Takes memory for estimates past the eighth
-    /// before it looks at what follows.
+    /// Reads field 18: `0`, or one or more items. The first fault counts, from the left: BadField for a field that does not begin
+    /// with an item, and for an EET item with a word that is no place with an elapsed time; BadDate for a DOF item that is not
+    /// exactly one date; DuplicateItem for a second DOF. Takes memory for estimates past the eighth before it looks at what follows.
     pub fn read(alloc: A, field: &[u8]) -> Result<Self, ItemFault>
         ensures value { Gives (λ other. other) result (items_or_fault field.now) }
         ensures items { IfOk result (λ other. other ≡ items_of (words_of field.now)) }

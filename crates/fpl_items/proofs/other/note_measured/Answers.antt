@@ -1,5 +1,6 @@
 use Rattle.std.proofs.Common.{◌≡◌, ◌-◌, length, drop, refl, ◌∙◌, arith}
 use Rattle.std.proofs.lemmas.Bool.{le-leb, lt-leb}
+use Rattle.std.proofs.lemmas.Result.{IfErr-weaker}
 use Rattle.std.specs.Prelude.{is_some}
 use Rattle.fpl_text.specs.Times.{elapsed_time}
 use Rattle.fpl_items.specs.Items.{is_estimate}
@@ -28,3 +29,11 @@ returns-clause-none g c =
     let same : is_estimate word ≡ is_some (elapsed_time (drop (length word - 4) word)) =
     estimate-measured word n c.requires c.if-word-lt5.false c.if-word-gt15.false ∙ if-both _ _ (le-leb (length word - 4) n c.if-measured-word.false) in
     fault-then _ _ c.note_split.result (λ is. same ∙ is) c.note_split.ensures.no_time
+
+pub returns-clause-memory : goal.returns-clause-memory
+returns-clause-memory g c =
+    let word = c.args.measured.now.word.now in
+    let n = c.args.measured.now.letters_or_digits in
+    let same : is_estimate word ≡ is_some (elapsed_time (drop (length word - 4) word)) =
+    estimate-measured word n c.requires c.if-word-lt5.false c.if-word-gt15.false ∙ if-both _ _ (le-leb (length word - 4) n c.if-measured-word.false) in
+    IfErr-weaker c.note_split.result _ _ (λ fault past memory. let full = past memory in (same ∙ full.0, full.1)) c.note_split.ensures.memory
