@@ -1,11 +1,5 @@
 -- What amends a plan, step by step, amends it as the definition says.
-use Rattle.std.proofs.Common.{◌≡◌, ℕ, ◌-◌, ◌<◌, ◌≤◌, false, List, length, Ok, Option, None, Some, slice_get, get_or, refl, subst, arith}
-use Rattle.std.specs.Prelude.{MatchOption, unwrap_or}
-use Rattle.std.specs.Option.{option_map}
-use Rattle.fpl_text.specs.Words.{words_of}
-use Rattle.fpl_items.specs.declared.estimate.Estimate.{Estimate}
-use Rattle.fpl_items.specs.Items.{Item, items_of}
-use Rattle.fpl_items.specs.Estimates.{AreEstimatesOf}
+use Rattle.std.proofs.Common.{◌≡◌, ℕ, ◌-◌, ◌<◌, ◌≤◌, false, List, length, Ok, Some, slice_get, get_or, refl, arith}
 use Rattle.std.proofs.lemmas.Option.{slice_get_read}
 use Rattle.std.specs.List.{list_any}
 use Rattle.fpl_message.specs.Messages.{Chg}
@@ -19,15 +13,3 @@ unfolding amended
 all-steps now plans m number moment plan after found low high stood same moved free made =
     let there : slice_get plans (number - 1) ≡ Some plan = slice_get_read plans (length plans) (number - 1) plan refl (omega arith) stood in
     rw (found, there, same, moved, free, made) refl
-
--- the estimates of what is held of field 18 after a message, which may amend it
-pub estimates-after : (held : List ℕ) (field18 : Option (List ℕ)) (items : Option (List Item)) (before after : List Estimate) → items ≡ option_map (λ text. items_of (words_of text)) field18
-    → MatchOption items (after ≡ before) (λ them. AreEstimatesOf them after) → AreEstimatesOf (items_of (words_of held)) before
-    → AreEstimatesOf (items_of (words_of (unwrap_or field18 held))) after
-estimates-after held None items before after said told are =
-    let M : Option (List Item) → Type 0 = λ o. MatchOption o (after ≡ before) (λ them. AreEstimatesOf them after) in
-    let same : after ≡ before = subst M said told in
-    rw same are
-estimates-after held (Some text) items before after said told are =
-    let M : Option (List Item) → Type 0 = λ o. MatchOption o (after ≡ before) (λ them. AreEstimatesOf them after) in
-    subst M said told
