@@ -1,13 +1,17 @@
 //! Field 18: other information.
 
-ghost use Rattle.std.specs.Prelude.{◌≡◌, ◌≢◌, ◌≤◌, ◌<◌, ◌+◌, ◌-◌, true, false, is_some, slice_index_or, length, drop, [], None, Some, IfSome, IfOk, IfErr};
+ghost use Rattle.std.specs.Prelude.{◌≡◌, ◌≢◌, ◌≤◌, ◌<◌, ◌+◌, ◌-◌, true, false, is_some, slice_index_or, length, drop};
+ghost use Rattle.std.specs.Prelude.{[], None, Some, IfSome, IfOk, IfErr};
 ghost use Rattle.std.specs.List.{list_all, list_any, prefix_len};
 ghost use Rattle.fpl_text.specs.Bytes.{is_letter_or_digit};
 ghost use Rattle.fpl_text.specs.Times.{elapsed_time};
-ghost use Rattle.fpl_items.specs.Estimates.{AddsWord, AddsWords, AddsItem, AreEstimatesOf, PastTheEighth, noted_of_item, noted_of_items, noted_of_field};
+ghost use Rattle.fpl_items.specs.Estimates.{AddsWord, AddsWords, AddsItem, AreEstimatesOf, PastTheEighth};
+ghost use Rattle.fpl_items.specs.Estimates.{noted_of_item, noted_of_items, noted_of_field};
 ghost use Rattle.fpl_items.specs.Kinds.{is_text};
 ghost use Rattle.fpl_text.specs.Words.{words_of};
-ghost use Rattle.fpl_items.specs.Items.{begins_item, words_before, is_estimate, is_day, item_fault, first_fault, items_of, field_fault, items_or_fault, elapsed_to, is_exempt, day_of_words, day_of_items, Say, SaysAfter};
+ghost use Rattle.fpl_items.specs.Items.{begins_item, words_before, is_estimate, is_day, item_fault, first_fault};
+ghost use Rattle.fpl_items.specs.Items.{items_of, field_fault, items_or_fault, elapsed_to, is_exempt, day_of_words};
+ghost use Rattle.fpl_items.specs.Items.{day_of_items, Say, SaysAfter};
 ghost use Rattle.fpl_items.specs.Routes.{Gives};
 
 use crate::estimate::Estimate;
@@ -251,7 +255,8 @@ impl<A: Allocator + Copy> Model for Other18<A> {
 
     ghost view = { λ o. items_of (words_of o.text.items) };
 
-    ghost invariant = { λ o. Say (items_of (words_of o.text.items)) o.day o.exempt × AreEstimatesOf (items_of (words_of o.text.items)) o.estimates };
+    ghost invariant = { λ o. Say (items_of (words_of o.text.items)) o.day o.exempt
+        × AreEstimatesOf (items_of (words_of o.text.items)) o.estimates };
 }
 
 /// Whether the first word of a field begins an item.
@@ -291,9 +296,10 @@ fn read_field<A: Allocator + Copy>(
 }
 
 impl<A: Allocator + Copy> Other18<A> {
-    /// Reads field 18: `0`, or one or more items. The first fault counts, from the left: BadField for a field that does not begin
-    /// with an item, and for an EET item with a word that is no place with an elapsed time; BadDate for a DOF item that is not
-    /// exactly one date; DuplicateItem for a second DOF. Takes memory for estimates past the eighth before it looks at what follows.
+    /// Reads field 18: `0`, or one or more items. The first fault counts, from the left: BadField for a field that does
+    /// not begin with an item, and for an EET item with a word that is no place with an elapsed time; BadDate for a DOF
+    /// item that is not exactly one date; DuplicateItem for a second DOF. Takes memory for estimates past the eighth
+    /// before it looks at what follows.
     pub fn read(alloc: A, field: &[u8]) -> Result<Self, ItemFault>
         ensures value { Gives (λ other. other) result (items_or_fault field.now) }
         ensures items { IfOk result (λ other. other ≡ items_of (words_of field.now)) }
