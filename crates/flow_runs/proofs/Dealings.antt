@@ -113,14 +113,15 @@ pub AreDealt-none : (n : ℕ) (feeds : List (List FilingText)) → feeds ≡ rep
 unfolding dealt
 AreDealt-none n feeds e = subst (λ (q : List (List FilingText)). AreDealt n [] q) (sym e) (record { wide = replicate-length n []; each = λ k in_k. replicate-get n k [] in_k })
 
+-- one more at the end
+pub map-snoc : {V W : Type 0} (v : V → W) (xs : List V) (x : V) → map v (xs ++ x ∷ []) ≡ map v xs ++ v x ∷ []
+map-snoc v [] x = refl
+map-snoc v (y ∷ ys) x = ap (λ q. v y ∷ q) (map-snoc v ys x)
+
 -- one more feed that is empty
 pub replicate-next : {V : Type 0} (v : V → List FilingText) (feeds : List V) (n : ℕ) (x : V) → map v feeds ≡ replicate n [] → v x ≡ [] → map v (feeds ++ x ∷ []) ≡ replicate (n + 1) []
 replicate-next v feeds n x e empty = rw (add-one n) (map-snoc v feeds x ∙ (ap (λ (q : List (List FilingText)). q ++ v x ∷ []) e ∙ (ap (λ (q : List FilingText). replicate n [] ++ q ∷ []) empty ∙ more n)))
   where
-    map-snoc : {V W : Type 0} (v : V → W) (xs : List V) (x : V) → map v (xs ++ x ∷ []) ≡ map v xs ++ v x ∷ []
-    map-snoc v [] x = refl
-    map-snoc v (y ∷ ys) x = ap (λ q. v y ∷ q) (map-snoc v ys x)
-
     more : (n : ℕ) → replicate n [] ++ [] ∷ [] ≡ replicate {A = List FilingText} (suc n) []
     more zero = refl
     more (suc n) = ap (λ (q : List (List FilingText)). [] ∷ q) (more n)

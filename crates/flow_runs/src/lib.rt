@@ -6,6 +6,7 @@ mod answers;
 mod dealing;
 mod fault;
 mod filing;
+mod reading;
 mod run;
 
 pub use fault::RunFault;
