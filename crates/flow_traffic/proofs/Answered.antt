@@ -7,6 +7,7 @@ use Rattle.fpl_message.specs.declared.order.OpenReg.{OpenReg}
 use Rattle.fpl_message.specs.Messages.{Message, Order, open_reg, shut_reg, set_time}
 use Rattle.fpl_message.specs.Reads.{Reading, msg, ord}
 use Rattle.flow_plans.specs.Plans.{Plan}
+use Rattle.flow_plans.specs.Stores.{Store}
 use Rattle.flow_plans.specs.declared.fault.PlanFault.{PlanFault}
 use Rattle.flow_plans.specs.Changes.{Changed, refusal_of, IsRefusal, Refuses}
 use Rattle.flow_regulations.specs.Regulations.{Regulation}
@@ -20,7 +21,8 @@ use Rattle.flow_traffic.specs.declared.verdict.Verdict.{Verdict}
 use Rattle.flow_traffic.specs.declared.verdict.Kind.{Kind}
 use Rattle.flow_traffic.specs.declared.verdict.Kind.TheVariants as kind
 use Rattle.flow_traffic.specs.declared.verdict.Verdict.TheVariants.{Accepted, Refused}
-use Rattle.flow_traffic.specs.Traffic.{Traffic, traffic_of}
+use Rattle.flow_traffic.specs.Traffic.{Traffic}
+use Rattle.flow_traffic.specs.State.{State, with_lists, traffic_of}
 use Rattle.flow_traffic.specs.Opening.{is_period, rates_fit, regulation_by}
 use Rattle.flow_traffic.specs.Asked.{Asked, asked, changed_by, verdict_on, is_departure, departing, asked_by_message, asked_to_open, asked_to_shut, asked_at, is_called, ordered, max_regulations}
 use Rattle.flow_traffic.specs.Answers.{settle, told_to, Answers}
@@ -112,30 +114,30 @@ opened-map taxi max now plans r lists new h listed settled_in =
 -- ---- after the calls
 
 -- after an accepted message
-pub message-answers : (taxi max now : ℕ) (plans plans2 : List Plan) (lists lists2 : List Listed) (told told1 told2 : List (Option Told)) (notices notices2 : List Notice) (m : Message) (n : ℕ) (v : Verdict) (taxi2 max2 limit : ℕ) (departs : Bool)
-    → taxi2 ≡ taxi → max2 ≡ max → limit ≡ max → departs ≡ is_departure m
-    → changed_by max now plans m ≡ Ok (record { plans = plans2; number = n }) → v ≡ verdict_on told m n
-    → IsSettledFor departs n taxi2 limit now plans plans2 lists lists2 → told1 ≡ told_to plans2 told
-    → told2 ≡ told_from 1 taxi2 (map regulation_of lists2) plans2 told1 → notices2 ≡ notices ++ notices_from 1 taxi2 (map regulation_of lists2) plans2 told1
-    → Answers (msg m) (traffic_of taxi max now plans lists told notices) (traffic_of taxi2 max2 now plans2 lists2 told2 notices2) v
-message-answers taxi max now plans plans2 lists lists2 told told1 told2 notices notices2 m n v taxi2 max2 limit departs e1 e2 e3 e4 changed verdict settled_for place told_is notices_is =
-    let t : Traffic = traffic_of taxi max now plans lists told notices in
-    let a : Asked = record { plans = plans2; now = now; regulations = departing (is_departure m) n taxi max plans (map regulation_of lists); verdict = verdict_on told m n } in
-    accepted (msg m) t (traffic_of taxi2 max2 now plans2 lists2 told2 notices2) v a (message-asked t m (record { plans = plans2; number = n }) changed)
-    (settled-traffic t a taxi2 max2 (map regulation_of lists2) told1 told2 notices2 e1 e2 (rw (e1, e3, e4) at settled_for.regulations) place (rw e1 at told_is) (rw e1 at notices_is))
+pub message-answers : (s : State) (store : Store) (lists : List Listed) (told told1 told2 : List (Option Told)) (notices notices2 : List Notice) (m : Message) (n : ℕ) (v : Verdict) (departs : Bool)
+    → store.taxi ≡ s.store.taxi → store.max_plans ≡ s.store.max_plans → s.listing.max_plans ≡ s.store.max_plans → departs ≡ is_departure m
+    → changed_by s.store.max_plans s.time s.store.plans m ≡ Ok (record { plans = store.plans; number = n }) → v ≡ verdict_on told m n
+    → IsSettledFor departs n s store.plans lists → told1 ≡ told_to store.plans told
+    → told2 ≡ told_from 1 store.taxi (map regulation_of lists) store.plans told1 → notices2 ≡ notices ++ notices_from 1 store.taxi (map regulation_of lists) store.plans told1
+    → Answers (msg m) (traffic_of s told notices) (traffic_of (with_lists lists (record s { store = store })) told2 notices2) v
+message-answers s store lists told told1 told2 notices notices2 m n v departs taxi max limit departs_is changed verdict settled_for place told_is notices_is =
+    let t : Traffic = traffic_of s told notices in
+    let a : Asked = record { plans = store.plans; now = s.time; regulations = departing (is_departure m) n s.store.taxi s.store.max_plans s.store.plans (map regulation_of s.listing.lists); verdict = verdict_on told m n } in
+    accepted (msg m) t (traffic_of (with_lists lists (record s { store = store })) told2 notices2) v a (message-asked t m (record { plans = store.plans; number = n }) changed)
+    (settled-traffic t a store.taxi store.max_plans (map regulation_of lists) told1 told2 notices2 taxi max (rw (limit, departs_is) at settled_for.regulations) place (rw taxi at told_is) (rw taxi at notices_is))
     verdict
 
 -- after an accepted order
-pub order-answers : (taxi max now at : ℕ) (plans : List Plan) (lists lists2 : List Listed) (told told2 : List (Option Told)) (notices notices2 : List Notice) (order : Order) (kind : Kind) (regulations : List Regulation)
-    → asked (traffic_of taxi max now plans lists told notices) (ord order) ≡ Ok (ordered (traffic_of taxi max now plans lists told notices) kind at regulations)
-    → map regulation_of lists2 ≡ map (settled taxi at plans) regulations → length told ≡ length plans
-    → told2 ≡ told_from 1 taxi (map regulation_of lists2) plans told → notices2 ≡ notices ++ notices_from 1 taxi (map regulation_of lists2) plans told
-    → Answers (ord order) (traffic_of taxi max now plans lists told notices) (traffic_of taxi max at plans lists2 told2 notices2) (Accepted kind 0)
-order-answers taxi max now at plans lists lists2 told told2 notices notices2 order kind regulations e settled_is each told_is notices_is =
-    let t : Traffic = traffic_of taxi max now plans lists told notices in
+pub order-answers : (s : State) (at : ℕ) (lists : List Listed) (told told2 : List (Option Told)) (notices notices2 : List Notice) (order : Order) (kind : Kind) (regulations : List Regulation)
+    → asked (traffic_of s told notices) (ord order) ≡ Ok (ordered (traffic_of s told notices) kind at regulations)
+    → map regulation_of lists ≡ map (settled s.store.taxi at s.store.plans) regulations → length told ≡ length s.store.plans
+    → told2 ≡ told_from 1 s.store.taxi (map regulation_of lists) s.store.plans told → notices2 ≡ notices ++ notices_from 1 s.store.taxi (map regulation_of lists) s.store.plans told
+    → Answers (ord order) (traffic_of s told notices) (traffic_of (with_lists lists (record s { time = at })) told2 notices2) (Accepted kind 0)
+order-answers s at lists told told2 notices notices2 order kind regulations e settled_is each told_is notices_is =
+    let t : Traffic = traffic_of s told notices in
     let a : Asked = ordered t kind at regulations in
-    accepted (ord order) t (traffic_of taxi max at plans lists2 told2 notices2) (Accepted kind 0) a e
-    (settled-traffic t a taxi max (map regulation_of lists2) told told2 notices2 refl refl settled_is (sym (told_to-same plans told each)) told_is notices_is)
+    accepted (ord order) t (traffic_of (with_lists lists (record s { time = at })) told2 notices2) (Accepted kind 0) a e
+    (settled-traffic t a s.store.taxi s.store.max_plans (map regulation_of lists) told told2 notices2 refl refl settled_is (sym (told_to-same s.store.plans told each)) told_is notices_is)
     refl
 
 length-map : {X Y : Type 0} (f : X → Y) (xs : List X) → length (map f xs) ≡ length xs
@@ -143,14 +145,15 @@ length-map f [] = refl
 length-map f (x ∷ xs) = let h : length (map f xs) ≡ length xs = length-map f xs in omega (arith, h)
 
 -- settling closes and opens no regulation
-pub settled-count : (departs : Bool) (n taxi max now : ℕ) (before plans : List Plan) (lists new : List Listed) → IsSettledFor departs n taxi max now before plans lists new → length new ≡ length lists
-settled-count departs n taxi max now before plans lists new h =
+pub settled-count : (departs : Bool) (n : ℕ) (s : State) (plans : List Plan) (new : List Listed) → IsSettledFor departs n s plans new → length new ≡ length s.listing.lists
+settled-count departs n s plans new h =
     sym (count-regulations new) ∙ ap (λ (rs : List Regulation). length rs) h.regulations
-    ∙ length-map (settled taxi now plans) (departing departs n taxi max before (map regulation_of lists)) ∙ same departs ∙ count-regulations lists
+    ∙ length-map (settled s.store.taxi s.time plans) (departing departs n s.store.taxi s.listing.max_plans s.store.plans (map regulation_of s.listing.lists)) ∙ same departs
+    ∙ count-regulations s.listing.lists
   where
-    same : (b : Bool) → length (departing b n taxi max before (map regulation_of lists)) ≡ length (map regulation_of lists)
+    same : (b : Bool) → length (departing b n s.store.taxi s.listing.max_plans s.store.plans (map regulation_of s.listing.lists)) ≡ length (map regulation_of s.listing.lists)
     same false = refl
-    same true = length-map _ (map regulation_of lists)
+    same true = length-map _ (map regulation_of s.listing.lists)
 
 pub renewed-count : (taxi max now : ℕ) (plans : List Plan) (lists new : List Listed) → AreRenewed taxi max now plans lists new → length new ≡ length lists
 renewed-count taxi max now plans lists new h =

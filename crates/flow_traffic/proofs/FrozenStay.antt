@@ -33,7 +33,8 @@ use Rattle.flow_regulations.proofs.Walks.{map-map}
 use Rattle.flow_traffic.specs.declared.verdict.Verdict.{Verdict}
 use Rattle.flow_traffic.specs.declared.verdict.Kind.TheVariants as kind
 use Rattle.flow_traffic.specs.declared.verdict.Verdict.TheVariants.{Refused}
-use Rattle.flow_traffic.specs.Traffic.{Traffic, regulation_named, traffic_of}
+use Rattle.flow_traffic.specs.Traffic.{Traffic, regulation_named}
+use Rattle.flow_traffic.specs.State.{State, traffic_of}
 use Rattle.flow_traffic.specs.Opening.{is_period, rates_fit, regulation_by}
 use Rattle.flow_traffic.specs.Asked.{Asked, asked, asked_by_message, asked_to_open, asked_to_shut, asked_at, changed_by, departing, is_called, is_departure, max_regulations, ordered, verdict_on}
 use Rattle.flow_traffic.specs.Answers.{Answers, settle}
@@ -289,8 +290,8 @@ frozen-stay reading old new v all answers id a h = by (asked old reading) refl a
   by (Err r) e is = subst (λ (s : Traffic). IsFrozenStill reading v s.regulations id a) (sym is.0) (inl h)
 
 -- the same where the traffic before is that of settled slot lists
-pub frozen-settled : (reading : Reading) (taxi max now : ℕ) (plans : List Plan) (lists : List Listed) (told : List (Option Told)) (notices : List Notice) (old new : Traffic) (v : Verdict)
-    → traffic_of taxi max now plans lists told notices ≡ old → IsSettled taxi now plans lists → Answers reading old new v → FrozenPairsStay reading old new v
-frozen-settled reading taxi max now plans lists told notices old new v was s answers =
+pub frozen-settled : (reading : Reading) (s : State) (told : List (Option Told)) (notices : List Notice) (old new : Traffic) (v : Verdict)
+    → traffic_of s told notices ≡ old → IsSettled s.store.taxi s.time s.store.plans s.listing.lists → Answers reading old new v → FrozenPairsStay reading old new v
+frozen-settled reading s told notices old new v was settled_in answers =
     frozen-stay reading old new v
-    (subst (λ (t : Traffic). (at : ℕ) → t.now ≤ at → MayStay t.taxi at t.plans t.regulations) was (λ at later. may-stay taxi now at plans lists later s)) answers
+    (subst (λ (t : Traffic). (at : ℕ) → t.now ≤ at → MayStay t.taxi at t.plans t.regulations) was (λ at later. may-stay s.store.taxi s.time at s.store.plans s.listing.lists later settled_in)) answers

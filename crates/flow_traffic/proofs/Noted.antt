@@ -13,7 +13,7 @@ use Rattle.flow_regulations.specs.Listing.{AreSameBut}
 use Rattle.flow_traffic.specs.Traffic.{told_of}
 use Rattle.flow_traffic.specs.Telling.{AreTold, told_again}
 use Rattle.flow_traffic.specs.Answers.{told_to}
-use Rattle.flow_traffic.specs.Undoing.{AreNoted}
+use Rattle.flow_traffic.specs.Undoing.{LastReading, AreNoted}
 use Rattle.flow_traffic.proofs.ToldAgain.{set-other}
 
 abbrev told-in : List (Option Told) → ℕ → Option Told
@@ -44,9 +44,9 @@ new-told-all ps ts (n ∷ ns) e =
     ∙ ap (λ (os : List (Option Told)). told_of ts n ∷ os) (new-told-all ps ts ns e)
 
 -- where no plan changed
-pub same-noted : (plans : List Plan) (told : List (Option Told)) (changed : List ℕ) (noted : List (Option Told)) → IsStrictlyIncreasing changed → length told ≡ length plans → noted ≡ map (told_of told) changed
-    → AreNoted plans plans told changed noted
-same-noted plans told changed noted rising each were = record { rising = rising; each = each; others = λ n some out. refl; were = were }
+pub same-noted : (r : LastReading) (plans : List Plan) (told : List (Option Told)) → IsStrictlyIncreasing r.changed → length told ≡ length plans → r.noted ≡ map (told_of told) r.changed
+    → AreNoted r plans plans told
+same-noted r plans told rising each were = record { rising = rising; each = each; others = λ n some out. refl; were = were }
 
 one-rises : (n : ℕ) → IsStrictlyIncreasing (n ∷ [])
 one-rises n k h = absurd (omega (arith, h))
@@ -55,13 +55,13 @@ apart : (f n : ℕ) → is_in f (n ∷ []) ≡ false → f ≡ n → ⊥
 apart f n out e = true≢false (sym (ap (λ b. b || false) (eq-eqb n f (sym e))) ∙ out)
 
 -- where one did
-pub one-noted : (n : ℕ) (plans before : List Plan) (told mid : List (Option Told)) (changed : List ℕ) (noted : List (Option Told)) → changed ≡ n ∷ [] → AreSameBut n before plans
-    → mid ≡ told_to plans told → length told ≡ length before → length told ≤ length plans → AreTold changed mid noted → AreNoted plans before told changed noted
-one-noted n plans before told mid changed noted one same place each few told_is = record {
+pub one-noted : (r : LastReading) (n : ℕ) (plans before : List Plan) (told mid : List (Option Told)) → r.changed ≡ n ∷ [] → AreSameBut n before plans
+    → mid ≡ told_to plans told → length told ≡ length before → length told ≤ length plans → r.noted ≡ map (told_of mid) r.changed → AreNoted r plans before told
+one-noted r n plans before told mid one same place each few were = record {
   rising = (let P : List ℕ → Type 0 = IsStrictlyIncreasing in subst P (sym one) (one-rises n));
   each = each;
   others = λ f some out. same f some (apart f n (ap (λ ns. is_in f ns) (sym one) ∙ out));
-  were = told-were changed mid noted told_is ∙ ap (λ (ts : List (Option Told)). map (told_of ts) changed) place ∙ new-told-all plans told changed few;
+  were = were ∙ ap (λ (ts : List (Option Told)). map (told_of ts) r.changed) place ∙ new-told-all plans told r.changed few;
 }
 
 -- ---- the others
@@ -86,16 +86,16 @@ none-past (p ∷ ps) zero e = absurd (cc)
 none-past (p ∷ ps) (suc i) e = omega (arith, none-past ps i e)
 
 -- the others were told what they are told
-pub others-told : (plans before : List Plan) (was told : List (Option Told)) (changed : List ℕ) (noted : List (Option Told)) → AreNoted plans before was changed noted → length told ≡ length plans
-    → AllByRecursion (λ m. 0 < m) changed → (n : ℕ) → 0 < n → is_in n changed ≡ false → told_of told n ≡ told_of (take (length before) (told_again changed noted told)) n
-others-told plans before was told changed noted h each all n some out = by (nat_lt (n - 1) (length before)) refl where
+pub others-told : (r : LastReading) (plans before : List Plan) (was told : List (Option Told)) → AreNoted r plans before was → length told ≡ length plans
+    → AllByRecursion (λ m. 0 < m) r.changed → (n : ℕ) → 0 < n → is_in n r.changed ≡ false → told_of told n ≡ told_of (take (length before) (told_again r.changed r.noted told)) n
+others-told r plans before was told h each all n some out = by (nat_lt (n - 1) (length before)) refl where
   again : List (Option Told)
-  again = told_again changed noted told
+  again = told_again r.changed r.noted told
 
   by : (b : Bool) → nat_lt (n - 1) (length before) ≡ b → told_of told n ≡ told_of (take (length before) again) n
   by true e =
       ap (λ (o : Option (Option Told)). option_map_or (λ t. t) o None)
-      (sym (first-there (length before) again (n - 1) (ltb-true (n - 1) (length before) e) ∙ again-others changed noted told n some all out))
+      (sym (first-there (length before) again (n - 1) (ltb-true (n - 1) (length before) e) ∙ again-others r.changed r.noted told n some all out))
   by false e =
       let past : length before ≤ n - 1 = ltb-false (n - 1) (length before) e in
       let gone : plan_at plans n ≡ None = h.others n some out ∙ slice_get_past before (n - 1) past in

@@ -13,21 +13,21 @@ use Rattle.flow_slots.specs.Lineup.{Lineup, fixed_slot, with_waiting, without_fl
 use Rattle.flow_regulations.specs.declared.notice.Told.{Told}
 use Rattle.flow_regulations.specs.declared.notice.Notice.{Notice}
 use Rattle.flow_regulations.specs.declared.places.Place.{Place}
-use Rattle.flow_regulations.specs.declared.due_queue.Awaited.{Awaited}
 use Rattle.flow_regulations.specs.Regulations.{Regulation, subject_to}
-use Rattle.flow_regulations.specs.Awaiting.{Awaiting, Covers, HaveBecomeDue}
+use Rattle.flow_regulations.specs.Awaiting.{Covers, HaveBecomeDue}
 use Rattle.flow_regulations.specs.Listing.{Closing, IsOpened, is_named, Listed, Listing, regulation_of, with_lineup, without_in, with_fixed_waiting, released, released_in, IsReleased, Walked, HoldNewlyDue}
 use Rattle.flow_regulations.specs.Places.{stood, ArePlaces}
 use Rattle.flow_regulations.proofs.PutBack.{stood-there}
-use Rattle.flow_regulations.proofs.Queues.{due-there}
+use Rattle.flow_regulations.proofs.Queues.{due-there, became-within}
 use Rattle.flow_regulations.proofs.Released.{release-step}
-use Rattle.flow_traffic.specs.declared.undo.Last as last
+use Rattle.flow_traffic.specs.declared.undo.Last.{Last}
 use Rattle.flow_traffic.specs.declared.undo.Last.TheVariants as reading
-use Rattle.flow_traffic.specs.Traffic.{traffic_of}
+use Rattle.flow_traffic.specs.Traffic.{Traffic}
+use Rattle.flow_traffic.specs.State.{State, traffic_of}
 use Rattle.flow_traffic.specs.Kept.{IsKept}
 use Rattle.flow_traffic.specs.Reopening.{open_again}
 use Rattle.flow_traffic.specs.Telling.{told_again}
-use Rattle.flow_traffic.specs.Undoing.{Past, told_past, traffic_past, stood_again, waiting_again, all_waiting_again, CanUndo, AreNoted, WasKept, before_last, IsKeptWith, past, undone, WasKeptBy}
+use Rattle.flow_traffic.specs.Undoing.{LastReading, has_changed, told_past, traffic_past, stood_again, waiting_again, all_waiting_again, before_last, past, undone, CanUndo, IsAgain, AreNoted, WasKept, IsKeptWith}
 use Rattle.flow_traffic.specs.Answers.{told_to}
 use Rattle.flow_traffic.proofs.Both.{some-same}
 use Rattle.flow_traffic.proofs.ToldAgain.{told_to-undone}
@@ -108,31 +108,31 @@ waits-again taxi max earlier now plans due before lists h is =
 pub plans-before : (store : Store) (plans : List Plan) → store.before ≡ Some plans → option_map_or (λ ps. ps) store.before [] ≡ plans
 plans-before store plans e = ap (λ (o : Option (List Plan)). option_map_or (λ ps. ps) o []) e
 
-pub can-forget : (n time : ℕ) (store : Store) (listing : Listing) (queue : Awaiting) (places : List Place) (changed : List ℕ) (closed : Option Closing) (plans : List Plan) (lists : List Listed)
-    → 0 < n → n ≤ listing.max_plans → store.before ≡ Some plans → ArePlaces n places lists → map (without_in n) listing.lists ≡ map (without_in n) lists → Covers time plans queue.flights
-    → CanUndo (reading.Message n) time store listing queue places changed closed
-can-forget n time store listing queue places changed closed plans lists some room before stand alone covers =
-    let stood = sym (stands-again n places listing.lists lists stand alone) in
-    let ended = sym (plans-before store plans before) in
+pub can-forget : (n : ℕ) (r : LastReading) (s : State) (plans : List Plan) (lists : List Listed)
+    → 0 < n → n ≤ s.listing.max_plans → s.store.before ≡ Some plans → ArePlaces n r.places lists → map (without_in n) s.listing.lists ≡ map (without_in n) lists → Covers s.time plans s.queue.flights
+    → CanUndo (reading.Message n) r s
+can-forget n r s plans lists some room before stand alone covers =
+    let stood = sym (stands-again n r.places s.listing.lists lists stand alone) in
+    let ended = sym (plans-before s.store plans before) in
     record {
       some = some;
       room = room;
       before = before ∙ ap Some ended;
-      stand = (let P : List Listed → Type 0 = λ ls. ArePlaces n places ls in subst P stood stand);
+      stand = (let P : List Listed → Type 0 = λ ls. ArePlaces n r.places ls in subst P stood stand);
       alone = alone ∙ ap (λ ls. map (without_in n) ls) stood;
-      covers = (let P : List Plan → Type 0 = λ ps. Covers time ps queue.flights in subst P ended covers);
+      covers = (let P : List Plan → Type 0 = λ ps. Covers s.time ps s.queue.flights in subst P ended covers);
     }
 
-pub can-go-back : (earlier time : ℕ) (store : Store) (listing : Listing) (queue : Awaiting) (places : List Place) (changed : List ℕ) (closed : Option Closing) (lists : List Listed)
-    → HaveBecomeDue store.taxi listing.max_plans earlier time store.plans changed lists → listing.lists ≡ map (with_fixed_waiting changed) lists
-    → All (λ n. (0 < n) × (n ≤ length store.plans)) changed → HoldNewlyDue earlier time store.plans changed → Covers time store.plans queue.flights → length queue.flights + length changed ≤ queue.room
-    → CanUndo (reading.Time earlier) time store listing queue places changed closed
-can-go-back earlier time store listing queue places changed closed lists due fixed within hold covers room =
-    let was = sym (waits-again store.taxi listing.max_plans earlier time store.plans changed lists listing.lists due fixed) in
+pub can-go-back : (earlier : ℕ) (r : LastReading) (s : State) (lists : List Listed)
+    → HaveBecomeDue s.store.taxi s.listing.max_plans earlier s.time s.store.plans r.changed lists → s.listing.lists ≡ map (with_fixed_waiting r.changed) lists
+    → HoldNewlyDue earlier s.time s.store.plans r.changed → Covers s.time s.store.plans s.queue.flights → length s.queue.flights + length r.changed ≤ s.queue.room
+    → CanUndo (reading.Time earlier) r s
+can-go-back earlier r s lists due fixed hold covers room =
+    let was = sym (waits-again s.store.taxi s.listing.max_plans earlier s.time s.store.plans r.changed lists s.listing.lists due fixed) in
     record {
-      due = (let P : List Listed → Type 0 = λ ls. HaveBecomeDue store.taxi listing.max_plans earlier time store.plans changed ls in subst P was due);
-      fixed = fixed ∙ ap (λ ls. map (with_fixed_waiting changed) ls) was;
-      within = within;
+      due = (let P : List Listed → Type 0 = λ ls. HaveBecomeDue s.store.taxi s.listing.max_plans earlier s.time s.store.plans r.changed ls in subst P was due);
+      fixed = fixed ∙ ap (λ ls. map (with_fixed_waiting r.changed) ls) was;
+      within = became-within _ _ _ _ due.became;
       hold = hold;
       covers = covers;
       room = room;
@@ -158,55 +158,49 @@ was-shut id lists new None is none was = absurd (true≢false (sym is ∙ none))
 was-shut id lists new (Some c) is none was = sym was
 
 -- what was kept before
-pub was-kept : (p : Past) (store : Store) (listing : Listing) (changed : List ℕ) (noted told : List (Option Told)) (time : ℕ) (old_store : Store) (old_listing : Listing) (flights : List Awaited) (old_told : List (Option Told))
-    → p.time ≡ time → p.plans ≡ old_store.plans → p.lists ≡ old_listing.lists → told_past p changed noted told ≡ old_told
-    → store.taxi ≡ old_store.taxi → store.max_plans ≡ old_store.max_plans → listing.max_plans ≡ old_listing.max_plans
-    → IsKept time old_store old_listing flights old_told
-    → length noted ≡ length changed → All (λ n. (0 < n) × (n ≤ length told)) changed
-    → AreNoted store.plans old_store.plans old_told changed noted
-    → WasKept store listing changed noted told p
-was-kept p store listing changed noted told time old_store old_listing flights old_told e1 e2 e3 e4 e5 e6 e7 k each numbers changes = record {
+pub was-kept : (r : LastReading) (s p old : State) (told old_told : List (Option Told)) → IsAgain p old → told_past r p told ≡ old_told → IsKept old old_told
+    → length r.noted ≡ length r.changed → All (λ n. (0 < n) × (n ≤ length told)) r.changed → AreNoted r s.store.plans old.store.plans old_told
+    → WasKept r s p told
+was-kept r s p old told old_told h e k each numbers changes = record {
   each = each;
   numbers = numbers;
-  changes = rw (e4, e2) changes;
+  changes = rw (e, sym h.plans) changes;
   kept = λ queue covers. record {
-    desk_time = rw e1 k.desk_time;
-    limit = e7 ∙ k.limit ∙ sym e6;
-    few = rw e3 k.few;
-    room = rw (e2, e6) k.room;
-    most = rw e6 k.most;
-    each = rw (e4, e2) k.each;
-    listed = rw (e2, e3, e5, e7) k.listed;
-    settled_in = rw (e1, e2, e3, e5) k.settled_in;
+    desk_time = rw (sym h.time) k.desk_time;
+    limit = sym h.limit ∙ k.limit ∙ h.most;
+    few = rw (sym h.lists) k.few;
+    room = rw (sym h.plans, sym h.most) k.room;
+    most = rw (sym h.most) k.most;
+    each = rw (e, sym h.plans) k.each;
+    listed = rw (sym h.plans, sym h.lists, sym h.taxi, sym h.limit) k.listed;
+    settled_in = rw (sym h.time, sym h.plans, sym h.lists, sym h.taxi) k.settled_in;
     covers = covers;
-    quiet = rw (e4, e2, e3, e5) k.quiet;
+    quiet = rw (e, sym h.plans, sym h.lists, sym h.taxi) k.quiet;
   };
 }
 
-pub traffic-before : (p : Past) (store : Store) (changed : List ℕ) (noted told : List (Option Told)) (notices : List Notice) (time : ℕ) (old_store : Store) (old_lists : List Listed) (old_told : List (Option Told)) (old_notices : List Notice)
-    → p.time ≡ time → p.plans ≡ old_store.plans → p.lists ≡ old_lists → told_past p changed noted told ≡ old_told
-    → store.taxi ≡ old_store.taxi → store.max_plans ≡ old_store.max_plans → notices ≡ old_notices
-    → traffic_past store p changed noted told notices ≡ traffic_of old_store.taxi old_store.max_plans time old_store.plans old_lists old_told old_notices
-traffic-before p store changed noted told notices time old_store old_lists old_told old_notices e1 e2 e3 e4 e5 e6 e7 = rw (e4, e1, e2, e3, e5, e6, e7) refl
+pub traffic-before : (r : LastReading) (p old : State) (told old_told : List (Option Told)) (notices old_notices : List Notice) → IsAgain p old → told_past r p told ≡ old_told → take r.issued notices ≡ old_notices
+    → traffic_past r p told notices ≡ traffic_of old old_told old_notices
+traffic-before r p old told old_told notices old_notices h e n = rw (e, n, sym h.time, sym h.plans, sym h.lists, sym h.taxi, sym h.most) refl
 
 -- the notices of the last reading are taken away
 pub notices-before : (old new more : List Notice) (count : ℕ) → new ≡ old ++ more → count ≡ length old → take count new ≡ old
 notices-before old new more count e c = ap (λ (ns : List Notice). take count ns) e ∙ ap (λ k. take k (old ++ more)) c ∙ take-append_seam old more
 
 -- what was told before
-pub told-before : (p : Past) (changed : List ℕ) (noted told mid old_told : List (Option Told)) (plans old_plans : List Plan)
-    → p.plans ≡ old_plans → told_again changed noted told ≡ mid → mid ≡ told_to plans old_told
-    → length old_told ≡ length old_plans → length old_plans ≤ length plans → length plans ≤ length old_plans + 1 → told_past p changed noted told ≡ old_told
-told-before p changed noted told mid old_told plans old_plans e again place each one more =
-    ap (λ (ps : List Plan). take (length ps) (told_again changed noted told)) e
+pub told-before : (r : LastReading) (p : State) (told mid old_told : List (Option Told)) (plans old_plans : List Plan)
+    → p.store.plans ≡ old_plans → told_again r.changed r.noted told ≡ mid → mid ≡ told_to plans old_told
+    → length old_told ≡ length old_plans → length old_plans ≤ length plans → length plans ≤ length old_plans + 1 → told_past r p told ≡ old_told
+told-before r p told mid old_told plans old_plans e again place each one more =
+    ap (λ (ps : List Plan). take (length ps) (told_again r.changed r.noted told)) e
     ∙ ap (λ (ts : List (Option Told)). take (length old_plans) ts) (again ∙ place)
     ∙ told_to-undone plans old_told (length old_plans) each one more
 
 -- and where the plans are the same
-pub told-back : (p : Past) (changed : List ℕ) (noted told old_told : List (Option Told)) (plans : List Plan)
-    → p.plans ≡ plans → told_again changed noted told ≡ old_told → length old_told ≡ length plans → told_past p changed noted told ≡ old_told
-told-back p changed noted told old_told plans e again each =
-    ap (λ (ps : List Plan). take (length ps) (told_again changed noted told)) e
+pub told-back : (r : LastReading) (p : State) (told old_told : List (Option Told)) (plans : List Plan)
+    → p.store.plans ≡ plans → told_again r.changed r.noted told ≡ old_told → length old_told ≡ length plans → told_past r p told ≡ old_told
+told-back r p told old_told plans e again each =
+    ap (λ (ps : List Plan). take (length ps) (told_again r.changed r.noted told)) e
     ∙ ap (λ (ts : List (Option Told)). take (length plans) ts) again
     ∙ ap (λ k. take k old_told) (sym each) ∙ take-length old_told
 
@@ -219,47 +213,55 @@ one-within n count changed e some within =
 
 -- ---- undoing
 
-pub by-reading : (l m : last.Last) (time : ℕ) (store : Store) (listing : Listing) (queue : Awaiting) (told : List (Option Told)) (places : List Place) (changed : List ℕ) (closed : Option Closing) (noted : List (Option Told))
-    → l ≡ m → IsKeptWith l time store listing queue told places changed closed noted → IsKeptWith m time store listing queue told places changed closed noted
-by-reading l m time store listing queue told places changed closed noted e h = let P : last.Last → Type 0 = λ k. IsKeptWith k time store listing queue told places changed closed noted in subst P e h
-
-pub kept-again : (time : ℕ) (p : Past) (store new_store : Store) (listing new : Listing) (flights : List Awaited) (told new_told : List (Option Told))
-    → IsKept p.time (record store { plans = p.plans }) (record listing { lists = p.lists }) flights told
-    → time ≡ p.time → new_store.taxi ≡ store.taxi → new_store.max_plans ≡ store.max_plans → new_store.plans ≡ p.plans
-    → new.max_plans ≡ listing.max_plans → new.lists ≡ p.lists → new_told ≡ told → IsKept time new_store new flights new_told
-kept-again time p store new_store listing new flights told new_told k e1 e2 e3 e4 e5 e6 e7 = record {
-  desk_time = rw e1 k.desk_time;
-  limit = e5 ∙ k.limit ∙ sym e3;
-  few = rw e6 k.few;
-  room = rw (e4, e3) k.room;
-  most = rw e3 k.most;
-  each = rw (e7, e4) k.each;
-  listed = rw (e2, e4, e5, e6) k.listed;
-  settled_in = rw (e1, e2, e4, e6) k.settled_in;
-  covers = rw (e1, e4) k.covers;
-  quiet = rw (e7, e2, e4, e6) k.quiet;
+pub kept-again : (p s : State) (told new_told : List (Option Told)) → IsKept (record p { queue = s.queue }) told → IsAgain p s → new_told ≡ told → IsKept s new_told
+kept-again p s told new_told k h e = record {
+  desk_time = rw h.time k.desk_time;
+  limit = h.limit ∙ k.limit ∙ sym h.most;
+  few = rw h.lists k.few;
+  room = rw (h.plans, h.most) k.room;
+  most = rw h.most k.most;
+  each = rw (e, h.plans) k.each;
+  listed = rw (h.taxi, h.plans, h.limit, h.lists) k.listed;
+  settled_in = rw (h.time, h.taxi, h.plans, h.lists) k.settled_in;
+  covers = h.covers;
+  quiet = rw (e, h.taxi, h.plans, h.lists) k.quiet;
 }
 
--- a reading that changed something
-pub undone-was : (l : last.Last) (time : ℕ) (store : Store) (lists : List Listed) (places : List Place) (changed : List ℕ) (closed : Option Closing) (noted told : List (Option Told)) (notices : List Notice) (issued : ℕ)
-    → (l ≡ reading.Nothing → ⊥) → (l ≡ reading.Refused → ⊥)
-    → undone l time store lists places changed closed noted told notices issued ≡ Some (traffic_past store (past l time store lists places changed closed) changed noted told (take issued notices))
-undone-was reading.Nothing time store lists places changed closed noted told notices issued a b = absurd (a refl)
-undone-was reading.Refused time store lists places changed closed noted told notices issued a b = absurd (b refl)
-undone-was (reading.Message number) time store lists places changed closed noted told notices issued a b = refl
-undone-was (reading.Time earlier) time store lists places changed closed noted told notices issued a b = refl
-undone-was reading.Open time store lists places changed closed noted told notices issued a b = refl
-undone-was reading.Shut time store lists places changed closed noted told notices issued a b = refl
+-- a reading that changed nothing can be undone
+nothing-can : (which : Last) (r : LastReading) (s : State) → has_changed which ≡ false → CanUndo which r s
+nothing-can reading.Nothing r s e = tt
+nothing-can reading.Refused r s e = tt
+nothing-can (reading.Message n) r s e = absurd (true≢false e)
+nothing-can (reading.Time earlier) r s e = absurd (true≢false e)
+nothing-can reading.Open r s e = absurd (true≢false e)
+nothing-can reading.Shut r s e = absurd (true≢false e)
 
-pub was-kept-by : (l : last.Last) (time : ℕ) (store : Store) (listing : Listing) (places : List Place) (changed : List ℕ) (closed : Option Closing) (noted told : List (Option Told))
-    → (l ≡ reading.Nothing → ⊥) → (l ≡ reading.Refused → ⊥)
-    → WasKeptBy l time store listing places changed closed noted told → WasKept store listing changed noted told (past l time store listing.lists places changed closed)
-was-kept-by reading.Nothing time store listing places changed closed noted told a b h = absurd (a refl)
-was-kept-by reading.Refused time store listing places changed closed noted told a b h = absurd (b refl)
-was-kept-by (reading.Message number) time store listing places changed closed noted told a b h = h
-was-kept-by (reading.Time earlier) time store listing places changed closed noted told a b h = h
-was-kept-by reading.Open time store listing places changed closed noted told a b h = h
-was-kept-by reading.Shut time store listing places changed closed noted told a b h = h
+pub kept-with-nothing : (r : LastReading) (s : State) (told : List (Option Told)) → has_changed r.which ≡ false → IsKept s told → IsKeptWith r s told
+kept-with-nothing r s told e k = record { kept = k; can = nothing-can r.which r s e; was = λ h. absurd (true≢false (sym h ∙ e)) }
+
+-- before a reading that may have changed something
+pub undone-was : (which : Last) (r : LastReading) (s : State) (told : List (Option Told)) (notices : List Notice) → has_changed which ≡ true
+    → undone which r s told notices ≡ Some (traffic_past r (past which r s) told notices)
+undone-was reading.Nothing r s told notices e = absurd (true≢false (sym e))
+undone-was reading.Refused r s told notices e = absurd (true≢false (sym e))
+undone-was (reading.Message number) r s told notices e = refl
+undone-was (reading.Time earlier) r s told notices e = refl
+undone-was reading.Open r s told notices e = refl
+undone-was reading.Shut r s told notices e = refl
+
+-- before one that changed nothing, the traffic was the same
+pub undone-same : (which : Last) (r : LastReading) (s : State) (told : List (Option Told)) (notices : List Notice) → has_changed which ≡ false
+    → IfSome (undone which r s told notices) (λ before. before ≡ traffic_of s told notices)
+undone-same reading.Nothing r s told notices e = tt
+undone-same reading.Refused r s told notices e = refl
+undone-same (reading.Message number) r s told notices e = absurd (true≢false e)
+undone-same (reading.Time earlier) r s told notices e = absurd (true≢false e)
+undone-same reading.Open r s told notices e = absurd (true≢false e)
+undone-same reading.Shut r s told notices e = absurd (true≢false e)
+
+pub if-same : (before : Option Traffic) (t : Traffic) (P : Traffic → Type 0) → IfSome before (λ b. b ≡ t) → P t → IfSome before P
+if-same None t P same h = tt
+if-same (Some b) t P same h = subst P (sym same) h
 
 -- what a plan was, where the plans before are known
 pub status-was : (o : Option (List Plan)) (ps : List Plan) (r : Option Status) (number : ℕ) → o ≡ Some ps → IfSome o (λ plans. r ≡ status_at plans number) → r ≡ status_at (option_map_or (λ qs. qs) o []) number
@@ -267,23 +269,16 @@ status-was None ps r number e h = absurd (cc)
 status-was (Some qs) ps r number e h = h
 
 -- only a message changes plans
-pub status-stays : (l : last.Last) (time : ℕ) (store : Store) (lists : List Listed) (places : List Place) (changed : List ℕ) (closed : Option Closing) (noted told : List (Option Told)) (notices : List Notice) (issued : ℕ)
-    → ((n : ℕ) → l ≡ reading.Message n → ⊥) → (r : Option Status) (number : ℕ) → r ≡ status_at store.plans number
-    → IfSome (undone l time store lists places changed closed noted told notices issued) (λ before. r ≡ status_at before.plans number)
-status-stays reading.Nothing time store lists places changed closed noted told notices issued ne r number h = tt
-status-stays reading.Refused time store lists places changed closed noted told notices issued ne r number h = h
-status-stays (reading.Message n) time store lists places changed closed noted told notices issued ne r number h = absurd (ne n refl)
-status-stays (reading.Time earlier) time store lists places changed closed noted told notices issued ne r number h = h
-status-stays reading.Open time store lists places changed closed noted told notices issued ne r number h = h
-status-stays reading.Shut time store lists places changed closed noted told notices issued ne r number h = h
+pub plans-stay : (which : Last) (r : LastReading) (s : State) (told : List (Option Told)) (notices : List Notice) → ((n : ℕ) → which ≡ reading.Message n → ⊥)
+    → IfSome (undone which r s told notices) (λ before. before.plans ≡ s.store.plans)
+plans-stay reading.Nothing r s told notices ne = tt
+plans-stay reading.Refused r s told notices ne = refl
+plans-stay (reading.Message n) r s told notices ne = absurd (ne n refl)
+plans-stay (reading.Time earlier) r s told notices ne = refl
+plans-stay reading.Open r s told notices ne = refl
+plans-stay reading.Shut r s told notices ne = refl
 
--- and then all are what they were
-pub plans-stay : (l : last.Last) (time : ℕ) (store : Store) (lists : List Listed) (places : List Place) (changed : List ℕ) (closed : Option Closing) (noted told : List (Option Told)) (notices : List Notice) (issued : ℕ)
-    → ((n : ℕ) → l ≡ reading.Message n → ⊥)
-    → IfSome (undone l time store lists places changed closed noted told notices issued) (λ before. before.plans ≡ store.plans)
-plans-stay reading.Nothing time store lists places changed closed noted told notices issued ne = tt
-plans-stay reading.Refused time store lists places changed closed noted told notices issued ne = refl
-plans-stay (reading.Message n) time store lists places changed closed noted told notices issued ne = absurd (ne n refl)
-plans-stay (reading.Time earlier) time store lists places changed closed noted told notices issued ne = refl
-plans-stay reading.Open time store lists places changed closed noted told notices issued ne = refl
-plans-stay reading.Shut time store lists places changed closed noted told notices issued ne = refl
+pub status-stays : (before : Option Traffic) (plans : List Plan) (status : Option Status) (number : ℕ) → IfSome before (λ b. b.plans ≡ plans) → status ≡ status_at plans number
+    → IfSome before (λ b. status ≡ status_at b.plans number)
+status-stays None plans status number same h = tt
+status-stays (Some b) plans status number same h = h ∙ ap (λ ps. status_at ps number) (sym same)

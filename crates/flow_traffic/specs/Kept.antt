@@ -4,35 +4,37 @@ use Rattle.std.specs.Prelude.{◌≡◌, ◌≤◌, ◌<◌, ℕ, Bool, true, fa
 use Rattle.std.specs.List.{All, AllByRecursion}
 use Rattle.std.specs.List.Sorted.{IsStrictlyIncreasing}
 use Rattle.flow_plans.specs.Settings.{IsDeskTime}
-use Rattle.flow_plans.specs.Stores.{Store}
 use Rattle.flow_plans.specs.Plans.{Plan}
 use Rattle.flow_regulations.specs.declared.notice.Told.{Told}
-use Rattle.flow_regulations.specs.declared.due_queue.Awaited.{Awaited}
 use Rattle.flow_regulations.specs.Awaiting.{Covers}
 use Rattle.flow_regulations.specs.Settling.{settled, pairs_of}
 use Rattle.flow_slots.specs.Assignment.{is_in}
-use Rattle.flow_regulations.specs.Listing.{Listed, Listing, regulation_of, IsListed, IsSettled, is_named}
+use Rattle.flow_regulations.specs.Listing.{Listed, regulation_of, IsListed, IsSettled, is_named}
 use Rattle.flow_regulations.specs.Quiet.{AllQuiet, KeepsSlots}
+use Rattle.flow_traffic.specs.State.{State}
 use Rattle.flow_traffic.specs.Asked.{departing, max_regulations}
 
-pub record IsKept (time : ℕ) (store : Store) (listing : Listing) (flights : List Awaited) (told : List (Option Told)) : Type 0 where
-  pub desk_time : IsDeskTime time
-  pub limit : listing.max_plans ≡ store.max_plans
-  pub few : length listing.lists ≤ max_regulations
-  pub room : length store.plans ≤ store.max_plans
-  pub most : store.max_plans ≤ 20_000
-  pub each : length told ≡ length store.plans
-  pub listed : IsListed store.taxi listing.max_plans store.plans listing.lists
-  pub settled_in : IsSettled store.taxi time store.plans listing.lists
-  pub covers : Covers time store.plans flights
-  pub quiet : AllQuiet store.taxi (map regulation_of listing.lists) store.plans told
+pub record IsKept (s : State) (told : List (Option Told)) : Type 0 where
+  pub desk_time : IsDeskTime s.time
+  pub limit : s.listing.max_plans ≡ s.store.max_plans
+  pub few : length s.listing.lists ≤ max_regulations
+  pub room : length s.store.plans ≤ s.store.max_plans
+  pub most : s.store.max_plans ≤ 20_000
+  pub each : length told ≡ length s.store.plans
+  pub listed : IsListed s.store.taxi s.listing.max_plans s.store.plans s.listing.lists
+  pub settled_in : IsSettled s.store.taxi s.time s.store.plans s.listing.lists
+  pub covers : Covers s.time s.store.plans s.queue.flights
+  pub quiet : AllQuiet s.store.taxi (map regulation_of s.listing.lists) s.store.plans told
 
--- the regulations were settled after a message about one flight, which departs or does not
-pub record IsSettledFor (departs : Bool) (number taxi max now : ℕ) (before plans : List Plan) (lists new : List Listed) : Type 0 where
-  pub regulations : map regulation_of new ≡ map (settled taxi now plans) (departing departs number taxi max before (map regulation_of lists))
-  pub listed : IsListed taxi max plans new
-  pub settled_in : IsSettled taxi now plans new
-  pub others : (f : ℕ) → (f ≡ number → ⊥) → KeepsSlots f (map regulation_of lists) (map regulation_of new)
+-- the regulations were settled after a message about one flight, which departs or does not: in that state before, with these
+-- plans and slot lists after
+pub record IsSettledFor (departs : Bool) (number : ℕ) (s : State) (plans : List Plan) (lists : List Listed) : Type 0 where
+  pub regulations : map regulation_of lists
+      ≡ map (settled s.store.taxi s.time plans)
+      (departing departs number s.store.taxi s.listing.max_plans s.store.plans (map regulation_of s.listing.lists))
+  pub listed : IsListed s.store.taxi s.listing.max_plans plans lists
+  pub settled_in : IsSettled s.store.taxi s.time plans lists
+  pub others : (f : ℕ) → (f ≡ number → ⊥) → KeepsSlots f (map regulation_of s.listing.lists) (map regulation_of lists)
 
 -- the flights that keep slots in the open regulation of this name, by number: it makes a difference to the advice of no other
 pub record AreFixedIn (id : List ℕ) (lists : List Listed) (flights : List ℕ) : Type 0 where

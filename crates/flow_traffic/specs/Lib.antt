@@ -1,4 +1,5 @@
 pub mod Traffic
+pub mod State
 pub mod Same
 pub mod Opening
 pub mod Telling

@@ -1,12 +1,11 @@
 -- What a desk allocates, beside its journal.
-use Rattle.std.specs.Prelude.{ℕ, ◌-◌, if◌then◌else◌, List, [], ◌∷◌, map, slice_get, Option, Some, None}
+use Rattle.std.specs.Prelude.{ℕ, ◌-◌, if◌then◌else◌, List, [], ◌∷◌, slice_get, Option, Some, None}
 use Rattle.std.specs.Option.{option_map, option_map_or}
 use Rattle.std.specs.Str.{bytes_eq}
 use Rattle.flow_plans.specs.Settings.{Settings}
 use Rattle.flow_plans.specs.Plans.{Plan}
 use Rattle.flow_slots.specs.Lineup.{Lineup}
 use Rattle.flow_regulations.specs.Regulations.{Regulation, lineup_of}
-use Rattle.flow_regulations.specs.Listing.{Listed, regulation_of}
 use Rattle.flow_regulations.specs.declared.notice.Told.{Told}
 use Rattle.flow_regulations.specs.declared.notice.Notice.{Notice}
 
@@ -38,11 +37,6 @@ regulation_named id (r ∷ rs) = if bytes_eq r.id id then Some r else regulation
 -- its slot list: the flights that it applies to wait in their order, around those that keep their slots
 abbrev pub slots_of : Traffic → List ℕ → Option Lineup
 slots_of t id = option_map (lineup_of t.taxi t.max_plans t.plans) (regulation_named id t.regulations)
-
--- with these slot lists
-abbrev pub traffic_of : (taxi max now : ℕ) → List Plan → List Listed → List (Option Told) → List Notice → Traffic
-traffic_of taxi max now plans lists told notices =
-    record { taxi = taxi; max_plans = max; now = now; plans = plans; regulations = map regulation_of lists; told = told; notices = notices }
 
 -- the traffic, and the one before the last reading, where that can be taken back
 pub record Undoable : Type 0 where

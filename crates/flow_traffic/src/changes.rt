@@ -24,11 +24,10 @@ impl<A: Allocator + Copy> Traffic<A> {
         ensures each_before { IfSome self.now.before (λ before. length before.told ≡ length before.plans) }
         ensures told { IfSome self.now.before (λ before. result.1.now ≡ map (told_of before.told) result.0.now) }
     {
-        match self.last {
-            Last::Nothing => (&[], &[]),
-            Last::Refused => (&[], &[]),
-            _ => (self.changed.as_slice(), self.noted.as_slice()),
+        if !self.undoing.has_changed() {
+            return (&[], &[]);
         }
+        (self.undoing.changed(), self.undoing.noted())
     }
 
     /// Where the plan of this number stood before the last reading, and its off-block moment then. None where it wasn't
@@ -38,7 +37,7 @@ impl<A: Allocator + Copy> Traffic<A> {
         requires change { IsSome self.now.before }
         ensures { IfSome self.now.before (λ before. result ≡ status_at before.plans number) }
     {
-        match self.last {
+        match self.undoing.which() {
             Last::Message { .. } => self.plans.previous(number),
             _ => status_at(&self.plans, number),
         }
@@ -49,7 +48,7 @@ impl<A: Allocator + Copy> Traffic<A> {
     pub fn may_have_moved_plans(&self) -> bool
         ensures { result ≡ false → IfSome self.now.before (λ before. before.plans ≡ self.now.traffic.plans) }
     {
-        match self.last {
+        match self.undoing.which() {
             Last::Message { .. } => true,
             _ => false,
         }

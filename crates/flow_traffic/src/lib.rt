@@ -13,9 +13,10 @@
 //!   at what it changes.
 //! - *Frozen flights keep their slots* (`FrozenPairsStay`): a reading takes a frozen pair of flight and slot away
 //!   only as the accepted DLA, CHG or CNL of that flight, or as the accepted SHUT of that regulation.
-//! - *The last reading can be taken back* (`undo`). It is noted what it was, where its flight stood, which plans were
-//!   told something and what they had been told; the store of plans notes its last change by itself. A SHUT keeps the
-//!   regulation that it closed.
+//! - *The last reading can be taken back* (`undo`). `Undoing` notes what it was, where its flight stood, which plans
+//!   were told something, what they had been told and how many notices there were; the store of plans notes its last
+//!   change by itself. A SHUT keeps the regulation that it closed. Each reading begins, notes, tells the noted plans
+//!   their slots and finishes by the same calls.
 //!
 //! `messages` and `orders` carry out what is asked for, `opening` has the limits of a regulation, `changes` says
 //! which plans a reading may have changed, `same` compares two desks.

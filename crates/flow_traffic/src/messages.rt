@@ -1,5 +1,5 @@
 //! What messages do to the traffic.
-ghost use Rattle.std.specs.Prelude.{◌≡◌, ◌≤◌, ◌<◌, ◌+◌, ◌∷◌, [], List, Ok, Some, None, IfOk, IsErr, OnOk, OnErr, IfErr};
+ghost use Rattle.std.specs.Prelude.{◌≡◌, ◌≤◌, ◌<◌, ◌+◌, List, Ok, Some, None, IfOk, IsErr, OnOk, OnErr, IfErr};
 ghost use Rattle.std.specs.Prelude.{MatchOption, length, map, slice_get, option_copied, vec_len, vec_capacity, ◌-◌};
 ghost use Rattle.std.specs.Prelude.{◌&&◌, nat_lt};
 ghost use Rattle.fpl_message.specs.Said.{said_message};
@@ -13,17 +13,17 @@ ghost use Rattle.flow_regulations.specs.Awaiting.{Covers};
 ghost use Rattle.flow_regulations.specs.declared.due_queue.Awaited.{Awaited};
 ghost use Rattle.flow_regulations.specs.Listing.{IsListed, IsSettled, AreSameBut, without_in};
 ghost use Rattle.flow_traffic.specs.Traffic.{told_of};
-ghost use Rattle.flow_traffic.specs.Telling.{AreTold};
+ghost use Rattle.flow_traffic.specs.State.{State};
 ghost use Rattle.flow_traffic.specs.Asked.{changed_by, verdict_on, is_departure};
 ghost use Rattle.flow_traffic.specs.Answers.{Answers, told_to};
 ghost use Rattle.flow_traffic.specs.Frozen.{FrozenPairsStay};
 ghost use Rattle.flow_traffic.specs.Kept.{IsSettledFor};
 
 use crate::traffic::Traffic;
-use crate::undo::{Last, make_room_to_undo, note_one, note_told};
+use crate::undo::{Last, Undoing};
 use crate::verdict::{Kind, Verdict};
 use flow_plans::{Plan, PlanFault, PlanState, PlanStore};
-use flow_regulations::{DueQueue, Notice, Place, Regulations, Told, Window, window_of};
+use flow_regulations::{DueQueue, Notice, Regulations, Told, Window, window_of};
 use fpl_message::{Message, Refusal};
 use fpl_text::{Minute, TimeOfDay};
 use std::alloc::{AllocError, Allocator};
@@ -39,15 +39,13 @@ impl<A: Allocator + Copy> Traffic<A> {
         ensures grow { length self.old.traffic.notices ≤ length self.new.traffic.notices }
         ensures few { length self.new.traffic.notices ≤ length self.old.traffic.notices + 20_000 }
     {
-        self.last = Last::Nothing;
+        self.undoing.begin();
         let Ok(()) = make_room(
-            &self.regulations,
+            self.regulations.count(),
+            &mut self.undoing,
             &mut self.queue,
             &mut self.told,
             &mut self.notices,
-            &mut self.places,
-            &mut self.changed,
-            &mut self.noted,
         ) else {
             return Err(AllocError);
         };
@@ -56,73 +54,52 @@ impl<A: Allocator + Copy> Traffic<A> {
             Ok(number) => number,
             Err(fault) => {
                 let verdict = refused(fault)?;
-                self.last = Last::Refused;
+                self.undoing.finish(Last::Refused);
                 return Ok(verdict);
             }
         };
         let count = self.plans.count();
         let verdict = verdict_on(&self.told, message, number);
         let departs = is_departure(message);
-        self.regulations.note_places(number, &mut self.places);
+        self.undoing.note(number, &self.regulations);
         settle_for(&mut self.regulations, &self.plans, number, departs, now);
         note_flight(&mut self.queue, &self.plans, number, now);
         make_place(count, &mut self.told);
-        self.issued = self.notices.len();
-        note_plan(number, &self.told, &mut self.changed, &mut self.noted);
-        self.regulations.tell(
+        self.undoing.tell(
+            &self.regulations,
             &self.plans,
-            &self.changed,
             &mut self.told,
             &mut self.notices,
         );
-        self.last = Last::Message { number };
+        self.undoing.finish(Last::Message { number });
         Ok(verdict)
     }
 }
 
-/// Makes room for what a message adds: to what plans are told, to the notices and to the queue, and to what undoes it.
+/// Makes room for what a message adds: to what plans are told, to the notices and to the queue, and to what undoes it
+/// where so many regulations are open.
 fn make_room<A: Allocator + Copy>(
-    regulations: &Regulations<A>,
+    regulations: usize,
+    undoing: &mut Undoing<A>,
     queue: &mut DueQueue<A>,
     told: &mut Vec<Option<Told>, A>,
     notices: &mut Vec<Notice, A>,
-    places: &mut Vec<Place, A>,
-    changed: &mut Vec<u32, A>,
-    noted: &mut Vec<Option<Told>, A>,
 ) -> Result<(), AllocError>
+    ensures undoing { undoing.new ≡ record undoing.old { room = undoing.new.room } }
     ensures told { told.new.items ≡ told.old.items }
     ensures notices { notices.new.items ≡ notices.old.items }
     ensures flights { queue.new.flights ≡ queue.old.flights }
     ensures told_room { OnOk result (vec_len told.new < vec_capacity told.new) }
     ensures notices_room { OnOk result (vec_len notices.new < vec_capacity notices.new) }
     ensures queue_room { OnOk result (length queue.new.flights < queue.new.room) }
-    ensures places_room { OnOk result (length regulations.now.lists ≤ vec_capacity places.new) }
-    ensures changed_room { OnOk result (1 ≤ vec_capacity changed.new) }
-    ensures noted_room { OnOk result (1 ≤ vec_capacity noted.new) }
+    ensures places_room { OnOk result (regulations ≤ undoing.new.room.places) }
+    ensures changed_room { OnOk result (1 ≤ undoing.new.room.numbers) }
+    ensures noted_room { OnOk result (1 ≤ undoing.new.room.told) }
 {
     told.reserve(1)?;
-    notices.reserve(1)?;
     queue.reserve()?;
-    make_room_to_undo(regulations.count(), places, changed, noted)
-}
-
-/// Notes the plan that a message is about, and what it was last told.
-fn note_plan<A: Allocator + Copy>(
-    number: u32,
-    told: &[Option<Told>],
-    changed: &mut Vec<u32, A>,
-    noted: &mut Vec<Option<Told>, A>,
-)
-    requires some { 0 < number }
-    requires within { number ≤ length told.now }
-    requires changed { 1 ≤ vec_capacity changed.old }
-    requires noted { 1 ≤ vec_capacity noted.old }
-    ensures changed { changed.new.items ≡ number ∷ [] }
-    ensures noted { AreTold changed.new.items told.now noted.new.items }
-    ensures each { length noted.new.items ≡ length changed.new.items }
-{
-    note_one(number, changed);
-    note_told(changed, told, noted);
+    undoing.make_room(regulations, 1)?;
+    undoing.make_room_to_tell(1, notices)
 }
 
 /// Does what a message asks of the plans, and answers the number of the plan that it is about.
@@ -224,12 +201,11 @@ fn settle_for<A: Allocator + Copy>(
     requires room { number ≤ regulations.old.max_plans }
     ensures limit { regulations.new.max_plans ≡ regulations.old.max_plans }
     ensures alone { map (without_in number) regulations.new.lists ≡ map (without_in number) regulations.old.lists }
-    ensures settled { (before : List Held)
-        → IsListed plans.now.taxi regulations.old.max_plans before regulations.old.lists
-        → IsSettled plans.now.taxi now before regulations.old.lists
-        → AreSameBut number before plans.now.plans
-        → IsSettledFor departs number plans.now.taxi regulations.old.max_plans now before plans.now.plans
-        regulations.old.lists regulations.new.lists }
+    ensures settled { (s : State) → s.time ≡ now → s.store.taxi ≡ plans.now.taxi → s.listing ≡ regulations.old
+        → IsListed s.store.taxi s.listing.max_plans s.store.plans s.listing.lists
+        → IsSettled s.store.taxi s.time s.store.plans s.listing.lists
+        → AreSameBut number s.store.plans plans.now.plans
+        → IsSettledFor departs number s plans.now.plans regulations.new.lists }
 {
     if departs {
         regulations.freeze_departing(number);

@@ -7,10 +7,10 @@ ghost use Rattle.flow_traffic.specs.Traffic.{no_traffic, slots_of};
 ghost use Rattle.flow_traffic.specs.Answers.{Answers, HasDeskMoments};
 ghost use Rattle.flow_traffic.specs.Frozen.{FrozenPairsStay};
 
-use crate::undo::{Last, put_back, untell};
+use crate::undo::{Last, Undoing};
 use crate::verdict::Verdict;
 use flow_plans::{Plan, PlanStore, Setup};
-use flow_regulations::{Closed, DueQueue, Notice, Place, Regulations, Told};
+use flow_regulations::{DueQueue, Notice, Regulations, Told};
 use flow_slots::SlotList;
 use fpl_message::{Order, Reading};
 use fpl_text::{Minute, Text};
@@ -29,34 +29,26 @@ pub struct Traffic<A: Allocator + Copy = Global> {
     pub(crate) queue: DueQueue<A>,
     pub(crate) told: Vec<Option<Told>, A>,
     pub(crate) notices: Vec<Notice, A>,
-    /// The plans whose slots the last reading may have changed, or room to note them.
-    pub(crate) changed: Vec<u32, A>,
-    /// What those were told before.
-    pub(crate) noted: Vec<Option<Told>, A>,
-    /// Where the flight of the last message stood before, in each regulation.
-    pub(crate) places: Vec<Place, A>,
-    /// The regulation that was closed last, until it is opened again.
-    pub(crate) closed: Option<Closed<A>>,
-    /// How many notices there were before the last reading.
-    pub(crate) issued: usize,
-    pub(crate) last: Last,
+    /// What undoes the last reading.
+    pub(crate) undoing: Undoing<A>,
 }
 
 impl<A: Allocator + Copy> Model for Traffic<A> {
-    ghost use Rattle.flow_traffic.specs.Traffic.{Undoable, traffic_of};
+    ghost use Rattle.flow_traffic.specs.Traffic.{Undoable};
+    ghost use Rattle.flow_traffic.specs.State.{State, traffic_of};
     ghost use Rattle.flow_traffic.specs.Undoing.{undone, IsKeptWith};
 
     ghost Value = { Undoable };
 
-    ghost view = { λ t. record {
-      traffic = traffic_of t.plans.taxi t.plans.max_plans t.time t.plans.plans t.regulations.lists t.told.items
-          t.notices.items;
-      before = undone t.last t.time t.plans t.regulations.lists t.places.items t.changed.items t.closed
-          t.noted.items t.told.items t.notices.items t.issued;
-    } };
+    ghost view = { λ t.
+        let s : State = record { time = t.time; store = t.plans; listing = t.regulations; queue = t.queue } in
+        record {
+          traffic = traffic_of s t.told.items t.notices.items;
+          before = undone t.undoing.which t.undoing s t.told.items t.notices.items;
+        } };
 
-    ghost invariant = { λ t. IsKeptWith t.last t.time t.plans t.regulations t.queue t.told.items t.places.items
-        t.changed.items t.closed t.noted.items };
+    ghost invariant = { λ t. IsKeptWith t.undoing
+        (record { time = t.time; store = t.plans; listing = t.regulations; queue = t.queue }) t.told.items };
 }
 
 impl<A: Allocator + Copy> Traffic<A> {
@@ -74,12 +66,7 @@ impl<A: Allocator + Copy> Traffic<A> {
             queue: DueQueue::new(alloc),
             told: Vec::new(alloc),
             notices: Vec::new(alloc),
-            changed: Vec::new(alloc),
-            noted: Vec::new(alloc),
-            places: Vec::new(alloc),
-            closed: None,
-            issued: 0,
-            last: Last::Nothing,
+            undoing: Undoing::new(alloc),
         }
     }
 
@@ -141,7 +128,7 @@ impl<A: Allocator + Copy> Traffic<A> {
             Reading::Ord(Order::ShutReg { id }) => self.shut(id),
             Reading::Ord(Order::SetTime { at }) => self.set_time(*at),
             Reading::Bad(refusal) => {
-                self.last = Last::Refused;
+                self.undoing.finish(Last::Refused);
                 Ok(Verdict::Refused(*refusal))
             }
         }
@@ -151,7 +138,7 @@ impl<A: Allocator + Copy> Traffic<A> {
     pub fn can_take_back(&self) -> bool
         ensures { IsTrue result ↔ IsSome self.now.before }
     {
-        match self.last {
+        match self.undoing.which() {
             Last::Nothing => false,
             _ => true,
         }
@@ -163,31 +150,19 @@ impl<A: Allocator + Copy> Traffic<A> {
         ensures traffic { self.old.before ≡ Some self.new.traffic }
         ensures before { self.new.before ≡ None }
     {
-        let last = self.last;
-        self.last = Last::Nothing;
-        match last {
-            Last::Nothing => {}
-            Last::Refused => {}
-            _ => {
-                put_back(
-                    last,
-                    &mut self.time,
-                    &mut self.plans,
-                    &mut self.regulations,
-                    &mut self.queue,
-                    &self.places,
-                    &self.changed,
-                    &mut self.closed,
-                );
-                untell(
-                    &self.changed,
-                    &self.noted,
-                    self.plans.count(),
-                    self.issued,
-                    &mut self.told,
-                    &mut self.notices,
-                );
-            }
+        if !self.undoing.has_changed() {
+            self.undoing.begin();
+            return;
         }
+        self.undoing.put_back(
+            &mut self.time,
+            &mut self.plans,
+            &mut self.regulations,
+            &mut self.queue,
+        );
+        let count = self.plans.count();
+        self.undoing
+            .untell(count, &mut self.told, &mut self.notices);
+        self.undoing.begin();
     }
 }

@@ -1,20 +1,23 @@
 //! What undoes the last reading.
 ghost use Rattle.std.specs.Prelude.{◌≡◌, ◌≤◌, ◌<◌, ◌+◌, ◌++◌, ◌∷◌, [], OnOk, IfSome, length, map, take, vec_capacity};
 ghost use Rattle.std.specs.List.{All};
-ghost use Rattle.std.specs.List.Sorted.{IsNonDecreasing};
-ghost use Rattle.flow_regulations.specs.Listing.{MayReopen, regulation_of};
+ghost use Rattle.std.specs.List.Sorted.{IsNonDecreasing, IsStrictlyIncreasing};
+ghost use Rattle.flow_regulations.specs.Listing.{MayReopen, HoldNewlyDue, regulation_of};
 ghost use Rattle.flow_regulations.specs.Notices.{notices_from, told_from};
 ghost use Rattle.flow_regulations.specs.Quiet.{AreQuietBut, AllQuiet};
-ghost use Rattle.flow_traffic.specs.Reopening.{open_again};
-ghost use Rattle.flow_regulations.specs.Awaiting.{Covers};
+ghost use Rattle.flow_regulations.specs.Places.{ArePlaces};
+ghost use Rattle.flow_regulations.specs.Awaiting.{Covers, BecameDue};
 ghost use Rattle.flow_traffic.specs.Traffic.{told_of};
+ghost use Rattle.flow_traffic.specs.Kept.{AreFixedIn};
+ghost use Rattle.flow_traffic.specs.Reopening.{open_again};
 ghost use Rattle.flow_traffic.specs.Telling.{AreTold, told_again};
-ghost use Rattle.flow_traffic.specs.Undoing.{past, CanUndo};
+ghost use Rattle.flow_traffic.specs.Undoing.{has_changed, past, CanUndo, IsAgain};
 
 use flow_plans::PlanStore;
 use flow_regulations::{Closed, DueQueue, Notice, Place, Regulations, Told};
-use fpl_text::Minute;
-use std::alloc::{AllocError, Allocator};
+use fpl_text::{Minute, Text};
+use std::alloc::{AllocError, Allocator, Global};
+use std::marker::Model;
 
 /// The last reading, with what it replaced.
 #[derive(Clone, Copy, Debug)]
@@ -33,47 +36,284 @@ pub(crate) enum Last {
     Shut,
 }
 
-/// Makes room for the places of a flight, for the one number of a message, and for what its plan was told.
-pub(crate) fn make_room_to_undo<A: Allocator + Copy>(
-    regulations: usize,
-    places: &mut Vec<Place, A>,
-    changed: &mut Vec<u32, A>,
-    noted: &mut Vec<Option<Told>, A>,
-) -> Result<(), AllocError>
-    ensures places { OnOk result (regulations ≤ vec_capacity places.new) }
-    ensures changed { OnOk result (1 ≤ vec_capacity changed.new) }
-    ensures noted { OnOk result (1 ≤ vec_capacity noted.new) }
-{
-    places.clear();
-    changed.clear();
-    noted.clear();
-    places.reserve(regulations)?;
-    changed.reserve(1)?;
-    noted.reserve(1)
+/// What undoes the last reading: it is noted while that is carried out. Contracts see all of it, and for how much there
+/// is room.
+#[derive(Drop)]
+pub(crate) struct Undoing<A: Allocator + Copy = Global> {
+    /// Which reading it was.
+    which: Last,
+    /// Where the flight of a message stood before, in each regulation, in the order of opening.
+    places: Vec<Place, A>,
+    /// The numbers of the plans whose slots it may have changed, rising.
+    changed: Vec<u32, A>,
+    /// What each of those was told before, in the same order.
+    noted: Vec<Option<Told>, A>,
+    /// The regulation that was closed last, until it is opened again.
+    closed: Option<Closed<A>>,
+    /// How many notices there were before.
+    issued: usize,
 }
 
-/// Makes room for so many notices, and for what so many plans were told.
-pub(crate) fn make_room_to_tell<A: Allocator + Copy>(
-    count: usize,
-    noted: &mut Vec<Option<Told>, A>,
-    notices: &mut Vec<Notice, A>,
-) -> Result<(), AllocError>
-    ensures notices { notices.new.items ≡ notices.old.items }
-    ensures room { OnOk result (length notices.new.items + count ≤ vec_capacity notices.new) }
-    ensures noted { OnOk result (count ≤ vec_capacity noted.new) }
-{
-    noted.clear();
-    noted.reserve(count)?;
-    notices.reserve(count)
+impl<A: Allocator + Copy> Model for Undoing<A> {
+    ghost use Rattle.std.specs.Prelude.{vec_capacity};
+    ghost use Rattle.flow_traffic.specs.Undoing.{LastReading};
+
+    ghost Value = { LastReading };
+
+    ghost view = { λ u. record {
+      which = u.which;
+      places = u.places.items;
+      changed = u.changed.items;
+      noted = u.noted.items;
+      closed = u.closed;
+      issued = u.issued;
+      room = record { places = vec_capacity u.places; numbers = vec_capacity u.changed; told = vec_capacity u.noted };
+    } };
 }
 
-/// Notes this number alone.
-pub(crate) fn note_one<A: Allocator + Copy>(number: u32, changed: &mut Vec<u32, A>)
-    requires { 1 ≤ vec_capacity changed.old }
-    ensures { changed.new.items ≡ number ∷ [] }
-{
-    changed.clear();
-    changed.push_reserved(number);
+impl<A: Allocator + Copy> Undoing<A> {
+    /// No reading that could be undone. It takes no memory.
+    pub(crate) fn new(alloc: A) -> Self
+        ensures { result.which ≡ Last.Nothing }
+    {
+        Undoing {
+            which: Last::Nothing,
+            places: Vec::new(alloc),
+            changed: Vec::new(alloc),
+            noted: Vec::new(alloc),
+            closed: None,
+            issued: 0,
+        }
+    }
+
+    /// Which reading it was.
+    pub(crate) fn which(&self) -> Last
+        ensures { result ≡ self.now.which }
+    {
+        self.which
+    }
+
+    /// Whether the reading may have changed anything: it was not refused, and can be taken back.
+    pub(crate) fn has_changed(&self) -> bool
+        ensures { result ≡ has_changed self.now.which }
+    {
+        match self.which {
+            Last::Nothing => false,
+            Last::Refused => false,
+            _ => true,
+        }
+    }
+
+    /// The numbers that are noted.
+    pub(crate) fn changed(&self) -> &[u32]
+        ensures { result.now ≡ self.now.changed }
+    {
+        self.changed.as_slice()
+    }
+
+    /// What the plans of those numbers were told before.
+    pub(crate) fn noted(&self) -> &[Option<Told>]
+        ensures { result.now ≡ self.now.noted }
+    {
+        self.noted.as_slice()
+    }
+
+    /// A reading begins: the one before can't be undone any more.
+    pub(crate) fn begin(&mut self)
+        ensures { self.new ≡ record self.old { which = Last.Nothing; places = []; changed = []; noted = [] } }
+    {
+        self.which = Last::Nothing;
+        self.places.clear();
+        self.changed.clear();
+        self.noted.clear();
+    }
+
+    /// Makes room for so many places and so many numbers. Refused where memory is.
+    pub(crate) fn make_room(&mut self, places: usize, numbers: usize) -> Result<(), AllocError>
+        ensures same { self.new ≡ record self.old { room = self.new.room } }
+        ensures told { self.new.room.told ≡ self.old.room.told }
+        ensures places { OnOk result (places ≤ self.new.room.places) }
+        ensures numbers { OnOk result (numbers ≤ self.new.room.numbers) }
+    {
+        self.places.reserve(places)?;
+        self.changed.reserve(numbers)
+    }
+
+    /// Makes room for so many notices, and for what so many plans were told. Refused where memory is.
+    pub(crate) fn make_room_to_tell(
+        &mut self,
+        count: usize,
+        notices: &mut Vec<Notice, A>,
+    ) -> Result<(), AllocError>
+        ensures same { self.new ≡ record self.old { room = self.new.room } }
+        ensures places { self.new.room.places ≡ self.old.room.places }
+        ensures numbers { self.new.room.numbers ≡ self.old.room.numbers }
+        ensures told { OnOk result (count ≤ self.new.room.told) }
+        ensures notices { notices.new.items ≡ notices.old.items }
+        ensures room { OnOk result (length notices.new.items + count ≤ vec_capacity notices.new) }
+    {
+        self.noted.reserve(count)?;
+        notices.reserve(count)
+    }
+
+    /// Notes the plan that a message is about, and where its flight stands. The caller makes room.
+    pub(crate) fn note(&mut self, number: u32, regulations: &Regulations<A>)
+        requires none { self.old.changed ≡ [] }
+        requires places { length regulations.now.lists ≤ self.old.room.places }
+        requires room { 1 ≤ self.old.room.numbers }
+        ensures places { ArePlaces number self.new.places regulations.now.lists }
+        ensures changed { self.new.changed ≡ number ∷ [] }
+        ensures others { self.new ≡ record self.old { places = self.new.places; changed = self.new.changed } }
+    {
+        regulations.note_places(number, &mut self.places);
+        self.changed.push_reserved(number);
+    }
+
+    /// Notes the flights that keep slots in the open regulation of this name, and makes room for what they were told and
+    /// for a notice to each. Refused where memory is.
+    pub(crate) fn note_fixed(
+        &mut self,
+        regulations: &Regulations<A>,
+        id: &Text<8>,
+        notices: &mut Vec<Notice, A>,
+    ) -> Result<(), AllocError>
+        ensures fixed { OnOk result (AreFixedIn id.now regulations.now.lists self.new.changed) }
+        ensures others { self.new ≡ record self.old { changed = self.new.changed; room = self.new.room } }
+        ensures told { OnOk result (length self.new.changed ≤ self.new.room.told) }
+        ensures notices { notices.new.items ≡ notices.old.items }
+        ensures room { OnOk result (length notices.new.items + length self.new.changed ≤ vec_capacity notices.new) }
+    {
+        regulations.note_fixed(id, &mut self.changed)?;
+        let count = self.changed.len();
+        self.noted.reserve(count)?;
+        notices.reserve(count)
+    }
+
+    /// Takes the flights that have become due from `earlier` to `now` out of the queue, and notes their numbers. The
+    /// caller makes room for as many as are in the queue.
+    pub(crate) fn take_due(
+        &mut self,
+        queue: &mut DueQueue<A>,
+        plans: &PlanStore<A>,
+        earlier: Minute,
+        now: Minute,
+    )
+        requires { length queue.old.flights ≤ self.old.room.numbers }
+        ensures became { All (BecameDue earlier now plans.now.plans) self.new.changed }
+        ensures rising { IsStrictlyIncreasing self.new.changed }
+        ensures each { Covers earlier plans.now.plans queue.old.flights
+            → HoldNewlyDue earlier now plans.now.plans self.new.changed }
+        ensures covers { earlier ≤ now → Covers earlier plans.now.plans queue.old.flights
+            → Covers now plans.now.plans queue.new.flights }
+        ensures left { length queue.new.flights + length self.new.changed ≤ length queue.old.flights }
+        ensures fits { length queue.new.flights + length self.new.changed ≤ queue.new.room }
+        ensures others { self.new ≡ record self.old { changed = self.new.changed } }
+    {
+        queue.take_due(plans, earlier, now, &mut self.changed);
+    }
+
+    /// Keeps the regulation that was closed.
+    pub(crate) fn keep(&mut self, closed: Option<Closed<A>>)
+        ensures { self.new ≡ record self.old { closed = closed } }
+    {
+        self.closed = closed;
+    }
+
+    /// Tells the noted plans their slots, and notes what they were told before and how many notices there were. The
+    /// caller makes room.
+    pub(crate) fn tell(
+        &mut self,
+        regulations: &Regulations<A>,
+        plans: &PlanStore<A>,
+        told: &mut Vec<Option<Told>, A>,
+        notices: &mut Vec<Notice, A>,
+    )
+        requires each { length told.old.items ≡ length plans.now.plans }
+        requires rising { IsNonDecreasing self.old.changed }
+        requires numbers { All (λ n. (0 < n) × (n ≤ length plans.now.plans)) self.old.changed }
+        requires none { self.old.noted ≡ [] }
+        requires noted { length self.old.changed ≤ self.old.room.told }
+        requires room { length notices.old.items + length self.old.changed ≤ vec_capacity notices.old }
+        requires quiet { AreQuietBut self.old.changed plans.now.taxi
+            (map regulation_of regulations.now.lists) plans.now.plans told.old.items }
+        ensures told { told.new.items
+            ≡ told_from 1 plans.now.taxi (map regulation_of regulations.now.lists) plans.now.plans told.old.items }
+        ensures notices { notices.new.items
+            ≡ notices.old.items ++ notices_from 1 plans.now.taxi
+            (map regulation_of regulations.now.lists) plans.now.plans told.old.items }
+        ensures quiet { AllQuiet plans.now.taxi
+            (map regulation_of regulations.now.lists) plans.now.plans told.new.items }
+        ensures each { length told.new.items ≡ length plans.now.plans }
+        ensures few { length notices.new.items ≤ length notices.old.items + length self.old.changed }
+        ensures again { told_again self.old.changed self.new.noted told.new.items ≡ told.old.items }
+        ensures were { self.new.noted ≡ map (told_of told.old.items) self.old.changed }
+        ensures count { length self.new.noted ≡ length self.old.changed }
+        ensures others { self.new ≡ record self.old { noted = self.new.noted; issued = length notices.old.items } }
+    {
+        self.issued = notices.len();
+        note_told(&self.changed, told, &mut self.noted);
+        regulations.tell(plans, &self.changed, told, notices);
+    }
+
+    /// The reading is carried out, and was this one.
+    pub(crate) fn finish(&mut self, which: Last)
+        ensures { self.new ≡ record self.old { which = which } }
+    {
+        self.which = which;
+    }
+
+    /// Puts the time, the plans, the regulations and the queue back as they were before the last reading. It takes no
+    /// memory.
+    pub(crate) fn put_back(
+        &mut self,
+        time: &mut Minute,
+        plans: &mut PlanStore<A>,
+        regulations: &mut Regulations<A>,
+        queue: &mut DueQueue<A>,
+    )
+        requires can { CanUndo self.old.which self.old
+            (record { time = time.old; store = plans.old; listing = regulations.old; queue = queue.old }) }
+        requires covers { Covers time.old plans.old.plans queue.old.flights }
+        ensures again { IsAgain
+            (past self.old.which self.old
+            (record { time = time.old; store = plans.old; listing = regulations.old; queue = queue.old }))
+            (record { time = time.new; store = plans.new; listing = regulations.new; queue = queue.new }) }
+        ensures others { self.new ≡ record self.old { closed = self.new.closed } }
+    {
+        let which = self.which;
+        match which {
+            Last::Nothing => {}
+            Last::Refused => {}
+            Last::Message { number } => {
+                plans.take_back();
+                regulations.put_back(number, &self.places);
+            }
+            Last::Time { earlier } => {
+                queue.put_back(plans, &self.changed);
+                regulations.release_all(plans, &self.changed);
+                *time = earlier;
+            }
+            Last::Open => regulations.take_last(),
+            Last::Shut => reopen(&mut self.closed, regulations),
+        }
+    }
+
+    /// Puts back what the noted plans were told, for so many plans, and takes away the notices since.
+    pub(crate) fn untell(
+        &self,
+        plans: u32,
+        told: &mut Vec<Option<Told>, A>,
+        notices: &mut Vec<Notice, A>,
+    )
+        requires numbers { All (λ n. (0 < n) × (n ≤ length told.old.items)) self.now.changed }
+        requires each { length self.now.noted ≡ length self.now.changed }
+        ensures told { told.new.items ≡ take plans (told_again self.now.changed self.now.noted told.old.items) }
+        ensures notices { notices.new.items ≡ take self.now.issued notices.old.items }
+    {
+        tell_again(&self.changed, &self.noted, told);
+        told.truncate(plans as usize);
+        notices.truncate(self.issued);
+    }
 }
 
 /// A copy of what a plan was told, which takes no memory.
@@ -87,56 +327,25 @@ fn copied_told(told: &Option<Told>) -> Option<Told>
 }
 
 /// Notes what these plans were last told.
-pub(crate) fn note_told<A: Allocator + Copy>(
+fn note_told<A: Allocator + Copy>(
     changed: &[u32],
     told: &[Option<Told>],
     noted: &mut Vec<Option<Told>, A>,
 )
     requires numbers { All (λ n. (0 < n) × (n ≤ length told.now)) changed.now }
+    requires none { noted.old.items ≡ [] }
     requires room { length changed.now ≤ vec_capacity noted.old }
     ensures noted { AreTold changed.now told.now noted.new.items }
     ensures each { length noted.new.items ≡ length changed.now }
+    ensures capacity { vec_capacity noted.new ≡ vec_capacity noted.old }
 {
-    noted.clear();
     for number in changed {
         noted.push_reserved(copied_told(&told[(*number - 1) as usize]));
     }
 }
 
-/// Tells these plans their slots, and notes what they were told before.
-pub(crate) fn tell_and_note<A: Allocator + Copy>(
-    regulations: &Regulations<A>,
-    plans: &PlanStore<A>,
-    changed: &[u32],
-    noted: &mut Vec<Option<Told>, A>,
-    told: &mut Vec<Option<Told>, A>,
-    notices: &mut Vec<Notice, A>,
-)
-    requires each { length told.old.items ≡ length plans.now.plans }
-    requires rising { IsNonDecreasing changed.now }
-    requires numbers { All (λ n. (0 < n) × (n ≤ length plans.now.plans)) changed.now }
-    requires room { length notices.old.items + length changed.now ≤ vec_capacity notices.old }
-    requires noted { length changed.now ≤ vec_capacity noted.old }
-    requires quiet { AreQuietBut changed.now plans.now.taxi
-        (map regulation_of regulations.now.lists) plans.now.plans told.old.items }
-    ensures told { told.new.items
-        ≡ told_from 1 plans.now.taxi (map regulation_of regulations.now.lists) plans.now.plans told.old.items }
-    ensures notices { notices.new.items
-        ≡ notices.old.items ++ notices_from 1 plans.now.taxi
-        (map regulation_of regulations.now.lists) plans.now.plans told.old.items }
-    ensures quiet { AllQuiet plans.now.taxi (map regulation_of regulations.now.lists) plans.now.plans told.new.items }
-    ensures each { length told.new.items ≡ length plans.now.plans }
-    ensures few { length notices.new.items ≤ length notices.old.items + length changed.now }
-    ensures again { told_again changed.now noted.new.items told.new.items ≡ told.old.items }
-    ensures were { noted.new.items ≡ map (told_of told.old.items) changed.now }
-    ensures count { length noted.new.items ≡ length changed.now }
-{
-    note_told(changed, told, noted);
-    regulations.tell(plans, changed, told, notices);
-}
-
 /// Puts back what these plans were told.
-pub(crate) fn tell_again<A: Allocator + Copy>(
+fn tell_again<A: Allocator + Copy>(
     changed: &[u32],
     noted: &[Option<Told>],
     told: &mut Vec<Option<Told>, A>,
@@ -150,25 +359,6 @@ pub(crate) fn tell_again<A: Allocator + Copy>(
     }
 }
 
-/// Puts back what these plans were told, for so many plans, and takes away the notices but the first ones.
-pub(crate) fn untell<A: Allocator + Copy>(
-    changed: &[u32],
-    noted: &[Option<Told>],
-    plans: u32,
-    issued: usize,
-    told: &mut Vec<Option<Told>, A>,
-    notices: &mut Vec<Notice, A>,
-)
-    requires numbers { All (λ n. (0 < n) × (n ≤ length told.old.items)) changed.now }
-    requires each { length noted.now ≡ length changed.now }
-    ensures told { told.new.items ≡ take plans (told_again changed.now noted.now told.old.items) }
-    ensures notices { notices.new.items ≡ take issued notices.old.items }
-{
-    tell_again(changed, noted, told);
-    told.truncate(plans as usize);
-    notices.truncate(issued);
-}
-
 /// Opens a closed regulation again in its place.
 fn reopen<A: Allocator + Copy>(closed: &mut Option<Closed<A>>, regulations: &mut Regulations<A>)
     requires { IfSome closed.old (λ c. MayReopen c regulations.old) }
@@ -177,46 +367,5 @@ fn reopen<A: Allocator + Copy>(closed: &mut Option<Closed<A>>, regulations: &mut
 {
     if let Some(closed) = closed.take() {
         regulations.reopen(closed);
-    }
-}
-
-/// Puts the time, the plans, the queue and the regulations back as they were before this reading. It takes no memory.
-pub(crate) fn put_back<A: Allocator + Copy>(
-    last: Last,
-    time: &mut Minute,
-    plans: &mut PlanStore<A>,
-    regulations: &mut Regulations<A>,
-    queue: &mut DueQueue<A>,
-    places: &[Place],
-    changed: &[u32],
-    closed: &mut Option<Closed<A>>,
-)
-    requires can { CanUndo last time.old plans.old regulations.old queue.old places.now changed.now closed.old }
-    requires covers { Covers time.old plans.old.plans queue.old.flights }
-    ensures time { time.new ≡ (past last time.old plans.old regulations.old.lists places.now changed.now
-        closed.old).time }
-    ensures plans { plans.new.plans
-        ≡ (past last time.old plans.old regulations.old.lists places.now changed.now closed.old).plans }
-    ensures lists { regulations.new.lists
-        ≡ (past last time.old plans.old regulations.old.lists places.now changed.now closed.old).lists }
-    ensures taxi { plans.new.taxi ≡ plans.old.taxi }
-    ensures most { plans.new.max_plans ≡ plans.old.max_plans }
-    ensures limit { regulations.new.max_plans ≡ regulations.old.max_plans }
-    ensures queue { Covers time.new plans.new.plans queue.new.flights }
-{
-    match last {
-        Last::Nothing => {}
-        Last::Refused => {}
-        Last::Message { number } => {
-            plans.take_back();
-            regulations.put_back(number, places);
-        }
-        Last::Time { earlier } => {
-            queue.put_back(plans, changed);
-            regulations.release_all(plans, changed);
-            *time = earlier;
-        }
-        Last::Open => regulations.take_last(),
-        Last::Shut => reopen(closed, regulations),
     }
 }

@@ -1,21 +1,23 @@
+use Rattle.std.proofs.Common.{sym}
 use Rattle.flow_regulations.proofs.Steps.{settled-but}
 use Rattle.flow_traffic.proofs.Settles.{staying, leaving}
 use Rattle.flow_traffic.proofs.messages.settle_for.Goals as goal
 use Rattle.flow_traffic.proofs.messages.settle_for.Goals.{then-departs, else-departs}
 
 pub returns-clause-settled : goal.returns-clause-settled
-returns-clause-settled g c = λ before listed settled same.
+returns-clause-settled g c = λ s time taxi listing listed settled same.
     elim c.if-departs.branch [
       | then-departs w ↦
-          let frozen = w.freeze_departing.ensures.frozen c.args.plans.now.taxi before listed in
-          let renewed = rw w.regulations-is at c.look_again.ensures.renewed in
+          let freeze = rw (sym listing) at w.freeze_departing.ensures.frozen in
+          let frozen = freeze s.store.taxi s.store.plans listed in
+          let renewed = rw (w.regulations-is, w.freeze_departing.ensures.limit, sym listing, sym taxi, sym time) at c.look_again.ensures.renewed in
           let others = rw w.regulations-is at c.look_again.ensures.others in
-          rw w.if-departs.true (leaving c.args.number c.args.plans.now.taxi c.args.regulations.now.max_plans c.args.now before c.args.plans.now.plans c.args.regulations.now.lists w.freeze_departing.new.self.lists c.look_again.new.self.lists
-          w.freeze_departing.ensures.others frozen others
-          (rw w.freeze_departing.ensures.limit at renewed before frozen.listed (frozen.settled_but c.args.now settled) same))
+          rw w.if-departs.true (leaving c.args.number s c.args.plans.now.plans w.freeze_departing.new.self.lists c.look_again.new.self.lists
+          (rw (sym listing) at w.freeze_departing.ensures.others) frozen others
+          (renewed s.store.plans frozen.listed (frozen.settled_but s.time settled) same))
       | else-departs w ↦
-          let renewed = rw w.regulations-is at c.look_again.ensures.renewed in
-          let others = rw w.regulations-is at c.look_again.ensures.others in
-          rw w.if-departs.false (staying c.args.number c.args.plans.now.taxi c.args.regulations.now.max_plans c.args.now before c.args.plans.now.plans c.args.regulations.now.lists c.look_again.new.self.lists
-          others (renewed before listed (settled-but c.args.number c.args.plans.now.taxi c.args.now before c.args.regulations.now.lists settled) same))
+          let renewed = rw (w.regulations-is, sym listing, sym taxi, sym time) at c.look_again.ensures.renewed in
+          let others = rw (w.regulations-is, sym listing) at c.look_again.ensures.others in
+          rw w.if-departs.false (staying c.args.number s c.args.plans.now.plans c.look_again.new.self.lists
+          others (renewed s.store.plans listed (settled-but c.args.number s.store.taxi s.time s.store.plans s.listing.lists settled) same))
     ]

@@ -1,10 +1,14 @@
-use Rattle.std.proofs.Common.{sym}
-use Rattle.flow_traffic.specs.Traffic.{Undoable}
+use Rattle.std.proofs.Common.{◌≡◌, ◌∙◌, ℕ, sym}
+use Rattle.flow_traffic.specs.declared.undo.Last.TheVariants as reading
+use Rattle.flow_traffic.specs.State.{State}
+use Rattle.flow_traffic.specs.Undoing.{LastReading}
 use Rattle.flow_traffic.proofs.TakenBack.{plans-stay}
 use Rattle.flow_traffic.proofs.traffic.Traffic.may_have_moved_plans.Goals as goal
 
 pub returns-in_default : goal.returns-in_default
 returns-in_default g c = λ moved.
-    let s = c.self.inside in
-    rw (sym c.self.view_is)
-    (plans-stay s.last s.time s.plans s.regulations.lists s.places.items s.changed.items s.closed s.noted.items s.told.items s.notices.items s.issued c.in_default.not-Message)
+    let i = c.self.inside in
+    let r : LastReading = i.undoing in
+    let s : State = record { time = i.time; store = i.plans; listing = i.regulations; queue = i.queue } in
+    let other : (n : ℕ) → r.which ≡ reading.Message n → ⊥ = λ n e. c.in_default.not-Message n (c.which.ensures ∙ e) in
+    rw (sym c.self.view_is) (plans-stay r.which r s i.told.items i.notices.items other)

@@ -1,22 +1,28 @@
-use Rattle.std.proofs.Common.{subst, sym, ap}
-use Rattle.flow_traffic.specs.declared.undo.Last as last
+use Rattle.std.proofs.Common.{◌≡◌, ◌∙◌, ℕ, sym, ap, subst}
+use Rattle.flow_traffic.specs.declared.undo.Last.{Last}
 use Rattle.flow_traffic.specs.declared.undo.Last.TheVariants as reading
 use Rattle.flow_traffic.specs.Traffic.{Undoable}
-use Rattle.flow_traffic.specs.Undoing.{past, CanUndo, CanForget}
-use Rattle.flow_traffic.proofs.TakenBack.{status-was, status-stays}
+use Rattle.flow_traffic.specs.State.{State}
+use Rattle.flow_traffic.specs.Undoing.{LastReading, past, undone, CanUndo, CanForget}
+use Rattle.flow_traffic.proofs.TakenBack.{status-was, status-stays, plans-stay}
 use Rattle.flow_traffic.proofs.traffic.Traffic.previous.Goals as goal
 
 pub returns-in-Message : goal.returns-in-Message
 returns-in-Message g c =
-    let s = c.self.inside in
-    let C : last.Last → Type 0 = λ l. CanUndo l s.time s.plans s.regulations s.queue s.places.items s.changed.items s.closed in
-    let can : CanForget c.in-Message.number s.time s.plans s.regulations s.queue s.places.items (past (reading.Message c.in-Message.number) s.time s.plans s.regulations.lists s.places.items s.changed.items s.closed) =
-    subst C c.in-Message.is c.self.invariant.can in
-    rw (sym (ap (λ (v : Undoable). v.before) c.self.view_is), c.in-Message.is)
-    (status-was s.plans.before _ c.previous.result c.args.number can.before c.previous.ensures)
+    let i = c.self.inside in
+    let r : LastReading = i.undoing in
+    let s : State = record { time = i.time; store = i.plans; listing = i.regulations; queue = i.queue } in
+    let is : r.which ≡ reading.Message c.in-Message.number = sym c.which.ensures ∙ c.in-Message.is in
+    let C : Last → Type 0 = λ l. CanUndo l r s in
+    let can : CanForget c.in-Message.number r s (past (reading.Message c.in-Message.number) r s) = subst C is c.self.invariant.can in
+    rw (sym (ap (λ (v : Undoable). v.before) c.self.view_is), is)
+    (status-was s.store.before _ c.previous.result c.args.number can.before c.previous.ensures)
 
 pub returns-in_default : goal.returns-in_default
 returns-in_default g c =
-    let s = c.self.inside in
+    let i = c.self.inside in
+    let r : LastReading = i.undoing in
+    let s : State = record { time = i.time; store = i.plans; listing = i.regulations; queue = i.queue } in
+    let other : (n : ℕ) → r.which ≡ reading.Message n → ⊥ = λ n e. c.in_default.not-Message n (c.which.ensures ∙ e) in
     rw (sym (ap (λ (v : Undoable). v.before) c.self.view_is))
-    (status-stays s.last s.time s.plans s.regulations.lists s.places.items s.changed.items s.closed s.noted.items s.told.items s.notices.items s.issued c.in_default.not-Message c.status_at.result c.args.number c.status_at.ensures)
+    (status-stays (undone r.which r s i.told.items i.notices.items) s.store.plans c.status_at.result c.args.number (plans-stay r.which r s i.told.items i.notices.items other) c.status_at.ensures)

@@ -1,0 +1,36 @@
+-- What a reading changes of a desk, beside what plans are told: as it is kept, and as the traffic is seen.
+use Rattle.std.specs.Prelude.{ℕ, List, map, Option}
+use Rattle.flow_plans.specs.Plans.{Plan}
+use Rattle.flow_plans.specs.Stores.{Store}
+use Rattle.flow_regulations.specs.Awaiting.{Awaiting}
+use Rattle.flow_regulations.specs.Listing.{Listed, Listing, regulation_of}
+use Rattle.flow_regulations.specs.declared.notice.Told.{Told}
+use Rattle.flow_regulations.specs.declared.notice.Notice.{Notice}
+use Rattle.flow_traffic.specs.Traffic.{Traffic}
+
+-- the desk's time, its plans, its open regulations with their slot lists, and the flights that aren't due
+pub record State : Type 0 where
+  pub time : ℕ
+  pub store : Store
+  pub listing : Listing
+  pub queue : Awaiting
+
+-- with these plans
+abbrev pub with_plans : List Plan → State → State
+with_plans plans s = record s { store = record s.store { plans = plans } }
+
+-- with these slot lists
+abbrev pub with_lists : List Listed → State → State
+with_lists lists s = record s { listing = record s.listing { lists = lists } }
+
+-- the traffic in that state, where plans were told this and these notices were issued
+abbrev pub traffic_of : State → List (Option Told) → List Notice → Traffic
+traffic_of s told notices = record {
+  taxi = s.store.taxi;
+  max_plans = s.store.max_plans;
+  now = s.time;
+  plans = s.store.plans;
+  regulations = map regulation_of s.listing.lists;
+  told = told;
+  notices = notices;
+}
