@@ -31,8 +31,8 @@ pub(crate) struct Filed<A: Allocator + Copy = Global> {
     pub stop: Option<RunFault>,
 }
 
-/// The fault that some feeds ended with, if one did, with one more feed that ended so: want of memory before a feed that
-/// was never begun.
+/// The fault that some feeds ended with, if one did, with one more feed that ended so: want of memory before a feed
+/// that was never begun.
 fn stop_with(stop: Option<RunFault>, end: End) -> Option<RunFault>
     ensures none { result ≡ None → (stop ≡ None) × EndsWell end }
     ensures memory { result ≢ Some RunFault.OutOfMemory

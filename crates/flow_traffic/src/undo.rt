@@ -169,8 +169,8 @@ impl<A: Allocator + Copy> Undoing<A> {
         self.changed.push_reserved(number);
     }
 
-    /// Notes the flights that keep slots in the open regulation of this name, and makes room for what they were told and
-    /// for a notice to each. Refused where memory is.
+    /// Notes the flights that keep slots in the open regulation of this name, and makes room for what they were told
+    /// and for a notice to each. Refused where memory is.
     pub(crate) fn note_fixed(
         &mut self,
         regulations: &Regulations<A>,

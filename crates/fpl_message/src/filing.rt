@@ -84,8 +84,8 @@ impl<A: Allocator + Copy> Filing<A> {
         self.renew_as(alloc, Edition::Second, bytes)
     }
 
-    /// The filing of a text, which is read in this room. The room is there for the next text then, unless the message or
-    /// a fault keeps it. Where memory is refused the text comes back.
+    /// The filing of a text, which is read in this room. The room is there for the next text then, unless the message
+    /// or a fault keeps it. Where memory is refused the text comes back.
     pub fn of_text(
         alloc: A,
         room: &mut Vec<u8, A>,
