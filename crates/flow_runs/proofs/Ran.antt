@@ -259,6 +259,10 @@ ended-behind (Err e) setup s filed es feeders journal begun written input mid re
     EndedBehind-made setup filed e feeders journal begun written input mid rest others h within
     (subst (λ (q : Settings). EndedBy e q (run setup filed).journal feeders journal begun written mid rest) same (subst (λ (q : List Record). EndedBy e s q feeders journal begun written mid rest) equal ended))
 
+-- want of memory is none of these
+pub memory-others : (e : RunFault) → e ≡ fault.OutOfMemory → (e ≢ fault.BadJournal) × (e ≢ fault.BadFeeders) × (e ≢ fault.NoReader)
+memory-others e is = (λ b. absurd (cc (is, b)), λ b. absurd (cc (is, b)), λ b. absurd (cc (is, b)))
+
 -- it doesn't end for want of a reader's place
 pub no-reader : {T : Type 0} (r : Result T RunFault) → IfErr r (λ e. (e ≢ fault.BadJournal) × (e ≢ fault.BadFeeders) × (e ≢ fault.NoReader)) → IsErrOf r fault.NoReader → ⊥
 no-reader (Ok x) others is = absurd (cc)

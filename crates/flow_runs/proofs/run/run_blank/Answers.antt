@@ -7,7 +7,7 @@ use Rattle.flow_core.proofs.JournalTexts.{OnOk-map}
 use Rattle.flow_runs.specs.Filing.{HasFiled}
 use Rattle.flow_runs.specs.Reading.{ToldUntil}
 use Rattle.flow_runs.specs.declared.fault.RunFault.{RunFault}
-use Rattle.flow_runs.proofs.Ran.{RanMany-all, on_ok, on_ok_two, if_err_map, ended-told, ended-all, ended-filed}
+use Rattle.flow_runs.proofs.Ran.{RanMany-all, on_ok, on_ok_two, if_err_map, ended-told, ended-all, ended-filed, memory-others}
 use Rattle.flow_runs.proofs.run.run_blank.Goals as goal
 
 pub returns-in_err-feeds-clause-much : goal.returns-in_err-feeds-clause-much
@@ -49,6 +49,11 @@ returns-in_err-feeds-clause-left g c =
     let rest = g.R.Read.remaining c.read_all.new.reader.device in
     rw p.1
     (ended-told c.args.blank.setup c.args.blank.entries c.args.feeders c.args.journal p.0 begun written input rest (subst (λ (k : RunFault). ToldUntil k begun written input rest) (sym p.2) c.in_err-feeds.ensures.told))
+
+pub returns-in_err-filings-clause-others : goal.returns-in_err-filings-clause-others
+returns-in_err-filings-clause-others g c =
+    let p = err_from_is_err_and c.from_residual-in_err-filings.result c.from_residual-in_err-filings.ensures.1 in
+    rw p.1 (memory-others p.0 (p.2 ∙ c.in_err-filings.ensures.fault))
 
 pub returns-in_err-filings-clause-left : goal.returns-in_err-filings-clause-left
 returns-in_err-filings-clause-left g c =
