@@ -185,8 +185,7 @@ impl<A: Allocator + Copy> Undoing<A> {
     {
         regulations.note_fixed(id, &mut self.changed)?;
         let count = self.changed.len();
-        self.noted.reserve(count)?;
-        notices.reserve(count)
+        self.make_room_to_tell(count, notices)
     }
 
     /// Takes the flights that have become due from `earlier` to `now` out of the queue, and notes their numbers. The
