@@ -1,6 +1,7 @@
 pub mod OtherLemmas
 pub mod RoutesLemmas
 pub mod RouteBytesLemmas
+pub mod PathWords
 pub mod RouteLawsProofs
 pub mod ItemsLemmas
 pub mod ItemLawsProofs

@@ -257,3 +257,9 @@ field-routed field first words some =
     told true (Some elements) = refl
     told false None = refl
     told false (Some elements) = refl
+
+-- where the first word is a speed and a level, all words are those of a route just where the field is one
+pub field-path : (field first : List ℕ) (words : List (List ℕ)) → words_of field ≡ first ∷ words → is_speed_and_level first ≡ true → list_all (list_all is_route_byte) (words_of field) ≡ is_route field
+field-path field first words are said =
+    ap (λ (q : List (List ℕ)). list_all (list_all is_route_byte) q) are
+    ∙ (ap (λ (q : Bool). q && list_all (list_all is_route_byte) words) (speed_and_level-routed first said ∙ sym said) ∙ sym (field-routed field first words are))

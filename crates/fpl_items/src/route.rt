@@ -13,6 +13,7 @@ use crate::speed::{is_height, is_speed, is_speed_and_level, speed_and_level, spe
 use fpl_text::byte::{
     all_digits, all_letters, all_letters_or_digits, is_letter_or_digit, leading_letters,
 };
+use fpl_text::path::is_path;
 use fpl_text::words::space_count;
 use fpl_text::{Measured, Text, Words};
 use std::alloc::{Allocator, Global};
@@ -287,27 +288,6 @@ fn elements_in<A: Allocator + Copy>(
     Some(elements)
 }
 
-/// Whether all bytes of a word are those of a route.
-#[inline(always)]
-fn is_routed(measured: &Measured<'_>) -> bool
-    requires { measured.now.letters_or_digits ≡ prefix_len is_letter_or_digit measured.now.word.now }
-    ensures { result ≡ list_all is_route_byte measured.now.word.now }
-{
-    measured.letters_or_digits == measured.word.len() || all_route_bytes(measured.word)
-}
-
-/// Whether all these words have the bytes of a route: as many kinds as there are words can then be told.
-fn all_routed(mut words: Words<'_>) -> bool
-    ensures { result ≡ list_all (list_all is_route_byte) words.entry }
-{
-    'words: while let Some(measured) = words.next_measured() {
-        if !is_routed(&measured) {
-            return false;
-        }
-    }
-    true
-}
-
 /// Whether field 15 can be read: a speed and a level, and words of letters, digits and strokes, since a word of these
 /// has a kind. Its elements are told by `Route::read`, which takes memory for them.
 pub fn is_route(field: &[u8]) -> bool
@@ -317,7 +297,7 @@ pub fn is_route(field: &[u8]) -> bool
     let Some(first) = words.next() else {
         return false;
     };
-    is_speed_and_level(first) && all_routed(words)
+    is_speed_and_level(first) && is_path(field)
 }
 
 impl<A: Allocator + Copy> Route<A> {

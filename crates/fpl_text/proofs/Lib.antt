@@ -2,6 +2,7 @@ pub mod BordersLemmas
 pub mod DaysLemmas
 pub mod FieldLawsProofs
 pub mod FieldPartsProofs
+pub mod PathLemmas
 pub mod PlacesLemmas
 pub mod SqueezingLemmas
 pub mod SqueezingLawsProofs

@@ -4,7 +4,7 @@ ghost use Rattle.std.specs.Prelude.{◌≡◌, ◌≤◌, ◌<◌, ◌+◌, ◌�
 ghost use Rattle.std.specs.Prelude.{true, false, length, slice_index, take, drop, count_by};
 ghost use Rattle.std.specs.Int.{bit_at};
 ghost use Rattle.fpl_text.specs.Bytes.{is_blank, is_border, is_letter, is_digit, is_letter_or_digit, is_other_mark};
-ghost use Rattle.fpl_text.specs.Bytes.{is_plain};
+ghost use Rattle.fpl_text.specs.Bytes.{is_plain, is_path_byte};
 ghost use Rattle.fpl_text.specs.Lanes.{HasLanes, HasFlags, behind, is_kept};
 
 use std::simd::prelude::*;
@@ -131,6 +131,15 @@ pub(crate) fn letter_or_digit_lanes(letters: u8x16, v: u8x16) -> u8x16
     ensures { HasFlags result (λ k. is_letter_or_digit (slice_index v k)) }
 {
     either(letters, between(v, b'0', b'9'))
+}
+
+/// Which lanes hold a byte of a path.
+#[inline(always)]
+pub(crate) fn path_lanes(v: u8x16) -> u8x16
+    ensures { HasFlags result (λ k. is_path_byte (slice_index v k)) }
+{
+    let letters_or_digits = letter_or_digit_lanes(letter_lanes(v), v);
+    or_equal_to(or_equal_to(letters_or_digits, v, b'/'), v, b' ')
 }
 
 /// Which lanes hold another byte than this.

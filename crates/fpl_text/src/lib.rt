@@ -30,6 +30,7 @@ pub mod laws;
 pub mod minute;
 pub mod part;
 mod pass;
+pub mod path;
 pub mod place;
 pub mod squeezed;
 pub mod text;
