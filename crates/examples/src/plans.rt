@@ -1,5 +1,5 @@
 //! Filing flight plans, with flow_plans alone.
-ghost use Rattle.std.specs.Prelude.{◌≡◌, Ok, length, IfOk, IfErr, OnOk};
+ghost use Rattle.std.specs.Prelude.{◌≡◌, Ok, length, IfOk, IfErr};
 ghost use Rattle.flow_plans.specs.Settings.{IsDeskTime};
 ghost use Rattle.flow_plans.specs.Changes.{filed, IsRefusal};
 

@@ -1,6 +1,6 @@
 //! Reading a filing, with fpl_message alone.
 ghost use Rattle.std.specs.Prelude.{◌≡◌, ◌<◌, ◌↔◌, length, IfOk, IsErrOf};
-ghost use Rattle.fpl_message.specs.declared.filing.Edition.TheVariants as Edition;
+ghost use Rattle.fpl_message.specs.declared.edition.Edition.TheVariants as Edition;
 ghost use Rattle.fpl_message.specs.Reads.{reading_of};
 ghost use Rattle.examples.specs.Readings.{refusal_in};
 

@@ -1,5 +1,5 @@
 //! Giving slots, with flow_slots alone.
-ghost use Rattle.std.specs.Prelude.{◌≡◌, ◌<◌, ◌≤◌, IsSome};
+ghost use Rattle.std.specs.Prelude.{◌≡◌, ◌<◌, IsSome};
 ghost use Rattle.flow_slots.specs.Period.{IsWithin};
 ghost use Rattle.flow_slots.specs.Lineup.{held_slot, with_waiting, without_flight};
 

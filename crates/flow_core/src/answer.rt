@@ -1,6 +1,5 @@
 //! Answer lines and slot notices as text.
-ghost use Rattle.std.specs.Prelude.{◌≡◌, ◌≤◌, ◌+◌, ◌++◌, ◌-◌, ◌^◌, min, OnOk, OnErr, length, codes, decimal, ℕ, ◌/◌};
-ghost use Rattle.std.specs.Prelude.{◌%◌};
+ghost use Rattle.std.specs.Prelude.{◌≡◌, ◌≤◌, ◌+◌, ◌++◌, ◌-◌, ◌^◌, min, OnOk, OnErr, length, codes, decimal};
 ghost use Rattle.std.specs.List.{flat_map};
 ghost use Rattle.std.specs.Io.KnownBytes.{Appends};
 ghost use Rattle.fpl_message.specs.Numbers.{number_of, name_of};

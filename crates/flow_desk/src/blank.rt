@@ -10,7 +10,7 @@ ghost use Rattle.flow_desk.specs.Blanks.{IsFree, IsBlank, first_beyond};
 use crate::history::{Front, Head, open_history};
 use crate::locked::count_one;
 use crate::seat::{Publisher, Seat};
-use flow_core::{Core, Entry};
+use flow_core::Core;
 use flow_plans::Setup;
 use std::alloc::{Allocator, Global};
 use std::marker::Model;

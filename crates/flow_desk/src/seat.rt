@@ -1,5 +1,5 @@
 //! A reader and the writer of the board, each as contracts see it.
-ghost use Rattle.std.specs.Prelude.{◌≡◌, ◌≤◌, ◌<◌, ◌^◌, true, [], ◌∷◌, ◌++◌, length, IfOk, IfErr, MatchResult};
+ghost use Rattle.std.specs.Prelude.{◌≡◌, ◌<◌, ◌^◌, true, length, IfOk, IfErr, MatchResult};
 ghost use mathlib.Core.List.{IsPrefix};
 ghost use Rattle.flow_core.specs.History.{state_of};
 ghost use Rattle.flow_core.specs.Boards.{padded, put_all};

@@ -5,7 +5,7 @@ use Rattle.std.specs.Io.KnownBytes.{prepend_known}
 use Rattle.fpl_message.specs.Filings.{FilingText}
 use Rattle.flow_intake.specs.declared.intake.Frame.{Frame}
 use Rattle.flow_intake.specs.declared.intake.Frame.TheVariants.{Whole}
-use Rattle.flow_intake.specs.declared.intake.IntakeFault.{IntakeFault}
+use Rattle.flow_intake.specs.declared.fault.IntakeFault.{IntakeFault}
 use Rattle.flow_intake.specs.Frames.{Cut, first_cut, frames}
 use Rattle.flow_intake.specs.Reader.{Ahead}
 use Rattle.flow_intake.specs.NextFrame.{Gives, Misses, filing_in, filing_of}

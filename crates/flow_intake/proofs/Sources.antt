@@ -3,7 +3,7 @@ use Rattle.std.proofs.Common.{◌≡◌, ℕ, Bool, true, false, List, [], ◌++
 use Rattle.std.specs.Io.KnownBytes.{prepend_known}
 use Rattle.flow_intake.specs.declared.intake.Frame.{Frame}
 use Rattle.flow_intake.specs.declared.intake.Frame.TheVariants.{Whole}
-use Rattle.flow_intake.specs.declared.intake.IntakeFault.{IntakeFault}
+use Rattle.flow_intake.specs.declared.fault.IntakeFault.{IntakeFault}
 use Rattle.flow_intake.specs.Frames.{first_cut}
 use Rattle.flow_intake.specs.Reader.{Ahead, Agrees}
 use Rattle.flow_intake.specs.NextFrame.{GaveFirst, GaveNone, Gives, Misses, filing_in}

@@ -4,7 +4,7 @@ use Rattle.std.specs.Io.KnownBytes.{Consumes}
 use Rattle.flow_intake.specs.declared.intake.Frame.{Frame}
 use Rattle.flow_intake.specs.declared.intake.Frame.TheVariants.{Whole, TooLong}
 use Rattle.fpl_message.specs.Filings.{FilingText}
-use Rattle.fpl_message.specs.declared.filing.Edition.TheVariants as edition
+use Rattle.fpl_message.specs.declared.edition.Edition.TheVariants as edition
 use Rattle.flow_intake.specs.Frames.{Cut, first_cut, ended_frames, kept_of}
 use Rattle.flow_intake.specs.Reader.{Ahead}
 

@@ -1,29 +1,19 @@
 //! The frames of an input.
-ghost use Rattle.std.specs.Prelude.{◌≡◌, ◌≢◌, ◌≤◌, ◌<◌, ◌+◌, ◌^◌, [], Some, None, false, min, length, IfErr, IfOk};
-ghost use Rattle.std.specs.Prelude.{IfNone, IfSome, IsOkAnd, OnErr, OnOk, OnSome, IsErrOf, Err, IsTrue, IsNone, ◌-◌};
-ghost use Rattle.flow_intake.specs.Frames.{kept_of};
+ghost use Rattle.std.specs.Prelude.{◌≡◌, ◌≢◌, ◌≤◌, ◌<◌, ◌+◌, ◌^◌, Some, None, false, min, length, IfErr, IfOk};
+ghost use Rattle.std.specs.Prelude.{IfNone, IfSome, IsOkAnd, OnErr, OnOk, IsErrOf, Err, IsTrue, IsNone, ◌-◌};
 ghost use Rattle.flow_intake.specs.InTurn.{EndsWithin, GivesNext};
 ghost use Rattle.flow_intake.specs.NextFrame.{Cuts, Gives, Misses, Starves, filing_in, filing_kept};
 ghost use Rattle.flow_intake.specs.Source.{CutsFirst, KeepsTotal, MissesFirst};
 ghost use Rattle.flow_intake.specs.Reader.{Agrees, Came, CameTooMuch, Finished, Unfinished};
 
 use crate::counted::Counted;
+use crate::fault::IntakeFault;
 use crate::kept::Kept;
 use crate::pieces::{Pieces, Until, take_if, take_until};
 use fpl_message::{Filing, FilingFault};
 use std::alloc::{AllocError, Allocator, Global};
 use std::io::Read;
 use std::marker::Model;
-
-/// Why no frame came.
-#[derive(Clone, Copy, Debug, PartialEq, Eq)]
-pub enum IntakeFault {
-    /// The reader failed. An interrupted call is a failure, too.
-    Read,
-    /// The input has more than 4,000,000,000 bytes.
-    TooMuch,
-    OutOfMemory,
-}
 
 /// A frame of the input: a filing, or one that is too long.
 #[derive(Drop)]

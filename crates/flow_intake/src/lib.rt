@@ -11,12 +11,14 @@
 #![tactic(auto)]
 
 mod counted;
+mod fault;
 mod intake;
 mod kept;
 pub mod laws;
 mod pieces;
 
 pub use counted::{Counted, WriteFault, write_bytes};
-pub use intake::{Frame, Intake, IntakeFault, cut_frame};
+pub use fault::IntakeFault;
+pub use intake::{Frame, Intake, cut_frame};
 pub use kept::Kept;
 pub use pieces::{MAX_INPUT, Pieces};

@@ -1,14 +1,14 @@
 //! An input in pieces, from any reader, however it cuts the bytes.
 ghost use Rattle.std.specs.Prelude.{◌≡◌, ◌≢◌, ◌≤◌, ◌<◌, ◌+◌, ◌-◌, ◌^◌, [], false, true, min, length, drop, slice_get};
-ghost use Rattle.std.specs.Prelude.{IfOk, OnOk, OnErr, IsErrOf, Err, IsTrue};
+ghost use Rattle.std.specs.Prelude.{IfOk, OnOk, IsErrOf, Err, IsTrue};
 ghost use Rattle.std.specs.List.{position};
 ghost use Rattle.flow_intake.specs.Frames.{is_text};
 ghost use Rattle.std.specs.Io.KnownBytes.{Consumes};
-ghost use Rattle.flow_intake.specs.Reader.{Agrees, BeginsWithStop, Came, CameTooMuch, Filled, TakesIf, Took, TookRun};
+ghost use Rattle.flow_intake.specs.Reader.{Agrees, BeginsWithStop, CameTooMuch, Filled, TakesIf, Took, TookRun};
 ghost use Rattle.flow_intake.specs.Until.{stops_at};
 
 use crate::counted::Counted;
-use crate::intake::IntakeFault;
+use crate::fault::IntakeFault;
 use crate::kept::Kept;
 use memchr::{memchr2, memrchr2};
 use std::alloc::{AllocError, Allocator, Global};

@@ -1,82 +1,22 @@
 //! What a CHG makes of a plan.
-ghost use Rattle.std.specs.Prelude.{◌≡◌, ◌≤◌, ◌<◌, Ok, List, ℕ, true, IfOk, IfErr, IfSome, length, unwrap_or};
-ghost use Rattle.std.specs.Prelude.{option_copied};
-ghost use Rattle.std.specs.Option.{option_map_or};
-ghost use Rattle.fpl_items.specs.Items.{is_exempt};
+ghost use Rattle.std.specs.Prelude.{◌≡◌, ◌≤◌, ◌<◌, Ok, true, IfOk, IfErr, IfSome, length, option_copied, ◌+◌, ◌-◌};
+ghost use Rattle.std.specs.Prelude.{Err, Some, None, OnOk, OnErr};
 ghost use Rattle.flow_plans.specs.Settings.{IsDeskTime};
 ghost use Rattle.flow_plans.specs.Plans.{is_held, plan_at, with_plan};
-ghost use Rattle.flow_plans.specs.Chains.{AreChained};
-ghost use Rattle.flow_plans.specs.Changes.{moved_to, elapsed_after, alternates_after, key_after, amended, Answers};
-ghost use Rattle.flow_plans.specs.Changes.{IsRefusal};
+ghost use Rattle.flow_plans.specs.Chains.{AreChained, flight_of_key, HasRoomFor, StayChained};
+ghost use Rattle.flow_plans.specs.Changes.{moved_to, amended, Answers, IsRefusal};
+ghost use Rattle.flow_plans.specs.Matching.{matching};
+ghost use Rattle.flow_plans.specs.Times.{delayed_to};
 
-use crate::chains::Chains;
+use crate::chains::{Chains, FlightName};
 use crate::fault::PlanFault;
 use crate::matching::{matching, others_hold_key};
 use crate::plan::Plan;
-use crate::store::delayed_to;
-use fpl_items::Other18;
+use crate::plan_list::PlanList;
+use crate::times::delayed_to;
 use fpl_message::Chg;
-use fpl_text::{Alternates, Departure, Destination, FlightRules, Minute, Rules};
+use fpl_text::{Departure, Minute};
 use std::alloc::Allocator;
-
-/// The amended text, or else the one held.
-pub(crate) fn text_after<'a>(held: &'a [u8], amended: Option<&'a [u8]>) -> &'a [u8]
-    ensures { result.now ≡ unwrap_or (option_copied amended.entry) held.now }
-{
-    match amended {
-        Some(text) => text,
-        None => held,
-    }
-}
-
-/// The amended flight rules, or else those held.
-pub(crate) fn rules_after(held: FlightRules, amended: Option<&Rules>) -> FlightRules
-    ensures { result ≡ option_map_or (λ rules. rules.rules) (option_copied amended.entry) held }
-{
-    match amended {
-        Some(rules) => rules.rules,
-        None => held,
-    }
-}
-
-/// Whether an amended field 18 exempts the flight, or else what is held.
-pub(crate) fn exempt_after<A: Allocator + Copy>(held: bool, amended: Option<&Other18<A>>) -> bool
-    ensures { result ≡ option_map_or is_exempt (option_copied amended.entry) held }
-{
-    match amended {
-        Some(other) => other.exempt(),
-        None => held,
-    }
-}
-
-/// The elapsed time of an amended field 16 that has one, or else the one held.
-pub(crate) fn elapsed_after(held: u32, amended: Option<&Destination>) -> u32
-    requires held { held < 6000 }
-    requires amended { IfSome amended (λ amended. IfSome amended.now.elapsed (λ minutes. minutes < 6000)) }
-    ensures value { result ≡ elapsed_after held (option_copied amended.entry) }
-    ensures bound { result < 6000 }
-{
-    match amended {
-        Some(destination) => destination.elapsed.unwrap_or(held),
-        None => held,
-    }
-}
-
-/// The alternates of an amended field 16 that has an elapsed time, or else those held.
-pub(crate) fn alternates_after(held: &Alternates, amended: Option<&Destination>) -> Alternates
-    ensures { result ≡ alternates_after held.now (option_copied amended.entry) }
-{
-    match amended {
-        Some(destination) => {
-            if destination.elapsed.is_some() {
-                destination.alternates.copied()
-            } else {
-                held.copied()
-            }
-        }
-        None => held.copied(),
-    }
-}
 
 /// The off-block moment, which an amended field 13 moves as a delay does.
 fn moved_to(now: Minute, held: Minute, departure: Option<&Departure>) -> Result<Minute, PlanFault>
@@ -93,7 +33,7 @@ fn moved_to(now: Minute, held: Minute, departure: Option<&Departure>) -> Result<
 
 /// The number of the plan that a message is about, and the plan with all its amendments made, or why it is refused.
 #[tactic(auto, unfolding(crate::specs::Changes::amended))]
-pub(crate) fn amended<A: Allocator + Copy>(
+fn amended<A: Allocator + Copy>(
     alloc: A,
     plans: &[Plan<A>],
     chains: &Chains<A>,
@@ -124,4 +64,68 @@ pub(crate) fn amended<A: Allocator + Copy>(
         Ok(plan) => Ok((number, plan)),
         Err(_) => Err(PlanFault::OutOfMemory),
     }
+}
+
+/// Amends the plan that a message is about, and answers its number and what it was.
+#[tactic(auto, unfolding(crate::specs::Changes::amended))]
+pub(crate) fn amend_plan<A: Allocator + Copy>(
+    alloc: A,
+    plans: &mut PlanList<A>,
+    chains: &mut Chains<A>,
+    message: &Chg<A>,
+    now: Minute,
+) -> Result<(u32, Plan<A>), PlanFault>
+    requires now { IsDeskTime now }
+    requires few { length plans.old ≤ 20_000 }
+    requires chained { AreChained chains.old plans.old }
+    ensures ok { IfOk result (λ r. amended now plans.old message.now
+        ≡ Ok (record { plans = plans.new; number = r.0 })) }
+    ensures within { IfOk result (λ r. (0 < r.0) × (r.0 ≤ length plans.new)) }
+    ensures back { IfOk result (λ r. with_plan plans.new r.0 r.1 ≡ plans.old) }
+    ensures refused { IfErr result (λ e. IsRefusal e (amended now plans.old message.now)) }
+    ensures count { length plans.new ≡ length plans.old }
+    ensures err { OnErr result (plans.new ≡ plans.old) }
+    ensures chained { AreChained chains.new plans.new }
+    ensures held { IfOk result (λ r. (is_held r.1.state ≡ true)
+        × IfSome (plan_at plans.new r.0) (λ p. is_held p.state ≡ true)) }
+    ensures room { OnOk result (0 < chains.new.room) }
+    ensures kept { OnErr result (StayChained chains.old chains.new) }
+{
+    let (number, plan) = amended(alloc, plans.as_slice(), chains, message, now)?;
+    // For the name of its flight now, and for the one that it had, should that be taken back.
+    let Ok(()) = chains.reserve(2) else {
+        return Err(PlanFault::OutOfMemory);
+    };
+    let held = exchange(plans, chains, number, plan);
+    Ok((number, held))
+}
+
+/// Puts a plan in the place of that number and into the chain of its flight, which has room for it, and answers the
+/// plan that stood there. It takes no memory.
+pub(crate) fn exchange<A: Allocator + Copy>(
+    plans: &mut PlanList<A>,
+    chains: &mut Chains<A>,
+    number: u32,
+    plan: Plan<A>,
+) -> Plan<A>
+    requires number { (0 < number) × (number ≤ length plans.old) }
+    requires held { (is_held plan.state ≡ true) × IfSome (plan_at plans.old number) (λ p. is_held p.state ≡ true) }
+    requires room { HasRoomFor chains.old (flight_of_key plan.key) }
+    requires chained { AreChained chains.old plans.old }
+    ensures changed { plans.new ≡ with_plan plans.old number plan }
+    ensures back { with_plan plans.new number result ≡ plans.old }
+    ensures count { length plans.new ≡ length plans.old }
+    ensures held { is_held result.state ≡ true }
+    ensures chained { AreChained chains.new plans.new }
+    ensures room { chains.old.room ≤ chains.new.room + 1 }
+{
+    let name = FlightName::of_key(plans.as_slice()[(number - 1) as usize].key());
+    if name == FlightName::of_key(plan.key()) {
+        return plans.replace(number, plan);
+    }
+    chains.leave(plans.as_slice(), number);
+    let held = plans.replace(number, plan);
+    chains.join(plans.as_slice(), number);
+    chains.forget(&name);
+    held
 }

@@ -1,5 +1,4 @@
 //! Why a message about a plan is refused.
-ghost use Rattle.std.specs.Prelude.{◌≡◌};
 
 /// Why a message about a plan is refused. The numbers are those of [`Refusal`](fpl_message::Refusal).
 #[derive(Clone, Copy, Debug, PartialEq, Eq)]

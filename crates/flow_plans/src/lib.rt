@@ -14,10 +14,12 @@
 //! - *Places* (`places`, `near`): a bit for each place that a flight comes to, by which the open regulations near it
 //!   are found.
 //!
-//! `store` has the calls, `matching` finds the plan of a message, `amending` makes amendments, `undo` and `store`
+//! `store` has the calls, `matching` finds the plan of a message, `amending` makes amendments (`amended_values` has
+//! their values), `times` says what off-block moment a message gives, `undo`
 //! take the last change back, `setup` has the limits of a desk, `laws` what holds of plans over all messages to come.
 #![tactic(auto)]
 
+mod amended_values;
 mod amending;
 mod chains;
 mod fault;
@@ -31,6 +33,7 @@ mod plan_list;
 mod setup;
 mod store;
 mod texts;
+mod times;
 mod undo;
 
 pub use fault::PlanFault;

@@ -7,7 +7,7 @@ ghost use Rattle.std.specs.Int.{bit_at};
 ghost use Rattle.flow_plans.specs.Near.{row_of, word_at, HasBitsOf};
 ghost use Rattle.fpl_items.specs.Places.{bit_of};
 
-use fpl_items::places::bit_of;
+use fpl_items::bit_of;
 use fpl_message::Spot;
 
 /// The row of a place in a table of words by places.

@@ -7,7 +7,7 @@ ghost use Rattle.flow_plans.specs.Outlines.{may_come, may_fly, outlined_moment, 
 
 use crate::places::letters_of;
 use crate::plan::Plan;
-use fpl_items::places::may_have;
+use fpl_items::may_have;
 use fpl_message::Spot;
 use fpl_text::Minute;
 use std::alloc::Allocator;

@@ -6,14 +6,14 @@ ghost use Rattle.fpl_message.specs.declared.order.Spot.{Spot};
 ghost use Rattle.flow_plans.specs.Near.{row_of, word_at, HasBitsOf};
 ghost use Rattle.flow_plans.specs.Outlines.{may_be_subject};
 ghost use Rattle.fpl_items.specs.Places.{may_have};
-ghost use Rattle.flow_plans.specs.Plans.{is_held, is_filed, is_visual, same_key, is_held_as, text_of, status_of};
+ghost use Rattle.flow_plans.specs.Plans.{is_held, is_filed, same_key, is_held_as, text_of, status_of};
 ghost use Rattle.flow_plans.specs.Plans.{with_state, with_off_block};
 ghost use Rattle.flow_plans.specs.Matching.{agrees, is_candidate, is_gone};
 ghost use Rattle.flow_plans.specs.Changes.{plan_of, key_of, changes_key, key_after, amended_plan};
 ghost use Rattle.std.specs.Option.{option_map_or};
 ghost use Rattle.std.specs.Str.{bytes_eq};
 
-use crate::amending::{alternates_after, elapsed_after, exempt_after, rules_after};
+use crate::amended_values::{alternates_after, elapsed_after, exempt_after, rules_after};
 use crate::near::words_of_ends;
 use crate::texts::Texts;
 use fpl_items::Other18;

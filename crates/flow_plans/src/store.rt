@@ -1,32 +1,32 @@
 //! The plans by number.
-ghost use Rattle.std.specs.Prelude.{◌≡◌, ◌≢◌, ◌≤◌, ◌<◌, ◌+◌, ◌-◌, ◌*◌, ◌++◌, ◌∷◌, ℕ, [], Ok, Err, Some, None, IfOk};
-ghost use Rattle.std.specs.Prelude.{IfErr, IfNone, OnOk, OnErr, IfSome, IsSome, IsTrue, ◌↔◌, MatchOption, true, length};
+ghost use Rattle.std.specs.Prelude.{◌≡◌, ◌≢◌, ◌≤◌, ◌<◌, ◌+◌, ◌-◌, ◌++◌, ◌∷◌, ℕ, [], Ok, Err, Some, None, IfOk};
+ghost use Rattle.std.specs.Prelude.{IfErr, OnOk, OnErr, IfSome, IsSome, IsTrue, ◌↔◌, true, length};
 ghost use Rattle.std.specs.Prelude.{slice_get, option_copied};
-ghost use Rattle.std.specs.List.{list_any};
 ghost use Rattle.flow_plans.specs.Settings.{IsDeskTime};
 ghost use Rattle.flow_plans.specs.Entries.{take_off, entry_at, subject};
-ghost use Rattle.flow_plans.specs.Undoing.{undone, IsOf, CanReturn};
-ghost use Rattle.flow_plans.specs.Chains.{flight_of_key, AreChained, HasRoomFor, KeepNames, StayChained};
-ghost use Rattle.flow_plans.specs.Plans.{is_held, is_held_as, plan_at, filed_off_block, status_at, with_plan};
+ghost use Rattle.flow_plans.specs.Undoing.{undone};
+ghost use Rattle.flow_plans.specs.Chains.{flight_of_key, AreChained, HasRoomFor};
+ghost use Rattle.flow_plans.specs.Plans.{plan_at, filed_off_block, status_at};
 ghost use Rattle.flow_plans.specs.Plans.{changed_at, with_state, with_off_block};
 ghost use Rattle.fpl_message.specs.declared.order.Spot.{Spot};
 ghost use Rattle.flow_plans.specs.Near.{row_of, word_at, HasBitsOf};
 ghost use Rattle.flow_plans.specs.Matching.{matching};
-ghost use Rattle.flow_plans.specs.Times.{first_from, delayed_to};
+ghost use Rattle.flow_plans.specs.Times.{delayed_to};
 ghost use Rattle.flow_plans.specs.Changes.{plan_of, moment_of, filed, cancelled, departed, delayed, amended, IsRefusal};
 ghost use Rattle.flow_plans.specs.Changes.{IsJustRefusal, Answers};
 
-use crate::amending::amended;
-use crate::chains::{Chains, FlightName};
+use crate::amending::amend_plan;
+use crate::chains::Chains;
 use crate::fault::PlanFault;
 use crate::matching::{holds_key, matching};
 use crate::plan::{Plan, PlanState, Status, key_of};
 use crate::plan_list::PlanList;
 use crate::setup::Setup;
-use crate::undo::LastChange;
+use crate::times::{FURTHEST_AHEAD, delayed_to, moment_of};
+use crate::undo::{LastChange, previous, undo};
 use fpl_message::{Chg, Cnl, Dep, Dla, Fpl, Parts, Spot};
-use fpl_text::{Day, Minute, TimeOfDay};
-use std::alloc::{AllocError, Allocator, Global};
+use fpl_text::Minute;
+use std::alloc::{Allocator, Global};
 use std::marker::Model;
 use std::mem;
 
@@ -345,181 +345,6 @@ impl<A: Allocator + Copy> PlanStore<A> {
     }
 }
 
-/// Amends the plan that a message is about, and answers its number and what it was.
-#[tactic(auto, unfolding(crate::specs::Changes::amended))]
-fn amend_plan<A: Allocator + Copy>(
-    alloc: A,
-    plans: &mut PlanList<A>,
-    chains: &mut Chains<A>,
-    message: &Chg<A>,
-    now: Minute,
-) -> Result<(u32, Plan<A>), PlanFault>
-    requires now { IsDeskTime now }
-    requires few { length plans.old ≤ 20_000 }
-    requires chained { AreChained chains.old plans.old }
-    ensures ok { IfOk result (λ r. amended now plans.old message.now
-        ≡ Ok (record { plans = plans.new; number = r.0 })) }
-    ensures within { IfOk result (λ r. (0 < r.0) × (r.0 ≤ length plans.new)) }
-    ensures back { IfOk result (λ r. with_plan plans.new r.0 r.1 ≡ plans.old) }
-    ensures refused { IfErr result (λ e. IsRefusal e (amended now plans.old message.now)) }
-    ensures count { length plans.new ≡ length plans.old }
-    ensures err { OnErr result (plans.new ≡ plans.old) }
-    ensures chained { AreChained chains.new plans.new }
-    ensures held { IfOk result (λ r. (is_held r.1.state ≡ true)
-        × IfSome (plan_at plans.new r.0) (λ p. is_held p.state ≡ true)) }
-    ensures room { OnOk result (0 < chains.new.room) }
-    ensures kept { OnErr result (StayChained chains.old chains.new) }
-{
-    let (number, plan) = amended(alloc, plans.as_slice(), chains, message, now)?;
-    // For the name of its flight now, and for the one that it had, should that be taken back.
-    let Ok(()) = chains.reserve(2) else {
-        return Err(PlanFault::OutOfMemory);
-    };
-    let held = exchange(plans, chains, number, plan);
-    Ok((number, held))
-}
-
-/// Puts a plan in the place of that number and into the chain of its flight, which has room for it, and answers the
-/// plan that stood there. It takes no memory.
-fn exchange<A: Allocator + Copy>(
-    plans: &mut PlanList<A>,
-    chains: &mut Chains<A>,
-    number: u32,
-    plan: Plan<A>,
-) -> Plan<A>
-    requires number { (0 < number) × (number ≤ length plans.old) }
-    requires held { (is_held plan.state ≡ true) × IfSome (plan_at plans.old number) (λ p. is_held p.state ≡ true) }
-    requires room { HasRoomFor chains.old (flight_of_key plan.key) }
-    requires chained { AreChained chains.old plans.old }
-    ensures changed { plans.new ≡ with_plan plans.old number plan }
-    ensures back { with_plan plans.new number result ≡ plans.old }
-    ensures count { length plans.new ≡ length plans.old }
-    ensures held { is_held result.state ≡ true }
-    ensures chained { AreChained chains.new plans.new }
-    ensures room { chains.old.room ≤ chains.new.room + 1 }
-{
-    let name = FlightName::of_key(plans.as_slice()[(number - 1) as usize].key());
-    if name == FlightName::of_key(plan.key()) {
-        return plans.replace(number, plan);
-    }
-    chains.leave(plans.as_slice(), number);
-    let held = plans.replace(number, plan);
-    chains.join(plans.as_slice(), number);
-    chains.forget(&name);
-    held
-}
-
-/// Undoes the last change of these plans. It takes no memory.
-#[tactic(auto, unfolding(crate::specs::Plans::changed_at))]
-fn undo<A: Allocator + Copy>(plans: &mut PlanList<A>, chains: &mut Chains<A>, last: LastChange<A>)
-    requires change { IsSome (undone plans.old last) }
-    requires number { IsOf last plans.old }
-    requires few { length plans.old ≤ 20_000 }
-    requires chained { AreChained chains.old plans.old }
-    requires room { CanReturn chains.old last plans.old }
-    ensures undone { undone plans.old last ≡ Some plans.new }
-    ensures count { length plans.new ≤ length plans.old }
-    ensures chained { AreChained chains.new plans.new }
-{
-    match last {
-        LastChange::Nothing => {}
-        LastChange::Filed => {
-            chains.pop(plans.as_slice());
-            plans.pop();
-        }
-        LastChange::Delayed { number, off_block } => {
-            plans.set_off_block(number, off_block);
-        }
-        LastChange::Ended { number } => {
-            file_again(plans, chains, number);
-        }
-        LastChange::Amended { number, plan } => {
-            exchange(plans, chains, number, plan);
-        }
-    }
-}
-
-/// Makes the plan of this number filed again, and puts it into the chain of its flight where it is in none. It takes no
-/// memory.
-fn file_again<A: Allocator + Copy>(plans: &mut PlanList<A>, chains: &mut Chains<A>, number: u32)
-    requires number { (0 < number) × (number ≤ length plans.old) }
-    requires room { IfSome (plan_at plans.old number) (λ p. HasRoomFor chains.old (flight_of_key p.key)) }
-    requires chained { AreChained chains.old plans.old }
-    ensures changed { plans.new ≡ changed_at (with_state PlanState.Filed) number plans.old }
-    ensures chained { AreChained chains.new plans.new }
-{
-    let held = plans.as_slice()[(number - 1) as usize].is_held();
-    plans.set_state(number, PlanState::Filed);
-    if !held {
-        chains.join(plans.as_slice(), number);
-    }
-}
-
-/// Where the plan of this number stands.
-fn status_at<A: Allocator + Copy>(plans: &[Plan<A>], number: u32) -> Option<Status>
-    requires { 0 < number }
-    ensures { result ≡ status_at plans.now number }
-{
-    match plans.get((number - 1) as usize) {
-        Some(plan) => Some(plan.status()),
-        None => None,
-    }
-}
-
-/// Where the plan of this number stood before the last change of these plans.
-fn previous<A: Allocator + Copy>(
-    plans: &[Plan<A>],
-    last: &LastChange<A>,
-    number: u32,
-) -> Option<Status>
-    requires some { 0 < number }
-    requires within { IsOf last.now plans.now }
-    ensures { IfSome (undone plans.now last.now) (λ before. result ≡ status_at before number) }
-{
-    let status = status_at(plans, number);
-    let place = (number - 1) as usize;
-    match last {
-        LastChange::Nothing => None,
-        LastChange::Filed => {
-            if place + 1 < plans.len() {
-                status
-            } else {
-                None
-            }
-        }
-        LastChange::Delayed {
-            number: delayed,
-            off_block,
-        } => {
-            if number != *delayed {
-                return status;
-            }
-            Some(Status {
-                state: plans[place].state(),
-                off_block: *off_block,
-            })
-        }
-        LastChange::Ended { number: ended } => {
-            if number != *ended {
-                return status;
-            }
-            Some(Status {
-                state: PlanState::Filed,
-                off_block: plans[place].off_block(),
-            })
-        }
-        LastChange::Amended {
-            number: amended,
-            plan,
-        } => {
-            if number != *amended {
-                return status;
-            }
-            Some(plan.status())
-        }
-    }
-}
-
 /// Gives the filed plan that a message is about another state. A cancelled plan leaves the chain of its flight.
 #[tactic(auto, unfolding(crate::specs::Plans::changed_at))]
 fn end_plan<A: Allocator + Copy>(
@@ -574,75 +399,6 @@ fn delay_plan<A: Allocator + Copy>(
     Ok((number, held))
 }
 
-/// The off-block moment after a delay to a time of day.
-#[tactic(auto, unfolding(crate::specs::Times::delayed_to))]
-pub(crate) fn delayed_to(now: Minute, held: Minute, time: TimeOfDay) -> Result<Minute, PlanFault>
-    requires now { IsDeskTime now }
-    requires held { held < 67_855_680 }
-    ensures answer { Answers result (delayed_to now held time) }
-    ensures bound { IfOk result (λ moment. moment < 67_855_680) }
-{
-    if held.time_of_day() == time {
-        return Err(PlanFault::NotLater);
-    }
-    let moment = first_from(minute_of(held.minutes() + 1), time);
-    if moment.minutes() > held.minutes() + 720 {
-        return Err(PlanFault::DelayTooLong);
-    }
-    if moment < now {
-        return Err(PlanFault::Past);
-    }
-    if moment.minutes() > now.minutes() + 7200 {
-        return Err(PlanFault::TooEarly);
-    }
-    Ok(moment)
-}
-
-/// The first moment at a time of day that is not before another.
-#[tactic(auto, unfolding(crate::specs::Times::first_from))]
-fn first_from(moment: Minute, time: TimeOfDay) -> Minute
-    requires { moment < 67_855_681 }
-    ensures { result ≡ first_from moment time }
-{
-    let minutes = moment.minutes();
-    let today = 1440 * (minutes / 1440) + u32::from(time.minutes());
-    if today < minutes {
-        minute_of(today + 1440)
-    } else {
-        minute_of(today)
-    }
-}
-
-/// The moment of these minutes.
-#[tactic(auto, unfolding(fpl_text::specs::Moments::moment_within))]
-fn minute_of(minutes: u32) -> Minute
-    requires { minutes ≤ 100_000_000 }
-    ensures { result ≡ minutes }
-{
-    Minute::new(minutes).unwrap()
-}
-
-/// The moment at a time of a day. None where it lies too far ahead for any desk.
-#[tactic(auto, unfolding(fpl_text::specs::Moments::moment_within))]
-fn moment_on(day: Day, time: TimeOfDay) -> Option<Minute>
-    ensures { MatchOption result (100_000_000 < 1440 * day + time) (λ moment. moment ≡ 1440 * day + time) }
-{
-    Minute::new(1440 * day.number() + u32::from(time.minutes()))
-}
-
-/// The off-block moment that a flight plan asks for. None where it lies too far ahead for any desk.
-fn moment_of<A: Allocator + Copy>(message: &Fpl<A>, now: Minute) -> Option<Minute>
-    requires { IsDeskTime now }
-    ensures { MatchOption result (100_000_000 < moment_of now message.now)
-        (λ moment. moment ≡ moment_of now message.now) }
-{
-    let time = message.departure().time;
-    match message.other().day() {
-        Some(day) => moment_on(day, time),
-        None => Some(first_from(now, time)),
-    }
-}
-
 /// The off-block moment of the plan that a message files, or why it is refused.
 #[tactic(auto, unfolding(crate::specs::Changes::filed, crate::specs::Changes::plan_of))]
 fn why_refused<A: Allocator + Copy>(
@@ -667,7 +423,7 @@ fn why_refused<A: Allocator + Copy>(
     if off_block < now {
         return Err(PlanFault::Past);
     }
-    if off_block.minutes() > now.minutes() + 7200 {
+    if off_block.minutes() > now.minutes() + FURTHEST_AHEAD {
         return Err(PlanFault::TooEarly);
     }
     if holds_key(plans, chains, &key_of(message, off_block)) {

@@ -8,7 +8,7 @@ ghost use Rattle.flow_plans.specs.Changes.{texts_after};
 ghost use Rattle.flow_plans.specs.Near.{word_at, HasBitsOf};
 ghost use Rattle.fpl_items.specs.Places.{bit_of, may_have};
 
-use crate::amending::text_after;
+use crate::amended_values::text_after;
 use crate::near::words_on_way;
 use fpl_items::{Estimates, Other18};
 use fpl_message::Chg;
@@ -28,7 +28,7 @@ pub(crate) struct Texts<A: Allocator + Copy = Global> {
 }
 
 impl<A: Allocator + Copy> Model for Texts<A> {
-    ghost use Rattle.std.specs.Prelude.{◌≤◌, length, slice_range, drop};
+    ghost use Rattle.std.specs.Prelude.{◌≤◌, length, slice_range};
     ghost use Rattle.flow_plans.specs.Plans.{Texts as Held};
     ghost use Rattle.fpl_text.specs.Words.{words_of};
     ghost use Rattle.fpl_items.specs.Items.{items_of};

@@ -1,5 +1,5 @@
 //! What flights are to be told of their slots.
-ghost use Rattle.std.specs.Prelude.{◌≡◌, ◌+◌, ◌-◌, ◌<◌, ◌≤◌, length, map, IfSome, IsSome};
+ghost use Rattle.std.specs.Prelude.{◌≡◌, ◌+◌, ◌-◌, ◌<◌, ◌≤◌, length, map, IfSome};
 ghost use Rattle.std.specs.Option.{option_map};
 ghost use Rattle.flow_plans.specs.Plans.{plan_at};
 ghost use Rattle.flow_plans.specs.Entries.{take_off};

@@ -1,14 +1,15 @@
 //! The flights that aren't due yet, by off-block moment.
-ghost use Rattle.std.specs.Prelude.{◌≡◌, ◌∷◌, [], ◌+◌, ◌<◌, ◌≤◌, ℕ, true, false, List, Some, OnOk, OnErr, IfSome};
+ghost use Rattle.std.specs.Prelude.{◌≡◌, ◌∷◌, [], ◌+◌, ◌<◌, ◌≤◌, ℕ, true, false, Some, OnOk, IfSome};
 ghost use Rattle.std.specs.Prelude.{IfNone, map, length, vec_capacity};
 ghost use Rattle.std.specs.List.{All, AllByRecursion, Contains};
 ghost use Rattle.std.specs.List.Sorted.{IsPermutation, IsStrictlyIncreasing};
 ghost use Rattle.std.specs.BinaryHeap.{IsHeap, heap_items, heap_len, heap_capacity};
 ghost use Rattle.std.specs.declared.cmp.Reverse.{Reverse};
-ghost use Rattle.flow_plans.specs.Plans.{Plan as Held, plan_at, is_filed};
+ghost use Rattle.flow_plans.specs.Plans.{Plan as Held, plan_at};
 ghost use Rattle.flow_regulations.specs.Awaiting.{Covers, awaits, BecameDue, AreHeld, earlier_first};
 ghost use Rattle.flow_regulations.specs.Listing.{HoldNewlyDue};
 
+use crate::due::due_until;
 use flow_plans::PlanStore;
 use fpl_text::Minute;
 use std::alloc::{AllocError, Allocator, Global};
@@ -174,7 +175,7 @@ fn awaits<A: Allocator + Copy>(plans: &PlanStore<A>, flight: &Awaited, earlier: 
         return false;
     };
     let off_block = moment.minutes();
-    off_block == flight.off_block && earlier.minutes() + 120 < off_block
+    off_block == flight.off_block && due_until(earlier) < off_block
 }
 
 /// Takes out all flights whose off-block moment is at most two hours after `now`, and appends those that have become
@@ -201,7 +202,7 @@ fn take_from<A: Allocator + Copy>(
     ensures room { heap_capacity heap.new ≡ heap_capacity heap.old }
     ensures capacity { vec_capacity due.new ≡ vec_capacity due.old }
 {
-    let limit = now.minutes() + 120;
+    let limit = due_until(now);
     while let Some(flight) = pop_until(heap, limit) {
         if awaits(plans, &flight, earlier) {
             due.push_reserved(flight.number);

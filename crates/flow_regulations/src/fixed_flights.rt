@@ -1,5 +1,5 @@
 //! The flights that keep slots.
-ghost use Rattle.std.specs.Prelude.{◌≡◌, ℕ, OnOk, IsSome};
+ghost use Rattle.std.specs.Prelude.{ℕ, OnOk, IsSome};
 ghost use Rattle.std.specs.List.{All, Contains};
 ghost use Rattle.std.specs.List.Sorted.{IsStrictlyIncreasing};
 ghost use Rattle.flow_slots.specs.Lineup.{fixed_slot};

@@ -31,6 +31,7 @@
 
 mod advice;
 mod closed;
+mod due;
 mod due_queue;
 mod entry_asked;
 mod fixed_flights;
@@ -45,6 +46,7 @@ mod telling;
 mod window;
 
 pub use closed::Closed;
+pub use due::due_until;
 pub use due_queue::{Awaited, DueQueue};
 pub use notice::{Notice, Said, Told, Window};
 pub use places::Place;

@@ -4,7 +4,7 @@
 //! Where the bit isn't set, the flight isn't held in that regulation, whose slot list need not be asked; where it is
 //! set, it may be held or not. A flight that has no word may be held in each regulation, and so may each flight from
 //! the 65th regulation on.
-ghost use Rattle.std.specs.Prelude.{◌≡◌, ◌<◌, ◌≤◌, ℕ, suc, true, false, length};
+ghost use Rattle.std.specs.Prelude.{◌≡◌, ◌<◌, ◌≤◌, ℕ, true, false, length};
 ghost use Rattle.flow_plans.specs.Near.{row_of};
 ghost use Rattle.flow_regulations.specs.Marks.{may_stand, word_of, Keeps, KeepsBelow, MovesUp, IsOut, IsOpenedTo};
 ghost use Rattle.flow_regulations.specs.Marks.{IsOpenedIn};

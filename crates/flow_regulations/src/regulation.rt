@@ -2,7 +2,7 @@
 ghost use Rattle.std.specs.Prelude.{◌≡◌, ◌<◌, ◌≤◌, ℕ, List, None, Some, true, false, IfSome, IsSome, IfOk, OnOk};
 ghost use Rattle.std.specs.Prelude.{IsTrue, ◌↔◌, length};
 ghost use Rattle.std.specs.List.{All};
-ghost use Rattle.flow_plans.specs.Plans.{Plan as Held, plan_at, is_departed, is_filed};
+ghost use Rattle.flow_plans.specs.Plans.{Plan as Held, plan_at, is_departed};
 ghost use Rattle.flow_plans.specs.Entries.{subject};
 ghost use Rattle.flow_plans.specs.Near.{row_of};
 ghost use Rattle.flow_slots.specs.Lineup.{held_slot, fixed_slot, without_flight, waiting_entry, len_of};
@@ -18,9 +18,10 @@ ghost use Rattle.flow_regulations.specs.Listing.{keeps_slot, placed, with_no_fli
 ghost use Rattle.flow_regulations.specs.Listing.{IsListedIn, IsSettledBut, AreSameBut, IsRenewed, IsFixedWaiting};
 ghost use Rattle.flow_regulations.specs.Listing.{IsLookedAgain, is_due_flight};
 
+use crate::due::is_due;
 use crate::entry_asked::{EntryAsked, entry_of};
 use crate::places::Place;
-use flow_plans::{Plan, PlanState, PlanStore, row_of};
+use flow_plans::{PlanState, PlanStore, row_of};
 use flow_slots::{Planned, Shape, SlotList};
 use fpl_message::Spot;
 use fpl_text::{Minute, Text};
@@ -426,17 +427,6 @@ pub(crate) fn are_in_order<A: Allocator + Copy>(regulations: &[Regulation<A>])
     }
 }
 
-/// Whether the flight of this number is due: filed, and at most two hours before its off-block moment.
-pub(crate) fn is_due<A: Allocator + Copy>(plans: &PlanStore<A>, number: u32, now: Minute) -> bool
-    requires { 0 < number }
-    ensures { (p : Held) → plan_at plans.now.plans number ≡ Some p → result ≡ is_due now p }
-{
-    match plans.plan(number) {
-        Some(plan) => is_filed(plan) && plan.off_block().minutes() <= now.minutes() + 120,
-        None => false,
-    }
-}
-
 /// Whether the flight of this number has departed.
 fn has_departed<A: Allocator + Copy>(plans: &PlanStore<A>, number: u32) -> bool
     requires { 0 < number }
@@ -446,11 +436,4 @@ fn has_departed<A: Allocator + Copy>(plans: &PlanStore<A>, number: u32) -> bool
         Some(plan) => matches!(plan.state(), PlanState::Departed),
         None => false,
     }
-}
-
-/// Whether a plan is filed, and neither departed nor cancelled.
-fn is_filed<A: Allocator + Copy>(plan: &Plan<A>) -> bool
-    ensures { result ≡ is_filed plan.now.state }
-{
-    matches!(plan.state(), PlanState::Filed)
 }

@@ -1,6 +1,6 @@
 //! The open regulations.
 ghost use Rattle.std.specs.Prelude.{◌≡◌, ◌<◌, ◌≤◌, ◌+◌, ◌-◌, ◌++◌, ℕ, List, [], false, true, ◌∷◌, None, Some, IfSome};
-ghost use Rattle.std.specs.Prelude.{IfNone, IfOk, IsTrue, ◌↔◌, MatchOption, OnOk, OnErr, length, map, replicate};
+ghost use Rattle.std.specs.Prelude.{IfNone, IsTrue, ◌↔◌, MatchOption, OnOk, OnErr, length, map, replicate};
 ghost use Rattle.std.specs.Prelude.{vec_capacity};
 ghost use Rattle.std.specs.List.{All, AllByRecursion, insert, list_any};
 ghost use Rattle.std.specs.List.Sorted.{IsNonDecreasing, IsStrictlyIncreasing};
@@ -14,7 +14,7 @@ ghost use Rattle.flow_regulations.specs.Listing.{IsAdvancing, is_below, is_among
 ghost use Rattle.flow_regulations.specs.Listing.{HoldNewlyDue, HaveCapacity, names_in, IsReleased, IsOpened, opened};
 ghost use Rattle.flow_regulations.specs.Listing.{is_named, without_named, lineup_named, keeps_slot_in, IsNamedAt};
 ghost use Rattle.flow_regulations.specs.Listing.{MayReopen, pairs_in, regulation_of};
-ghost use Rattle.flow_regulations.specs.Marks.{may_stand, Keeps, Covers, AreMarked, AreInRows, MarksNear};
+ghost use Rattle.flow_regulations.specs.Marks.{may_stand, Covers, AreMarked, AreInRows, MarksNear};
 ghost use Rattle.flow_regulations.specs.Regulations.{coming_from};
 ghost use Rattle.flow_regulations.specs.Settling.{pairs_of};
 ghost use Rattle.flow_regulations.specs.Notices.{notices_from, told_from};

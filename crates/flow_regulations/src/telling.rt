@@ -1,12 +1,12 @@
 //! Telling plans their slots.
-ghost use Rattle.std.specs.Prelude.{◌≡◌, ℕ, ◌+◌, ◌++◌, ◌<◌, ◌≤◌, length, map, vec_capacity, slice_index, IfSome};
+ghost use Rattle.std.specs.Prelude.{◌≡◌, ◌+◌, ◌++◌, ◌<◌, ◌≤◌, length, map, vec_capacity, IfSome};
 ghost use Rattle.std.specs.List.{All};
 ghost use Rattle.std.specs.List.Sorted.{IsNonDecreasing};
 ghost use Rattle.flow_plans.specs.Plans.{plan_at};
 ghost use Rattle.flow_regulations.specs.Advice.{advice};
 ghost use Rattle.flow_regulations.specs.Listing.{regulation_of};
 ghost use Rattle.flow_regulations.specs.Marks.{AreMarked};
-ghost use Rattle.flow_regulations.specs.Notices.{says, notice_of, notices_to, told_to_plan, notices_from, told_from};
+ghost use Rattle.flow_regulations.specs.Notices.{says, notices_to, told_to_plan, notices_from, told_from};
 ghost use Rattle.flow_regulations.specs.Quiet.{AreQuietBut, AllQuiet};
 
 use crate::advice::advice_of;

@@ -1,5 +1,5 @@
 //! Why a run ends before all is answered.
-ghost use Rattle.std.specs.Prelude.{◌≡◌, ◌≢◌, ◌⊎◌, ℕ};
+ghost use Rattle.std.specs.Prelude.{◌≡◌, ◌≢◌, ℕ};
 
 use flow_core::{IntakeFault, JournalFault};
 use flow_desk::DeskFault;

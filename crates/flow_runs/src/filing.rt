@@ -1,8 +1,7 @@
 //! Runs the feeders of a desk over their feeds, and closes it.
-ghost use Rattle.std.specs.Prelude.{◌≡◌, ◌≢◌, ◌<◌, ◌≤◌, ◌+◌, ◌⊎◌, ◌++◌, [], None, Some, length, map, vec_len};
-ghost use Rattle.std.specs.Prelude.{vec_capacity, IfOk, IfErr, IfNone, IfSome, OnOk};
+ghost use Rattle.std.specs.Prelude.{◌≡◌, ◌≢◌, ◌<◌, ◌≤◌, ◌+◌, ◌++◌, None, Some, length, map, vec_len};
+ghost use Rattle.std.specs.Prelude.{vec_capacity, IfOk, IfErr, IfNone};
 ghost use Rattle.std.specs.List.{All};
-ghost use Rattle.flow_core.specs.History.{state_of};
 ghost use Rattle.flow_desk.specs.Histories.{after};
 ghost use Rattle.flow_runs.specs.Ends.{EndsWell, IsStop};
 ghost use Rattle.flow_runs.specs.Filing.{HasFiled};

@@ -1,5 +1,5 @@
 //! Reads what is dealt: each feed in a thread of its own.
-ghost use Rattle.std.specs.Prelude.{◌≡◌, ◌≤◌, ◌<◌, ◌+◌, ◌++◌, ℕ, [], length, map, vec_len, vec_capacity};
+ghost use Rattle.std.specs.Prelude.{◌≡◌, ◌≤◌, ◌<◌, ◌+◌, ◌++◌, ℕ, length, map, vec_len, vec_capacity};
 ghost use Rattle.std.specs.Prelude.{slice_index_or, IfOk, IfErr, OnOk, IsTrue};
 
 use crate::dealing::Feed;

@@ -1,8 +1,6 @@
 //! A flight that waits, where it stands in the order, and what stands in a slot.
-ghost use Rattle.std.specs.Prelude.{◌≡◌};
-ghost use Rattle.flow_slots.specs.Order.{rank, stands_before};
-
-use crate::packed_cell::rank;
+ghost use Rattle.std.specs.Prelude.{◌≡◌, ◌*◌, ◌+◌};
+ghost use Rattle.flow_slots.specs.Order.{rank};
 
 /// A flight that waits for a slot, with its entry in minutes from 1970-01-01 00:00 UTC.
 #[derive(Clone, Copy, Debug, PartialEq, Eq)]
@@ -12,13 +10,6 @@ pub struct Planned {
 }
 
 impl Planned {
-    /// Whether this flight stands before the other: by entry, ties by the lower flight number.
-    pub fn stands_before(self, other: Planned) -> bool
-        ensures { result ≡ stands_before self other }
-    {
-        self.entry < other.entry || (self.entry == other.entry && self.flight < other.flight)
-    }
-
     /// The place of this flight in the order, as one number.
     #[inline(always)]
     pub fn rank(self) -> u64
@@ -26,6 +17,14 @@ impl Planned {
     {
         rank(self.entry, self.flight)
     }
+}
+
+/// The place of a flight in the order, as one number: by its entry, ties by its number.
+#[inline(always)]
+pub(crate) fn rank(entry: u32, flight: u32) -> u64
+    ensures { result ≡ 4_294_967_296 * entry + flight }
+{
+    4_294_967_296 * u64::from(entry) + u64::from(flight)
 }
 
 /// What stands in a slot: nothing, a flight that waits in the order, or a flight that keeps its slot.

@@ -1,5 +1,5 @@
 //! The first slots of a period by minutes, counted once, so that a chain looks them up.
-ghost use Rattle.std.specs.Prelude.{◌≡◌, ℕ, ◌≤◌, IfOk};
+ghost use Rattle.std.specs.Prelude.{◌≡◌, IfOk};
 ghost use Rattle.flow_slots.specs.Period.{IsWithin, first_slot};
 
 use crate::shape::Shape;

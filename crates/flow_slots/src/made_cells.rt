@@ -1,6 +1,6 @@
 //! The cells of a row, made as they are needed.
-ghost use Rattle.std.specs.Prelude.{◌≡◌, ℕ, ◌+◌, ◌-◌, ◌<◌, ◌≤◌, ◌++◌, ◌^◌, ◌↔◌, IfOk, IsTrue, true, false, drop};
-ghost use Rattle.std.specs.Prelude.{length, max, min, replicate, slice_set, vec_len, vec_capacity};
+ghost use Rattle.std.specs.Prelude.{◌≡◌, ℕ, ◌+◌, ◌-◌, ◌<◌, ◌≤◌, ◌++◌, ◌^◌, IfOk, true, false, drop};
+ghost use Rattle.std.specs.Prelude.{length, max, replicate, slice_set, vec_capacity};
 ghost use Rattle.flow_slots.specs.CellRow.{one_more};
 ghost use Rattle.flow_slots.specs.MadeRow.{MadeRow, EndsEmpty, counted};
 ghost use Rattle.flow_slots.specs.PackedCell.{IsStored};

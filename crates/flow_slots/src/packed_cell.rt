@@ -1,9 +1,9 @@
 //! A cell of the row in one word of eight bytes.
-ghost use Rattle.std.specs.Prelude.{◌≡◌, ◌*◌, ◌+◌, ◌-◌, ◌/◌, ◌%◌, ◌^◌, ◌<◌, ◌↔◌, false, IfNone, IfSome, IsTrue};
+ghost use Rattle.std.specs.Prelude.{◌≡◌, ◌-◌, ◌/◌, ◌%◌, ◌^◌, ◌<◌, ◌↔◌, false, IfNone, IfSome, IsTrue};
 ghost use Rattle.flow_slots.specs.PackedCell.{IsStored};
 ghost use Rattle.flow_slots.specs.Walk.{waits, waits_before};
 
-use crate::cell::{Cell, Planned};
+use crate::cell::{Cell, Planned, rank};
 use std::marker::Model;
 
 /// What stands in a slot. It takes one word, so that a chain reads one and writes one for each flight that it moves.
@@ -49,14 +49,6 @@ impl Model for PackedFlight {
     ghost inverse = { λ planned. record { word = rank planned } };
 
     ghost inverse_ok = { λ p h i. record { word = rank_back p.word i } };
-}
-
-/// The place of a flight in the order, as one number: by its entry, ties by its number.
-#[inline(always)]
-pub(crate) fn rank(entry: u32, flight: u32) -> u64
-    ensures { result ≡ 4_294_967_296 * entry + flight }
-{
-    4_294_967_296 * u64::from(entry) + u64::from(flight)
 }
 
 /// The entry in a rank.

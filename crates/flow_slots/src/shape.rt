@@ -1,6 +1,6 @@
 //! The period of a regulation with its rates: which times its slots have, and which of them is the first not before
 //! an entry.
-ghost use Rattle.std.specs.Prelude.{◌≡◌, ℕ, ◌+◌, ◌-◌, ◌*◌, ◌<◌, ◌≤◌, ◌↔◌, IsSome, IfSome, IsTrue, length};
+ghost use Rattle.std.specs.Prelude.{◌≡◌, ◌+◌, ◌-◌, ◌*◌, ◌<◌, ◌≤◌, ◌↔◌, IsSome, IfSome, IsTrue};
 ghost use Rattle.flow_slots.specs.Period.{Period, IsRegular, IsWithin, AreSubperiods, slots_in, time_from, first_from};
 ghost use Rattle.flow_slots.specs.Period.{slot_time, first_slot, slots_before_end, IsFirstSlot};
 

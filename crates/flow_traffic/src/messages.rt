@@ -23,7 +23,7 @@ use crate::traffic::Traffic;
 use crate::undo::{Last, Undoing};
 use crate::verdict::{Kind, Verdict};
 use flow_plans::{Plan, PlanFault, PlanState, PlanStore};
-use flow_regulations::{DueQueue, Notice, Regulations, Told, Window, window_of};
+use flow_regulations::{DueQueue, Notice, Regulations, Told, Window, due_until, window_of};
 use fpl_message::{Message, Refusal};
 use fpl_text::{Minute, TimeOfDay};
 use std::alloc::{AllocError, Allocator};
@@ -217,7 +217,7 @@ fn settle_for<A: Allocator + Copy>(
 fn awaits<A: Allocator + Copy>(plan: &Plan<A>, now: Minute) -> bool
     ensures { result ≡ (is_filed plan.now.state && nat_lt (now + 120) plan.now.off_block) }
 {
-    matches!(plan.state(), PlanState::Filed) && now.minutes() + 120 < plan.off_block().minutes()
+    matches!(plan.state(), PlanState::Filed) && due_until(now) < plan.off_block().minutes()
 }
 
 /// Notes the flight of the plan of this number, if it is filed and isn't due.

@@ -1,5 +1,5 @@
 //! Demand and slots by steps of time.
-ghost use Rattle.std.specs.Prelude.{◌≡◌, ◌≤◌, ◌<◌, ◌+◌, ◌-◌, ◌*◌, IfOk, length, false, count_by, min};
+ghost use Rattle.std.specs.Prelude.{◌≡◌, ◌≤◌, ◌<◌, ◌+◌, ◌-◌, ◌*◌, IfOk, false, count_by, min};
 ghost use Rattle.std.specs.Option.{option_map_or};
 ghost use Rattle.flow_slots.specs.Period.{first_slot};
 ghost use Rattle.flow_view.specs.Load.{is_from_to, load_in, loads, held_later};

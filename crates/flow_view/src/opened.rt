@@ -1,8 +1,7 @@
 //! The open regulations.
-ghost use Rattle.std.specs.Prelude.{◌≡◌, ◌++◌, ◌∷◌, [], not, filter, IfOk, OnOk, length};
+ghost use Rattle.std.specs.Prelude.{◌≡◌, not, filter, IfOk, OnOk};
 ghost use Rattle.std.specs.Str.{bytes_eq};
 ghost use Rattle.fpl_message.specs.Said.{said};
-ghost use Rattle.flow_slots.specs.Period.{Period};
 ghost use Rattle.flow_traffic.specs.Opening.{regulation_by};
 ghost use Rattle.flow_view.specs.Opened.{opening_of, open_now};
 ghost use Rattle.flow_view.specs.Opening.{with_opened, without_shut, open_after};

@@ -1,5 +1,5 @@
 //! Sums and counts of the rows of a slot list.
-ghost use Rattle.std.specs.Prelude.{◌≡◌, ◌≤◌, ◌<◌, ◌^◌, length, IfSome, IsTrue};
+ghost use Rattle.std.specs.Prelude.{◌≡◌, ◌≤◌, ◌<◌, length};
 ghost use Rattle.flow_view.specs.Totals.{entry_of, delay_of, totals_of};
 
 use crate::slot_row::SlotRow;

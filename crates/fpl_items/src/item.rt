@@ -1,7 +1,7 @@
 //! The items of field 18.
 
 ghost use Rattle.std.specs.Prelude.{◌≡◌, ◌≤◌, ◌==◌, ◌&&◌, ◌∷◌, ◌++◌, [], nat_le, nat_lt, List, ℕ, true, IsTrue, length};
-ghost use Rattle.std.specs.Prelude.{take, slice_index, MatchOption, IfSome};
+ghost use Rattle.std.specs.Prelude.{take, slice_index, MatchOption};
 ghost use Rattle.std.specs.Iterator.{YieldsFirst, YieldsFirstRef, item_count};
 ghost use Rattle.std.specs.List.{prefix_len};
 ghost use Rattle.fpl_text.specs.Bytes.{is_letter, is_letter_or_digit};
@@ -9,8 +9,7 @@ ghost use Rattle.fpl_text.specs.Words.{words_of};
 ghost use Rattle.fpl_items.specs.Kinds.{before_stroke};
 ghost use Rattle.fpl_items.specs.Items.{begins_item, own_words, own_list, words_before, items_of};
 
-use fpl_text::byte::is_letter;
-use fpl_text::{Measured, Words};
+use fpl_text::{Measured, Words, is_letter};
 use std::marker::Model;
 
 /// Whether a stroke stands at a place of a word, and what is before it is as long as a name and begins with a letter.

@@ -7,20 +7,21 @@
 //! from the left.
 #![tactic(auto)]
 
-pub mod estimate;
-pub mod estimates;
-pub mod fault;
-pub mod item;
+mod estimate;
+mod estimates;
+mod fault;
+mod item;
 pub mod laws;
-pub mod note_list;
-pub mod other;
-pub mod places;
-pub mod route;
-pub mod speed;
+mod note_list;
+mod other;
+mod places;
+mod route;
+mod speed;
 
 pub use estimate::Estimate;
 pub use estimates::Estimates;
 pub use fault::ItemFault;
 pub use item::{Item, ItemWords, Items};
 pub use other::Other18;
+pub use places::{bit_of, may_have};
 pub use route::{Element, Kind, Route, is_route};

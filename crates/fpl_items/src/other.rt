@@ -18,8 +18,7 @@ use crate::estimate::Estimate;
 use crate::estimates::Estimates;
 use crate::fault::ItemFault;
 use crate::item::{Item, ItemWords, Items, begins_item};
-use fpl_text::byte::all_letters_or_digits;
-use fpl_text::{Day, Measured, Words, read_elapsed};
+use fpl_text::{Day, Measured, Words, all_letters_or_digits, read_elapsed};
 use std::alloc::{Allocator, Global};
 use std::marker::Model;
 

@@ -10,12 +10,10 @@ ghost use Rattle.fpl_items.specs.Kinds.{height_len};
 
 use crate::fault::ItemFault;
 use crate::speed::{is_height, is_speed, is_speed_and_level, speed_and_level, speed_len};
-use fpl_text::byte::{
-    all_digits, all_letters, all_letters_or_digits, is_letter_or_digit, leading_letters,
+use fpl_text::{
+    Measured, Text, Words, all_digits, all_letters, all_letters_or_digits, is_letter_or_digit,
+    is_path, leading_letters, space_count,
 };
-use fpl_text::path::is_path;
-use fpl_text::words::space_count;
-use fpl_text::{Measured, Text, Words};
 use std::alloc::{Allocator, Global};
 use std::marker::Model;
 

@@ -4,8 +4,7 @@ ghost use Rattle.std.specs.Prelude.{◌≡◌, ◌<◌, ◌≤◌, ◌+◌, IsTr
 ghost use Rattle.fpl_items.specs.Speeds.{is_letter_and_digits, is_speed, is_height, is_level, is_speed_and_level};
 ghost use Rattle.fpl_items.specs.Speeds.{speed_len};
 
-use fpl_text::Text;
-use fpl_text::byte::all_digits;
+use fpl_text::{Text, all_digits};
 
 /// A letter, and then so many digits.
 #[tactic(auto, unfolding(crate::specs::Speeds::is_letter_and_digits))]

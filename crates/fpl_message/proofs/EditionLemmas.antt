@@ -9,7 +9,7 @@ use Rattle.fpl_text.specs.Fields.{fields_or_fault}
 use Rattle.fpl_text.specs.Squeezing.{squeezed, squeezed_unless, squeezed_or_fault}
 use Rattle.fpl_text.specs.Words.{words_of}
 use Rattle.fpl_items.specs.Kinds.{is_text}
-use Rattle.fpl_message.specs.declared.filing.Edition.TheVariants.{First, Second}
+use Rattle.fpl_message.specs.declared.edition.Edition.TheVariants.{First, Second}
 use Rattle.fpl_message.specs.declared.refusal.Refusal.TheVariants as refusal
 use Rattle.fpl_message.specs.Refusals.{◌>>=◌, by_text}
 use Rattle.fpl_message.specs.Orders.{order_of}

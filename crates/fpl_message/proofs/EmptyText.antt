@@ -1,7 +1,7 @@
 -- The reading of no bytes.
 use Rattle.std.proofs.Common.{◌≡◌, [], sym, ap}
 use Rattle.fpl_text.specs.Squeezing.{squeezed_or_fault}
-use Rattle.fpl_message.specs.declared.filing.Edition.{Edition}
+use Rattle.fpl_message.specs.declared.edition.Edition.{Edition}
 use Rattle.fpl_message.specs.declared.refusal.Refusal.TheVariants as refusal
 use Rattle.fpl_message.specs.Filings.{FilingText}
 use Rattle.fpl_message.specs.Reads.{reading_of, bad}

@@ -11,8 +11,8 @@ use Rattle.fpl_text.specs.Squeezing.{squeezed_or_fault}
 use Rattle.fpl_text.specs.Words.{words_of}
 use Rattle.fpl_text.proofs.MomentYears.{moment-within}
 use Rattle.fpl_items.specs.Kinds.{is_text}
-use Rattle.fpl_message.specs.declared.filing.Edition.{Edition}
-use Rattle.fpl_message.specs.declared.filing.Edition.TheVariants.{First, Second}
+use Rattle.fpl_message.specs.declared.edition.Edition.{Edition}
+use Rattle.fpl_message.specs.declared.edition.Edition.TheVariants.{First, Second}
 use Rattle.fpl_message.specs.declared.order.OpenReg.{OpenReg}
 use Rattle.fpl_message.specs.declared.refusal.Refusal.{Refusal}
 use Rattle.fpl_message.specs.declared.refusal.Refusal.TheVariants as refusal

@@ -10,8 +10,8 @@ use Rattle.fpl_text.specs.Words.{words_of}
 use Rattle.fpl_message.specs.declared.refusal.Refusal.{Refusal}
 use Rattle.fpl_message.specs.declared.refusal.Refusal.TheVariants as refusal
 use Rattle.fpl_items.specs.Kinds.{is_text}
-use Rattle.fpl_message.specs.declared.filing.Edition.{Edition}
-use Rattle.fpl_message.specs.declared.filing.Edition.TheVariants.{First, Second}
+use Rattle.fpl_message.specs.declared.edition.Edition.{Edition}
+use Rattle.fpl_message.specs.declared.edition.Edition.TheVariants.{First, Second}
 use Rattle.fpl_message.specs.declared.order.Spot.{Spot}
 use Rattle.fpl_message.specs.declared.order.Spot.TheVariants.{Dep, Arr, Via}
 use Rattle.fpl_message.specs.declared.order.OpenReg.{OpenReg}

@@ -8,7 +8,7 @@ use Rattle.fpl_text.specs.declared.fields.Title.{Title}
 use Rattle.fpl_text.specs.declared.fields.Title.TheVariants as title
 use Rattle.fpl_message.specs.declared.refusal.Refusal.{Refusal}
 use Rattle.fpl_message.specs.declared.refusal.Refusal.TheVariants as refusal
-use Rattle.fpl_message.specs.declared.filing.Edition.{Edition}
+use Rattle.fpl_message.specs.declared.edition.Edition.{Edition}
 use Rattle.fpl_message.specs.Filings.{FilingText}
 use Rattle.fpl_message.specs.Refusals.{◌>>=◌, by_text}
 use Rattle.fpl_message.specs.Messages.{Message, fpl, dla, chg, cnl, dep, Order}

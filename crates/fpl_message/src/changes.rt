@@ -1,5 +1,5 @@
 //! The amended fields of a modification, field type 22.
-ghost use Rattle.std.specs.Prelude.{◌≡◌, ◌≢◌, Err, ◌≤◌, ◌<◌, ◌∷◌, drop, length, true, IfOk};
+ghost use Rattle.std.specs.Prelude.{◌≡◌, ◌≢◌, Err, ◌≤◌, ◌<◌, drop, length, true, IfOk};
 ghost use Rattle.fpl_text.specs.Fields.{begins_amendment};
 ghost use Rattle.fpl_message.specs.Refusals.{Gives};
 ghost use Rattle.fpl_message.specs.Messages.{field};
@@ -12,9 +12,7 @@ use crate::fault::Fault;
 use crate::parts::Parts;
 use crate::refusal::Refusal;
 use fpl_items::{Other18, is_route};
-use fpl_text::equipment::is_equipment;
-use fpl_text::fields::begins_amendment;
-use fpl_text::{Craft, Departure, Destination, Fields, Rules};
+use fpl_text::{Craft, Departure, Destination, Fields, Rules, begins_amendment, is_equipment};
 use std::alloc::{Allocator, Global};
 
 /// What a modification changes. An amended text is held by the place of its field 22 among the fields of the message.

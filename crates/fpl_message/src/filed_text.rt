@@ -1,9 +1,20 @@
 //! The text of a filing.
 ghost use Rattle.std.specs.Prelude.{◌≡◌, ◌≤◌, ◌<◌, ◌↔◌, [], length, IfOk, OnOk, OnErr, IsErrOf};
 
-use crate::filing::{Edition, FilingFault, MAX_BYTES};
+use crate::edition::Edition;
 use std::alloc::{AllocError, Allocator, Global};
 use std::marker::Model;
+
+/// The bytes of a filing at most.
+pub const MAX_BYTES: usize = 2000;
+
+/// Why there is no filing of some bytes.
+#[derive(Clone, Copy, Debug, PartialEq, Eq)]
+pub enum FilingFault {
+    /// More than 2,000 bytes.
+    TooLong,
+    OutOfMemory,
+}
 
 /// The bytes of a filing, at most 2,000, as they were filed, and the edition of the rules by which they are read.
 #[derive(Drop)]

@@ -3,32 +3,13 @@ ghost use Rattle.std.specs.Prelude.{◌≡◌, ◌≤◌, ◌<◌, ◌↔◌, []
 ghost use Rattle.fpl_message.specs.Reads.{reading_of};
 ghost use Rattle.fpl_message.specs.Said.{said};
 
-use crate::filed_text::FiledText;
+use crate::edition::Edition;
+use crate::filed_text::{FiledText, FilingFault, MAX_BYTES};
 use crate::message::Reading;
 use crate::reading::read;
 use crate::refusal::Refusal;
 use std::alloc::{AllocError, Allocator, Global};
 use std::marker::Model;
-
-/// The bytes of a filing at most.
-pub const MAX_BYTES: usize = 2000;
-
-/// The rules by which an order to open a regulation is read.
-#[derive(Clone, Copy, Debug, PartialEq, Eq)]
-pub enum Edition {
-    /// With one rate.
-    First,
-    /// With a rate for each sub-period.
-    Second,
-}
-
-/// Why there is no filing of some bytes.
-#[derive(Clone, Copy, Debug, PartialEq, Eq)]
-pub enum FilingFault {
-    /// More than 2,000 bytes.
-    TooLong,
-    OutOfMemory,
-}
 
 /// A text as it was filed, with the reading of it. Contracts see the text: the edition and the bytes.
 #[derive(Drop)]

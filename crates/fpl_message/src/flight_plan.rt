@@ -1,17 +1,16 @@
 //! The filed flight plan message, FPL.
-ghost use Rattle.std.specs.Prelude.{◌≡◌, ◌<◌, [], length, slice_get, Some, Ok, IfOk, IfErr};
-ghost use Rattle.fpl_message.specs.Refusals.{Gives, by_items};
+ghost use Rattle.std.specs.Prelude.{◌≡◌, ◌<◌, length, Some, Ok, IfOk, IfErr};
+ghost use Rattle.fpl_message.specs.Refusals.{Gives};
 ghost use Rattle.fpl_items.specs.Routes.{is_route, path_or_fault};
 ghost use Rattle.fpl_text.specs.Words.{words_of};
-ghost use Rattle.fpl_items.specs.Items.{items_of, items_or_fault};
+ghost use Rattle.fpl_items.specs.Items.{items_of};
 ghost use Rattle.fpl_message.specs.FlightPlans.{fpl_of};
 ghost use Rattle.fpl_message.specs.Messages.{field};
 
 use crate::fault::{Fault, boxed};
 use crate::refusal::Refusal;
 use fpl_items::{ItemFault, Other18, Route, is_route};
-use fpl_text::equipment::is_equipment;
-use fpl_text::{Craft, Departure, Destination, Fields, Heading, Ident, Rules};
+use fpl_text::{Craft, Departure, Destination, Fields, Heading, Ident, Rules, is_equipment};
 use std::alloc::{Allocator, Global};
 use std::marker::Model;
 

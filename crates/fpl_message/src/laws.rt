@@ -3,7 +3,7 @@ ghost use Rattle.std.specs.Prelude.{◌≡◌, true, false, List, ℕ};
 ghost use Rattle.fpl_text.specs.Fields.{begins_amendment};
 ghost use Rattle.fpl_message.specs.AmendmentLaws.{IsAmendment};
 ghost use Rattle.fpl_message.specs.Modifications.{amended_number, amended_text};
-ghost use Rattle.fpl_message.specs.declared.filing.Edition.{Edition};
+ghost use Rattle.fpl_message.specs.declared.edition.Edition.{Edition};
 ghost use Rattle.fpl_message.specs.Reads.{reading_of, is_open};
 
 /// The two editions differ in OPEN alone: any other filing reads the same by both.

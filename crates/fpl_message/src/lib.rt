@@ -13,6 +13,7 @@
 #![tactic(auto)]
 
 mod changes;
+mod edition;
 mod fault;
 mod filed_text;
 mod filing;
@@ -27,8 +28,9 @@ mod refusal;
 mod short_message;
 mod sub_periods;
 
-pub use filed_text::FiledText;
-pub use filing::{Edition, Filing, FilingFault, MAX_BYTES};
+pub use edition::Edition;
+pub use filed_text::{FiledText, FilingFault, MAX_BYTES};
+pub use filing::Filing;
 pub use flight_plan::Fpl;
 pub use laws::editions_differ_in_open;
 pub use message::{Message, Reading};

@@ -11,8 +11,7 @@ use crate::changes::{Changes, amended_at};
 use crate::fault::{Fault, boxed};
 use crate::parts::{Parts, read_opening};
 use fpl_items::Other18;
-use fpl_text::fields::begins_amendment;
-use fpl_text::{Departure, Destination, Fields, Rules};
+use fpl_text::{Departure, Destination, Fields, Rules, begins_amendment};
 use std::alloc::{Allocator, Global};
 use std::marker::Model;
 

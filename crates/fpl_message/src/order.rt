@@ -1,17 +1,16 @@
 //! Orders: to open and to close a regulation, and to set the desk's time.
-ghost use Rattle.std.specs.Prelude.{◌≡◌, length, codes};
+ghost use Rattle.std.specs.Prelude.{◌≡◌, codes};
 ghost use Rattle.fpl_items.specs.Kinds.{is_text};
 ghost use Rattle.fpl_message.specs.Refusals.{Gives};
 ghost use Rattle.fpl_message.specs.Orders.{is_regulation, is_way_point, regulation_of, way_point_of, aerodrome_of};
 ghost use Rattle.fpl_message.specs.Orders.{spot_of, open_of, shut_of, time_of, order_or_refusal};
 ghost use Rattle.fpl_message.specs.SaidOrders.{said_order};
 
+use crate::edition::Edition;
 use crate::fault::{Fault, boxed};
-use crate::filing::Edition;
 use crate::refusal::Refusal;
 use crate::sub_periods::{SubPeriods, more_of, rate_of};
-use fpl_text::byte::{all_letters, all_letters_or_digits, is_letter};
-use fpl_text::{Minute, Text, Words, read_moment};
+use fpl_text::{Minute, Text, Words, all_letters, all_letters_or_digits, is_letter, read_moment};
 use std::alloc::{Allocator, Global};
 
 /// Where the flow of flights is regulated.

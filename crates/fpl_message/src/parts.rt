@@ -1,7 +1,6 @@
 //! What names the plan that a message is about.
-ghost use Rattle.std.specs.Prelude.{◌≡◌, ◌≤◌, ◌<◌, length, IsTrue};
-ghost use Rattle.fpl_items.specs.Items.{items_or_fault};
-ghost use Rattle.fpl_message.specs.Refusals.{Gives, by_items};
+ghost use Rattle.std.specs.Prelude.{◌≤◌, ◌<◌, length, IsTrue};
+ghost use Rattle.fpl_message.specs.Refusals.{Gives};
 ghost use Rattle.fpl_message.specs.ShortMessages.{opening_of, other_day};
 
 use crate::fault::Fault;

@@ -6,8 +6,8 @@ ghost use Rattle.fpl_message.specs.Refusals.{Gives, by_text};
 ghost use Rattle.fpl_message.specs.Said.{said, said_message};
 ghost use Rattle.fpl_message.specs.Reads.{reading_of, reading_or_refusal, message_of, begins_message, msg};
 
+use crate::edition::Edition;
 use crate::fault::{Fault, text_fault};
-use crate::filing::Edition;
 use crate::flight_plan::Fpl;
 use crate::message::{Message, Reading};
 use crate::modification::Chg;

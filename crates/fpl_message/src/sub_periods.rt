@@ -3,9 +3,8 @@ ghost use Rattle.std.specs.Prelude.{◌≡◌, ◌≤◌, ◌<◌, ◌∷◌, �
 ghost use Rattle.fpl_text.specs.Bytes.{is_digit};
 ghost use Rattle.fpl_message.specs.Orders.{rate_of, part_of, parts_of, more_of};
 
-use crate::filing::Edition;
-use fpl_text::byte::all_digits;
-use fpl_text::{Minute, Part, Words, read_moment};
+use crate::edition::Edition;
+use fpl_text::{Minute, Part, Words, all_digits, read_moment};
 use std::marker::Model;
 
 /// The further sub-periods of a regulation at most.

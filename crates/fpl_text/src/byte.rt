@@ -15,7 +15,7 @@ pub fn is_letter(byte: u8) -> bool
 
 /// A digit, 0 to 9.
 #[tactic(auto, unfolding(crate::specs::Bytes::is_digit))]
-pub fn is_digit(byte: u8) -> bool
+pub(crate) fn is_digit(byte: u8) -> bool
     ensures { result ≡ is_digit byte }
 {
     byte.is_ascii_digit()

@@ -16,38 +16,42 @@
 #![tactic(auto)]
 
 mod borders;
-pub mod byte;
-pub mod craft;
-pub mod date;
-pub mod day;
-pub mod equipment;
-pub mod fault;
-pub mod fields;
-pub mod heading;
-pub mod ident;
+mod byte;
+mod craft;
+mod date;
+mod day;
+mod equipment;
+mod fault;
+mod fields;
+mod heading;
+mod ident;
 mod lanes;
 pub mod laws;
-pub mod minute;
-pub mod part;
+mod minute;
+mod part;
 mod pass;
-pub mod path;
-pub mod place;
-pub mod squeezed;
-pub mod text;
-pub mod time;
-pub mod words;
+mod path;
+mod place;
+mod squeezed;
+mod text;
+mod time;
+mod words;
 
+pub use byte::{
+    all_digits, all_letters, all_letters_or_digits, is_letter, is_letter_or_digit, leading_letters,
+};
 pub use craft::{Craft, FlightKind, FlightRules, Rules, Wake};
 pub use day::Day;
-pub use equipment::Equipment;
+pub use equipment::{Equipment, is_equipment};
 pub use fault::{FieldFault, TextFault};
-pub use fields::{Fields, Title, split};
+pub use fields::{Fields, Title, begins_amendment, split};
 pub use heading::Heading;
 pub use ident::Ident;
 pub use minute::{Minute, read_moment};
 pub use part::Part;
+pub use path::is_path;
 pub use place::{Alternates, Departure, Destination};
 pub use squeezed::Squeezed;
 pub use text::Text;
 pub use time::{TimeOfDay, read_elapsed};
-pub use words::{Measured, Words};
+pub use words::{Measured, Words, space_count};

@@ -1,8 +1,6 @@
 //! The words of the command line.
-ghost use Rattle.std.specs.Prelude.{◌≡◌, ◌≤◌, IfOk};
 
 use clap::builder::ValueParser;
-use clap::error::ErrorKind;
 use clap::{Arg, ArgAction, Command, Error};
 use flow_plans::{MAX_PLANS, MAX_TAXI};
 use std::alloc::{AllocError, Global};

@@ -5,7 +5,7 @@ use crate::sheet::{Cell, Column, Sheet, Side};
 use crate::summary::place_text;
 use flow_core::{Core, Entry, Kind, Notice, Receipt, Said, Told, Verdict};
 use flow_plans::{Plan, PlanState};
-use flow_view::{Opened, SlotRow, entry_at, row_at};
+use flow_view::{Opened, entry_at, row_at};
 use fpl_message::{Filing, Order, Reading};
 use fpl_text::Minute;
 use std::alloc::{AllocError, Global};

@@ -1,7 +1,7 @@
 use Rattle.std.proofs.Common.{refl}
 use Rattle.flow_plans.specs.Plans.{with_off_block}
 use Rattle.flow_plans.proofs.Keepings.{any-stays, chained-changed}
-use Rattle.flow_plans.proofs.store.undo.Goals as goal
+use Rattle.flow_plans.proofs.undo.undo.Goals as goal
 
 pub returns-in-Delayed-clause-chained : goal.returns-in-Delayed-clause-chained
 returns-in-Delayed-clause-chained g c =

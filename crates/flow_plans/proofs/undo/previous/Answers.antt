@@ -5,7 +5,7 @@ use Rattle.flow_plans.specs.declared.plan.PlanState.TheVariants as state
 use Rattle.flow_plans.specs.Plans.{Plan, plan_at, status_of, with_state, with_off_block}
 use Rattle.flow_plans.proofs.Keepings.{set-there}
 use Rattle.flow_plans.proofs.Previous.{first-there, first-end, with-elsewhere, changed-elsewhere, changed-own}
-use Rattle.flow_plans.proofs.store.previous.Goals as goal
+use Rattle.flow_plans.proofs.undo.previous.Goals as goal
 
 pub returns-then-place-plans : goal.returns-then-place-plans
 returns-then-place-plans g c =

@@ -1,6 +1,6 @@
 use Rattle.std.proofs.Common.{◌-◌, arith}
 use Rattle.flow_plans.proofs.Keepings.{set-there}
-use Rattle.flow_plans.proofs.store.amend_plan.Goals as goal
+use Rattle.flow_plans.proofs.amending.amend_plan.Goals as goal
 
 pub returns-clause-held : goal.returns-clause-held
 returns-clause-held g c =

@@ -3,7 +3,7 @@ use Rattle.flow_plans.specs.declared.plan.PlanState.TheVariants as state
 use Rattle.flow_plans.specs.Plans.{is_held, plan_at, changed_at, with_state}
 use Rattle.flow_plans.proofs.Previous.{changed-own}
 use Rattle.flow_plans.proofs.Keepings.{plan-stood, changed-is, changed-length, chained-changed, others-of-unheld}
-use Rattle.flow_plans.proofs.store.file_again.Goals as goal
+use Rattle.flow_plans.proofs.undo.file_again.Goals as goal
 
 pub join-requires-clause-number : goal.join-requires-clause-number
 join-requires-clause-number g c =

@@ -3,7 +3,7 @@ use Rattle.flow_plans.specs.Plans.{is_held, plan_at}
 use Rattle.flow_plans.specs.Chains.{flight_of_key, same_flight}
 use Rattle.flow_plans.proofs.ChainLemmas.{same_flight-same}
 use Rattle.flow_plans.proofs.Keepings.{set-there, plan-stood, chained-set, others-set, chained-forgot}
-use Rattle.flow_plans.proofs.store.exchange.Goals as goal
+use Rattle.flow_plans.proofs.amending.exchange.Goals as goal
 
 pub returns-then-eq-clause-held : goal.returns-then-eq-clause-held
 returns-then-eq-clause-held g c =

@@ -1,0 +1,68 @@
+//! What values of a plan are after a CHG.
+ghost use Rattle.std.specs.Prelude.{◌≡◌, ◌<◌, IfSome, unwrap_or, option_copied};
+ghost use Rattle.std.specs.Option.{option_map_or};
+ghost use Rattle.fpl_items.specs.Items.{is_exempt};
+ghost use Rattle.flow_plans.specs.Changes.{elapsed_after, alternates_after};
+
+use fpl_items::Other18;
+use fpl_text::{Alternates, Destination, FlightRules, Rules};
+use std::alloc::Allocator;
+
+/// The amended text, or else the one held.
+pub(crate) fn text_after<'a>(held: &'a [u8], amended: Option<&'a [u8]>) -> &'a [u8]
+    ensures { result.now ≡ unwrap_or (option_copied amended.entry) held.now }
+{
+    match amended {
+        Some(text) => text,
+        None => held,
+    }
+}
+
+/// The amended flight rules, or else those held.
+pub(crate) fn rules_after(held: FlightRules, amended: Option<&Rules>) -> FlightRules
+    ensures { result ≡ option_map_or (λ rules. rules.rules) (option_copied amended.entry) held }
+{
+    match amended {
+        Some(rules) => rules.rules,
+        None => held,
+    }
+}
+
+/// Whether an amended field 18 exempts the flight, or else what is held.
+pub(crate) fn exempt_after<A: Allocator + Copy>(held: bool, amended: Option<&Other18<A>>) -> bool
+    ensures { result ≡ option_map_or is_exempt (option_copied amended.entry) held }
+{
+    match amended {
+        Some(other) => other.exempt(),
+        None => held,
+    }
+}
+
+/// The elapsed time of an amended field 16 that has one, or else the one held.
+pub(crate) fn elapsed_after(held: u32, amended: Option<&Destination>) -> u32
+    requires held { held < 6000 }
+    requires amended { IfSome amended (λ amended. IfSome amended.now.elapsed (λ minutes. minutes < 6000)) }
+    ensures value { result ≡ elapsed_after held (option_copied amended.entry) }
+    ensures bound { result < 6000 }
+{
+    match amended {
+        Some(destination) => destination.elapsed.unwrap_or(held),
+        None => held,
+    }
+}
+
+/// The alternates of an amended field 16 that has an elapsed time, or else those held.
+pub(crate) fn alternates_after(held: &Alternates, amended: Option<&Destination>) -> Alternates
+    ensures { result ≡ alternates_after held.now (option_copied amended.entry) }
+{
+    match amended {
+        Some(destination) => {
+            if destination.elapsed.is_some() {
+                destination.alternates.copied()
+            } else {
+                held.copied()
+            }
+        }
+        None => held.copied(),
+    }
+}
