@@ -36,6 +36,12 @@ cell_at-others cells len k h =
       past (inl l) = get_or-replicate (len - length cells) (k - length cells) Empty Empty l
       past (inr l) = get_or_past (replicate (len - length cells) Empty) (k - length cells) Empty (omega (arith, l, length-replicate (len - length cells) Empty))
 
+pub cell_at-filled : (cells : List Cell) (len k : ℕ) → cell_at (filled cells len) k ≡ cell_at cells k
+cell_at-filled cells len k = cases (cases_lt k (length cells)) where
+  cases : (k < length cells) ⊎ (length cells ≤ k) → cell_at (filled cells len) k ≡ cell_at cells k
+  cases (inl l) = cell_at-made cells len k l
+  cases (inr l) = cell_at-others cells len k l ∙ sym (get_or_past cells k Empty l)
+
 pub drop-made : (cells : List Cell) (len : ℕ) → length cells ≤ len → drop (length cells) (filled cells len) ≡ replicate (length (filled cells len) - length cells) Empty
 drop-made cells len h =
     drop-append_seam cells (replicate (len - length cells) Empty) ∙ ap (λ n. replicate (n - length cells) Empty) (sym (length-filled cells len h))
@@ -51,7 +57,7 @@ EndsEmpty-pass c k x e is ne = record { most = e.most; last = λ h. (later h (ca
   later h (inl q) = absurd (ne (is ∙ (ap (cell_at c.row) q ∙ (e.last h).1)))
   later h (inr q) = omega (arith, (e.last h).0, q)
 
-pub EndsEmpty-write : (c : MadeRow) (k b n : ℕ) (x y : Cell) → EndsEmpty c k → x ≡ cell_at c.row k → (x ≡ Empty → ⊥) → EndsEmpty (record { row = set c.row k y; made = c.made; before = b; writes = n }) (k + 1)
+pub EndsEmpty-write : (c : MadeRow) (k b n : ℕ) (x y : Cell) → EndsEmpty c k → x ≡ cell_at c.row k → (x ≡ Empty → ⊥) → EndsEmpty (record { row = set c.row k y; made = c.made; before = b; writes = n; start = c.start }) (k + 1)
 EndsEmpty-write c k b n x y e is ne =
     let passed = EndsEmpty-pass c k x e is ne in
     record {
@@ -67,11 +73,6 @@ pub filled-all : (cells : List Cell) (len : ℕ) → len ≤ length cells → fi
 filled-all cells len h =
     let none : len - length cells ≡ 0 = omega arith in
     ap (λ n. cells ++ replicate n Empty) none ∙ append-nil cells
-
--- a cell that was made is written
-pub made-set : (cells : List Cell) (len k b n : ℕ) (c : Cell) → k < length cells → (let r : MadeRow = record { row = filled (set cells k c) len; made = length (set cells k c); before = b; writes = n } in r) ≡ record { row = set (filled cells len) k c; made = length cells; before = b; writes = n }
-made-set cells len k b n c h =
-    ap (λ v. let r : MadeRow = record { row = v; made = length (set cells k c); before = b; writes = n } in r) (filled-set cells len k c h) ∙ ap (λ v. let r : MadeRow = record { row = set (filled cells len) k c; made = v; before = b; writes = n } in r) (length-set cells k c)
 
 -- no flight moves up from cells that are empty
 pub next_up-others : (first : ℕ → ℕ) (hole : ℕ) (row : List Cell) (m j n : ℕ) → drop m row ≡ replicate n Empty → m ≤ j → next_up first hole (drop j row) ≡ None

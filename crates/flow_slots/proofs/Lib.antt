@@ -10,6 +10,7 @@ pub mod Following
 pub mod Fresh
 pub mod Gained
 pub mod Held
+pub mod Holders
 pub mod Kept
 pub mod Leaving
 pub mod Made
@@ -22,6 +23,8 @@ pub mod Same
 pub mod Served
 pub mod Sound
 pub mod StaysSound
+pub mod Started
+pub mod Storing
 pub mod Steps
 pub mod TakenBack
 pub mod Tied

@@ -60,8 +60,8 @@ lineup-new p capacity n row is =
     let f : fixed_of 0 row ≡ [] = ap (fixed_of 0) is ∙ fixed_of-empty 0 n in
     ap (λ ws. let l : Lineup = record { period = p; capacity = capacity; waiting = ws; fixed = fixed_of 0 row } in l) w ∙ ap (λ fs. let l : Lineup = record { period = p; capacity = capacity; waiting = []; fixed = fs } in l) f
 
-pub slots-new : (p : Period) (capacity n : ℕ) (cells : CellRow) → cells ≡ record { row = replicate n Empty; writes = 0 } → (let s : Slots = record { lineup = lineup_of p capacity cells.row; writes = cells.writes } in s) ≡ record { lineup = record { period = p; capacity = capacity; waiting = []; fixed = [] }; writes = 0 }
-slots-new p capacity n cells is =
+pub slots-new : (p : Period) (capacity n start : ℕ) (cells : CellRow) → cells ≡ record { row = replicate n Empty; writes = 0; start = start } → (let s : Slots = record { lineup = lineup_of p capacity cells.row; writes = cells.writes } in s) ≡ record { lineup = record { period = p; capacity = capacity; waiting = []; fixed = [] }; writes = 0 }
+slots-new p capacity n start cells is =
     let l = lineup-new p capacity n cells.row (ap (λ c. c.row) is) in
     let w : cells.writes ≡ 0 = ap (λ c. c.writes) is in
     ap (λ v. let s : Slots = record { lineup = v; writes = cells.writes } in s) l ∙ ap (λ v. let s : Slots = record { lineup = record { period = p; capacity = capacity; waiting = []; fixed = [] }; writes = v } in s) w

@@ -96,6 +96,11 @@ pub record IsKept (p : Period) (capacity : ℕ) (row : List Cell) (places : List
   pub some_flight : 0 < capacity
   pub flights : capacity ≤ 20000
 
+-- so is a row whose entries are counted from the start of the period
+pub record IsKeptFrom (start : ℕ) (p : Period) (capacity : ℕ) (row : List Cell) (places : List (Option ℕ)) : Type 0 where
+  pub kept : IsKept p capacity row places
+  pub from : start ≡ p.start
+
 -- the waiting flights stand in the order, and the fixed ones by slot
 abbrev pub InOrder : List Planned → Type 0
 InOrder [] = Unit {0}

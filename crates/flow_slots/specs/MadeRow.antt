@@ -10,6 +10,8 @@ pub record MadeRow : Type 0 where
   -- how often a cell was written before the last chain began, and since then
   pub before : ℕ
   pub writes : ℕ
+  -- the minute from which entries are counted in memory
+  pub start : ℕ
 
 -- how often a cell was written in all; the count stays at its greatest value
 abbrev pub counted : MadeRow → ℕ
@@ -19,11 +21,13 @@ counted c = min (c.before + c.writes) (2 ^ 64 - 1)
 abbrev pub filled : List Cell → ℕ → List Cell
 filled cells len = cells ++ replicate (len - length cells) Empty
 
--- no more cells than slots, and room for a cell of each slot; the number of slots takes two bytes
-pub record HasRoom (cells : List Cell) (len capacity : ℕ) : Type 0 where
+-- no more cells than slots, and room for a cell of each slot; the number of slots takes two bytes, and a start with the
+-- minutes of an entry four
+pub record HasRoom (cells : List Cell) (len capacity start : ℕ) : Type 0 where
   pub made : length cells ≤ len
   pub room : len ≤ capacity
   pub slots : len < 2 ^ 16
+  pub early : start < 2 ^ 31
 
 -- where not all cells were made, the last one is empty and not before slot `k`
 pub record EndsEmpty (c : MadeRow) (k : ℕ) : Type 0 where

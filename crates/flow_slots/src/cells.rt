@@ -5,7 +5,7 @@ ghost use Rattle.flow_slots.specs.MadeRow.{EndsEmpty, counted};
 ghost use Rattle.flow_slots.specs.PackedCell.{IsStored};
 ghost use Rattle.flow_slots.specs.Row.{cell_at, flight_at};
 ghost use Rattle.flow_slots.specs.Walk.{waits_before};
-ghost use Rattle.flow_slots.specs.declared.cell.Cell.TheVariants.{Empty};
+ghost use Rattle.flow_slots.specs.declared.cell.Cell.TheVariants.{Empty, Waiting};
 
 use crate::cell::{Cell, Planned};
 use crate::made_cells::MadeCells;
@@ -24,23 +24,24 @@ impl<A: Allocator + Copy> Model for Cells<A> {
 
     ghost Value = { CellRow };
 
-    ghost view = { λ c. record { row = c.made.row; writes = counted c.made } };
+    ghost view = { λ c. record { row = c.made.row; writes = counted c.made; start = c.made.start } };
 }
 
 impl<A: Allocator + Copy> Cells<A> {
-    pub(crate) fn new(alloc: A, len: u32) -> Result<Cells<A>, AllocError>
-        requires { len < 2 ^ 16 }
-        ensures { IfOk result (λ c. c ≡ record { row = replicate len Empty; writes = 0 }) }
+    pub(crate) fn new(alloc: A, len: u32, start: u32) -> Result<Cells<A>, AllocError>
+        requires len { len < 2 ^ 16 }
+        requires start { start < 2 ^ 31 }
+        ensures { IfOk result (λ c. c ≡ record { row = replicate len Empty; writes = 0; start = start }) }
     {
         Ok(Cells {
-            made: MadeCells::new(alloc, len)?,
+            made: MadeCells::new(alloc, len, start)?,
         })
     }
 
     /// These cells.
     #[inline(always)]
     pub(crate) fn from_made(made: MadeCells<A>) -> Cells<A>
-        ensures { result ≡ record { row = made.row; writes = counted made } }
+        ensures { result ≡ record { row = made.row; writes = counted made; start = made.start } }
     {
         Cells { made }
     }
@@ -49,6 +50,7 @@ impl<A: Allocator + Copy> Cells<A> {
     pub(crate) fn take_from(&mut self, k: u32) -> MadeCells<A>
         requires { k < length self.old.row }
         ensures row { result.row ≡ self.old.row }
+        ensures start { result.start ≡ self.old.start }
         ensures writes { counted result ≡ self.old.writes }
         ensures ends { EndsEmpty result k }
     {
@@ -102,7 +104,7 @@ impl<A: Allocator + Copy> Cells<A> {
     pub(crate) fn cell(&self, k: u32) -> Cell
         requires { k < length self.now.row }
         ensures value { result ≡ cell_at self.now.row k }
-        ensures kept { IsStored result }
+        ensures kept { IsStored self.now.start result }
     {
         self.made.cell(k)
     }
@@ -111,7 +113,7 @@ impl<A: Allocator + Copy> Cells<A> {
     #[inline(always)]
     pub(crate) fn past_earlier(&self, k: u32, flight: Planned) -> u32
         requires slot { k ≤ length self.now.row }
-        requires entry { flight.entry < 2 ^ 32 - 1 }
+        requires stored { IsStored self.now.start (Waiting flight) }
         ensures from { k ≤ result }
         ensures passed { (i : ℕ) → k ≤ i → i < result → waits_before flight (cell_at self.now.row i) ≡ true }
         ensures stops { waits_before flight (cell_at self.now.row result) ≡ false }
@@ -123,7 +125,7 @@ impl<A: Allocator + Copy> Cells<A> {
     #[inline(always)]
     pub(crate) fn write(&mut self, k: u32, cell: Cell)
         requires slot { k < length self.old.row }
-        requires kept { IsStored cell }
+        requires kept { IsStored self.old.start cell }
         ensures cells { self.new ≡ written self.old k cell }
         ensures more { self.old.writes ≤ self.new.writes }
         ensures small { k < 2 ^ 16 - 1 }

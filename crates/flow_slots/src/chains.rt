@@ -4,9 +4,11 @@ ghost use Rattle.std.specs.Prelude.{◌≡◌, ◌+◌, ◌-◌, ◌^◌, ◌<�
 ghost use Rattle.std.specs.Prelude.{None, Some};
 ghost use Rattle.flow_slots.specs.Changed.{gained};
 ghost use Rattle.flow_slots.specs.MadeRow.{EndsEmpty, counted};
+ghost use Rattle.flow_slots.specs.PackedCell.{IsStored};
 ghost use Rattle.flow_slots.specs.Period.{first_slot};
 ghost use Rattle.flow_slots.specs.Row.{flight_at, place_at, IsTied, EntriesWithin, MovesUp};
 ghost use Rattle.flow_slots.specs.Walk.{displace, has_empty, next_up, close, Follows, AllFollow, ComesIn};
+ghost use Rattle.flow_slots.specs.declared.cell.Cell.TheVariants.{Waiting};
 
 use crate::cell::{Cell, Planned};
 use crate::cells::Cells;
@@ -21,7 +23,7 @@ use std::alloc::Allocator;
 pub(crate) fn first_later<A: Allocator + Copy>(cells: &Cells<A>, from: u32, flight: Planned) -> u32
     requires order { AllFollow cells.now.row }
     requires room { has_empty (drop from cells.now.row) ≡ true }
-    requires entry { flight.entry < 2 ^ 32 - 1 }
+    requires stored { IsStored cells.now.start (Waiting flight) }
     ensures { ComesIn cells.now.row from flight result }
 {
     let mut k = from;
@@ -51,22 +53,24 @@ pub(crate) fn displace<A: Allocator + Copy>(
     requires absent { place_at places.old flight.flight ≡ None }
     requires follows { Follows flight (drop from cells.row) }
     requires room { has_empty (drop from cells.row) ≡ true }
-    requires entry { flight.entry < 2 ^ 32 - 1 }
+    requires stored { IsStored cells.start (Waiting flight) }
     requires ends { EndsEmpty cells from }
     ensures tied { IsTied places.new result.row }
+    ensures start { result.start ≡ cells.start }
     ensures row { result.row ≡ take from cells.row ++ displace flight (drop from cells.row) }
     ensures writes { counted result ≤ counted cells + gained cells.row result.row }
     ensures more { counted cells ≤ counted result }
 {
+    let start = cells.start();
     let mut row = cells;
     row.begin_chain();
-    let mut coming = PackedFlight::of(flight);
+    let mut coming = PackedFlight::of(start, flight);
     let mut k = from;
     loop {
         let cell = row.packed(k);
         match cell.waiting() {
             Some(held) => {
-                let moved = coming.get();
+                let moved = coming.get(start);
                 row.write_next(k, Cell::Waiting(moved));
                 places[moved.flight as usize] = HeldSlot::of(k);
                 coming = held;
@@ -79,7 +83,7 @@ pub(crate) fn displace<A: Allocator + Copy>(
         }
         k += 1;
     }
-    let last = coming.get();
+    let last = coming.get(start);
     row.write_next(k, Cell::Waiting(last));
     places[last.flight as usize] = HeldSlot::of(k);
     row
@@ -95,7 +99,7 @@ fn next_up<A: Allocator + Copy>(
     requires hole { hole < cells.now.made }
     requires entries { EntriesWithin shape.now cells.now.row }
     ensures found { IfSome result (λ r. MovesUp shape.now cells.now.row hole r.0 r.1) }
-    ensures entry { IfSome result (λ r. r.1.entry < 2 ^ 32 - 1) }
+    ensures stored { IfSome result (λ r. IsStored cells.now.start (Waiting r.1)) }
     ensures made { IfSome result (λ r. r.0 < cells.now.made) }
     ensures none { IfNone result
         (next_up (λ e. first_slot shape.now e) hole (drop (hole + 1) cells.now.row) ≡ None) }
@@ -105,7 +109,7 @@ fn next_up<A: Allocator + Copy>(
         let cell = cells.packed(next);
         match cell.waiting() {
             Some(waiting) => {
-                let held = waiting.get();
+                let held = waiting.get(cells.start());
                 if hole < shape.at(held.entry) {
                     return None;
                 }
@@ -134,6 +138,7 @@ pub(crate) fn vacate<A: Allocator + Copy>(
     requires entries { EntriesWithin shape.now cells.row }
     requires made { k < cells.made }
     ensures tied { IsTied places.new result.row }
+    ensures start { result.start ≡ cells.start }
     ensures row { result.row
         ≡ take k cells.row ++ close (λ e. first_slot shape.now e) k (drop (k + 1) cells.row) }
     ensures writes { counted result ≤ counted cells + gained cells.row result.row + 1 }

@@ -3,13 +3,13 @@ ghost use Rattle.std.specs.Prelude.{◌≡◌, ℕ, ◌+◌, ◌-◌, ◌<◌, �
 ghost use Rattle.std.specs.Prelude.{length, max, replicate, slice_set, vec_capacity};
 ghost use Rattle.flow_slots.specs.CellRow.{one_more};
 ghost use Rattle.flow_slots.specs.MadeRow.{MadeRow, EndsEmpty, counted};
-ghost use Rattle.flow_slots.specs.PackedCell.{IsStored};
+ghost use Rattle.flow_slots.specs.PackedCell.{IsStored, from_start};
 ghost use Rattle.flow_slots.specs.Row.{cell_at};
 ghost use Rattle.flow_slots.specs.Walk.{waits_before};
-ghost use Rattle.flow_slots.specs.declared.cell.Cell.TheVariants.{Empty};
+ghost use Rattle.flow_slots.specs.declared.cell.Cell.TheVariants.{Empty, Waiting};
 
 use crate::cell::{Cell, Planned};
-use crate::packed_cell::PackedCell;
+use crate::packed_cell::{PackedCell, PackedFlight};
 use std::alloc::{AllocError, Allocator};
 use std::marker::Model;
 use std::mem;
@@ -20,24 +20,28 @@ use std::mem;
 pub(crate) struct MadeCells<A: Allocator + Copy> {
     row: Vec<PackedCell, A>,
     len: u32,
+    /// The minute from which entries are counted in the cells: no entry is before it.
+    start: u32,
     before: u64,
     writes: u64,
 }
 
 impl<A: Allocator + Copy> Model for MadeCells<A> {
-    ghost use Rattle.std.specs.Prelude.{length, vec_capacity};
+    ghost use Rattle.std.specs.Prelude.{length, map, vec_capacity};
     ghost use Rattle.flow_slots.specs.MadeRow.{MadeRow, HasRoom, filled};
+    ghost use Rattle.flow_slots.specs.PackedCell.{from_start};
 
     ghost Value = { MadeRow };
 
     ghost view = { λ c. record {
-      row = filled c.row.items c.len;
+      row = map (from_start c.start) (filled c.row.items c.len);
       made = length c.row.items;
       before = c.before;
       writes = c.writes;
+      start = c.start;
     } };
 
-    ghost invariant = { λ c. HasRoom c.row.items c.len (vec_capacity c.row) };
+    ghost invariant = { λ c. HasRoom c.row.items c.len (vec_capacity c.row) c.start };
 }
 
 /// Makes empty cells, until there are `count`.
@@ -54,8 +58,8 @@ fn make<A: Allocator + Copy>(row: &mut Vec<PackedCell, A>, count: u32)
 
 /// The first of these cells from a place on in which no flight waits that stands before this one, or the end.
 #[inline(always)]
-fn past_earlier(cells: &[PackedCell], from: usize, flight: Planned) -> usize
-    requires entry { flight.entry < 2 ^ 32 - 1 }
+fn past_earlier(cells: &[PackedCell], from: usize, flight: PackedFlight) -> usize
+    requires entry { flight.entry < 131_071 }
     ensures from { from ≤ result }
     ensures most { result ≤ max from (length cells.now) }
     ensures passed { (i : ℕ) → from ≤ i → i < result → waits_before flight (cell_at cells.now i) ≡ true }
@@ -69,14 +73,22 @@ fn past_earlier(cells: &[PackedCell], from: usize, flight: Planned) -> usize
 }
 
 impl<A: Allocator + Copy> MadeCells<A> {
-    /// Takes memory for all cells, and makes none.
-    pub(crate) fn new(alloc: A, len: u32) -> Result<MadeCells<A>, AllocError>
-        requires { len < 2 ^ 16 }
-        ensures { IfOk result (λ c. c ≡ record { row = replicate len Empty; made = 0; before = 0; writes = 0 }) }
+    /// Takes memory for all cells, and makes none. No entry is to be before the start.
+    pub(crate) fn new(alloc: A, len: u32, start: u32) -> Result<MadeCells<A>, AllocError>
+        requires len { len < 2 ^ 16 }
+        requires start { start < 2 ^ 31 }
+        ensures { IfOk result (λ c. c ≡ record {
+          row = replicate len Empty;
+          made = 0;
+          before = 0;
+          writes = 0;
+          start = start;
+        }) }
     {
         Ok(MadeCells {
             row: Vec::with_capacity(alloc, len as usize)?,
             len,
+            start,
             before: 0,
             writes: 0,
         })
@@ -90,6 +102,7 @@ impl<A: Allocator + Copy> MadeCells<A> {
         let none = MadeCells {
             row: Vec::new(*self.row.allocator()),
             len: 0,
+            start: self.start,
             before: 0,
             writes: 0,
         };
@@ -102,6 +115,15 @@ impl<A: Allocator + Copy> MadeCells<A> {
         ensures { result ≡ length self.now.row }
     {
         self.len
+    }
+
+    /// The minute from which entries are counted.
+    #[inline(always)]
+    pub(crate) fn start(&self) -> u32
+        ensures value { result ≡ self.now.start }
+        ensures early { result < 2 ^ 31 }
+    {
+        self.start
     }
 
     /// How many cells were made.
@@ -127,10 +149,10 @@ impl<A: Allocator + Copy> MadeCells<A> {
     pub(crate) fn cell(&self, k: u32) -> Cell
         requires { k < length self.now.row }
         ensures value { result ≡ cell_at self.now.row k }
-        ensures kept { IsStored result }
+        ensures kept { IsStored self.now.start result }
     {
         if (k as usize) < self.row.len() {
-            self.row[k as usize].get()
+            self.row[k as usize].get(self.start)
         } else {
             Cell::Empty
         }
@@ -140,7 +162,7 @@ impl<A: Allocator + Copy> MadeCells<A> {
     #[inline(always)]
     pub(crate) fn packed(&self, k: u32) -> PackedCell
         requires { k < self.now.made }
-        ensures { result ≡ cell_at self.now.row k }
+        ensures { from_start self.now.start result ≡ cell_at self.now.row k }
     {
         self.row[k as usize]
     }
@@ -149,11 +171,12 @@ impl<A: Allocator + Copy> MadeCells<A> {
     #[inline(always)]
     pub(crate) fn past_earlier(&self, k: u32, flight: Planned) -> u32
         requires slot { k ≤ length self.now.row }
-        requires entry { flight.entry < 2 ^ 32 - 1 }
+        requires stored { IsStored self.now.start (Waiting flight) }
         ensures from { k ≤ result }
         ensures passed { (i : ℕ) → k ≤ i → i < result → waits_before flight (cell_at self.now.row i) ≡ true }
         ensures stops { waits_before flight (cell_at self.now.row result) ≡ false }
     {
+        let flight = PackedFlight::of(self.start, flight);
         past_earlier(&self.row, k as usize, flight) as u32
     }
 
@@ -161,13 +184,14 @@ impl<A: Allocator + Copy> MadeCells<A> {
     pub(crate) fn make_to(&mut self, k: u32)
         requires { k < length self.old.row }
         ensures row { self.new.row ≡ self.old.row }
+        ensures start { self.new.start ≡ self.old.start }
         ensures writes { counted self.new ≡ counted self.old }
         ensures ends { EndsEmpty self.new k }
     {
         let made = self.row.len() as u32;
         if made <= k {
             make(&mut self.row, k + 1);
-        } else if made < self.len && self.row[made as usize - 1].get() != Cell::Empty {
+        } else if made < self.len && !self.row[made as usize - 1].is_empty() {
             make(&mut self.row, made + 1);
         }
     }
@@ -176,13 +200,14 @@ impl<A: Allocator + Copy> MadeCells<A> {
     #[inline(always)]
     pub(crate) fn write(&mut self, k: u32, cell: Cell)
         requires slot { k < length self.old.row }
-        requires kept { IsStored cell }
+        requires kept { IsStored self.old.start cell }
         ensures row { self.new.row ≡ slice_set self.old.row k cell }
+        ensures start { self.new.start ≡ self.old.start }
         ensures writes { counted self.new ≡ one_more (counted self.old) }
         ensures small { k < 2 ^ 16 - 1 }
     {
         make(&mut self.row, k + 1);
-        self.row[k as usize].set(cell);
+        self.row[k as usize].set(self.start, cell);
         self.writes = self.writes.saturating_add(1);
     }
 
@@ -193,6 +218,7 @@ impl<A: Allocator + Copy> MadeCells<A> {
           made = self.old.made;
           before = counted self.old;
           writes = 0;
+          start = self.old.start;
         } }
     {
         self.before = self.before.saturating_add(self.writes);
@@ -203,7 +229,7 @@ impl<A: Allocator + Copy> MadeCells<A> {
     #[inline(always)]
     pub(crate) fn write_next(&mut self, k: u32, cell: Cell)
         requires slot { k < self.old.made }
-        requires kept { IsStored cell }
+        requires kept { IsStored self.old.start cell }
         requires few { self.old.writes < 2 ^ 64 - 1 }
         ensures small { k < 2 ^ 16 - 1 }
         ensures cells { self.new ≡ record {
@@ -211,9 +237,10 @@ impl<A: Allocator + Copy> MadeCells<A> {
           made = self.old.made;
           before = self.old.before;
           writes = self.old.writes + 1;
+          start = self.old.start;
         } }
     {
-        self.row[k as usize].set(cell);
+        self.row[k as usize].set(self.start, cell);
         self.writes += 1;
     }
 }

@@ -1,17 +1,28 @@
-//! A cell of the row in one word of eight bytes.
-ghost use Rattle.std.specs.Prelude.{◌≡◌, ◌-◌, ◌/◌, ◌%◌, ◌^◌, ◌<◌, ◌↔◌, false, IfNone, IfSome, IsTrue};
-ghost use Rattle.flow_slots.specs.PackedCell.{IsStored};
+//! A cell of the row in one word of four bytes.
+//!
+//! It has the minutes of an entry from a start, which the row keeps once: that of its period. A period has at most
+//! 1,440 minutes, and 17 bits are there for them; 15 bits are there for a flight's number, which is at most 20,000.
+ghost use Rattle.std.specs.Prelude.{◌≡◌, ◌+◌, ◌*◌, ◌/◌, ◌%◌, ◌^◌, ◌<◌, ◌↔◌, false, IfNone, IfSome, IsTrue};
+ghost use Rattle.flow_slots.specs.PackedCell.{IsStored, flight_from, from_start};
 ghost use Rattle.flow_slots.specs.Walk.{waits, waits_before};
+ghost use Rattle.flow_slots.specs.declared.cell.Cell.TheVariants.{Waiting};
 
-use crate::cell::{Cell, Planned, rank};
+use crate::cell::{Cell, Planned};
 use std::marker::Model;
 
+/// How many numbers a flight may have, with 0.
+const FLIGHTS: u32 = 32_768;
+
+/// The entry of no flight: the greatest number that there is room for.
+const NO_ENTRY: u32 = 131_071;
+
 /// What stands in a slot. It takes one word, so that a chain reads one and writes one for each flight that it moves.
+/// Contracts see an entry as minutes from the start.
 #[derive(Clone, Copy, Debug)]
 pub(crate) struct PackedCell {
-    /// The rank of a flight that waits. Where none does, the entry in it is the greatest number, and the flight the
-    /// one that is fixed, and 0 for none.
-    word: u64,
+    /// The place in the order of a flight that waits. Where none does, the entry in it is the greatest number, and the
+    /// flight the one that is fixed, and 0 for none.
+    word: u32,
 }
 
 impl Model for PackedCell {
@@ -28,12 +39,13 @@ impl Model for PackedCell {
     ghost inverse_ok = { λ p h i. record { word = word_back p.word i } };
 }
 
-const _: () = prove!(size_of::<PackedCell>() <= 8);
+const _: () = prove!(size_of::<PackedCell>() <= 4);
 
-/// A flight that waits, as its rank: a chain takes it out of one cell and puts it into another as one word.
+/// A flight that waits, as its place in the order: a chain takes it out of one cell and puts it into another as one
+/// word.
 #[derive(Clone, Copy, Debug)]
 pub(crate) struct PackedFlight {
-    word: u64,
+    word: u32,
 }
 
 impl Model for PackedFlight {
@@ -41,50 +53,62 @@ impl Model for PackedFlight {
 
     ghost Value = { Planned };
 
-    ghost use Rattle.flow_slots.specs.Order.{rank};
-    ghost use Rattle.flow_slots.specs.PackedCell.{ranked, rank_back};
+    ghost use Rattle.flow_slots.specs.PackedCell.{packed_rank, ranked, rank_back};
 
     ghost view = { λ p. ranked p.word };
 
-    ghost inverse = { λ planned. record { word = rank planned } };
+    ghost inverse = { λ planned. record { word = packed_rank planned } };
 
     ghost inverse_ok = { λ p h i. record { word = rank_back p.word i } };
 }
 
-/// The entry in a rank.
+/// The word of an entry and a flight.
 #[inline(always)]
-fn entry_in(word: u64) -> u32
-    ensures { result ≡ word / 4_294_967_296 }
+fn word_of(entry: u32, flight: u32) -> u32
+    requires entry { entry < 131_072 }
+    requires flight { flight < 32_768 }
+    ensures { result ≡ 32_768 * entry + flight }
 {
-    (word / 4_294_967_296) as u32
+    FLIGHTS * entry + flight
 }
 
-/// The flight in a rank.
+/// The entry in a word.
 #[inline(always)]
-fn flight_in(word: u64) -> u32
-    ensures { result ≡ word % 4_294_967_296 }
+fn entry_in(word: u32) -> u32
+    ensures { result ≡ word / 32_768 }
 {
-    (word % 4_294_967_296) as u32
+    word / FLIGHTS
+}
+
+/// The flight in a word.
+#[inline(always)]
+fn flight_in(word: u32) -> u32
+    ensures { result ≡ word % 32_768 }
+{
+    word % FLIGHTS
 }
 
 impl PackedFlight {
-    /// This flight.
+    /// This flight, its entry counted from the start.
     #[inline(always)]
-    pub(crate) fn of(planned: Planned) -> Self
-        ensures { result ≡ planned }
+    pub(crate) fn of(start: u32, planned: Planned) -> Self
+        requires { IsStored start (Waiting planned) }
+        ensures value { flight_from start result ≡ planned }
+        ensures kept { (result.entry < 131_071) × (result.flight < 32_768) }
     {
         PackedFlight {
-            word: planned.rank(),
+            word: word_of(planned.entry - start, planned.flight),
         }
     }
 
     /// The flight and its entry.
     #[inline(always)]
-    pub(crate) fn get(self) -> Planned
-        ensures { result ≡ self }
+    pub(crate) fn get(self, start: u32) -> Planned
+        requires { start < 2 ^ 31 }
+        ensures { result ≡ flight_from start self }
     {
         Planned {
-            entry: entry_in(self.word),
+            entry: start + entry_in(self.word),
             flight: flight_in(self.word),
         }
     }
@@ -97,21 +121,25 @@ impl PackedCell {
         ensures { result ≡ Cell.Empty }
     {
         PackedCell {
-            word: rank(u32::MAX, 0),
+            word: word_of(NO_ENTRY, 0),
         }
     }
 
     /// What stands in the slot.
     #[inline(always)]
-    pub(crate) fn get(&self) -> Cell
-        ensures value { result ≡ self.now }
-        ensures kept { IsStored result }
+    pub(crate) fn get(&self, start: u32) -> Cell
+        requires { start < 2 ^ 31 }
+        ensures value { result ≡ from_start start self.now }
+        ensures kept { IsStored start result }
     {
         let word = self.word;
         let entry = entry_in(word);
         let flight = flight_in(word);
-        if entry != u32::MAX {
-            Cell::Waiting(Planned { entry, flight })
+        if entry != NO_ENTRY {
+            Cell::Waiting(Planned {
+                entry: start + entry,
+                flight,
+            })
         } else if flight == 0 {
             Cell::Empty
         } else {
@@ -123,11 +151,11 @@ impl PackedCell {
     #[inline(always)]
     pub(crate) fn waiting(self) -> Option<PackedFlight>
         ensures value { IfSome result (λ w. Cell.Waiting w ≡ self) }
-        ensures kept { IfSome result (λ w. w.entry < 2 ^ 32 - 1) }
+        ensures kept { IfSome result (λ w. (w.entry < 131_071) × (w.flight < 32_768)) }
         ensures none { IfNone result (waits self ≡ false) }
     {
         let word = self.word;
-        if entry_in(word) != u32::MAX {
+        if entry_in(word) != NO_ENTRY {
             Some(PackedFlight { word })
         } else {
             None
@@ -140,29 +168,31 @@ impl PackedCell {
         ensures { IsTrue result ↔ (self ≡ Cell.Empty) }
     {
         let word = self.word;
-        entry_in(word) == u32::MAX && flight_in(word) == 0
+        entry_in(word) == NO_ENTRY && flight_in(word) == 0
     }
 
     /// Whether a flight waits in the slot that stands before this one. An empty slot and a fixed flight have the
     /// greatest entry, so one comparison of the words tells.
     #[inline(always)]
-    pub(crate) fn waits_before(&self, flight: Planned) -> bool
-        requires { flight.entry < 2 ^ 32 - 1 }
+    pub(crate) fn waits_before(&self, flight: PackedFlight) -> bool
+        requires { flight.entry < 131_071 }
         ensures { result ≡ waits_before flight self.now }
     {
-        self.word < flight.rank()
+        self.word < flight.word
     }
 
     /// Puts a cell in place of this one.
     #[inline(always)]
-    pub(crate) fn set(&mut self, cell: Cell)
-        requires { IsStored cell }
-        ensures { self.new ≡ cell }
+    pub(crate) fn set(&mut self, start: u32, cell: Cell)
+        requires { IsStored start cell }
+        ensures { from_start start self.new ≡ cell }
     {
         match cell {
-            Cell::Empty => self.word = rank(u32::MAX, 0),
-            Cell::Waiting(planned) => self.word = planned.rank(),
-            Cell::Fixed(flight) => self.word = rank(u32::MAX, flight),
+            Cell::Empty => self.word = word_of(NO_ENTRY, 0),
+            Cell::Waiting(planned) => {
+                self.word = word_of(planned.entry - start, planned.flight);
+            }
+            Cell::Fixed(flight) => self.word = word_of(NO_ENTRY, flight),
         }
     }
 }

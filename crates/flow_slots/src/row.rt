@@ -5,8 +5,9 @@ ghost use Rattle.std.specs.Prelude.{None, replicate, ◌-◌, ◌^◌};
 ghost use Rattle.flow_slots.specs.Changed.{gained};
 ghost use Rattle.flow_slots.specs.Period.{first_slot};
 ghost use Rattle.flow_slots.specs.Lineup.{IsKept, MayFill};
+ghost use Rattle.flow_slots.specs.PackedCell.{IsStored};
 ghost use Rattle.flow_slots.specs.Row.{cell_at, flight_at, place_at, waiting_of, fixed_of, IsTied, EntriesWithin};
-ghost use Rattle.flow_slots.specs.declared.cell.Cell.TheVariants.{Empty};
+ghost use Rattle.flow_slots.specs.declared.cell.Cell.TheVariants.{Empty, Fixed, Waiting};
 ghost use Rattle.flow_slots.specs.declared.cell.Planned.{Planned};
 ghost use Rattle.flow_slots.specs.Walk.{displace, has_empty, close, push, AllFollow};
 
@@ -25,16 +26,17 @@ pub(crate) struct Row<A: Allocator + Copy> {
 }
 
 impl<A: Allocator + Copy> Row<A> {
-    /// A row of empty slots, for flights with numbers up to `last`.
-    pub(crate) fn new(alloc: A, len: u32, last: u32) -> Result<Row<A>, AllocError>
+    /// A row of empty slots, for flights with numbers up to `last`, whose entries aren't before the start.
+    pub(crate) fn new(alloc: A, len: u32, last: u32, start: u32) -> Result<Row<A>, AllocError>
         requires slots { len < 2 ^ 16 }
         requires flights { last < 2 ^ 32 - 1 }
-        ensures cells { IfOk result (λ r. r.cells ≡ record { row = replicate len Empty; writes = 0 }) }
+        requires start { start < 2 ^ 31 }
+        ensures cells { IfOk result (λ r. r.cells ≡ record { row = replicate len Empty; writes = 0; start = start }) }
         ensures places { IfOk result (λ r. r.places.items ≡ replicate (last + 1) None) }
         ensures places_len { IfOk result (λ r. vec_len r.places ≡ last + 1) }
     {
         Ok(Row {
-            cells: Cells::new(alloc, len)?,
+            cells: Cells::new(alloc, len, start)?,
             places: vec![in alloc; HeldSlot::none(); last as usize + 1]?,
         })
     }
@@ -76,8 +78,9 @@ impl<A: Allocator + Copy> Row<A> {
         requires number { flight.flight < vec_len self.old.places }
         requires absent { place_at self.old.places.items flight.flight ≡ None }
         requires room { has_empty (drop from self.old.cells.row) ≡ true }
-        requires entry { flight.entry < 2 ^ 32 - 1 }
+        requires stored { IsStored self.old.cells.start (Waiting flight) }
         ensures tied { IsTied self.new.places.items self.new.cells.row }
+        ensures start { self.new.cells.start ≡ self.old.cells.start }
         ensures row { self.new.cells.row
             ≡ take from self.old.cells.row ++ displace flight (drop from self.old.cells.row) }
         ensures len { vec_len self.new.places ≡ vec_len self.old.places }
@@ -94,6 +97,7 @@ impl<A: Allocator + Copy> Row<A> {
     /// and the slot after that of the flight before it.
     pub(crate) fn fill(&mut self, shape: &FirstSlots<A>, flights: &[Planned])
         requires kept { IsKept shape.now (length self.old.places.items - 1) self.old.cells.row self.old.places.items }
+        requires start { self.old.cells.start ≡ shape.now.start }
         requires may { MayFill flights.now (record {
           period = shape.now;
           capacity = length self.old.places.items - 1;
@@ -101,6 +105,7 @@ impl<A: Allocator + Copy> Row<A> {
           fixed = fixed_of 0 self.old.cells.row;
         }) }
         ensures kept { IsKept shape.now (length self.old.places.items - 1) self.new.cells.row self.new.places.items }
+        ensures start { self.new.cells.start ≡ self.old.cells.start }
         ensures waiting { waiting_of self.new.cells.row ≡ flights.now }
         ensures fixed { fixed_of 0 self.new.cells.row ≡ [] }
         ensures writes { self.new.cells.writes ≤ self.old.cells.writes + length flights.now }
@@ -121,6 +126,7 @@ impl<A: Allocator + Copy> Row<A> {
         requires stands { flight_at self.old.cells.row k ≡ Some flight }
         requires entries { EntriesWithin shape.now self.old.cells.row }
         ensures tied { IsTied self.new.places.items self.new.cells.row }
+        ensures start { self.new.cells.start ≡ self.old.cells.start }
         ensures row { self.new.cells.row
             ≡ take k self.old.cells.row
             ++ close (λ e. first_slot shape.now e) k (drop (k + 1) self.old.cells.row) }
@@ -140,11 +146,13 @@ impl<A: Allocator + Copy> Row<A> {
         requires some { 0 < flight }
         requires number { flight < vec_len self.old.places }
         requires absent { place_at self.old.places.items flight ≡ None }
+        requires stored { IsStored self.old.cells.start (Fixed flight) }
         requires slot { k < length self.old.cells.row }
         requires open { (f : ℕ) → cell_at self.old.cells.row k ≡ Cell.Fixed f → ⊥ }
         requires room { (held : Planned) → cell_at self.old.cells.row k ≡ Cell.Waiting held
             → has_empty (drop (k + 1) self.old.cells.row) ≡ true }
         ensures tied { IsTied self.new.places.items self.new.cells.row }
+        ensures start { self.new.cells.start ≡ self.old.cells.start }
         ensures row { self.new.cells.row
             ≡ take k self.old.cells.row ++ push flight (drop k self.old.cells.row) }
         ensures len { vec_len self.new.places ≡ vec_len self.old.places }

@@ -1,13 +1,14 @@
 //! The slot list with all its calls. Their contracts say what each makes of the lineup, which the row stands for.
-ghost use Rattle.std.specs.Prelude.{◌≡◌, ℕ, ◌+◌, ◌<◌, ◌≤◌, length, [], None, Some, ◌↔◌, IfOk, IfSome, IsSome, IsTrue};
-ghost use Rattle.flow_slots.specs.Period.{IsWithin};
+ghost use Rattle.std.specs.Prelude.{◌≡◌, ℕ, ◌+◌, ◌<◌, ◌≤◌, length, [], None, Some, ◌↔◌, IfOk, OnOk, IfSome, IsSome};
+ghost use Rattle.std.specs.Prelude.{IsTrue};
+ghost use Rattle.flow_slots.specs.Period.{IsWithin, IsRegular};
 ghost use Rattle.flow_slots.specs.Changed.{moved_flights};
 ghost use Rattle.flow_slots.specs.Delay.{HasLeastDelay, Rise, waiting_slots};
 ghost use Rattle.flow_slots.specs.FirstServed.{IsFirstServed};
 ghost use Rattle.flow_slots.specs.Row.{flight_at};
 ghost use Rattle.flow_slots.specs.Lineup.{len_of, held_slot, held_flight, fixed_slot, with_waiting, with_fixed};
 ghost use Rattle.flow_slots.specs.Lineup.{without_flight, fixed_at, IsLineup, waiting_entry, with_all_waiting, MayFill};
-ghost use Rattle.flow_slots.specs.LineupLaws.{IsSound};
+ghost use Rattle.flow_slots.specs.LineupLaws.{IsNumber, IsSound};
 
 use crate::cell::{Cell, Planned};
 use crate::cells::Cells;
@@ -36,7 +37,7 @@ pub struct SlotList<A: Allocator + Copy = Global> {
 }
 
 impl<A: Allocator + Copy> Model for SlotList<A> {
-    ghost use Rattle.flow_slots.specs.Lineup.{Slots, IsKept};
+    ghost use Rattle.flow_slots.specs.Lineup.{Slots, IsKeptFrom};
     ghost use Rattle.flow_slots.specs.Row.{waiting_of, fixed_of};
 
     ghost Value = { Slots };
@@ -51,7 +52,8 @@ impl<A: Allocator + Copy> Model for SlotList<A> {
       writes = s.row.cells.writes;
     } };
 
-    ghost invariant = { λ s. IsKept s.first_slots s.capacity s.row.cells.row s.row.places.items };
+    ghost invariant = { λ s.
+        IsKeptFrom s.row.cells.start s.first_slots s.capacity s.row.cells.row s.row.places.items };
 }
 
 impl<A: Allocator + Copy> SlotList<A> {
@@ -60,13 +62,15 @@ impl<A: Allocator + Copy> SlotList<A> {
     pub fn new(alloc: A, shape: Shape, max_plans: u32) -> Result<SlotList<A>, AllocError>
         requires some { 0 < max_plans }
         requires most { max_plans ≤ 20000 }
-        ensures { IfOk result
+        ensures empty { IfOk result
             (λ s. s ≡ record {
               lineup = record { period = shape; capacity = max_plans; waiting = []; fixed = [] };
               writes = 0;
             }) }
+        ensures regular { OnOk result (IsRegular shape) }
     {
-        let row = Row::new(alloc, shape.slots_before_end() + max_plans, max_plans)?;
+        let slots = shape.slots_before_end() + max_plans;
+        let row = Row::new(alloc, slots, max_plans, shape.start_minutes())?;
         let first_slots = FirstSlots::new(alloc, shape)?;
         Ok(SlotList {
             first_slots,
@@ -99,16 +103,16 @@ impl<A: Allocator + Copy> SlotList<A> {
         self.first_slots.shape()
     }
 
-    /// The row itself. Its clauses say what the lineup is: each flight has one slot and each slot at
-    /// most one flight, slots rise in the order, and no other choice of slots around the fixed ones
-    /// has a smaller sum of delays.
+    /// The row itself. Its clauses say what the lineup is, whichever changes were made: each flight has one slot and
+    /// each slot at most one flight, slots rise in the order, no other choice of slots around the fixed ones has a
+    /// smaller sum of delays, and what `laws` ask of a lineup holds of it.
     pub fn cells(&self) -> &Cells<A>
         ensures row { (k : ℕ) → flight_at result.now.row k ≡ held_flight self.now.lineup k }
         ensures len { length result.now.row ≡ len_of self.now.lineup }
         ensures count { result.now.writes ≡ self.now.writes }
         ensures one_each { (flight k : ℕ) → (held_slot self.now.lineup flight ≡ Some k)
             ↔ (held_flight self.now.lineup k ≡ Some flight) }
-        ensures well_formed { IsLineup self.now.lineup }
+        ensures sound { IsSound self.now.lineup }
         ensures rise { Rise (waiting_slots self.now.lineup) }
         ensures first_served { IsFirstServed self.now.lineup }
         ensures least_delay { HasLeastDelay self.now.lineup }
@@ -116,18 +120,15 @@ impl<A: Allocator + Copy> SlotList<A> {
         &self.row.cells
     }
 
-    /// What `laws` ask of a lineup holds of that of each list, whichever changes were made.
-    pub fn has_sound_lineup(&self)
-        ensures { IsSound self.now.lineup }
-    {
-        let _row = &self.row;
-    }
-
-    /// The slot of a flight, None where it isn't held.
+    /// The slot of a flight, None where it isn't held. No other flight has it, and no flight stands twice in the list.
     #[inline(always)]
     pub fn slot_of(&self, flight: u32) -> Option<u32>
         ensures slot { result ≡ held_slot self.now.lineup flight }
         ensures within { IfSome result (λ k. k < len_of self.now.lineup) }
+        ensures most { IfSome result (λ k. k < 30_000) }
+        ensures holder { IfSome result (λ k. held_flight self.now.lineup k ≡ Some flight) }
+        ensures number { IfSome result (λ _. IsNumber self.now.lineup flight) }
+        ensures lined { IsLineup self.now.lineup }
     {
         self.row.place(flight)
     }
@@ -144,11 +145,13 @@ impl<A: Allocator + Copy> SlotList<A> {
         self.row.next_placed(from)
     }
 
-    /// The entry of a flight that waits, None where it doesn't.
+    /// The entry of a flight that waits, None where it doesn't. No flight waits twice, and none that waits keeps a
+    /// slot.
     #[inline(always)]
     pub fn entry_of(&self, flight: u32) -> Option<Minute>
         ensures entry { result ≡ waiting_entry self.now.lineup flight }
         ensures within { IfSome result (λ e. IsWithin self.now.lineup.period e) }
+        ensures lined { IsLineup self.now.lineup }
     {
         match self.row.cells.cell(self.row.place(flight)?) {
             Cell::Waiting(planned) => Some(Minute::from_minutes(planned.entry)),
@@ -156,9 +159,13 @@ impl<A: Allocator + Copy> SlotList<A> {
         }
     }
 
-    /// The flight in slot `k`, None where it is empty or not below `len()`.
+    /// The flight in slot `k`, None where it is empty or not below `len()`. The flight has no other slot.
     pub fn holder(&self, k: u32) -> Option<u32>
-        ensures { result ≡ held_flight self.now.lineup k }
+        ensures flight { result ≡ held_flight self.now.lineup k }
+        ensures slot { IfSome result (λ flight. held_slot self.now.lineup flight ≡ Some k) }
+        ensures number { IfSome result (λ flight. IsNumber self.now.lineup flight) }
+        ensures within { IfSome result (λ _. k < len_of self.now.lineup) }
+        ensures most { IfSome result (λ _. k < 30_000) }
     {
         if k < self.row.cells.len() {
             self.row.cells.at(k)
@@ -223,10 +230,11 @@ impl<A: Allocator + Copy> SlotList<A> {
         }
     }
 
-    /// Whether a flight keeps its slot.
+    /// Whether a flight keeps its slot. No flight keeps two slots, and none that keeps one waits.
     #[inline(always)]
     pub fn is_fixed(&self, flight: u32) -> bool
-        ensures { IsTrue result ↔ IsSome (fixed_slot self.now.lineup flight) }
+        ensures fixed { IsTrue result ↔ IsSome (fixed_slot self.now.lineup flight) }
+        ensures lined { IsLineup self.now.lineup }
     {
         match self.row.place(flight) {
             Some(k) => matches!(self.row.cells.cell(k), Cell::Fixed(_)),

@@ -17,6 +17,7 @@ pub loop-next-init : goal.loop-next-init
 loop-next-init g c =
     rw (c.begin_chain.ensures, c.none.ensures) (record {
       walk = Closing-start c.args.shape.now c.args.cells.row 0 c.args.places.now c.args.k c.args.flight c.requires.tied c.requires.stands c.requires.entries;
+      begins = refl;
       made = c.requires.made;
       few = omega arith;
       before = refl;
@@ -26,6 +27,7 @@ pub loop-next-preserved : goal.loop-next-preserved
 loop-next-preserved g c =
     rw (c.write_next.ensures.cells, c.of.ensures) (record {
       walk = Closing-move _ _ _ _ _ _ _ _ c.loop-next.hole c.in-Some.next c.in-Some.held c.loop-next.invariant.walk c.in-Some.ensures.found;
+      begins = c.loop-next.invariant.begins;
       made = c.in-Some.ensures.made;
       few = omega (arith, c.loop-next.invariant.few, c.in-Some.ensures.found.after);
       before = c.loop-next.invariant.before;
@@ -43,3 +45,6 @@ returns-clause-writes g c =
 
 pub returns-clause-more : goal.returns-clause-more
 returns-clause-more g c = rw c.write_next-2.ensures.cells (omega (arith, c.loop-next.invariant.before))
+
+pub returns-clause-start : goal.returns-clause-start
+returns-clause-start g c = rw c.write_next-2.ensures.cells c.loop-next.invariant.begins

@@ -7,6 +7,7 @@ abbrev pub invariant-loop-next : goal.invariant-loop-next
 invariant-loop-next g l =
     record {
       walk : Closing l.shape l.fn.cells.row l.fn.places 0 l.fn.k l.row.row l.row.writes l.places l.hole;
+      begins : l.row.start ≡ l.fn.cells.start;
       made : l.hole < l.row.made;
       few : l.row.writes ≤ l.hole;
       before : l.row.before ≡ counted l.fn.cells;

@@ -43,6 +43,7 @@ returns-in_default g c =
     open_is_empty _ (λ w e. c.in_default.not-Waiting w (c.cell-cell.ensures.value ∙ e)) c.requires.open in
     record {
       tied = rw (c.write.ensures.cells, c.of.ensures) (IsTied-put s.places.items s.cells.row c.args.k c.args.flight (Fixed c.args.flight) c.requires.tied c.requires.slot c.requires.some (omega arith) (ap flight_of empty) c.requires.absent refl);
+      start = ap (λ v. v.start) c.write.ensures.cells;
       row = ap (λ v. v.row) c.write.ensures.cells ∙ push-empty s.cells.row c.args.k c.args.flight c.requires.slot empty;
       len = omega arith;
       writes = rw c.write.ensures.cells (omega arith);

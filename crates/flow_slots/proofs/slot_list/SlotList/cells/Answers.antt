@@ -1,40 +1,40 @@
 use Rattle.std.proofs.Common.{sym, ap, ◌∙◌}
 use Rattle.flow_slots.specs.Lineup.{held_flight}
 use Rattle.flow_slots.proofs.Kept.{lineup_of}
-use Rattle.flow_slots.specs.Period.{first_slot}
-use Rattle.flow_slots.proofs.Orderly.{row-lineup, row-rise}
+use Rattle.flow_slots.proofs.Orderly.{row-rise}
 use Rattle.flow_slots.proofs.Optimal.{first_served, least_delay}
 use Rattle.flow_slots.proofs.Held.{held_slot-is, held_flight-is}
+use Rattle.flow_slots.proofs.StaysSound.{row-sound}
 use Rattle.flow_slots.proofs.slot_list.SlotList.cells.Goals as goal
 
 pub returns-clause-row : goal.returns-clause-row
 returns-clause-row g c = λ k.
     (let s = c.self.inside in
-    sym (held_flight-is s.first_slots s.capacity s.capacity s.row.cells.row s.row.places.items k c.self.invariant) ∙ ap (λ v. held_flight v.lineup k) c.self.view_is)
+    sym (held_flight-is s.first_slots s.capacity s.capacity s.row.cells.row s.row.places.items k c.self.invariant.kept) ∙ ap (λ v. held_flight v.lineup k) c.self.view_is)
 
 pub returns-clause-least_delay : goal.returns-clause-least_delay
 returns-clause-least_delay g c =
     let s = c.self.inside in
-    rw (← c.self.view_is) (least_delay (lineup_of s.first_slots s.capacity s.row.cells.row) c.self.invariant.regular c.self.invariant.entries)
+    rw (← c.self.view_is) (least_delay (lineup_of s.first_slots s.capacity s.row.cells.row) c.self.invariant.kept.regular c.self.invariant.kept.entries)
 
 pub returns-clause-one_each : goal.returns-clause-one_each
 returns-clause-one_each g c = λ f k.
     (let s = c.self.inside in
-    let slot = held_slot-is s.first_slots s.capacity s.capacity s.row.cells.row s.row.places.items f c.self.invariant in
-    let holder = held_flight-is s.first_slots s.capacity s.capacity s.row.cells.row s.row.places.items k c.self.invariant in
-    rw (← c.self.view_is, slot, holder) (c.self.invariant.tied.each f k))
+    let slot = held_slot-is s.first_slots s.capacity s.capacity s.row.cells.row s.row.places.items f c.self.invariant.kept in
+    let holder = held_flight-is s.first_slots s.capacity s.capacity s.row.cells.row s.row.places.items k c.self.invariant.kept in
+    rw (← c.self.view_is, slot, holder) (c.self.invariant.kept.tied.each f k))
 
 pub returns-clause-first_served : goal.returns-clause-first_served
 returns-clause-first_served g c =
     let s = c.self.inside in
-    rw (← c.self.view_is) (first_served (lineup_of s.first_slots s.capacity s.row.cells.row) c.self.invariant.regular c.self.invariant.entries)
+    rw (← c.self.view_is) (first_served (lineup_of s.first_slots s.capacity s.row.cells.row) c.self.invariant.kept.regular c.self.invariant.kept.entries)
 
-pub returns-clause-well_formed : goal.returns-clause-well_formed
-returns-clause-well_formed g c =
+pub returns-clause-sound : goal.returns-clause-sound
+returns-clause-sound g c =
     let s = c.self.inside in
-    rw (← c.self.view_is) (row-lineup (λ e. first_slot s.first_slots e) s.first_slots s.capacity s.row.places.items s.row.cells.row c.self.invariant.settled c.self.invariant.tied)
+    rw (← c.self.view_is) (row-sound s.first_slots s.capacity s.row.cells.row s.row.places.items c.self.invariant.kept)
 
 pub returns-clause-rise : goal.returns-clause-rise
 returns-clause-rise g c =
     let s = c.self.inside in
-    rw (← c.self.view_is) (row-rise s.first_slots s.capacity s.row.cells.row c.self.invariant.settled)
+    rw (← c.self.view_is) (row-rise s.first_slots s.capacity s.row.cells.row c.self.invariant.kept.settled)
