@@ -12,7 +12,7 @@ undone plans change.Nothing = None
 undone plans change.Filed = Some (take (length plans - 1) plans)
 undone plans (change.Delayed number moment) = Some (changed_at (with_off_block moment) number plans)
 undone plans (change.Ended number) = Some (changed_at (with_state state.Filed) number plans)
-undone plans (change.Amended number plan) = Some (with_plan plans number plan)
+undone plans (change.Amended number plan) = Some (with_plan plans number plan.value)
 
 -- the change is one of these plans; an amended plan is held, and was
 abbrev pub IsOf : {A : Type 0} → last_change.LastChange A → List Plan → Type 0
@@ -21,7 +21,7 @@ IsOf change.Filed plans = 0 < length plans
 IsOf (change.Delayed number moment) plans = (0 < number) × (number ≤ length plans) × (moment < 67_855_680)
 IsOf (change.Ended number) plans = (0 < number) × (number ≤ length plans)
 IsOf (change.Amended number plan) plans =
-    (0 < number) × (number ≤ length plans) × (is_held plan.state ≡ true) × IfSome (plan_at plans number) (λ p. is_held p.state ≡ true)
+    (0 < number) × (number ≤ length plans) × (is_held plan.value.state ≡ true) × IfSome (plan_at plans number) (λ p. is_held p.state ≡ true)
 
 -- the chains can have the plan again that the change took out, with no more memory
 abbrev pub CanReturn : {A : Type 0} → Chained → last_change.LastChange A → List Plan → Type 0
@@ -29,7 +29,7 @@ CanReturn chains change.Nothing plans = Unit {0}
 CanReturn chains change.Filed plans = Unit {0}
 CanReturn chains (change.Delayed number moment) plans = Unit {0}
 CanReturn chains (change.Ended number) plans = IfSome (plan_at plans number) (λ p. HasRoomFor chains (flight_of_key p.key))
-CanReturn chains (change.Amended number plan) plans = HasRoomFor chains (flight_of_key plan.key)
+CanReturn chains (change.Amended number plan) plans = HasRoomFor chains (flight_of_key plan.value.key)
 
 -- what a store keeps to
 abbrev pub IsKept : {A : Type 0} → ℕ → ℕ → List Plan → Chained → last_change.LastChange A → Type 0

@@ -39,14 +39,14 @@ fn amended<A: Allocator + Copy>(
     chains: &Chains<A>,
     message: &Chg<A>,
     now: Minute,
-) -> Result<(u32, Plan<A>), PlanFault>
+) -> Result<(u32, Box<Plan<A>, A>), PlanFault>
     requires now { IsDeskTime now }
     requires few { length plans.now ≤ 20_000 }
     requires chained { AreChained chains.now plans.now }
     ensures ok { IfOk result (λ r. amended now plans.now message.now
-        ≡ Ok (record { plans = with_plan plans.now r.0 r.1; number = r.0 })) }
+        ≡ Ok (record { plans = with_plan plans.now r.0 r.1.value; number = r.0 })) }
     ensures within { IfOk result (λ r. (0 < r.0) × (r.0 ≤ length plans.now)) }
-    ensures held { IfOk result (λ r. (is_held r.1.state ≡ true)
+    ensures held { IfOk result (λ r. (is_held r.1.value.state ≡ true)
         × IfSome (plan_at plans.now r.0) (λ p. is_held p.state ≡ true)) }
     ensures refused { IfErr result (λ e. IsRefusal e (amended now plans.now message.now)) }
 {
@@ -74,58 +74,59 @@ pub(crate) fn amend_plan<A: Allocator + Copy>(
     chains: &mut Chains<A>,
     message: &Chg<A>,
     now: Minute,
-) -> Result<(u32, Plan<A>), PlanFault>
+) -> Result<(u32, Box<Plan<A>, A>), PlanFault>
     requires now { IsDeskTime now }
     requires few { length plans.old ≤ 20_000 }
     requires chained { AreChained chains.old plans.old }
     ensures ok { IfOk result (λ r. amended now plans.old message.now
         ≡ Ok (record { plans = plans.new; number = r.0 })) }
     ensures within { IfOk result (λ r. (0 < r.0) × (r.0 ≤ length plans.new)) }
-    ensures back { IfOk result (λ r. with_plan plans.new r.0 r.1 ≡ plans.old) }
+    ensures back { IfOk result (λ r. with_plan plans.new r.0 r.1.value ≡ plans.old) }
     ensures refused { IfErr result (λ e. IsRefusal e (amended now plans.old message.now)) }
     ensures count { length plans.new ≡ length plans.old }
     ensures err { OnErr result (plans.new ≡ plans.old) }
     ensures chained { AreChained chains.new plans.new }
-    ensures held { IfOk result (λ r. (is_held r.1.state ≡ true)
+    ensures held { IfOk result (λ r. (is_held r.1.value.state ≡ true)
         × IfSome (plan_at plans.new r.0) (λ p. is_held p.state ≡ true)) }
     ensures room { OnOk result (0 < chains.new.room) }
     ensures kept { OnErr result (StayChained chains.old chains.new) }
 {
-    let (number, plan) = amended(alloc, plans.as_slice(), chains, message, now)?;
+    let (number, mut plan) = amended(alloc, plans.as_slice(), chains, message, now)?;
     // For the name of its flight now, and for the one that it had, should that be taken back.
     let Ok(()) = chains.reserve(2) else {
         return Err(PlanFault::OutOfMemory);
     };
-    let held = exchange(plans, chains, number, plan);
-    Ok((number, held))
+    exchange(plans, chains, number, &mut plan);
+    Ok((number, plan))
 }
 
-/// Puts a plan in the place of that number and into the chain of its flight, which has room for it, and answers the
-/// plan that stood there. It takes no memory.
+/// Exchanges a plan with the one of that number, and puts it into the chain of its flight, which has room for it. It
+/// takes no memory.
 pub(crate) fn exchange<A: Allocator + Copy>(
     plans: &mut PlanList<A>,
     chains: &mut Chains<A>,
     number: u32,
-    plan: Plan<A>,
-) -> Plan<A>
+    plan: &mut Plan<A>,
+)
     requires number { (0 < number) × (number ≤ length plans.old) }
-    requires held { (is_held plan.state ≡ true) × IfSome (plan_at plans.old number) (λ p. is_held p.state ≡ true) }
-    requires room { HasRoomFor chains.old (flight_of_key plan.key) }
+    requires held { (is_held plan.old.state ≡ true)
+        × IfSome (plan_at plans.old number) (λ p. is_held p.state ≡ true) }
+    requires room { HasRoomFor chains.old (flight_of_key plan.old.key) }
     requires chained { AreChained chains.old plans.old }
-    ensures changed { plans.new ≡ with_plan plans.old number plan }
-    ensures back { with_plan plans.new number result ≡ plans.old }
+    ensures changed { plans.new ≡ with_plan plans.old number plan.old }
+    ensures back { with_plan plans.new number plan.new ≡ plans.old }
     ensures count { length plans.new ≡ length plans.old }
-    ensures held { is_held result.state ≡ true }
+    ensures held { is_held plan.new.state ≡ true }
     ensures chained { AreChained chains.new plans.new }
     ensures room { chains.old.room ≤ chains.new.room + 1 }
 {
     let name = FlightName::of_key(plans.as_slice()[(number - 1) as usize].key());
     if name == FlightName::of_key(plan.key()) {
-        return plans.replace(number, plan);
+        plans.exchange(number, plan);
+        return;
     }
     chains.leave(plans.as_slice(), number);
-    let held = plans.replace(number, plan);
+    plans.exchange(number, plan);
     chains.join(plans.as_slice(), number);
     chains.forget(&name);
-    held
 }

@@ -15,8 +15,8 @@
 //!   are found.
 //!
 //! `store` has the calls, `matching` finds the plan of a message, `amending` makes amendments (`amended_values` has
-//! their values), `times` says what off-block moment a message gives, `undo`
-//! take the last change back, `setup` has the limits of a desk, `laws` what holds of plans over all messages to come.
+//! their values), `times` says what off-block moment a message gives, `undo` takes the last change back, `setup` has
+//! the limits of a desk, `laws` what holds of plans over all messages to come.
 #![tactic(auto)]
 
 mod amended_values;

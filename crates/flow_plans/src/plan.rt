@@ -200,7 +200,7 @@ impl<A: Allocator + Copy> Plan<A> {
     }
 
     /// The plan with the amendments of a message made, with that key and that off-block moment. Refused as a new plan
-    /// is.
+    /// is. It stands in memory of its own: a plan is large to hand on.
     #[tactic(auto, unfolding(crate::specs::Changes::amended_plan))]
     pub(crate) fn amended(
         &self,
@@ -208,14 +208,14 @@ impl<A: Allocator + Copy> Plan<A> {
         message: &Chg<A>,
         key: Key,
         off_block: Minute,
-    ) -> Result<Self, AllocError>
+    ) -> Result<Box<Self, A>, AllocError>
         requires key { key ≡ key_after self.now.key message.now }
         requires off_block { off_block < 67_855_680 }
-        ensures { IfOk result (λ p. p ≡ amended_plan off_block message.now self.now) }
+        ensures { IfOk result (λ p. p.value ≡ amended_plan off_block message.now self.now) }
     {
         let elapsed = elapsed_after(self.elapsed_time(), message.destination());
         let texts = self.texts.amended(alloc, message)?;
-        Ok(Plan {
+        let plan = Plan {
             key,
             state: self.state,
             off_block,
@@ -224,7 +224,8 @@ impl<A: Allocator + Copy> Plan<A> {
             rules: rules_after(self.rules, message.rules()),
             exempt: exempt_after(self.exempt, message.other()),
             texts,
-        })
+        };
+        Ok(Box::new(alloc, plan)?)
     }
 
     /// Whether this is a held plan with that key.

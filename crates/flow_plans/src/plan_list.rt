@@ -171,15 +171,15 @@ impl<A: Allocator + Copy> PlanList<A> {
         self.outlines[place] = Outline::of(plan);
     }
 
-    /// Puts a plan in the place of that number, and answers the one that stood there.
-    pub(crate) fn replace(&mut self, number: u32, plan: Plan<A>) -> Plan<A>
+    /// Exchanges a plan with the one of that number.
+    pub(crate) fn exchange(&mut self, number: u32, plan: &mut Plan<A>)
         requires { (0 < number) × (number ≤ length self.old) }
-        ensures changed { self.new ≡ with_plan self.old number plan }
-        ensures back { with_plan self.new number result ≡ self.old }
+        ensures changed { self.new ≡ with_plan self.old number plan.old }
+        ensures back { with_plan self.new number plan.new ≡ self.old }
         ensures count { length self.new ≡ length self.old }
     {
         let place = (number - 1) as usize;
-        self.outlines[place] = Outline::of(&plan);
-        mem::replace(&mut self.plans[place], plan)
+        self.outlines[place] = Outline::of(plan);
+        mem::swap(&mut self.plans[place], plan);
     }
 }

@@ -5,6 +5,7 @@ ghost use Rattle.fpl_text.specs.Words.{words_of};
 ghost use Rattle.fpl_items.specs.Items.{items_of, elapsed_to};
 ghost use Rattle.fpl_items.specs.Estimates.{AreEstimatesOf};
 ghost use Rattle.flow_plans.specs.Changes.{texts_after};
+ghost use Rattle.flow_plans.specs.Plans.{Texts as Held};
 ghost use Rattle.flow_plans.specs.Near.{word_at, HasBitsOf};
 ghost use Rattle.fpl_items.specs.Places.{bit_of, may_have};
 
@@ -56,6 +57,18 @@ fn push_text<A: Allocator>(bytes: &mut Vec<u8, A>, text: &[u8]) -> Result<usize,
 {
     bytes.extend_from_slice(text)?;
     Ok(bytes.len())
+}
+
+/// Whether a message leaves all of these texts as they are.
+#[tactic(auto, unfolding(crate::specs::Changes::texts_after))]
+fn keeps_texts<A: Allocator + Copy>(message: &Chg<A>) -> bool
+    ensures { result ≡ true → (held : Held) → texts_after held message.now ≡ held }
+{
+    message.field8().is_none()
+        && message.field9().is_none()
+        && message.field10().is_none()
+        && message.field15().is_none()
+        && message.field18().is_none()
 }
 
 /// The estimates of an amended field 18, or else those held.
@@ -116,11 +129,28 @@ impl<A: Allocator + Copy> Texts<A> {
         })
     }
 
-    /// A copy, with each text that a message amends in place of the one held.
+    /// A copy of all of it, in one piece.
+    fn copied(&self, alloc: A) -> Result<Self, AllocError>
+        ensures { IfOk result (λ t. t ≡ self.now) }
+    {
+        Ok(Texts {
+            estimates: self.estimates.copied(alloc)?,
+            bytes: Vec::from_slice(alloc, &self.bytes)?,
+            end8: self.end8,
+            end9: self.end9,
+            end10: self.end10,
+            end15: self.end15,
+        })
+    }
+
+    /// A copy, with each text that a message amends in place of the one held. Most amend none.
     #[tactic(auto, unfolding(crate::specs::Changes::texts_after))]
     pub(crate) fn amended(&self, alloc: A, message: &Chg<A>) -> Result<Self, AllocError>
         ensures { IfOk result (λ t. t ≡ texts_after self.now message.now) }
     {
+        if keeps_texts(message) {
+            return self.copied(alloc);
+        }
         Texts::new(
             alloc,
             text_after(self.field8(), message.field8()),

@@ -23,7 +23,7 @@ pub(crate) enum LastChange<A: Allocator + Copy = Global> {
     /// The plan of this number was filed, and is now cancelled or has departed.
     Ended { number: u32 },
     /// This was the plan of that number.
-    Amended { number: u32, plan: Plan<A> },
+    Amended { number: u32, plan: Box<Plan<A>, A> },
 }
 
 /// Undoes the last change of these plans. It takes no memory.
@@ -54,8 +54,8 @@ pub(crate) fn undo<A: Allocator + Copy>(
         LastChange::Ended { number } => {
             file_again(plans, chains, number);
         }
-        LastChange::Amended { number, plan } => {
-            exchange(plans, chains, number, plan);
+        LastChange::Amended { number, mut plan } => {
+            exchange(plans, chains, number, &mut plan);
         }
     }
 }
@@ -97,46 +97,25 @@ pub(crate) fn previous<A: Allocator + Copy>(
     requires within { IsOf last.now plans.now }
     ensures { IfSome (undone plans.now last.now) (λ before. result ≡ status_at before number) }
 {
-    let status = status_at(plans, number);
     let place = (number - 1) as usize;
     match last {
         LastChange::Nothing => None,
-        LastChange::Filed => {
-            if place + 1 < plans.len() {
-                status
-            } else {
-                None
-            }
-        }
+        LastChange::Filed if place + 1 >= plans.len() => None,
         LastChange::Delayed {
             number: delayed,
             off_block,
-        } => {
-            if number != *delayed {
-                return status;
-            }
-            Some(Status {
-                state: plans[place].state(),
-                off_block: *off_block,
-            })
-        }
-        LastChange::Ended { number: ended } => {
-            if number != *ended {
-                return status;
-            }
-            Some(Status {
-                state: PlanState::Filed,
-                off_block: plans[place].off_block(),
-            })
-        }
+        } if number == *delayed => Some(Status {
+            state: plans[place].state(),
+            off_block: *off_block,
+        }),
+        LastChange::Ended { number: ended } if number == *ended => Some(Status {
+            state: PlanState::Filed,
+            off_block: plans[place].off_block(),
+        }),
         LastChange::Amended {
             number: amended,
             plan,
-        } => {
-            if number != *amended {
-                return status;
-            }
-            Some(plan.status())
-        }
+        } if number == *amended => Some(plan.status()),
+        _ => status_at(plans, number),
     }
 }

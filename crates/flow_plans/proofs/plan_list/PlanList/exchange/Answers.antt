@@ -1,7 +1,7 @@
 use Rattle.std.proofs.Common.{◌-◌}
 use Rattle.flow_plans.proofs.Backs.{with_plan-back}
 use Rattle.flow_plans.proofs.OutlineLemmas.{outline-within, outlines-set}
-use Rattle.flow_plans.proofs.plan_list.PlanList.replace.Goals as goal
+use Rattle.flow_plans.proofs.plan_list.PlanList.exchange.Goals as goal
 
 pub index_mut-requires : goal.index_mut-requires
 index_mut-requires g c =
@@ -11,9 +11,9 @@ index_mut-requires g c =
 pub invariant_of-self : goal.invariant_of-self
 invariant_of-self g c =
     let s = c.self.inside in
-    rw c.replace.ensures.after (outlines-set s.outlines.items s.plans.items (c.args.number - 1) c.of.result c.args.plan c.self.invariant c.of.ensures)
+    rw c.swap.ensures.x_after (outlines-set s.outlines.items s.plans.items (c.args.number - 1) c.of.result c.args.plan.now c.self.invariant c.of.ensures)
 
 pub returns-clause-back : goal.returns-clause-back
 returns-clause-back g c =
-    rw (← c.self.view_is, c.replace.ensures.value)
-    (with_plan-back c.self.inside.plans.items (c.args.number - 1) c.index_mut-2.result.now c.replace.new.dest c.index_mut-2.ensures.value)
+    rw (← c.self.view_is, c.swap.ensures.y_after)
+    (with_plan-back c.self.inside.plans.items (c.args.number - 1) c.index_mut-2.result.now c.swap.new.x c.index_mut-2.ensures.value)
