@@ -1,7 +1,7 @@
 //! The held slots of a regulation, by number.
-ghost use Rattle.std.specs.Prelude.{◌≡◌, ◌<◌, ◌++◌, IfOk, OnOk};
+ghost use Rattle.std.specs.Prelude.{◌≡◌, ◌++◌, IfOk, OnOk};
 ghost use Rattle.std.specs.Option.{option_map};
-ghost use Rattle.flow_slots.specs.Lineup.{len_of, held_flight, fixed_slot};
+ghost use Rattle.flow_slots.specs.Lineup.{held_flight, fixed_slot};
 ghost use Rattle.flow_traffic.specs.Traffic.{slots_of};
 ghost use Rattle.flow_core.specs.History.{state_of};
 ghost use Rattle.flow_desk.specs.Slots.{is_kept, held_at, held_slots};
@@ -37,11 +37,9 @@ fn note<A: Allocator + Copy>(
     list: &SlotList<A>,
     slot: u32,
 ) -> Result<(), AllocError>
-    requires { slot < len_of list.now.lineup }
     ensures { OnOk result (held.new.items ≡ held.old.items ++ held_at list.now.lineup slot
         (held_flight list.now.lineup slot)) }
 {
-    let _len = list.len();
     let Some(plan) = list.holder(slot) else {
         return Ok(());
     };

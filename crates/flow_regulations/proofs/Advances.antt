@@ -1,7 +1,7 @@
 -- Time advances: the flights that become due are fixed where they wait, one after the other.
 use Rattle.std.proofs.Common.{◌≡◌, ℕ, ◌+◌, ◌<◌, ◌≤◌, ◌⊎◌, inl, inr, Bool, true, false, ◌||◌, ◌&&◌, cond, eqb, leb, ltb, List, [], ◌∷◌, ◌++◌, length, map, take, get_or, Option, Some, None, refl, sym, ap, subst, ◌∙◌, arith}
 use Rattle.std.specs.List.{AllByRecursion}
-use Rattle.std.specs.Option.{option_map_or, is_some}
+use Rattle.std.specs.Option.{option_map_or, is_some, IsSome}
 use mathlib.Core.Logic.{⊎_elim}
 use Rattle.std.proofs.lemmas.Bool.{and_parts, and_from, leb-true, le-leb, lt-ltb, ltb-true, ltb-false, eqb-true, eqb-false, or_parts, true≢false}
 use Rattle.std.proofs.lemmas.Bool.Decides.{nat_tests}
@@ -126,8 +126,9 @@ module _ (n : ℕ) (done more_done : ℕ → Bool) (o : OneMore n done more_done
         let y : Listed = with_lineup (lined m.lineup ws gs) m in
         let same : x ≡ y = f.same ∙ ap (λ v. with_lineup v m) (is taxi max n plans m b.listed positive e k d) in
         let list = listed-more taxi max n plans m b.listed positive e k d in
-        let stays_on = stay-more taxi max n plans m b.listed positive now b.stay e k d due f.lined f.regular in
-        let fixes = same-fixed taxi max n plans m b.listed positive now b.stay e k d due f.lined f.regular in
+        let held : IsSome (held_slot m.lineup n) = ap is_some d.held in
+        let stays_on = stay-more taxi max n plans m b.listed positive now b.stay e k d due (f.lined held) (f.regular held) in
+        let fixes = same-fixed taxi max n plans m b.listed positive now b.stay e k d due (f.lined held) (f.regular held) in
         subst A (sym same) (record {
           regulation =
               settled-is taxi max n plans y list positive now stays_on

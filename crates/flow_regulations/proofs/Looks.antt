@@ -7,8 +7,8 @@ use Rattle.fpl_message.specs.declared.order.Spot.{Spot}
 use Rattle.flow_plans.specs.Plans.{Plan, is_filed, is_visual}
 use Rattle.flow_plans.specs.Entries.{subject, entry_at, in_period}
 use Rattle.flow_slots.specs.Assignment.{Placed}
-use Rattle.flow_slots.specs.Lineup.{Lineup, slot_in, held_slot, fixed_slot, len_of}
-use Rattle.flow_slots.specs.Period.{IsRegular, IsWithin, slots_before_end}
+use Rattle.flow_slots.specs.Lineup.{Lineup, slot_in, held_slot, fixed_slot}
+use Rattle.flow_slots.specs.Period.{IsRegular, IsWithin}
 use Rattle.flow_regulations.specs.declared.entry_asked.EntryAsked.{EntryAsked}
 use Rattle.flow_regulations.specs.Asked.{IsAsked}
 use Rattle.flow_regulations.specs.Regulations.{subject_to}
@@ -76,10 +76,6 @@ subject-outside taxi e l p o r s f w =
     let t = l.lineup.period.end in
     let outside : (leb a e && ltb e t) ≡ false = false_from_ne_true (leb a e && ltb e t) (λ q. w (leb-true a e (and_parts (leb a e) (ltb e t) q).0, ltb-true e t (and_parts (leb a e) (ltb e t) q).1)) in
     sym (ap (λ b. cond b (Some e) None) outside) ∙ (ap (in_period a t) (sym f ∙ s) ∙ subject-narrow taxi l.spot a t p (before-end l r))
-
-pub below : (o : Option ℕ) (l : Lineup) → slots_before_end l.period ≤ 5760 → l.capacity ≤ 20000 → IfSome o (λ k. k < len_of l) → IfSome o (λ k. k ≤ 30000)
-below None l a b h = tt
-below (Some k) l a b h = omega (arith, a, b, h)
 
 pub subject-asked : (taxi : ℕ) (spot : Spot) (s t : ℕ) → s ≡ 0 → t ≡ 100000000 → (p : Plan) (o : Option ℕ) → o ≡ subject taxi spot s t p → o ≡ subject taxi spot 0 100000000 p
 subject-asked taxi spot s t a b p o e = e ∙ (ap (λ m. subject taxi spot m t p) a ∙ ap (λ m. subject taxi spot 0 m p) b)

@@ -6,21 +6,21 @@ use Rattle.std.proofs.lemmas.Bool.{cases_eq, eqb-true, true≢false}
 use Rattle.flow_plans.specs.Plans.{Plan, plan_at}
 use Rattle.flow_slots.specs.declared.cell.Planned.{Planned}
 use Rattle.flow_plans.specs.Entries.{take_off}
-use Rattle.flow_slots.specs.Period.{IsRegular, slot_time}
-use Rattle.flow_slots.specs.Lineup.{Lineup, IsLineup, NoneIs, held_slot, fixed_slot, entry_in, waiting_entry, without_fixed, without_flight, with_waiting}
+use Rattle.flow_slots.specs.Period.{slot_time}
+use Rattle.flow_slots.specs.Lineup.{Lineup, NoneIs, held_slot, fixed_slot, entry_in, waiting_entry, without_fixed, without_flight, with_waiting}
 use Rattle.flow_slots.specs.ChangeList.{fixed_there}
 use Rattle.flow_slots.proofs.Held.{held_slot-without}
 use Rattle.flow_regulations.specs.declared.advice.Delay.{Delay}
 use Rattle.flow_regulations.specs.declared.places.Place.TheVariants as place
 use Rattle.flow_regulations.specs.Places.{IsPlaceOf}
 use Rattle.flow_regulations.specs.Regulations.{subject_to}
-use Rattle.flow_regulations.specs.Settling.{keeps, is_due}
-use Rattle.flow_regulations.specs.Listing.{Listed, regulation_of, with_lineup, without_in, keeps_slot, fixed_waiting, released, IsFixedWaiting, IsReleased, IsLookedAgain}
+use Rattle.flow_regulations.specs.Listing.{Listed, regulation_of, with_lineup, without_in, fixed_waiting, released, IsFixedWaiting, IsReleased, IsLookedAgain}
 use Rattle.flow_regulations.specs.Marks.{IsOut}
 use Rattle.flow_regulations.proofs.Delays.{IsDelay, IsDelay-none}
 use Rattle.flow_regulations.proofs.Waiting.{without-none}
 use Rattle.flow_regulations.proofs.FixedOnes.{without_fixed-none}
-use Rattle.flow_regulations.proofs.Looked.{plan-there, placed-renewed}
+use Rattle.flow_regulations.proofs.PutBack.{stands-nowhere}
+use Rattle.flow_regulations.proofs.Looked.{plan-there, out-renewed}
 use Rattle.flow_regulations.proofs.Marking.{out-alone}
 use Rattle.flow_regulations.proofs.Standing.{none-slot, alone-fixed_waiting, alone-twice, alone-waiting}
 
@@ -43,22 +43,23 @@ out-same f l h =
 out-held : (f : ℕ) (l : Listed) → IsOut f l → held_slot l.lineup f ≡ None
 out-held f l h = ap (λ v. held_slot v f) (sym (out-same f l h)) ∙ held_slot-without f l.lineup
 
-pub out-place : (f : ℕ) (l : Listed) → IsOut f l → IsLineup l.lineup → IsPlaceOf f place.Absent l
-out-place f l h lined = record {
-  is = sym
-      (ap (λ o. option_map_or (λ slot. place.Fixed slot) o (option_map_or (λ entry. place.Waiting entry) (waiting_entry l.lineup f) place.Absent)) (out-unfixed f l h)
-      ∙ ap (λ o. option_map_or (λ entry. place.Waiting entry) o place.Absent) (none-entry f l.lineup.waiting h.1));
-  lined = lined;
-  has = tt;
-}
+pub out-place : (f : ℕ) (l : Listed) → IsOut f l → IsPlaceOf f place.Absent l
+out-place f l h = stands-nowhere f l (out-unfixed f l h) (none-entry f l.lineup.waiting h.1)
 
 -- nothing is fixed
 out-waiting : (f : ℕ) (l : Listed) → IsOut f l → fixed_waiting f l.lineup ≡ l.lineup
 out-waiting f l h =
     ap (λ o. cond (is_some o) l.lineup (fixed_there (held_slot l.lineup f) f l.lineup)) (out-unfixed f l h) ∙ ap (λ o. fixed_there o f l.lineup) (out-held f l h)
 
-pub out-fixes : (f : ℕ) (l : Listed) → IsOut f l → IsLineup l.lineup → IsRegular l.lineup.period → IsFixedWaiting f l l
-out-fixes f l h lined regular = record { same = ap (λ v. with_lineup v l) (sym (out-waiting f l h)); capacity = refl; lined = lined; regular = regular }
+pub out-fixes : (f : ℕ) (l : Listed) → IsOut f l → IsFixedWaiting f l l
+out-fixes f l h =
+    let unheld : is_some (held_slot l.lineup f) ≡ false = ap is_some (out-held f l h) in
+    record {
+      same = ap (λ v. with_lineup v l) (sym (out-waiting f l h));
+      capacity = refl;
+      lined = λ s. absurd (true≢false (sym s ∙ unheld));
+      regular = λ s. absurd (true≢false (sym s ∙ unheld));
+    }
 
 -- a flight that isn't held isn't held after another is fixed, or waits again
 pub out-fixed : (n f : ℕ) (l m : Listed) → IsFixedWaiting n l m → IsOut f l → IsOut f m
@@ -94,17 +95,16 @@ out-released n taxi plans a b f l m r h = cases (cases_eq f n) where
   cases (inr ne) = out-alone f n l m ne (ap (without_in n) (r.same there.0 there.1) ∙ ap (λ v. with_lineup v l) (alone-released (subject_to taxi (regulation_of l) there.0) n l.lineup)) h
 
 -- to a second look nothing changes, where the regulation doesn't apply to it
-pub out-looks : (n taxi now : ℕ) (plans : List Plan) (l : Listed) (o : Option ℕ) → 0 < n → n ≤ length plans → IsOut n l → IsLineup l.lineup → IsRegular l.lineup.period
+pub out-looks : (n taxi now : ℕ) (plans : List Plan) (l : Listed) (o : Option ℕ) → 0 < n → n ≤ length plans → IsOut n l
     → ((p : Plan) → plan_at plans n ≡ Some p → o ≡ subject_to taxi (regulation_of l) p) → o ≡ None → IsLookedAgain n taxi now plans l l
-out-looks n taxi now plans l o a b h lined regular s none =
+out-looks n taxi now plans l o a b h s none =
     let p = plan-there plans n a b in
-    let keeps_none : keeps_slot taxi now (regulation_of l) n p.0 l.lineup ≡ false = ap (λ v. option_map_or (λ slot. keeps taxi now (regulation_of l) slot p.0) v false) (out-unfixed n l h) in
     record {
       same = refl;
       capacity = refl;
       others = λ f ne. refl;
       alone = refl;
-      renewed = placed-renewed taxi now n plans l p.0 p.1 a lined regular keeps_none None (is_due now p.0) l.lineup (sym none ∙ s p.0 p.1) refl (sym (out-same n l h));
+      renewed = out-renewed taxi now n plans l p.0 p.1 a (out-unfixed n l h) (sym (s p.0 p.1) ∙ none) (out-same n l h);
     }
 
 pub is-none : (o : Option ℕ) (b : Bool) → is_some o ≡ not b → b ≡ true → o ≡ None

@@ -1,7 +1,6 @@
 -- Regulations that a walk passes: a flight isn't held in them.
 use Rattle.std.proofs.Common.{◌≡◌, ℕ, zero, suc, ◌+◌, ◌-◌, ◌<◌, ◌≤◌, Bool, true, false, List, [], ◌∷◌, ◌++◌, length, map, take, drop, get_or, Option, None, Some, ltb, refl, sym, ap, subst, ◌∙◌, arith}
 use Rattle.std.specs.Prelude.{bit_or, replicate}
-use Rattle.std.specs.List.{All}
 use Rattle.std.proofs.lemmas.List.{drop_all, drop_more, get_or_default, length-append, length-replicate, append-nil, append_assoc}
 use Rattle.std.proofs.lemmas.Bool.{ltb-true, ltb-false}
 use Rattle.flow_plans.specs.Plans.{Plan, plan_at}
@@ -10,7 +9,7 @@ use Rattle.flow_regulations.specs.declared.places.Place.{Place}
 use Rattle.flow_regulations.specs.declared.places.Place.TheVariants as place
 use Rattle.flow_regulations.specs.Advice.{worse, worst}
 use Rattle.flow_regulations.specs.Listing.{Listed, Walked, regulation_of, IsFixedWaiting, IsLookedAgain}
-use Rattle.flow_regulations.specs.Marks.{may_stand, IsOut, IsInOrder, Covers, MarksNear}
+use Rattle.flow_regulations.specs.Marks.{may_stand, IsOut, Covers, MarksNear}
 use Rattle.flow_regulations.specs.Places.{IsPlaceOf, ArePlaces}
 use Rattle.flow_regulations.proofs.Advised.{IsWorstSoFar}
 use Rattle.flow_regulations.proofs.MarkBits.{or-first, or-second}
@@ -22,17 +21,6 @@ use Rattle.flow_regulations.proofs.Walks.{walked-past}
 -- the places from i to before j aren't marked
 abbrev pub AreUnmarked : ℕ → ℕ → ℕ → Type 0
 AreUnmarked word i j = (k : ℕ) → i ≤ k → k < j → may_stand word k ≡ false
-
--- one more is in order
-pub order-more : (i : ℕ) (ls : List Listed) (l : Listed) → i < length ls → l ≡ get_or ls i l → IsInOrder l → ((k : ℕ) (d : Listed) → k < i → IsInOrder (get_or ls k d)) → (k : ℕ) (d : Listed) → k < i + 1 → IsInOrder (get_or ls k d)
-order-more i ls l h at o before k d below = cases (ltb k i) refl where
-  cases : (b : Bool) → ltb k i ≡ b → IsInOrder (get_or ls k d)
-  cases true q = before k d (ltb-true k i q)
-  cases false q =
-      let past : i ≤ k = ltb-false k i q in
-      let same : i ≡ k = omega arith in
-      let K : ℕ → Type 0 = λ j. IsInOrder (get_or ls j d) in
-      subst K same (subst IsInOrder (at ∙ get_or_default ls i l d h) o)
 
 -- the worst of the regulations from one place on is that from a later one on
 worst-later : (taxi n m i : ℕ) (p : Plan) (ls : List Listed) → ((k : ℕ) (d : Listed) → i ≤ k → k < i + m → k < length ls → IsOut n (get_or ls k d))
@@ -66,18 +54,16 @@ worst-past taxi n w i j (Some p) ls d c h u was =
     ap (λ k. worse d (worst taxi n p (map regulation_of (drop k ls)))) (sym next) ∙ (ap (worse d) (sym later) ∙ was)
 
 -- no flight waits there to be fixed
-pub fixes-past : (n w i j : ℕ) (os ns : List Listed) → Covers w n 0 os → All IsInOrder os → i ≤ j → AreUnmarked w i j → Walked (IsFixedWaiting n) i os ns → Walked (IsFixedWaiting n) j os ns
-fixes-past n w i j os ns c orders h u walked =
-    walked-past (IsFixedWaiting n) i j os ns (λ k d a b l. (let o = orders k d l in out-fixes n (get_or os k d) (covers-at w n k os d l c (u k a b)) o.lined o.regular)) h walked
+pub fixes-past : (n w i j : ℕ) (os ns : List Listed) → Covers w n 0 os → i ≤ j → AreUnmarked w i j → Walked (IsFixedWaiting n) i os ns → Walked (IsFixedWaiting n) j os ns
+fixes-past n w i j os ns c h u walked = walked-past (IsFixedWaiting n) i j os ns (λ k d a b l. out-fixes n (get_or os k d) (covers-at w n k os d l c (u k a b))) h walked
 
 -- a second look changes nothing where the flight isn't held and that doesn't apply to it
-pub looks-past : (n taxi now w near i j : ℕ) (plans : List Plan) (os ns : List Listed) → 0 < n → n ≤ length plans → Covers w n 0 os → All IsInOrder os
+pub looks-past : (n taxi now w near i j : ℕ) (plans : List Plan) (os ns : List Listed) → 0 < n → n ≤ length plans → Covers w n 0 os
     → ((p : Plan) → plan_at plans n ≡ Some p → MarksNear near taxi p os) → i ≤ j → AreUnmarked (bit_or w near) i j → Walked (IsLookedAgain n taxi now plans) i os ns → Walked (IsLookedAgain n taxi now plans) j os ns
-looks-past n taxi now w near i j plans os ns some within c orders m h u walked =
+looks-past n taxi now w near i j plans os ns some within c m h u walked =
     walked-past (IsLookedAgain n taxi now plans) i j os ns (λ k d a b l.
-    (let o = orders k d l in
-    let out = u k a b in
-    out-looks n taxi now plans (get_or os k d) None some within (covers-at w n k os d l c (falls w (bit_or w near) k (or-first w near k) out)) o.lined o.regular
+    (let out = u k a b in
+    out-looks n taxi now plans (get_or os k d) None some within (covers-at w n k os d l c (falls w (bit_or w near) k (or-first w near k) out))
     (λ p at. sym (m p at k d l (falls near (bit_or w near) k (or-second w near k) out))) refl)) h walked
 
 -- one more place is noted as absent, and none
@@ -116,8 +102,8 @@ absent-run n (suc m) j ps (l ∷ rest) f h a =
     let T : ℕ → Type 0 = λ k. ArePlaces n ((ps ++ place.Absent ∷ []) ++ replicate m place.Absent) (take k ls) in
     subst P (append_assoc ps (place.Absent ∷ []) (replicate m place.Absent)) (subst T next all)
 
-pub absent-past : (n w i j : ℕ) (ps : List Place) (ls : List Listed) → Covers w n 0 ls → All IsInOrder ls → i ≤ j → j ≤ length ls → AreUnmarked w i j → ArePlaces n ps (take i ls) → ArePlaces n (ps ++ replicate (j - i) place.Absent) (take j ls)
-absent-past n w i j ps ls c orders h l u a =
+pub absent-past : (n w i j : ℕ) (ps : List Place) (ls : List Listed) → Covers w n 0 ls → i ≤ j → j ≤ length ls → AreUnmarked w i j → ArePlaces n ps (take i ls) → ArePlaces n (ps ++ replicate (j - i) place.Absent) (take j ls)
+absent-past n w i j ps ls c h l u a =
     let next : i + (j - i) ≡ j = omega (arith, h) in
     let T : ℕ → Type 0 = λ k. ArePlaces n (ps ++ replicate (j - i) place.Absent) (take k ls) in
-    subst T next (absent-run n (j - i) i ps ls (λ k d a b e. out-place n (get_or ls k d) (covers-at w n k ls d e c (u k a (omega (arith, b, next)))) (orders k d e).lined) (omega (arith, l, next)) a)
+    subst T next (absent-run n (j - i) i ps ls (λ k d a b e. out-place n (get_or ls k d) (covers-at w n k ls d e c (u k a (omega (arith, b, next))))) (omega (arith, l, next)) a)

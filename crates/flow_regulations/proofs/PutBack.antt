@@ -6,15 +6,15 @@ use Rattle.std.specs.List.{AllByRecursion}
 use Rattle.std.specs.Option.{option_map_or}
 use Rattle.std.proofs.lemmas.Bool.{eqb-false, ne_eqb}
 use Rattle.flow_slots.specs.declared.cell.Planned.{Planned}
-use Rattle.flow_slots.specs.Period.{first_slot}
+use Rattle.flow_slots.specs.Period.{IsWithin, first_slot}
 use Rattle.flow_slots.specs.Order.{without}
 use Rattle.flow_slots.specs.Assignment.{Placed, first_free, greedy, slots}
-use Rattle.flow_slots.specs.Lineup.{Lineup, IsLineup, NoneIs, NoneFixed, BySlot, WaitingApart, slot_in, flight_in, held_flight, fixed_slot, entry_in, waiting_entry, without_fixed, without_flight}
+use Rattle.flow_slots.specs.Lineup.{Lineup, IsLineup, len_of, NoneIs, NoneFixed, BySlot, WaitingApart, slot_in, flight_in, held_flight, fixed_slot, entry_in, waiting_entry, without_fixed, without_flight}
 use Rattle.flow_slots.proofs.TakenBack.{removed-inserted, removed-put_fixed}
 use Rattle.flow_regulations.specs.declared.places.Place.{Place}
 use Rattle.flow_regulations.specs.declared.places.Place.TheVariants as place
 use Rattle.flow_regulations.specs.Listing.{Listed, with_lineup, without_in, HaveCapacity}
-use Rattle.flow_regulations.specs.Places.{place_in, stood, HasPlace, MayStand, IsPlaceOf, ArePlaces}
+use Rattle.flow_regulations.specs.Places.{stood, IsPlaceOf, ArePlaces}
 use Rattle.flow_regulations.proofs.FixedOnes.{slot_in-none, without_fixed-none}
 use Rattle.flow_regulations.proofs.Looks.{slot_in-before}
 use Rattle.flow_regulations.proofs.Standing.{none-slot}
@@ -33,27 +33,16 @@ out-already f l a b =
     ap (λ ws. let m : Lineup = record { period = l.period; capacity = l.capacity; waiting = ws; fixed = without_fixed f l.fixed } in m) (without-none f l.waiting (entry-none f l.waiting b))
     ∙ ap (λ fs. let m : Lineup = record { period = l.period; capacity = l.capacity; waiting = l.waiting; fixed = fs } in m) (without_fixed-none f l.fixed (slot_in-none f l.fixed a))
 
--- where it stood, it stands again
-pub stood-back : (f : ℕ) (l : Lineup) → IsLineup l → stood (place_in f l) f (without_flight f l) ≡ l
-stood-back f l lined = fixed (fixed_slot l f) refl where
-  waits : fixed_slot l f ≡ None → (o : Option ℕ) → waiting_entry l f ≡ o → stood (option_map_or (λ entry. place.Waiting entry) o place.Absent) f (without_flight f l) ≡ l
-  waits a None b = out-already f l a b
-  waits a (Some e) b = removed-inserted l (record { entry = e; flight = f }) lined b
-
-  fixed : (o : Option ℕ) → fixed_slot l f ≡ o → stood (option_map_or (λ slot. place.Fixed slot) o (option_map_or (λ entry. place.Waiting entry) (waiting_entry l f) place.Absent)) f (without_flight f l) ≡ l
-  fixed None a = waits a (waiting_entry l f) refl
-  fixed (Some k) a = removed-put_fixed l (record { flight = f; slot = k }) lined (slot_in-before f k l.fixed _ a) (let S : Option ℕ → Type 0 = λ o. IsSome o in subst S (sym a) refl)
-
 -- two slot lists in which a flight stands in the same place, and the others too, are the same
 pub same-place : (f : ℕ) (p : Place) (l m : Listed) → IsPlaceOf f p l → IsPlaceOf f p m → without_in f l ≡ without_in f m → l ≡ m
 same-place f p l m a b e =
     let s : Listed → Listed = λ v. with_lineup (stood p f v.lineup) v in
-    let back : (v : Listed) → IsPlaceOf f p v → s (without_in f v) ≡ v = λ v h. ap (λ q. with_lineup (stood q f (without_flight f v.lineup)) v) h.is ∙ ap (λ u. with_lineup u v) (stood-back f v.lineup h.lined) in
+    let back : (v : Listed) → IsPlaceOf f p v → s (without_in f v) ≡ v = λ v h. ap (λ u. with_lineup u v) h.back in
     sym (back l a) ∙ (ap s e ∙ back m b)
 
 pub stood-there : (f : ℕ) (p : Place) (l t m before : Listed) → IsPlaceOf f p before → without_in f l ≡ without_in f before → t ≡ without_in f l → m ≡ with_lineup (stood p f t.lineup) t → m ≡ before
 stood-there f p l t m before b e out made =
-    made ∙ (ap (λ v. with_lineup (stood p f v.lineup) v) (out ∙ e) ∙ (ap (λ q. with_lineup (stood q f (without_flight f before.lineup)) before) b.is ∙ ap (λ u. with_lineup u before) (stood-back f before.lineup b.lined)))
+    made ∙ (ap (λ v. with_lineup (stood p f v.lineup) v) (out ∙ e) ∙ ap (λ u. with_lineup u before) b.back)
 
 -- no other fixed flight has its slot
 slots-later : (k f : ℕ) (xs : List Placed) → AllByRecursion (λ b. k < b.slot) xs → flight_in k (without_fixed f xs) ≡ None
@@ -112,27 +101,38 @@ waiting-unfixed f fixed (w ∷ ws) a = cases (waiting-unfixed f fixed ws a.2) (n
   cases again true = (none-slot w.flight (without_fixed f fixed) (none-less w.flight f fixed a.0), again)
   cases again false = again
 
--- a flight that was taken out may stand where it stood
-pub may-stand : (f : ℕ) (p : Place) (l : Listed) → IsPlaceOf f p l → MayStand p (without_flight f l.lineup)
-may-stand f p l h = cases p h.is h.has where
-  is-fixed : (k : ℕ) → place.Fixed k ≡ place_in f l.lineup → fixed_slot l.lineup f ≡ Some k
-  is-fixed k e = at (fixed_slot l.lineup f) (waiting_entry l.lineup f) e where
-    at : (o v : Option ℕ) → place.Fixed k ≡ option_map_or (λ slot. place.Fixed slot) o (option_map_or (λ entry. place.Waiting entry) v place.Absent) → o ≡ Some k
-    at None None e = absurd cc
-    at None (Some t) e = absurd cc
-    at (Some j) v e = (let same : k ≡ j = cc in ap Some (sym same))
+-- a slot from which a flight was taken out is open
+open-there : (f k : ℕ) (l : Lineup) → IsLineup l → fixed_slot l f ≡ Some k → IfSome (held_flight (without_flight f l) k) (λ holder. fixed_slot (without_flight f l) holder ≡ None)
+open-there f k l lined e =
+    let fs = without_fixed f l.fixed in
+    let ws = without f l.waiting in
+    let H : Option ℕ → Type 0 = λ o. IfSome o (λ holder. slot_in holder fs ≡ None) in
+    subst H (sym (flight-after k fs _ (slot-free f k l.fixed lined.by_slot e))) (holder-waits k (λ e. first_slot l.period e) (slots fs) fs ws (waiting-unfixed f l.fixed l.waiting lined.waiting_apart))
 
-  open_there : (k : ℕ) → fixed_slot l.lineup f ≡ Some k → IfSome (held_flight (without_flight f l.lineup) k) (λ holder. fixed_slot (without_flight f l.lineup) holder ≡ None)
-  open_there k e =
-      let fs = without_fixed f l.lineup.fixed in
-      let ws = without f l.lineup.waiting in
-      let H : Option ℕ → Type 0 = λ o. IfSome o (λ holder. slot_in holder fs ≡ None) in
-      subst H (sym (flight-after k fs _ (slot-free f k l.lineup.fixed h.lined.by_slot e))) (holder-waits k (λ e. first_slot l.lineup.period e) (slots fs) fs ws (waiting-unfixed f l.lineup.fixed l.lineup.waiting h.lined.waiting_apart))
+-- where a flight stands
+abbrev place-by : Option ℕ → Option ℕ → Place
+place-by slot entry = option_map_or (λ slot. place.Fixed slot) slot (option_map_or (λ entry. place.Waiting entry) entry place.Absent)
 
-  cases : (p : Place) → p ≡ place_in f l.lineup → HasPlace p l.lineup → MayStand p (without_flight f l.lineup)
-  cases place.Absent e q = tt
-  cases (place.Waiting t) e q = q
-  cases (place.Fixed k) e q = (q, open_there k (is-fixed k e))
+pub stands-fixed : (f k : ℕ) (l : Listed) → fixed_slot l.lineup f ≡ Some k → IsLineup l.lineup → k < len_of l.lineup → IsPlaceOf f (place.Fixed k) l
+stands-fixed f k l e lined below = record {
+  is = sym (ap (λ o. place-by o (waiting_entry l.lineup f)) e);
+  may = (below, open-there f k l.lineup lined e);
+  back = removed-put_fixed l.lineup (record { flight = f; slot = k }) lined (slot_in-before f k l.lineup.fixed _ e) (let S : Option ℕ → Type 0 = λ o. IsSome o in subst S (sym e) refl);
+}
+
+pub stands-waiting : (f t : ℕ) (l : Listed) → fixed_slot l.lineup f ≡ None → waiting_entry l.lineup f ≡ Some t → IsLineup l.lineup → IsWithin l.lineup.period t → IsPlaceOf f (place.Waiting t) l
+stands-waiting f t l a e lined within = record {
+  is = sym (ap (λ o. place-by o (waiting_entry l.lineup f)) a ∙ ap (place-by None) e);
+  may = within;
+  back = removed-inserted l.lineup (record { entry = t; flight = f }) lined e;
+}
+
+pub stands-nowhere : (f : ℕ) (l : Listed) → fixed_slot l.lineup f ≡ None → waiting_entry l.lineup f ≡ None → IsPlaceOf f place.Absent l
+stands-nowhere f l a e = record {
+  is = sym (ap (λ o. place-by o (waiting_entry l.lineup f)) a ∙ ap (place-by None) e);
+  may = tt;
+  back = out-already f l.lineup a e;
+}
 
 -- the places of one more regulation
 pub places-more : (f j : ℕ) (ps : List Place) (ls : List Listed) (d : Listed) (p : Place) → j < length ls → IsPlaceOf f p (get_or ls j d) → ArePlaces f ps (take j ls) → ArePlaces f (ps ++ p ∷ []) (take (j + 1) ls)

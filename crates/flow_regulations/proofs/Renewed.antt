@@ -48,8 +48,9 @@ pub record IsChanged (taxi max now n : ℕ) (before plans : List Plan) (l : List
   pub same : AreSameBut n before plans
   pub listed : IsListedIn taxi max before l
   pub settled_but : IsSettledBut n taxi now before l
-  pub apart : FixedApart l.lineup.fixed
-  pub regular : IsRegular l.lineup.period
+  -- where the flight keeps a slot, no flight keeps two; where the regulation applies to it, the period is regular
+  pub apart : (k : ℕ) → fixed_slot l.lineup n ≡ Some k → FixedApart l.lineup.fixed
+  pub regular : (e : ℕ) → subject_to taxi (regulation_of l) p ≡ Some e → IsRegular l.lineup.period
 
 module _ (taxi max now n : ℕ) (before plans : List Plan) (l : Listed) (p : Plan) (h : IsChanged taxi max now n before plans l p) where
   abbrev r : Regulation
@@ -106,7 +107,7 @@ module _ (taxi max now n : ℕ) (before plans : List Plan) (l : Listed) (p : Pla
   -- where the flight keeps its slot, nothing changes
   kept-slot : (k : ℕ) → slot_in n fs ≡ Some k → keeps taxi now r k p ≡ true → IsMade taxi max now plans l l.lineup.waiting fs
   kept-slot k at keeps_it =
-      let own = one-slot n k fs h.apart at in
+      let own = one-slot n k fs (h.apart k at) at in
       let stay : AllByRecursion (λ a. (0 < a.flight) × (stays taxi now plans r a ≡ true)) fs =
       all-map (λ a. ((0 < a.flight) × ((a.flight ≡ n → ⊥) → stays taxi now plans r a ≡ true)) × (a.flight ≡ n → a.slot ≡ k)) (λ a. (0 < a.flight) × (stays taxi now plans r a ≡ true)) fs
       (λ a q. (q.0.0, ⊎_elim (λ e. stays-own a e ∙ (ap (λ j. keeps taxi now r j p) (q.1 e) ∙ keeps_it)) q.0.1 (cases_eq a.flight n)))
@@ -130,7 +131,7 @@ module _ (taxi max now n : ℕ) (before plans : List Plan) (l : Listed) (p : Pla
   gone None at e = all-map (λ a. a.flight ≡ n → ⊥) (λ a. a.flight ≡ n → stays taxi now plans r a ≡ false) fs (λ a ne q. absurd (ne q)) (slot_in-none n fs at)
   gone (Some k) at e =
       all-map (λ a. a.flight ≡ n → a.slot ≡ k) (λ a. a.flight ≡ n → stays taxi now plans r a ≡ false) fs
-      (λ a own q. stays-own a q ∙ (ap (λ j. keeps taxi now r j p) (own q) ∙ e)) (one-slot n k fs h.apart at)
+      (λ a own q. stays-own a q ∙ (ap (λ j. keeps taxi now r j p) (own q) ∙ e)) (one-slot n k fs (h.apart k at) at)
 
   abbrev rest : List Placed
   rest = without_fixed n fs
@@ -183,7 +184,7 @@ module _ (taxi max now n : ℕ) (before plans : List Plan) (l : Listed) (p : Pla
   stays-fixed : (e k : ℕ) → subject_to taxi r p ≡ Some e → is_due now p ≡ true → first_slot r.period e ≤ k → stays taxi now plans r (record { flight = n; slot = k }) ≡ true
   stays-fixed e k s d from =
       let within = subject-within taxi l.spot l.lineup.period.start l.lineup.period.end e p s in
-      let late : e ≤ slot_time r.period k = omega (arith, (first_slot-first l.lineup.period e h.regular within.0).0, slot_time-later l.lineup.period (first_slot r.period e) k h.regular from) in
+      let late : e ≤ slot_time r.period k = omega (arith, (first_slot-first l.lineup.period e (h.regular e s) within.0).0, slot_time-later l.lineup.period (first_slot r.period e) k (h.regular e s) from) in
       let entry : option_map_or (λ entry. leb entry (slot_time r.period k)) (subject_to taxi r p) false ≡ true = ap (λ o. option_map_or (λ entry. leb entry (slot_time r.period k)) o false) s ∙ le-leb e (slot_time r.period k) late in
       stays-own (record { flight = n; slot = k }) refl ∙ or_right (is_departed p.state) (is_due now p && option_map_or (λ entry. leb entry (slot_time r.period k)) (subject_to taxi r p) false) (and_from (is_due now p) (option_map_or (λ entry. leb entry (slot_time r.period k)) (subject_to taxi r p) false) d entry)
 

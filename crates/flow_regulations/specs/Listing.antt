@@ -1,5 +1,5 @@
 -- Open regulations with their slot lists, and what those keep of the plans.
-use Rattle.std.specs.Prelude.{◌⊎◌, ◌≡◌, ℕ, zero, suc, ◌<◌, ◌≤◌, Bool, true, false, nat_lt, if◌then◌else◌, List, [], ◌∷◌, ◌++◌, map, filter, not, length, Option, Some, None, slice_index_or as get_or}
+use Rattle.std.specs.Prelude.{◌⊎◌, ◌≡◌, ℕ, zero, suc, ◌<◌, ◌≤◌, Bool, true, false, nat_lt, if◌then◌else◌, List, [], ◌∷◌, ◌++◌, map, filter, not, length, Option, Some, None, IsSome, slice_index_or as get_or}
 use Rattle.std.specs.List.{All, AllByRecursion, list_any}
 use Rattle.std.specs.Option.{option_map_or, is_some}
 use Rattle.std.specs.Str.{bytes_eq}
@@ -123,12 +123,13 @@ pub record IsFrozen (taxi max flight : ℕ) (before : List Plan) (l : Listed) (l
   pub listed : IsListedIn taxi max before (with_lineup lineup l)
   pub settled_but : (now : ℕ) → IsSettledIn taxi now before l → IsSettledBut flight taxi now before (with_lineup lineup l)
 
--- what fixing a flight where it waits does to an open regulation
+-- what fixing a flight where it waits does to an open regulation; where the flight is held, none stood twice there and the period is
+-- regular
 pub record IsFixedWaiting (flight : ℕ) (l m : Listed) : Type 0 where
   pub same : m ≡ with_lineup (fixed_waiting flight l.lineup) l
   pub capacity : m.lineup.capacity ≡ l.lineup.capacity
-  pub lined : IsLineup l.lineup
-  pub regular : IsRegular l.lineup.period
+  pub lined : IsSome (held_slot l.lineup flight) → IsLineup l.lineup
+  pub regular : IsSome (held_slot l.lineup flight) → IsRegular l.lineup.period
 
 -- all regulations froze the slot of a departing flight
 pub record AreFrozen (taxi max flight : ℕ) (before : List Plan) (lists new : List Listed) : Type 0 where

@@ -2,7 +2,7 @@
 use Rattle.std.specs.Prelude.{◌≡◌, ℕ, ◌<◌, List, [], ◌∷◌, None, IfSome}
 use Rattle.std.specs.Option.{option_map_or}
 use Rattle.flow_slots.specs.Period.{IsWithin}
-use Rattle.flow_slots.specs.Lineup.{Lineup, IsLineup, len_of, held_flight, fixed_slot, waiting_entry, with_waiting, with_fixed}
+use Rattle.flow_slots.specs.Lineup.{Lineup, len_of, held_flight, fixed_slot, waiting_entry, with_waiting, with_fixed, without_flight}
 use Rattle.flow_regulations.specs.declared.places.Place.{Place}
 use Rattle.flow_regulations.specs.declared.places.Place.TheVariants as place
 use Rattle.flow_regulations.specs.Listing.{Listed}
@@ -19,23 +19,17 @@ stood place.Absent flight l = l
 stood (place.Waiting entry) flight l = with_waiting (record { entry = entry; flight = flight }) l
 stood (place.Fixed slot) flight l = with_fixed (record { flight = flight; slot = slot }) l
 
--- the slot list has that place
-abbrev pub HasPlace : Place → Lineup → Type 0
-HasPlace place.Absent l = Unit {0}
-HasPlace (place.Waiting entry) l = IsWithin l.period entry
-HasPlace (place.Fixed slot) l = slot < len_of l
-
 -- a flight that isn't held may stand there
 abbrev pub MayStand : Place → Lineup → Type 0
 MayStand place.Absent l = Unit {0}
 MayStand (place.Waiting entry) l = IsWithin l.period entry
 MayStand (place.Fixed slot) l = (slot < len_of l) × IfSome (held_flight l slot) (λ holder. fixed_slot l holder ≡ None)
 
--- that is where the flight stands in an open regulation
+-- that is where the flight stands in an open regulation: taken out it may stand there again, and then the slot list is as it was
 pub record IsPlaceOf (flight : ℕ) (place : Place) (l : Listed) : Type 0 where
   pub is : place ≡ place_in flight l.lineup
-  pub lined : IsLineup l.lineup
-  pub has : HasPlace place l.lineup
+  pub may : MayStand place (without_flight flight l.lineup)
+  pub back : stood place flight (without_flight flight l.lineup) ≡ l.lineup
 
 -- and in each of them
 abbrev pub ArePlaces : ℕ → List Place → List Listed → Type 0

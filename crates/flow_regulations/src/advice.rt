@@ -32,8 +32,6 @@ fn fixed_moment<A: Allocator + Copy>(list: &SlotList<A>, flight: u32) -> Option<
         return None;
     }
     let slot = list.slot_of(flight)?;
-    // All slots lie below this number, which is at most 30,000.
-    let _slots = list.shape().slots_before_end() + list.max_plans();
     Some(list.shape().slot_time(slot))
 }
 

@@ -1,7 +1,6 @@
 //! An open regulation.
 ghost use Rattle.std.specs.Prelude.{◌≡◌, ◌<◌, ◌≤◌, ℕ, List, None, Some, true, false, IfSome, IsSome, IfOk, OnOk};
 ghost use Rattle.std.specs.Prelude.{IsTrue, ◌↔◌, length};
-ghost use Rattle.std.specs.List.{All};
 ghost use Rattle.flow_plans.specs.Plans.{Plan as Held, plan_at, is_departed};
 ghost use Rattle.flow_plans.specs.Entries.{subject};
 ghost use Rattle.flow_plans.specs.Near.{row_of};
@@ -62,7 +61,6 @@ impl<A: Allocator + Copy> Regulation<A> {
         ensures empty { IfOk result (λ r. r ≡ with_no_flights id spot shape max_plans) }
         ensures regular { OnOk result (IsRegular shape) }
     {
-        let _slots = shape.slots_before_end();
         let list = SlotList::new(alloc, shape, max_plans)?;
         Ok(Regulation { id, spot, list })
     }
@@ -113,15 +111,6 @@ impl<A: Allocator + Copy> Regulation<A> {
         self.list.next_held(from)
     }
 
-    /// No flight stands twice in its slot list, and its period is regular.
-    #[inline(always)]
-    fn is_in_order(&self)
-        ensures lined { IsLineup self.now.lineup }
-        ensures regular { IsRegular self.now.lineup.period }
-    {
-        let _no_flight_twice = self.list.cells();
-    }
-
     /// The first number from this one on of a plan to whose flight the regulation may apply, or one more than there
     /// are. To the flights of the plans before it the regulation doesn't apply.
     pub(crate) fn next_coming(&self, plans: &PlanStore<A>, from: u32) -> u32
@@ -170,12 +159,13 @@ impl<A: Allocator + Copy> Regulation<A> {
         }
     }
 
-    /// The slot that a flight keeps, None where it keeps none.
+    /// The slot that a flight keeps, None where it keeps none. No flight stands twice.
     #[inline(always)]
     fn fixed_slot(&self, number: u32) -> Option<u32>
         ensures slot { result ≡ fixed_slot self.now.lineup number }
         ensures below { IfSome result (λ k. k < len_of self.now.lineup) }
-        ensures within { IfSome result (λ k. k ≤ 30_000) }
+        ensures most { IfSome result (λ k. k < 30_000) }
+        ensures order { IsInOrder self.now }
     {
         if self.list.is_fixed(number) {
             self.list.slot_of(number)
@@ -192,8 +182,9 @@ impl<A: Allocator + Copy> Regulation<A> {
         requires within { number ≤ length plans.now.plans }
         requires entry { (p : Held) → plan_at plans.now.plans number ≡ Some p
             → entry.now ≡ subject_to plans.now.taxi (regulation_of self.now) p }
-        ensures { (p : Held) → plan_at plans.now.plans number ≡ Some p
+        ensures kept { (p : Held) → plan_at plans.now.plans number ≡ Some p
             → result ≡ keeps_slot plans.now.taxi now (regulation_of self.now) number p self.now.lineup }
+        ensures order { IsInOrder self.now }
     {
         let Some(slot) = self.fixed_slot(number) else {
             return false;
@@ -256,7 +247,6 @@ impl<A: Allocator + Copy> Regulation<A> {
         ensures yes { result ≡ true → waiting_entry self.now.lineup number ≡ Some entry }
         ensures no { waiting_entry self.now.lineup number ≡ Some entry → result ≡ true }
     {
-        let _no_flight_twice = self.list.cells();
         match self.list.entry_of(number) {
             Some(held) => held == entry,
             None => false,
@@ -267,7 +257,6 @@ impl<A: Allocator + Copy> Regulation<A> {
     pub(crate) fn place_of(&self, number: u32) -> Place
         ensures { IsPlaceOf number result self.now }
     {
-        let _no_flight_twice = self.list.cells();
         if let Some(slot) = self.fixed_slot(number) {
             return Place::Fixed { slot };
         }
@@ -315,7 +304,6 @@ impl<A: Allocator + Copy> Regulation<A> {
         ensures lined { IsLineup self.old.lineup }
         ensures regular { IsRegular self.old.lineup.period }
     {
-        let _no_flight_twice = self.list.cells();
         if self.list.is_fixed(number) {
             return;
         }
@@ -381,7 +369,6 @@ impl<A: Allocator + Copy> Regulation<A> {
             return true;
         }
         if entry.is_none() {
-            self.is_in_order();
             return false;
         }
         self.look_again(plans, number, now, &entry);
@@ -406,7 +393,6 @@ impl<A: Allocator + Copy> Regulation<A> {
             → AreSameBut number before plans.now.plans
             → IsRenewed plans.now.taxi max now plans.now.plans self.old self.new.lineup }
     {
-        let _no_flight_twice = self.list.cells();
         if self.keeps(plans, number, now, entry) {
             return;
         }
@@ -414,16 +400,6 @@ impl<A: Allocator + Copy> Regulation<A> {
             Some(entry) => self.stand(number, *entry, is_due(plans, number, now)),
             None => self.take_out(number),
         }
-    }
-}
-
-/// In none of these regulations does a flight stand twice, and their periods are regular.
-#[inline(always)]
-pub(crate) fn are_in_order<A: Allocator + Copy>(regulations: &[Regulation<A>])
-    ensures { All IsInOrder regulations.now }
-{
-    for regulation in regulations {
-        regulation.is_in_order();
     }
 }
 

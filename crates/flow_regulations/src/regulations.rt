@@ -32,7 +32,7 @@ use crate::marks::{
 };
 use crate::notice::{Notice, Told};
 use crate::places::Place;
-use crate::regulation::{Regulation, are_in_order};
+use crate::regulation::Regulation;
 use crate::telling::tell;
 use flow_plans::PlanStore;
 use flow_slots::{Planned, Shape, SlotList};
@@ -387,7 +387,6 @@ fn look_again_in<A: Allocator + Copy>(
         (length regulations.new) regulations.old regulations.new }
     ensures covers { Covers result number 0 regulations.new }
 {
-    are_in_order(regulations);
     let concerned = word | near;
     let mut marked = word;
     let mut asked = EntryAsked::nowhere();
@@ -413,7 +412,6 @@ fn note_places_in<A: Allocator + Copy>(
     ensures places { ArePlaces number places.new.items regulations.now }
     ensures capacity { vec_capacity places.new ≡ vec_capacity places.old }
 {
-    are_in_order(regulations);
     places.clear();
     let mut index = next_marked(word, 0);
     while index < regulations.len() {
@@ -458,7 +456,6 @@ fn fix_waiting_in<A: Allocator + Copy>(regulations: &mut [Regulation<A>], number
     requires { Covers word number 0 regulations.old }
     ensures { Walked (IsFixedWaiting number) (length regulations.new) regulations.old regulations.new }
 {
-    are_in_order(regulations);
     let mut index = next_marked(word, 0);
     while index < regulations.len() {
         regulations[index].fix_waiting(number);

@@ -19,8 +19,8 @@ loop-number-preserved g c =
     let past : (ys : List ℕ) → AreFixed l (n + 1) ys → AreFixed l c.next_held-number-in-loop-number.result ys =
     λ ys h. fixed-past l (n + 1) c.next_held-number-in-loop-number.result ys e.from (λ m a b. unheld-unfixed l m (e.passed m a b)) h in
     elim c.if-is_fixed.branch [
-      | then-is_fixed+in_ok-push w ↦ rw (w.flights-is, w.in_ok-push.ensures.items) (past _ (fixed-one l n xs c.loop-number.invariant (c.is_fixed.ensures.0 w.if-is_fixed.true)))
-      | else-is_fixed w ↦ rw w.flights-is (past xs (fixed-not l n xs c.loop-number.invariant (λ keeps. true≢false (sym (c.is_fixed.ensures.1 keeps) ∙ w.if-is_fixed.false))))
+      | then-is_fixed+in_ok-push w ↦ rw (w.flights-is, w.in_ok-push.ensures.items) (past _ (fixed-one l n xs c.loop-number.invariant (c.is_fixed.ensures.fixed.0 w.if-is_fixed.true)))
+      | else-is_fixed w ↦ rw w.flights-is (past xs (fixed-not l n xs c.loop-number.invariant (λ keeps. true≢false (sym (c.is_fixed.ensures.fixed.1 keeps) ∙ w.if-is_fixed.false))))
     ]
 
 pub returns-clause-all : goal.returns-clause-all

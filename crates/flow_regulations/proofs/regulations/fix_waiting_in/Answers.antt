@@ -6,7 +6,7 @@ use Rattle.flow_regulations.proofs.regulations.fix_waiting_in.Goals as goal
 
 pub loop-index-init : goal.loop-index-init
 loop-index-init g c =
-    fixes-past c.args.number c.args.word 0 c.next_marked-index.result c.args.regulations.now c.args.regulations.now c.requires c.are_in_order.ensures c.next_marked-index.ensures.from c.next_marked-index.ensures.passed refl
+    fixes-past c.args.number c.args.word 0 c.next_marked-index.result c.args.regulations.now c.args.regulations.now c.requires c.next_marked-index.ensures.from c.next_marked-index.ensures.passed refl
 
 pub loop-index-preserved : goal.loop-index-preserved
 loop-index-preserved g c =
@@ -18,9 +18,9 @@ loop-index-preserved g c =
     let n : ℕ = c.args.number in
     let i : ℕ = s.index in
     let within : i < length ys = omega (arith, c.loop-index-test.true, s.auto.regulations) in
-    let here : IsFixedWaiting n (get_or ys i d) z = record { same = f.fixed; capacity = f.capacity; lined = f.lined; regular = f.regular } in
+    let here : IsFixedWaiting n (get_or ys i d) z = record { same = f.fixed; capacity = f.capacity; lined = λ _. f.lined; regular = λ _. f.regular } in
     let next : i + 1 ≤ c.next_marked-index-in-loop-index.result = omega (arith, c.next_marked-index-in-loop-index.ensures.from) in
-    fixes-past n c.args.word (i + 1) c.next_marked-index-in-loop-index.result c.args.regulations.now _ c.requires c.are_in_order.ensures next c.next_marked-index-in-loop-index.ensures.passed
+    fixes-past n c.args.word (i + 1) c.next_marked-index-in-loop-index.result c.args.regulations.now _ c.requires next c.next_marked-index-in-loop-index.ensures.passed
     (walked-step (IsFixedWaiting n) i c.args.regulations.now ys d z within here s.invariant)
 
 pub returns : goal.returns

@@ -12,7 +12,7 @@ pub loop-index-init : goal.loop-index-init
 loop-index-init g c = record {
   walked =
       looks-past c.args.number c.args.plans.now.taxi c.args.now c.args.word c.args.near 0 c.next_marked-index.result c.args.plans.now.plans c.args.regulations.now c.args.regulations.now c.requires.some c.requires.within c.requires.covers
-      c.are_in_order.ensures c.requires.near c.next_marked-index.ensures.from c.next_marked-index.ensures.passed refl;
+      c.requires.near c.next_marked-index.ensures.from c.next_marked-index.ensures.passed refl;
   room = c.requires.room;
   covers = c.requires.covers;
   asked = λ p e. nowhere_asked c.args.plans.now.taxi p c.nowhere-asked.result c.nowhere-asked.ensures;
@@ -55,7 +55,7 @@ loop-index-preserved g c =
     record {
       walked =
           looks-past n plans.taxi c.args.now c.args.word c.args.near (i + 1) c.next_marked-index-in-loop-index.result plans.plans c.args.regulations.now _ c.requires.some c.requires.within c.requires.covers
-          c.are_in_order.ensures c.requires.near next c.next_marked-index-in-loop-index.ensures.passed
+          c.requires.near next c.next_marked-index-in-loop-index.ensures.passed
           (walked-step (IsLookedAgain n plans.taxi c.args.now plans.plans) i c.args.regulations.now ys d z within (record { same = e.same; capacity = e.capacity; others = e.others; alone = e.alone; renewed = e.renewed }) s.invariant.walked);
       room = all-set (λ r. n ≤ r.lineup.capacity) i ys z (let all : n ≤ z.lineup.capacity = omega (arith, e.capacity, room) in all) s.invariant.room;
       asked = c.look_where-stands.ensures.asked;

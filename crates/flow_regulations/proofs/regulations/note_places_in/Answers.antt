@@ -21,13 +21,13 @@ loop-index-preserved g c =
     let qs : List Place = c.push_reserved.new.self.items in
     let filled : ps ≡ s.places.items ++ replicate (j - i) place.Absent = c.note_absent.ensures.places in
     let A : List Place → Type 0 = λ v. ArePlaces n v (take j ls) in
-    let passed : ArePlaces n ps (take j ls) = subst A (sym filled) (absent-past n c.args.word i j s.places.items ls c.requires.covers c.are_in_order.ensures s.invariant.count (omega (arith, within)) s.invariant.passed s.invariant.places) in
+    let passed : ArePlaces n ps (take j ls) = subst A (sym filled) (absent-past n c.args.word i j s.places.items ls c.requires.covers s.invariant.count (omega (arith, within)) s.invariant.passed s.invariant.places) in
     let count : length ps ≡ j = absent-length i j ps s.places.items filled s.invariant.count refl in
     let more : length qs ≡ j + 1 = omega (arith, c.push_reserved.ensures.len, count) in
     let B : List Place → Type 0 = λ v. ArePlaces n v (take (j + 1) ls) in
     let T : ℕ → Type 0 = λ k. ArePlaces n qs (take k ls) in
     let P : Listed → Type 0 = λ l. IsPlaceOf n c.place_of.result l in
-    let here : IsPlaceOf n c.place_of.result c.index-regulations-index.result = record { is = c.place_of.ensures.is; lined = c.place_of.ensures.lined; has = c.place_of.ensures.has } in
+    let here : IsPlaceOf n c.place_of.result c.index-regulations-index.result = record { is = c.place_of.ensures.is; may = c.place_of.ensures.may; back = c.place_of.ensures.back } in
     let one : ArePlaces n qs (take (j + 1) ls) = subst B (sym c.push_reserved.ensures.items) (places-more n j ps ls c.index-regulations-index.result c.place_of.result within (subst P c.index-regulations-index.is here) passed) in
     record {
       places = subst T (sym more) one;
@@ -47,5 +47,5 @@ returns-clause-places g c =
     let ps : List Place = c.note_absent-2.new.places.items in
     let A : List Place → Type 0 = λ v. ArePlaces n v (take j ls) in
     let L : List Listed → Type 0 = λ v. ArePlaces n ps v in
-    let passed : ArePlaces n ps (take j ls) = subst A (sym c.note_absent-2.ensures.places) (absent-past n c.args.word i j s.places.items ls c.requires.covers c.are_in_order.ensures s.invariant.within (omega arith) (λ k a b. s.invariant.passed k a (omega (arith, b, c.loop-index-test.false))) s.invariant.places) in
+    let passed : ArePlaces n ps (take j ls) = subst A (sym c.note_absent-2.ensures.places) (absent-past n c.args.word i j s.places.items ls c.requires.covers s.invariant.within (omega arith) (λ k a b. s.invariant.passed k a (omega (arith, b, c.loop-index-test.false))) s.invariant.places) in
     subst L (take_all j ls (omega arith)) passed

@@ -1,13 +1,20 @@
-use Rattle.std.proofs.Common.{ap, ◌∙◌}
+use Rattle.std.proofs.Common.{ap, subst, ◌∙◌}
 use Rattle.flow_slots.specs.Lineup.{fixed_slot}
-use Rattle.flow_slots.proofs.Periods.{slots_before_end-at_most}
-use Rattle.flow_regulations.proofs.Looks.{held-fixed, below}
+use Rattle.flow_regulations.specs.Listing.{Listed}
+use Rattle.flow_regulations.specs.Marks.{IsInOrder}
+use Rattle.flow_regulations.proofs.Looks.{held-fixed}
 use Rattle.flow_regulations.proofs.regulation.Regulation.fixed_slot.Goals as goal
 
 pub returns-then-is_fixed-clause-slot : goal.returns-then-is_fixed-clause-slot
 returns-then-is_fixed-clause-slot g c =
-    c.slot_of.ensures.slot ∙ (held-fixed c.self.inside.list.lineup c.args.number (c.is_fixed.ensures.0 c.if-is_fixed.true) ∙ ap (λ v. fixed_slot v.lineup c.args.number) c.self.view_is)
+    c.slot_of.ensures.slot ∙ (held-fixed c.self.inside.list.lineup c.args.number (c.is_fixed.ensures.fixed.0 c.if-is_fixed.true) ∙ ap (λ v. fixed_slot v.lineup c.args.number) c.self.view_is)
 
-pub returns-then-is_fixed-clause-within : goal.returns-then-is_fixed-clause-within
-returns-then-is_fixed-clause-within g c =
-    below c.slot_of.result c.self.inside.list.lineup (slots_before_end-at_most c.self.inside.list.lineup.period c.self.invariant.0) c.self.invariant.1 c.slot_of.ensures.within
+pub returns-then-is_fixed-clause-order : goal.returns-then-is_fixed-clause-order
+returns-then-is_fixed-clause-order g c =
+    let I : Listed → Type 0 = IsInOrder in
+    subst I c.self.view_is (record { lined = c.is_fixed.ensures.lined; regular = c.self.invariant.0 })
+
+pub returns-else-is_fixed-clause-order : goal.returns-else-is_fixed-clause-order
+returns-else-is_fixed-clause-order g c =
+    let I : Listed → Type 0 = IsInOrder in
+    subst I c.self.view_is (record { lined = c.is_fixed.ensures.lined; regular = c.self.invariant.0 })

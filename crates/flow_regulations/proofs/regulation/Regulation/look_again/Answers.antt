@@ -1,8 +1,7 @@
-use Rattle.std.proofs.Common.{None, Some, refl, sym, ap, subst, ◌∙◌}
-use Rattle.flow_slots.specs.Period.{IsRegular}
-use Rattle.flow_slots.specs.Lineup.{IsLineup, without_flight}
+use Rattle.std.proofs.Common.{None, Some, refl, sym, ap, ◌∙◌}
+use Rattle.flow_slots.specs.Lineup.{without_flight}
 use Rattle.flow_regulations.specs.Settling.{is_due, pairs_of}
-use Rattle.flow_regulations.specs.Listing.{Listed, with_lineup, without_in}
+use Rattle.flow_regulations.specs.Listing.{with_lineup, without_in}
 use Rattle.flow_regulations.proofs.Looked.{plan-there, kept-renewed, placed-renewed, out-within}
 use Rattle.flow_regulations.proofs.Others.{pairs-placed, pairs-without}
 use Rattle.flow_regulations.proofs.Standing.{alone-placed, alone-twice}
@@ -10,12 +9,8 @@ use Rattle.flow_regulations.proofs.regulation.Regulation.look_again.Goals as goa
 
 pub returns-then-keeps-clause-renewed : goal.returns-then-keeps-clause-renewed
 returns-then-keeps-clause-renewed g c =
-    let P : Listed → Type 0 = λ v. IsLineup v.lineup in
-    let Q : Listed → Type 0 = λ v. IsRegular v.lineup.period in
-    let lined : IsLineup c.args.self.now.lineup = subst P c.self.view_is c.cells-no_flight_twice.ensures.well_formed in
-    let regular : IsRegular c.args.self.now.lineup.period = subst Q c.self.view_is c.self.invariant.0 in
     let p = plan-there c.args.plans.now.plans c.args.number c.requires.some c.requires.within in
-    kept-renewed c.args.plans.now.taxi c.args.now c.args.number c.args.plans.now.plans c.args.self.now p.0 p.1 c.requires.some lined regular (sym (c.keeps.ensures p.0 p.1) ∙ c.if-keeps.true)
+    kept-renewed c.args.plans.now.taxi c.args.now c.args.number c.args.plans.now.plans c.args.self.now p.0 p.1 c.requires.some c.keeps.ensures.order.lined c.keeps.ensures.order.regular (sym (c.keeps.ensures.kept p.0 p.1) ∙ c.if-keeps.true)
 
 pub stand-requires-clause-entry : goal.stand-requires-clause-entry
 stand-requires-clause-entry g c =
@@ -24,12 +19,8 @@ stand-requires-clause-entry g c =
 
 pub returns-in-Some-clause-renewed : goal.returns-in-Some-clause-renewed
 returns-in-Some-clause-renewed g c =
-    let P : Listed → Type 0 = λ v. IsLineup v.lineup in
-    let Q : Listed → Type 0 = λ v. IsRegular v.lineup.period in
-    let lined : IsLineup c.args.self.now.lineup = subst P c.self.view_is c.cells-no_flight_twice.ensures.well_formed in
-    let regular : IsRegular c.args.self.now.lineup.period = subst Q c.self.view_is c.self.invariant.0 in
     let p = plan-there c.args.plans.now.plans c.args.number c.requires.some c.requires.within in
-    placed-renewed c.args.plans.now.taxi c.args.now c.args.number c.args.plans.now.plans c.args.self.now p.0 p.1 c.requires.some lined regular (sym (c.keeps.ensures p.0 p.1) ∙ c.if-keeps.false)
+    placed-renewed c.args.plans.now.taxi c.args.now c.args.number c.args.plans.now.plans c.args.self.now p.0 p.1 c.requires.some c.keeps.ensures.order.lined c.keeps.ensures.order.regular (sym (c.keeps.ensures.kept p.0 p.1) ∙ c.if-keeps.false)
     (Some c.in-Some.entry) c.is_due.result c.stand.new.self.lineup
     (sym c.in-Some.is ∙ c.requires.entry p.0 p.1)
     (c.is_due.ensures p.0 p.1)
@@ -37,12 +28,8 @@ returns-in-Some-clause-renewed g c =
 
 pub returns-in-None-clause-renewed : goal.returns-in-None-clause-renewed
 returns-in-None-clause-renewed g c =
-    let P : Listed → Type 0 = λ v. IsLineup v.lineup in
-    let Q : Listed → Type 0 = λ v. IsRegular v.lineup.period in
-    let lined : IsLineup c.args.self.now.lineup = subst P c.self.view_is c.cells-no_flight_twice.ensures.well_formed in
-    let regular : IsRegular c.args.self.now.lineup.period = subst Q c.self.view_is c.self.invariant.0 in
     let p = plan-there c.args.plans.now.plans c.args.number c.requires.some c.requires.within in
-    placed-renewed c.args.plans.now.taxi c.args.now c.args.number c.args.plans.now.plans c.args.self.now p.0 p.1 c.requires.some lined regular (sym (c.keeps.ensures p.0 p.1) ∙ c.if-keeps.false)
+    placed-renewed c.args.plans.now.taxi c.args.now c.args.number c.args.plans.now.plans c.args.self.now p.0 p.1 c.requires.some c.keeps.ensures.order.lined c.keeps.ensures.order.regular (sym (c.keeps.ensures.kept p.0 p.1) ∙ c.if-keeps.false)
     None (is_due c.args.now p.0) c.take_out.new.self.lineup
     (sym c.in-None.is ∙ c.requires.entry p.0 p.1)
     refl

@@ -18,7 +18,7 @@ returns-then-may_stand-clause-looked g c =
 
 pub returns-then-is_none-clause-looked : goal.returns-then-is_none-clause-looked
 returns-then-is_none-clause-looked g c =
-    out-looks c.args.number c.args.plans.now.taxi c.args.now c.args.plans.now.plans c.args.self.now c.subject_from-entry.result c.requires.some c.requires.within (c.requires.out c.if-may_stand.false) c.is_in_order.ensures.lined c.is_in_order.ensures.regular
+    out-looks c.args.number c.args.plans.now.taxi c.args.now c.args.plans.now.plans c.args.self.now c.subject_from-entry.result c.requires.some c.requires.within (c.requires.out c.if-may_stand.false)
     (λ p e. c.subject_from-entry.ensures c.args.plans.now.taxi p (asked-at c.args.plans.now.taxi p c.ask.new.self c.self.inside.spot c.args.self.now.spot (c.ask.ensures.asked p e) c.ask.ensures.at (ap (λ v. v.spot) c.self.view_is))) (is-none c.subject_from-entry.result c.is_none.result c.is_none.ensures c.if-is_none.true)
 
 pub returns-then-is_none-clause-out : goal.returns-then-is_none-clause-out

@@ -3,7 +3,7 @@ use Rattle.flow_regulations.specs.declared.places.Place.{Place}
 use Rattle.flow_regulations.specs.Listing.{Listed}
 use Rattle.flow_regulations.specs.Places.{IsPlaceOf, MayStand}
 use Rattle.flow_regulations.proofs.Looked.{out-absent}
-use Rattle.flow_regulations.proofs.PutBack.{same-place, stood-there, may-stand}
+use Rattle.flow_regulations.proofs.PutBack.{same-place, stood-there}
 use Rattle.flow_regulations.proofs.regulation.Regulation.put_back.Goals as goal
 
 pub returns-then-is : goal.returns-then-is
@@ -18,7 +18,7 @@ pub stand_in-requires-clause-may : goal.stand_in-requires-clause-may
 stand_in-requires-clause-may g c =
     let b = c.requires.before in
     let M : Listed → Type 0 = λ v. MayStand c.args.place v.lineup in
-    subst M (sym (c.take_out.ensures ∙ b.2)) (may-stand c.args.number c.args.place b.0 b.1)
+    subst M (sym (c.take_out.ensures ∙ b.2)) b.1.may
 
 pub returns : goal.returns
 returns g c = λ before is same. stood-there c.args.number c.args.place c.args.self.now c.take_out.new.self c.stand_in.new.self before is same c.take_out.ensures c.stand_in.ensures
