@@ -51,7 +51,7 @@ EndsWithin-total None n m None after c t h = tt
 EndsWithin-total None n m (Some old) None c t h = absurd c
 EndsWithin-total None n m (Some old) (Some new) c t h = omega (arith, t, ap length c.1)
 
-pub EndsWithin-ok : (A : Type 0) (result : Result (Option (Frame A)) IntakeFault) (n m : ℕ) (before after : Option (List ℕ)) → IfOk result (λ frame. CutsFirst frame before after) → OnOk result (SameTotal n before m after) → m ≤ 4000000000 → IfOk result (λ frame. EndsWithin frame n before)
+pub EndsWithin-ok : (A : Type 0) (result : Result (Option (Frame A)) IntakeFault) (n m : ℕ) (before after : Option (List ℕ)) → IfOk result (λ frame. CutsFirst frame before after) → OnOk result (SameTotal n before m after) → OnOk result (m ≤ 4000000000) → IfOk result (λ frame. EndsWithin frame n before)
 EndsWithin-ok A (Err e) n m before after c t h = tt
 EndsWithin-ok A (Ok frame) n m before after c t h = EndsWithin-total frame n m before after c t h
 

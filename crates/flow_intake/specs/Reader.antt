@@ -1,5 +1,6 @@
 -- What one call takes from a reader, whose bytes come in pieces.
-use Rattle.std.specs.Prelude.{◌≡◌, ℕ, ◌+◌, ◌<◌, Bool, true, false, List, [], ◌∷◌, ◌++◌, length, Option, Some, IsTrue, IfSome, ◌⊎◌}
+use Rattle.std.specs.Prelude.{◌≡◌, ℕ, ◌+◌, ◌<◌, Bool, true, false, List, [], ◌∷◌, ◌++◌, length, drop, Option, Some, IsTrue, IfSome, ◌⊎◌}
+use Rattle.std.specs.List.{list_any}
 use Rattle.std.specs.Io.KnownBytes.{Consumes, IsAtEnd}
 use Rattle.flow_intake.specs.Frames.{Cut, cut, kept_of}
 
@@ -34,6 +35,10 @@ NoneStops stops (b ∷ bs) = (stops b ≡ false) × NoneStops stops bs
 abbrev pub BeginsWithStop : (ℕ → Bool) → List ℕ → Type 0
 BeginsWithStop stops [] = Unit {0}
 BeginsWithStop stops (b ∷ bs) = stops b ≡ true
+
+-- from each place before this one on, some byte stops
+abbrev pub StopsFrom : (ℕ → Bool) → List ℕ → ℕ → Type 0
+StopsFrom stops bytes place = (k : ℕ) → k < place → list_any stops (drop k bytes) ≡ true
 
 -- the frame that was kept, as far as it is kept, has grown by these bytes
 abbrev pub KeepsMore : Option (List ℕ) → Option (List ℕ) → List ℕ → Type 0

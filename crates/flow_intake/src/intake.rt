@@ -99,7 +99,6 @@ pub fn cut_frame<R: Read, A: Allocator>(
     ensures failed { IsErrOf result IntakeFault.Read
         → reader.new.failures ≡ min (reader.old.failures + 1) (2 ^ 64 - 1) }
 {
-    pieces.are_within();
     if pieces.has_ended() {
         return Ok(false);
     }
@@ -127,6 +126,7 @@ fn next_frame<R: Read, A: Allocator + Copy>(
     ensures ended { IsTrue pieces.old.ended → IfOk result (λ frame. IsNone frame) }
     ensures still { IsTrue pieces.old.ended → (pieces.new ≡ pieces.old) × (reader.new ≡ reader.old) }
     ensures agrees { OnOk result (Agrees pieces.new (R.remaining reader.new.device)) }
+    ensures most { OnOk result (pieces.new.taken ≤ 4000000000) }
 
     // When each fault comes.
     ensures going { OnErr result (pieces.old.ended ≡ false) }
@@ -138,6 +138,7 @@ fn next_frame<R: Read, A: Allocator + Copy>(
     ensures memory { IsErrOf result IntakeFault.OutOfMemory → (reader.new.failures ≡ reader.old.failures)
         × Misses pieces.old pieces.new (R.remaining reader.old.device) (R.remaining reader.new.device)
         × Agrees pieces.new (R.remaining reader.new.device) }
+    ensures room { IsErrOf result IntakeFault.OutOfMemory → pieces.new.taken ≤ 4000000000 }
 {
     if !cut_frame(reader, pieces, kept)? {
         return Ok(None);
@@ -245,7 +246,6 @@ impl<R: Read, A: Allocator + Copy> Intake<R, A> {
             &mut self.kept,
         );
         self.failed = result.is_err();
-        self.pieces.are_within();
         result
     }
 }

@@ -1,10 +1,12 @@
 //! An input in pieces, from any reader, however it cuts the bytes.
 ghost use Rattle.std.specs.Prelude.{◌≡◌, ◌≢◌, ◌≤◌, ◌<◌, ◌+◌, ◌-◌, ◌^◌, [], false, true, min, length, drop, slice_get};
-ghost use Rattle.std.specs.Prelude.{IfOk, OnOk, IsErrOf, Err, IsTrue};
+ghost use Rattle.std.specs.Prelude.{IfOk, OnOk, IsErrOf, IsSomeAnd, Err, IsTrue};
 ghost use Rattle.std.specs.List.{position};
-ghost use Rattle.flow_intake.specs.Frames.{is_text};
+ghost use Rattle.memchr.specs.Find.{is_byte2};
+ghost use Rattle.flow_intake.specs.Frames.{ends_order, first_cut, is_bracket, is_text};
 ghost use Rattle.std.specs.Io.KnownBytes.{Consumes};
-ghost use Rattle.flow_intake.specs.Reader.{Agrees, BeginsWithStop, CameTooMuch, Filled, TakesIf, Took, TookRun};
+ghost use Rattle.flow_intake.specs.Reader.{Agrees, BeginsWithStop, CameTooMuch, Filled, StopsFrom, TakesIf, Took};
+ghost use Rattle.flow_intake.specs.Reader.{TookRun};
 ghost use Rattle.flow_intake.specs.Until.{stops_at};
 
 use crate::counted::Counted;
@@ -51,11 +53,30 @@ fn stop_in(bytes: &[u8], until: Until) -> Option<usize>
 }
 
 /// Behind the last of two bytes, or 0 where neither is there.
-fn behind_last(byte: u8, other: u8, bytes: &[u8]) -> usize {
+fn behind_last(byte: u8, other: u8, bytes: &[u8]) -> usize
+    ensures { StopsFrom (is_byte2 byte other) bytes.now result }
+{
     match memrchr2(byte, other, bytes) {
         Some(at) => at.saturating_add(1),
         None => 0,
     }
+}
+
+/// Whether bytes show the end of their first frame, where these are the places behind their last bracket and behind
+/// the last byte that ends an order.
+fn shows_end(bytes: &[u8], brackets: usize, order_ends: usize) -> bool
+    requires brackets { StopsFrom is_bracket bytes.now brackets }
+    requires orders { StopsFrom ends_order bytes.now order_ends }
+    ensures ends { result ≡ true → IsSomeAnd (first_cut bytes.now) (λ c. c.ended ≡ true) }
+    ensures none { bytes.now ≡ [] → result ≡ false }
+{
+    let Some(blanks) = text_in(bytes) else {
+        return false;
+    };
+    if bytes[blanks] == b'(' {
+        return blanks.saturating_add(1) < brackets;
+    }
+    blanks.saturating_add(1) < order_ends
 }
 
 /// The piece of the input that was read last, and how much of it was taken.
@@ -74,7 +95,8 @@ pub struct Pieces<A: Allocator = Global> {
 
 impl<A: Allocator> Model for Pieces<A> {
     ghost use Rattle.std.specs.Prelude.{◌≡◌, ◌≤◌, ◌-◌, ◌+◌, length, slice_range};
-    ghost use Rattle.flow_intake.specs.Reader.{Ahead};
+    ghost use Rattle.flow_intake.specs.Frames.{is_bracket, ends_order};
+    ghost use Rattle.flow_intake.specs.Reader.{Ahead, StopsFrom};
 
     ghost Value = { Ahead };
 
@@ -85,7 +107,9 @@ impl<A: Allocator> Model for Pieces<A> {
     } };
 
     ghost invariant = { λ p. (p.at ≤ p.end) × (p.end ≤ length p.piece.items) × (length p.piece.items ≡ 65536)
-        × (p.end - p.at ≤ p.total) × (p.total ≤ 4000000000) };
+        × (p.end - p.at ≤ p.total) × (p.total ≤ 4000000000)
+        × StopsFrom is_bracket (slice_range p.piece.items p.at p.end) (p.brackets - p.at)
+        × StopsFrom ends_order (slice_range p.piece.items p.at p.end) (p.order_ends - p.at) };
 }
 
 impl<A: Allocator> Pieces<A> {
@@ -106,19 +130,16 @@ impl<A: Allocator> Pieces<A> {
         })
     }
 
-    /// Whether the next frame may have to be waited for, since it doesn't end in the bytes that were read.
+    /// Whether the next frame may have to be waited for: false only where it ends in the bytes that were read.
     pub fn may_wait(&self) -> bool
-        ensures { self.now.unread ≡ [] → result ≡ true }
+        ensures none { self.now.unread ≡ [] → result ≡ true }
+        ensures ends { result ≡ false → IsSomeAnd (first_cut self.now.unread) (λ c. c.ended ≡ true) }
     {
-        let unread = self.unread();
-        let Some(blanks) = text_in(unread) else {
-            return true;
-        };
-        let ends = match unread.get(blanks) {
-            Some(b'(') => self.brackets,
-            _ => self.order_ends,
-        };
-        ends <= self.at.saturating_add(blanks).saturating_add(1)
+        !shows_end(
+            self.unread(),
+            self.brackets.saturating_sub(self.at),
+            self.order_ends.saturating_sub(self.at),
+        )
     }
 
     /// The bytes that were read and not yet taken.
@@ -135,17 +156,10 @@ impl<A: Allocator> Pieces<A> {
         self.unread().first().copied()
     }
 
-    /// No more bytes are taken than an input may have.
-    #[inline(always)]
-    pub(crate) fn are_within(&self)
-        ensures { self.now.taken ≤ 4000000000 }
-    {
-        let _at = self.at;
-    }
-
-    /// Whether the reader has no more.
+    /// Whether the reader has no more. No more bytes were taken of it than an input may have.
     pub(crate) fn has_ended(&self) -> bool
-        ensures { result ≡ self.now.ended }
+        ensures ended { result ≡ self.now.ended }
+        ensures within { self.now.taken ≤ 4000000000 }
     {
         self.ended
     }

@@ -6,7 +6,7 @@ use Rattle.flow_intake.proofs.NextFrames.{GaveNone-ended, GaveNone-blank, GaveFi
 use Rattle.flow_intake.proofs.intake.cut_frame.Goals as goal
 
 pub returns-then-has_ended-clause-cuts : goal.returns-then-has_ended-clause-cuts
-returns-then-has_ended-clause-cuts g c = GaveNone-ended c.args.pieces.now (g.R.Read.remaining c.args.reader.now.device) c.requires (sym c.has_ended.ensures ∙ c.if-has_ended.true)
+returns-then-has_ended-clause-cuts g c = GaveNone-ended c.args.pieces.now (g.R.Read.remaining c.args.reader.now.device) c.requires (sym c.has_ended.ensures.ended ∙ c.if-has_ended.true)
 
 pub returns-in_err-take_until-clause-read : goal.returns-in_err-take_until-clause-read
 returns-in_err-take_until-clause-read g c =
@@ -17,7 +17,7 @@ returns-in_err-take_until-clause-read g c =
 pub returns-in_default-clause-cuts : goal.returns-in_default-clause-cuts
 returns-in_default-clause-cuts g c =
     GaveNone-blank c.args.pieces.now c.take_until.new.pieces (g.R.Read.remaining c.args.reader.now.device) (g.R.Read.remaining c.take_until.new.reader.device) c.args.kept.now c.take_until.new.kept
-    c.in_ok-take_until.ensures.took c.in_ok-take_until.ensures.end (sym c.has_ended.ensures ∙ c.if-has_ended.false) (sym c.in_default.is ∙ c.front.ensures)
+    c.in_ok-take_until.ensures.took c.in_ok-take_until.ensures.end (sym c.has_ended.ensures.ended ∙ c.if-has_ended.false) (sym c.in_default.is ∙ c.front.ensures)
 
 pub returns-in_err-finish-clause-err : goal.returns-in_err-finish-clause-err
 returns-in_err-finish-clause-err g c =
@@ -41,4 +41,4 @@ pub returns-clause-cuts : goal.returns-clause-cuts
 returns-clause-cuts g c =
     GaveFirst-finished c.args.pieces.now c.take_until.new.pieces c.skip.new.self (g.R.Read.remaining c.args.reader.now.device) (g.R.Read.remaining c.take_until.new.reader.device) c.args.kept.now c.take_until.new.kept c.in-Some.first
     c.in_ok-take_until.ensures.took c.in_ok-take_until.ensures.stop (sym c.in-Some.is ∙ c.front.ensures) c.skip.ensures.unread
-    c.finish.new.pieces (g.R.Read.remaining c.finish.new.reader.device) c.start.new.self c.finish.new.kept (sym c.has_ended.ensures ∙ c.if-has_ended.false) c.skip.ensures.taken c.in_ok-finish.ensures.took c.start.ensures (filing_kept c.finish.new.kept) (IsFiled-kept c.finish.new.kept)
+    c.finish.new.pieces (g.R.Read.remaining c.finish.new.reader.device) c.start.new.self c.finish.new.kept (sym c.has_ended.ensures.ended ∙ c.if-has_ended.false) c.skip.ensures.taken c.in_ok-finish.ensures.took c.start.ensures (filing_kept c.finish.new.kept) (IsFiled-kept c.finish.new.kept)

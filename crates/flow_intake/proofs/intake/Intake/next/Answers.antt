@@ -22,7 +22,7 @@ returns-clause-taken g c =
 pub returns-clause-end : goal.returns-clause-end
 returns-clause-end g c =
     EndsWithin-ok g.row.A.Denot c.next_frame-result.result c.args.self.now.taken c.next_frame-result.new.pieces.taken c.args.self.now.left (prepend_known c.next_frame-result.new.pieces.unread (g.R.Read.remaining c.next_frame-result.new.reader.device))
-    (returns-clause-cuts g c) (returns-clause-taken g c) c.are_within.ensures
+    (returns-clause-cuts g c) (returns-clause-taken g c) c.next_frame-result.ensures.most
 
 pub returns-clause-memory : goal.returns-clause-memory
 returns-clause-memory g c = λ e.
@@ -32,5 +32,5 @@ returns-clause-memory g c = λ e.
       MissesFirst-given c.self.inside.pieces c.next_frame-result.new.pieces (g.R.Read.remaining c.self.inside.reader.device) (g.R.Read.remaining c.next_frame-result.new.reader.device) c.args.self.now.left m.1 m.2 left,
       SameTotal-missed c.self.inside.pieces c.next_frame-result.new.pieces (g.R.Read.remaining c.self.inside.reader.device) (g.R.Read.remaining c.next_frame-result.new.reader.device) c.args.self.now.left c.args.self.now.taken m.1 left
           (ap (λ (s : Source). s.taken) c.self.view_is),
-      c.are_within.ensures,
+      c.next_frame-result.ensures.room e,
     )
