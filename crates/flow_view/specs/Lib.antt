@@ -3,4 +3,5 @@ pub mod Opened
 pub mod Opening
 pub mod Scale
 pub mod Shown
+pub mod Table
 pub mod Totals

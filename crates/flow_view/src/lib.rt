@@ -8,6 +8,7 @@ mod past;
 mod rounds;
 mod scale;
 mod slot_row;
+mod table;
 mod totals;
 
 pub use flight::{Flight, entry_at};
@@ -17,4 +18,5 @@ pub use past::core_after;
 pub use rounds::PANEL_WIDTH;
 pub use scale::{PANEL_HEIGHT, Scale};
 pub use slot_row::{SlotRow, row_at, rows_of};
+pub use table::{Holding, Line, lines_of};
 pub use totals::{Totals, totals_of};

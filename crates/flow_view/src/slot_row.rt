@@ -1,8 +1,8 @@
 //! The rows of a slot list.
-ghost use Rattle.std.specs.Prelude.{◌≡◌, ◌<◌, IfOk};
+ghost use Rattle.std.specs.Prelude.{◌≡◌, IfOk};
 ghost use Rattle.std.specs.Option.{option_map};
 ghost use Rattle.flow_core.specs.History.{state_of};
-ghost use Rattle.flow_slots.specs.Lineup.{len_of, held_flight};
+ghost use Rattle.flow_slots.specs.Lineup.{held_flight};
 ghost use Rattle.flow_view.specs.Shown.{row_of, shown};
 
 use crate::flight::{Flight, flight_at};
@@ -34,16 +34,12 @@ pub fn row_at<A: Allocator + Copy>(
     list: &SlotList<A>,
     slot: u32,
 ) -> Option<SlotRow>
-    requires { slot < len_of list.now.lineup }
     ensures { result ≡ option_map (λ f. row_of core.now.setup.taxi (state_of core.now).traffic spot.now list.now.lineup
         (record { flight = f; slot = slot })) (held_flight list.now.lineup slot) }
 {
     let Some(plan) = list.holder(slot) else {
         return None;
     };
-    let _most = list.max_plans();
-    let _cells = list.cells();
-    let _len = list.len();
     Some(SlotRow {
         slot,
         time: list.shape().slot_time(slot),

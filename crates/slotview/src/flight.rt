@@ -1,6 +1,6 @@
 //! A flight: its plans, its slots, and what was filed and said about it.
 use crate::fault::Fault;
-use crate::list::{ctot_of, state_of};
+use crate::list::holding_name;
 use crate::sheet::{Cell, Column, Sheet, Side};
 use crate::summary::place_text;
 use flow_core::{Core, Entry, Kind, Notice, Receipt, Said, Told, Verdict};
@@ -70,6 +70,14 @@ fn plans_of(alloc: Global, core: &Core, ident: &[u8]) -> Result<Vec<u32>, AllocE
     Ok(numbers)
 }
 
+/// The take-off time that was told.
+fn ctot_of(told: &Option<Told>) -> Option<Minute> {
+    match told {
+        Some(told) => Some(told.ctot),
+        None => None,
+    }
+}
+
 /// The regulation that causes the take-off time that was told.
 fn cause_of(told: &Option<Told>) -> Cell {
     match told {
@@ -126,7 +134,7 @@ fn put_slot<W: Write + Drop>(
             Cell::number(row.slot),
             Cell::moment(row.time),
             Cell::number(row.delay()),
-            Cell::text(state_of(row)),
+            Cell::text(holding_name(row.holding())),
         ),
         None => (Cell::Blank, Cell::Blank, Cell::Blank, Cell::Blank),
     };

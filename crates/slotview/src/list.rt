@@ -1,10 +1,12 @@
 //! The slot list of a regulation.
+ghost use Rattle.std.specs.Prelude.{◌≡◌, OnOk, length, sum_by};
+ghost use Rattle.flow_view.specs.Table.{listed};
+ghost use Rattle.slotview.specs.Rows.{with_more};
+
 use crate::fault::Fault;
 use crate::sheet::{Cell, Column, Sheet, Side};
-use flow_core::{Core, Told};
-use flow_plans::PlanState;
-use flow_view::{Opened, SlotRow, rows_of};
-use fpl_text::Minute;
+use flow_core::Core;
+use flow_view::{Holding, Line, Opened, lines_of};
 use std::alloc::Global;
 use std::io::Write;
 
@@ -23,85 +25,74 @@ static COLUMNS: [Column; 12] = [
     Column("told", 10, Side::Left),
 ];
 
-/// The take-off time that was told.
-pub fn ctot_of(told: &Option<Told>) -> Option<Minute> {
-    match told {
-        Some(told) => Some(told.ctot),
-        None => None,
+/// The name of how a flight holds its slot.
+pub fn holding_name(holding: Holding) -> &'static [u8] {
+    match holding {
+        Holding::Waiting => b"waiting",
+        Holding::Frozen => b"frozen",
+        Holding::Departed => b"departed",
     }
 }
 
-/// How the flight of a row holds its slot.
-pub fn state_of(row: &SlotRow) -> &'static [u8] {
-    let departed = match &row.flight {
-        Some(flight) => flight.state == PlanState::Departed,
-        None => false,
+/// The cells of a line. Those of the flight are blank where there is none.
+fn cells_of(opened: &Opened, line: &Line) -> [Cell; 12] {
+    let (ident, dep, dest, off_block, entry) = match &line.row.flight {
+        Some(flight) => (
+            Cell::text(flight.ident.as_bytes()),
+            Cell::text(flight.dep.as_bytes()),
+            Cell::text(flight.dest.as_bytes()),
+            Cell::moment(flight.off_block),
+            Cell::moment_or_blank(flight.entry),
+        ),
+        None => (
+            Cell::Blank,
+            Cell::Blank,
+            Cell::Blank,
+            Cell::Blank,
+            Cell::Blank,
+        ),
     };
-    if departed {
-        b"departed"
-    } else if row.frozen {
-        b"frozen"
-    } else {
-        b"waiting"
-    }
-}
-
-/// Writes a row, with how many empty slots lie between it and the held one before it.
-fn put_row<W: Write + Drop>(
-    sheet: &mut Sheet<W>,
-    opened: &Opened,
-    row: &SlotRow,
-    empty: u32,
-) -> Result<(), Fault> {
-    let Some(flight) = &row.flight else {
-        return Ok(());
-    };
-    sheet.put(&[
+    [
         Cell::text(opened.id().as_bytes()),
-        Cell::number(row.slot),
-        Cell::number(empty),
-        Cell::moment(row.time),
-        Cell::text(flight.ident.as_bytes()),
-        Cell::text(flight.dep.as_bytes()),
-        Cell::text(flight.dest.as_bytes()),
-        Cell::moment(flight.off_block),
-        Cell::moment_or_blank(flight.entry),
-        Cell::number(row.delay()),
-        Cell::text(state_of(row)),
-        Cell::moment_or_blank(ctot_of(&flight.told)),
-    ])
+        Cell::number(line.row.slot),
+        Cell::number(line.empty),
+        Cell::moment(line.row.time),
+        ident,
+        dep,
+        dest,
+        off_block,
+        entry,
+        Cell::number(line.delay),
+        Cell::text(holding_name(line.holding)),
+        Cell::moment_or_blank(line.ctot),
+    ]
 }
 
-/// Writes the rows of the slot list of a regulation.
+/// Writes the lines of the slot list of a regulation, a row for each.
 fn put_list<W: Write + Drop>(
     alloc: Global,
     sheet: &mut Sheet<W>,
     core: &Core,
     opened: &Opened,
-) -> Result<(), Fault> {
-    let Some(list) = core.slots(opened.id()) else {
-        return Ok(());
-    };
-    let rows = rows_of(alloc, core, opened.place(), list)?;
-    let mut next = None;
-    for row in &rows {
-        let empty = match next {
-            Some(slot) => row.slot.saturating_sub(slot),
-            None => 0,
-        };
-        put_row(sheet, opened, row, empty)?;
-        next = Some(row.slot.saturating_add(1));
+) -> Result<(), Fault>
+    ensures { OnOk result (sheet.new.rows ≡ with_more sheet.old.rows (length (listed core.now opened.now))) }
+{
+    let lines = lines_of(alloc, core, opened)?;
+    for line in &lines {
+        sheet.put(&cells_of(opened, line))?;
     }
     Ok(())
 }
 
-/// Writes the slot lists of these regulations.
+/// Writes the slot lists of these regulations, one behind the other as one table: a row for each of their lines.
 pub fn put_lists<W: Write + Drop>(
     alloc: Global,
     sheet: &mut Sheet<W>,
     core: &Core,
     regulations: &[Opened],
-) -> Result<(), Fault> {
+) -> Result<(), Fault>
+    ensures { OnOk result (sheet.new.rows ≡ with_more 0 (sum_by (λ o. length (listed core.now o)) regulations.now)) }
+{
     sheet.begin("slots", &COLUMNS)?;
     for opened in regulations {
         put_list(alloc, sheet, core, opened)?;

@@ -1,4 +1,7 @@
 //! Tables: as aligned text, as CSV and as JSON.
+ghost use Rattle.std.specs.Prelude.{◌≡◌, OnOk};
+ghost use Rattle.slotview.specs.Rows.{with_more};
+
 use crate::fault::{Fault, unwritten};
 use crate::options::Format;
 use csv::WriterBuilder;
@@ -83,7 +86,7 @@ pub struct Sheet<W: Write + Drop> {
     columns: &'static [Column],
     /// How many tables were begun, and how many rows the last one has.
     tables: u32,
-    rows: u32,
+    rows: u64,
 }
 
 fn memory<T: Drop>(_: T) -> Fault {
@@ -164,12 +167,16 @@ impl<W: Write + Drop> Sheet<W> {
         }
     }
 
-    fn write(&mut self, text: &[u8]) -> Result<(), Fault> {
+    fn write(&mut self, text: &[u8]) -> Result<(), Fault>
+        ensures { self.new.rows ≡ self.old.rows }
+    {
         self.writer.write_all(text).map_err(unwritten)
     }
 
     /// Begins a table of this name.
-    pub fn begin(&mut self, name: &str, columns: &'static [Column]) -> Result<(), Fault> {
+    pub fn begin(&mut self, name: &str, columns: &'static [Column]) -> Result<(), Fault>
+        ensures { OnOk result (self.new.rows ≡ 0) }
+    {
         let first = self.tables == 0;
         self.tables = self.tables.saturating_add(1);
         self.rows = 0;
@@ -190,7 +197,9 @@ impl<W: Write + Drop> Sheet<W> {
     }
 
     /// Writes the names of the columns.
-    fn put_names(&mut self) -> Result<(), Fault> {
+    fn put_names(&mut self) -> Result<(), Fault>
+        ensures { self.new.rows ≡ self.old.rows }
+    {
         let mut cells = Vec::new(self.alloc);
         for Column(name, _, _) in self.columns {
             cells.push(Cell::text(name.as_bytes()))?;
@@ -198,8 +207,10 @@ impl<W: Write + Drop> Sheet<W> {
         self.put_line(cells.as_slice())
     }
 
-    /// Writes a row.
-    pub fn put(&mut self, cells: &[Cell]) -> Result<(), Fault> {
+    /// Writes a row, and counts it.
+    pub fn put(&mut self, cells: &[Cell]) -> Result<(), Fault>
+        ensures { OnOk result (self.new.rows ≡ with_more self.old.rows 1) }
+    {
         match self.format {
             Format::Table | Format::Csv => self.put_line(cells)?,
             Format::Json => {
@@ -213,7 +224,9 @@ impl<W: Write + Drop> Sheet<W> {
         Ok(())
     }
 
-    fn put_line(&mut self, cells: &[Cell]) -> Result<(), Fault> {
+    fn put_line(&mut self, cells: &[Cell]) -> Result<(), Fault>
+        ensures { self.new.rows ≡ self.old.rows }
+    {
         let line = match self.format {
             Format::Csv => self.record_of(cells)?,
             _ => self.text_line(cells)?,
