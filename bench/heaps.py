@@ -1,21 +1,20 @@
 #!/usr/bin/env python3
 """Refuses each growth of memory in turn to two feeders, and tells how the calls ended.
 
-    bench/heaps.py [--from N] [--to N] [--jobs N]
+    bench/heaps.py [--from N] [--to N]
 
-Feeds run in threads, so their memory is that of the whole program, and no test of its own can refuse it. So for n = 1, 2 and
-on the tests of tried/feeder_tests are run by `rt try --test --fail-alloc n`, which proves nothing, and of them one is looked at:
-it makes and opens a desk, files two feeds, files again what is left, ends the desk and replays its journal. Where memory was
-refused to it, it ends with an error that says what was refused, and with anything else where that isn't as the calls promise:
-the refused call has left things as they were, so that what was left can be filed then. The first n at which nothing is refused is
-the last. Each run builds the tests anew and takes about a minute. Prints how often each was refused, and ends with 1 where
-anything was wrong.
+Feeds run in threads, so their memory is that of the whole program, and no test of its own can refuse it:
+`rt try --test --fail-alloc N` does, which proves nothing, and refuses the growth N of each test of a crate. So that
+one build is enough, a copy of tried/feeder_tests gets a test for each growth from the first to the last. The test of
+the growth n lets memory grow N - n times before it makes anything, and then makes and opens a desk, files two feeds,
+files again what is left, ends the desk and replays its journal. Where memory was refused to it, it ends with an error
+that says what was refused, and with anything else where that isn't as the calls promise: the refused call has left
+things as they were, so that what was left can be filed then. The last growth must be one that no call makes any more,
+so that nothing is refused: then all were tried. It takes two minutes or three. Prints how each test ended and how
+often each call was refused, and ends with 1 where anything was wrong.
 """
 import argparse
 import collections
-import concurrent.futures
-import functools
-import os
 import pathlib
 import re
 import subprocess
@@ -27,29 +26,38 @@ sys.dont_write_bytecode = True
 from beside import ROOT, placed  # noqa: E402
 
 STANDS_ON = ["fpl_text", "fpl_message", "flow_plans", "flow_core", "flow_desk", "linked_list_allocator"]
-TEST = "refused::feeds_go_on_after_memory_was_refused"
+MODULE = "growths"
+HEAD = "//! A test for each growth that is refused.\nuse crate::refused::feeds_go_on;\nuse std::test::*;\n"
+TEST = "\n#[test]\nfn growth_%d(rt: HostRuntime) -> Result<(), Fail> {\n    feeds_go_on(&rt, rt.alloc(), %d)\n}\n"
+LINE = re.compile(r"test %s::growth_(\d+) \.\.\. (\w+)" % MODULE)
 NOTHING = "nothing"
 
 
-def tried(crate, count):
-    """The lines of a try, and where that of the test stands. A try that says nothing of it, as one that was killed, is made again."""
+def write_tests(crate, counts, last):
+    """Writes a test for each of these growths, of which each has that one refused where the last is."""
+    tests = "".join(TEST % (count, last - count) for count in counts)
+    (crate / "src" / (MODULE + ".rt")).write_text(HEAD + tests)
+    with open(crate / "src" / "lib.rt", "a") as file:
+        file.write("#[cfg(test)]\nmod %s;\n" % MODULE)
+
+
+def tried(crate, counts, last):
+    """The lines of a try, and where that of each test stands. Where one is missing, it tries again."""
     for _ in range(3):
-        command = ["nice", "rt", "try", "--test", "--fail-alloc", str(count)]
+        command = ["nice", "rt", "try", "--test", "--seconds", "600", "--fail-alloc", str(last)]
         ran = subprocess.run(command, cwd=crate, capture_output=True, text=True, stdin=subprocess.DEVNULL)
         lines = (ran.stdout + ran.stderr).splitlines()
-        found = [at for at, line in enumerate(lines) if line.startswith("test %s ..." % TEST)]
-        if found:
+        heads = [(at, LINE.match(line)) for at, line in enumerate(lines)]
+        found = {int(head[1]): at for at, head in heads if head}
+        if found.keys() == set(counts):
             break
     return lines + ["rt try ended with %d" % ran.returncode], found
 
 
-def ending(crate, count):
-    """What was refused when this growth was, or None and the lines of the test where it ended in another way."""
-    lines, found = tried(crate, count)
-    if not found:
-        return None, lines[-5:]
-    head, said = lines[found[0]], []
-    for line in lines[found[0] + 1:]:
+def ending(lines, at):
+    """What was refused to the test of this line, or None and its lines where it ended in another way."""
+    head, said = lines[at], []
+    for line in lines[at + 1:]:
         if not line.startswith("    "):
             break
         said.append(line.strip())
@@ -63,35 +71,34 @@ def ending(crate, count):
     return None, [head] + said
 
 
-def heaps(crate, args):
+def heaps(crate, first, last):
     """Whether each growth was refused in turn, and all went on as promised."""
-    ends, wrong, done = collections.OrderedDict(), 0, False
-    with concurrent.futures.ThreadPoolExecutor(args.jobs) as pool:
-        for begin in range(args.first, args.last + 1, args.jobs):
-            counts = range(begin, min(begin + args.jobs, args.last + 1))
-            for count, (what, said) in zip(counts, pool.map(functools.partial(ending, crate), counts)):
-                print("%d: %s" % (count, what or "WRONG\n  " + "\n  ".join(said)), flush=True)
-                wrong += what is None
-                done = done or what == NOTHING
-                if what not in (None, NOTHING):
-                    ends.setdefault(what, []).append(count)
-            if done:
-                break
-    for what, counts in ends.items():
-        print("%d growths refused: %s" % (len(counts), what))
-    print("%d wrong%s" % (wrong, "" if done else ", and not all were tried"))
-    return done and not wrong
+    counts = range(first, last + 1)
+    write_tests(crate, counts, last)
+    lines, found = tried(crate, counts, last)
+    ends, wrong, what = collections.OrderedDict(), 0, None
+    for count in counts:
+        what, said = ending(lines, found[count]) if count in found else (None, lines[-5:])
+        print("%d: %s" % (count, what or "WRONG\n  " + "\n  ".join(said)))
+        wrong += what is None
+        if what not in (None, NOTHING):
+            ends.setdefault(what, []).append(count)
+    for refused, of_it in ends.items():
+        print("%d growths refused: %s" % (len(of_it), refused))
+    print("%d wrong%s" % (wrong, "" if what == NOTHING else ", and not all were tried"))
+    return what == NOTHING and not wrong
 
 
 def main():
     parser = argparse.ArgumentParser(description=__doc__, formatter_class=argparse.RawDescriptionHelpFormatter)
     parser.add_argument("--from", dest="first", type=int, default=1)
-    parser.add_argument("--to", dest="last", type=int, default=2000)
-    parser.add_argument("--jobs", type=int, default=max(1, os.cpu_count() // 2))
+    parser.add_argument("--to", dest="last", type=int, default=200)
     args = parser.parse_args()
+    if not 1 <= args.first <= args.last:
+        parser.error("the growths go from 1 on, and the last is not before the first")
     with tempfile.TemporaryDirectory() as folder:
         crate = placed(pathlib.Path(folder), "feeder_tests", STANDS_ON, ROOT / "tried" / "feeder_tests", proofs=False)
-        sys.exit(0 if heaps(crate, args) else 1)
+        sys.exit(0 if heaps(crate, args.first, args.last) else 1)
 
 
 main()
