@@ -143,7 +143,7 @@ impl<A: Allocator + Copy> Texts<A> {
         })
     }
 
-    /// A copy, with each text that a message amends in place of the one held. Most amend none.
+    /// A copy, with each text that a message amends in place of the one held. Where it amends none, it is of one piece.
     #[tactic(auto, unfolding(crate::specs::Changes::texts_after))]
     pub(crate) fn amended(&self, alloc: A, message: &Chg<A>) -> Result<Self, AllocError>
         ensures { IfOk result (λ t. t ≡ texts_after self.now message.now) }
