@@ -4,6 +4,7 @@ pub mod FieldLawsProofs
 pub mod FieldPartsProofs
 pub mod PathLemmas
 pub mod PlacesLemmas
+pub mod TextLemmas
 pub mod SqueezingLemmas
 pub mod SqueezingLawsProofs
 pub mod WordsLemmas

@@ -2,21 +2,33 @@
 
 ghost use Rattle.std.specs.Prelude.{◌≡◌, ◌≤◌, [], List, ℕ, length};
 
-use arrayvec::ArrayVec;
 use std::marker::Model;
 
-/// A text of at most `N` bytes, which lies in the value itself.
-#[derive(Debug, Drop, PartialEq, Eq, Hash)]
+/// A text of at most `N` bytes, `N` at most 255, which lies in the value itself.
+#[derive(Clone, Copy, Debug, PartialEq, Eq, Hash)]
 pub struct Text<const N: usize> {
-    bytes: ArrayVec<u8, N>,
+    /// The text, and zeroes behind it.
+    bytes: [u8; N],
+    len: u8,
 }
 
 impl<const N: usize> Model for Text<N> {
+    ghost use Rattle.std.specs.Prelude.{◌≡◌, ◌≤◌, ◌-◌, ◌++◌, List, ℕ, length, take, drop, replicate};
+    ghost use Rattle.std.proofs.Common.{arith, take-append-drop, length-take-le, sym, ap, ◌∙◌};
+
     ghost Value = { List ℕ };
 
-    ghost view = { λ t. t.bytes.items };
+    ghost view = { λ t. take t.len t.bytes };
 
-    ghost inverse = { λ bytes. record { bytes = record { items = bytes } } };
+    ghost invariant = { λ t. (t.len ≤ N) × (length t.bytes ≡ N) × (drop t.len t.bytes ≡ replicate (N - t.len) 0) };
+
+    ghost inverse = { λ bytes. record { bytes = bytes ++ replicate (N - length bytes) 0; len = length bytes } };
+
+    ghost inverse_ok = { λ t h i. record {
+      bytes = (ap (λ n. take t.len t.bytes ++ replicate (N - n) 0) (length-take-le t.len t.bytes (omega (arith, h.0, h.1)))
+          ∙ ap (λ (rest : List ℕ). take t.len t.bytes ++ rest) (sym h.2) ∙ take-append-drop t.len t.bytes) i;
+      len = length-take-le t.len t.bytes (omega (arith, h.0, h.1)) i;
+    } };
 }
 
 impl<const N: usize> Default for Text<N> {
@@ -24,7 +36,8 @@ impl<const N: usize> Default for Text<N> {
 
     fn default() -> Self {
         Text {
-            bytes: ArrayVec::new(),
+            bytes: [0; N],
+            len: 0,
         }
     }
 }
@@ -32,12 +45,16 @@ impl<const N: usize> Default for Text<N> {
 impl<const N: usize> Text<N> {
     /// The text of these bytes.
     pub fn new(bytes: &[u8]) -> Self
-        requires { length bytes.now ≤ N }
+        requires fits { length bytes.now ≤ N }
+        requires short { N ≤ 255 }
         ensures { result ≡ bytes.now }
     {
-        let mut text = ArrayVec::new();
-        let _all = text.try_extend_from_slice(bytes);
-        Text { bytes: text }
+        let mut text = [0; N];
+        text[..bytes.len()].copy_from_slice(bytes);
+        Text {
+            bytes: text,
+            len: bytes.len() as u8,
+        }
     }
 
     /// The bytes.
@@ -45,13 +62,13 @@ impl<const N: usize> Text<N> {
         ensures value { result.now ≡ self.now }
         ensures fits { length result.now ≤ N }
     {
-        self.bytes.as_slice()
+        &self.bytes[..self.len as usize]
     }
 
     /// A copy, which takes no memory.
     pub fn copied(&self) -> Self
         ensures { result ≡ self.now }
     {
-        Text::new(self.as_bytes())
+        *self
     }
 }
