@@ -122,6 +122,9 @@ impl Heading {
     pub fn read(field: &[u8]) -> Result<Heading, FieldFault>
         ensures { result ≡ ok_or (heading_of field.now) (FieldFault.BadField 3) }
     {
-        heading_of(field).ok_or(FieldFault::BadField(3))
+        match heading_of(field) {
+            Some(heading) => Ok(heading),
+            None => Err(FieldFault::BadField(3)),
+        }
     }
 }

@@ -1,6 +1,6 @@
 //! Fields 13 and 16: a departure, a destination.
 
-ghost use Rattle.std.specs.Prelude.{◌≡◌, ◌≤◌, ◌<◌, List, ℕ, length, IfOk, IfSome};
+ghost use Rattle.std.specs.Prelude.{◌≡◌, ◌≤◌, ◌<◌, ◌++◌, ◌∷◌, [], List, ℕ, true, false, length, IfOk, IfSome};
 ghost use Rattle.std.specs.Option.{ok_or};
 ghost use Rattle.fpl_text.specs.Places.{is_place, arrival_of, alternates_of, departure_of, destination_of};
 
@@ -9,7 +9,6 @@ use crate::fault::FieldFault;
 use crate::text::Text;
 use crate::time::{TimeOfDay, read_elapsed};
 use crate::words::Words;
-use arrayvec::ArrayVec;
 use std::marker::Model;
 
 /// Field 13: a departure aerodrome and a time (ICAO Doc 4444, appendix 3, field type 13): of off-block, or in a DEP of
@@ -21,50 +20,77 @@ pub struct Departure {
 }
 
 /// The alternate aerodromes of a destination, at most two, seen as the list of their names.
-#[derive(Debug, Drop, PartialEq, Eq)]
+#[derive(Clone, Copy, Debug, PartialEq, Eq)]
 pub struct Alternates {
-    places: ArrayVec<Text<4>, 2>,
+    /// The names, and empty ones behind them.
+    places: [Text<4>; 2],
+    count: u8,
 }
 
 impl Model for Alternates {
-    ghost use Rattle.std.specs.Prelude.{List, ℕ};
+    ghost use Rattle.std.specs.Prelude.{◌≡◌, ◌≤◌, ◌-◌, ◌++◌, List, [], ℕ, length, take, drop, replicate};
+    ghost use Rattle.std.proofs.Common.{arith, take-append-drop, length-take-le, sym, ap, ◌∙◌};
 
     ghost Value = { List (List ℕ) };
 
-    ghost view = { λ a. a.places.items };
+    ghost view = { λ a. take a.count a.places };
 
-    ghost inverse = { λ places. record { places = record { items = places } } };
+    ghost invariant = { λ a. (a.count ≤ 2) × (length a.places ≡ 2)
+        × (drop a.count a.places ≡ replicate (2 - a.count) []) };
+
+    ghost inverse = { λ places. record { places = places ++ replicate (2 - length places) []; count = length places } };
+
+    ghost inverse_ok = { λ a h i. record {
+      places = (ap (λ n. take a.count a.places ++ replicate (2 - n) [])
+          (length-take-le a.count a.places (omega (arith, h.0, h.1)))
+          ∙ ap (λ (rest : List (List ℕ)). take a.count a.places ++ rest) (sym h.2)
+          ∙ take-append-drop a.count a.places) i;
+      count = length-take-le a.count a.places (omega (arith, h.0, h.1)) i;
+    } };
 }
 
 impl Alternates {
+    /// No alternates.
+    fn none() -> Alternates
+        ensures { result ≡ [] }
+    {
+        Alternates {
+            places: [Text::default(); 2],
+            count: 0,
+        }
+    }
+
     /// The names, in order.
     pub fn as_slice(&self) -> &[Text<4>]
         ensures value { result.now ≡ self.now }
         ensures fits { length result.now ≤ 2 }
     {
-        self.places.as_slice()
+        &self.places[..self.count as usize]
+    }
+
+    /// Whether there are two.
+    fn is_full(&self) -> bool
+        ensures full { result ≡ true → 2 ≤ length self.now }
+        ensures room { result ≡ false → length self.now < 2 }
+    {
+        self.count == 2
+    }
+
+    /// Appends a name.
+    fn push(&mut self, place: Text<4>)
+        requires { length self.old < 2 }
+        ensures { self.new ≡ self.old ++ place ∷ [] }
+    {
+        self.places[self.count as usize] = place;
+        self.count += 1;
     }
 
     /// A copy, which takes no memory.
     pub fn copied(&self) -> Alternates
         ensures { result ≡ self.now }
     {
-        Alternates {
-            places: copied_places(self.as_slice()),
-        }
+        *self
     }
-}
-
-/// The same places again.
-fn copied_places(places: &[Text<4>]) -> ArrayVec<Text<4>, 2>
-    requires { length places.now ≤ 2 }
-    ensures { result.items ≡ places.now }
-{
-    let mut copies = ArrayVec::new();
-    for place in places {
-        copies.push(place.copied());
-    }
-    copies
 }
 
 /// Field 16: a destination, the total estimated elapsed time in minutes where it is given, and alternates (ICAO Doc
@@ -125,7 +151,7 @@ fn arrival_of(word: &[u8]) -> Option<(Text<4>, Option<u32>)>
 fn alternates_of(words: Words<'_>) -> Option<Alternates>
     ensures { result ≡ alternates_of words.entry }
 {
-    let mut alternates = ArrayVec::new();
+    let mut alternates = Alternates::none();
     for word in words {
         if alternates.is_full() {
             return None;
@@ -135,7 +161,7 @@ fn alternates_of(words: Words<'_>) -> Option<Alternates>
         }
         alternates.push(Text::new(word));
     }
-    Some(Alternates { places: alternates })
+    Some(alternates)
 }
 
 /// The parts of field 16.

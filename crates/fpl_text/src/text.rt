@@ -25,7 +25,8 @@ impl<const N: usize> Model for Text<N> {
     ghost inverse = { λ bytes. record { bytes = bytes ++ replicate (N - length bytes) 0; len = length bytes } };
 
     ghost inverse_ok = { λ t h i. record {
-      bytes = (ap (λ n. take t.len t.bytes ++ replicate (N - n) 0) (length-take-le t.len t.bytes (omega (arith, h.0, h.1)))
+      bytes = (ap (λ n. take t.len t.bytes ++ replicate (N - n) 0)
+          (length-take-le t.len t.bytes (omega (arith, h.0, h.1)))
           ∙ ap (λ (rest : List ℕ). take t.len t.bytes ++ rest) (sym h.2) ∙ take-append-drop t.len t.bytes) i;
       len = length-take-le t.len t.bytes (omega (arith, h.0, h.1)) i;
     } };
