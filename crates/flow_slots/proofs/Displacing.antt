@@ -1,5 +1,5 @@
 -- What the walk of a flight that displaces others keeps.
-use Rattle.std.proofs.Common.{◌≡◌, ℕ, ◌+◌, ◌<◌, ◌≤◌, ◌++◌, true, false, List, length, get_or, set, take, drop, Option, None, Some, refl, sym, ap, subst, ◌∙◌, arith}
+use Rattle.std.proofs.Common.{◌≡◌, ℕ, ◌+◌, ◌<◌, ◌++◌, true, false, List, length, get_or, set, take, drop, Option, None, Some, refl, sym, ap, subst, ◌∙◌, arith}
 use Rattle.std.proofs.lemmas.List.{length-set, drop-set-lt, get_or-drop}
 use Rattle.std.proofs.lemmas.Grind.{drop_more_same}
 use Rattle.flow_slots.specs.declared.cell.Planned.{Planned}
@@ -11,7 +11,7 @@ use Rattle.flow_slots.specs.Walk.{displace, has_empty, waits, Follows}
 use Rattle.flow_slots.proofs.Following.{Follows-fixed, Follows-waiting}
 use Rattle.flow_slots.proofs.Steps.{displace-fixed, displace-later, has_empty-fixed, has_empty-waiting}
 use Rattle.flow_slots.proofs.Tied.{IsTied-swap, IsTied-number, IsTied-absent, place_at-lifted}
-use Rattle.flow_slots.proofs.Gained.{gained-write}
+use Rattle.flow_slots.proofs.Gained.{gained-same, gained-write}
 
 -- the cells from `k` on are those of `start`
 pub same_ahead : (start row : List Cell) (k : ℕ) → drop k row ≡ drop k start → flight_at row k ≡ flight_at start k
@@ -31,7 +31,7 @@ pub record Displacing (start : List Cell) (flights first_writes from : ℕ) (x :
   pub room : has_empty (drop k row) ≡ true
   pub follows : Follows coming (drop k row)
   pub ahead : drop k row ≡ drop k start
-  pub count : writes ≤ first_writes + gained start row
+  pub count : writes ≡ first_writes + gained start row
   pub target : take k row ++ displace coming (drop k row) ≡ take from start ++ displace x (drop from start)
 
 pub Displacing-start : (row : List Cell) (writes : ℕ) (places : List (Option ℕ)) (from : ℕ) (x : Planned) → IsTied places row → 0 < x.flight → x.flight < length places → place_at places x.flight ≡ None → has_empty (drop from row) ≡ true → Follows x (drop from row) → Displacing row (length places) writes from x row writes places x from
@@ -45,7 +45,7 @@ Displacing-start row writes places from x t some n none room follows =
       room = room;
       follows = follows;
       ahead = refl;
-      count = omega arith;
+      count = omega (arith, gained-same row);
       target = refl;
     }
 
@@ -71,7 +71,7 @@ Displacing-passed start flights first_writes from x row writes places coming k (
 Displacing-passed start flights first_writes from x row writes places coming k (Fixed f) d h e w n = Displacing-fixed start flights first_writes from x row writes places coming k f d h e
 
 -- one write, to a cell of another flight or of none
-pub Displacing-count : (start : List Cell) (flights first_writes from : ℕ) (x : Planned) (row : List Cell) (writes : ℕ) (places : List (Option ℕ)) (coming : Planned) (k : ℕ) → Displacing start flights first_writes from x row writes places coming k → k < length row → writes + 1 ≤ first_writes + gained start (set row k (Waiting coming))
+pub Displacing-count : (start : List Cell) (flights first_writes from : ℕ) (x : Planned) (row : List Cell) (writes : ℕ) (places : List (Option ℕ)) (coming : Planned) (k : ℕ) → Displacing start flights first_writes from x row writes places coming k → k < length row → writes + 1 ≡ first_writes + gained start (set row k (Waiting coming))
 Displacing-count start flights first_writes from x row writes places coming k d h =
     let same = same_ahead start row k d.ahead in
     let apart : flight_at start k ≡ Some coming.flight → ⊥ = λ q.

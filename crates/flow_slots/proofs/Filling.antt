@@ -111,7 +111,7 @@ pub Filling-passed : (p : Period) (capacity : ℕ) (ws : List Planned) (i next k
 Filling-passed p capacity ws i next k row places x walk comes is =
     let from = first_slot p x.entry in
     let free = room p capacity row places x.flight from walk.kept comes.some comes.most (walk.absent x.flight comes.apart) (first_slot-early p x.entry comes.within) in
-    passed-earlier row from from k x (omega (arith, is)) (λ j l m. walk.packed x j comes.before l (omega (arith, is, l, m))) (record { same = refl; room = free })
+    passed-earlier row from from k x (omega (arith, is)) (λ j l m. walk.packed x j comes.before l (omega (arith, is, l, m))) (record { same = refl; room = free; reached = omega arith })
 
 pub Filling-within : (p : Period) (capacity : ℕ) (ws : List Planned) (i next k : ℕ) (row : List Cell) (places : List (Option ℕ)) (x : Planned) → Filling p capacity ws i next row places → ComesNext p capacity ws i x → k ≡ max (first_slot p x.entry) next → k < length row
 Filling-within p capacity ws i next k row places x walk comes is =

@@ -13,6 +13,7 @@ pub mod Held
 pub mod Holders
 pub mod Kept
 pub mod Leaving
+pub mod Lifted
 pub mod Made
 pub mod MovingUp
 pub mod Optimal

@@ -1,6 +1,6 @@
 -- What a cell of four bytes has room for: a flight of a row and its entry.
-use Rattle.std.proofs.Common.{◌≡◌, ℕ, ◌+◌, ◌-◌, ◌<◌, ◌≤◌, arith}
-use Rattle.flow_slots.specs.declared.cell.Cell.TheVariants.{Waiting, Fixed}
+use Rattle.std.proofs.Common.{◌≡◌, ℕ, ◌<◌, ◌≤◌, arith}
+use Rattle.flow_slots.specs.declared.cell.Cell.TheVariants.{Waiting}
 use Rattle.flow_slots.specs.declared.cell.Planned.{Planned}
 use Rattle.flow_slots.specs.PackedCell.{IsStored}
 use Rattle.flow_slots.specs.Period.{Period, IsRegular, IsWithin}

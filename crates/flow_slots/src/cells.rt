@@ -1,13 +1,16 @@
 //! The row of slots as its callers see it: what stands in each slot, and how often slots were written.
-ghost use Rattle.std.specs.Prelude.{◌≡◌, ℕ, ◌-◌, ◌^◌, ◌<◌, ◌≤◌, true, false, ◌↔◌, IfOk, IsTrue, length, replicate};
+ghost use Rattle.std.specs.Prelude.{◌≡◌, ◌+◌, ◌-◌, ◌^◌, ◌<◌, ◌≤◌, ◌++◌, true, ◌↔◌, IfOk, IsTrue};
+ghost use Rattle.std.specs.Prelude.{None, drop, length, replicate, take};
 ghost use Rattle.flow_slots.specs.CellRow.{CellRow, written};
+ghost use Rattle.flow_slots.specs.Changed.{gained};
 ghost use Rattle.flow_slots.specs.MadeRow.{EndsEmpty, counted};
 ghost use Rattle.flow_slots.specs.PackedCell.{IsStored};
-ghost use Rattle.flow_slots.specs.Row.{cell_at, flight_at};
-ghost use Rattle.flow_slots.specs.Walk.{waits_before};
+ghost use Rattle.flow_slots.specs.Row.{cell_at, flight_at, place_at, IsTied};
+ghost use Rattle.flow_slots.specs.Walk.{displace, has_empty, AllFollow};
 ghost use Rattle.flow_slots.specs.declared.cell.Cell.TheVariants.{Empty, Waiting};
 
 use crate::cell::{Cell, Planned};
+use crate::held_slot::HeldSlot;
 use crate::made_cells::MadeCells;
 use std::alloc::{AllocError, Allocator, Global};
 use std::marker::Model;
@@ -109,16 +112,25 @@ impl<A: Allocator + Copy> Cells<A> {
         self.made.cell(k)
     }
 
-    /// The first slot from `k` on in which no flight waits that stands before this one.
+    /// Takes `flight` in from slot `from` on: it gets the first slot that is empty or held by a later flight, which goes
+    /// on in the same way.
     #[inline(always)]
-    pub(crate) fn past_earlier(&self, k: u32, flight: Planned) -> u32
-        requires slot { k ≤ length self.now.row }
-        requires stored { IsStored self.now.start (Waiting flight) }
-        ensures from { k ≤ result }
-        ensures passed { (i : ℕ) → k ≤ i → i < result → waits_before flight (cell_at self.now.row i) ≡ true }
-        ensures stops { waits_before flight (cell_at self.now.row result) ≡ false }
+    pub(crate) fn displace(&mut self, places: &mut [HeldSlot], from: u32, flight: Planned)
+        requires tied { IsTied places.old self.old.row }
+        requires order { AllFollow (drop from self.old.row) }
+        requires some { 0 < flight.flight }
+        requires number { flight.flight < length places.old }
+        requires absent { place_at places.old flight.flight ≡ None }
+        requires room { has_empty (drop from self.old.row) ≡ true }
+        requires stored { IsStored self.old.start (Waiting flight) }
+        ensures tied { IsTied places.new self.new.row }
+        ensures start { self.new.start ≡ self.old.start }
+        ensures row { self.new.row ≡ take from self.old.row ++ displace flight (drop from self.old.row) }
+        ensures writes { self.new.writes ≤ self.old.writes + gained self.old.row self.new.row }
+        ensures more { self.old.writes ≤ self.new.writes }
     {
-        self.made.past_earlier(k, flight)
+        self.made.make_to(from);
+        self.made.displace(places, from, flight);
     }
 
     /// Writes a cell, and counts it.

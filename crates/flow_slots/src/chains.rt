@@ -11,68 +11,60 @@ ghost use Rattle.flow_slots.specs.Walk.{displace, has_empty, next_up, close, Fol
 ghost use Rattle.flow_slots.specs.declared.cell.Cell.TheVariants.{Waiting};
 
 use crate::cell::{Cell, Planned};
-use crate::cells::Cells;
 use crate::first_slots::FirstSlots;
 use crate::held_slot::HeldSlot;
 use crate::made_cells::MadeCells;
-use crate::packed_cell::PackedFlight;
+use crate::packed_cell::{PackedCell, PackedFlight};
 use std::alloc::Allocator;
 
-/// The first slot from `from` on that is empty or held by a flight that waits and doesn't stand
-/// before `flight`.
-pub(crate) fn first_later<A: Allocator + Copy>(cells: &Cells<A>, from: u32, flight: Planned) -> u32
-    requires order { AllFollow cells.now.row }
-    requires room { has_empty (drop from cells.now.row) ≡ true }
-    requires stored { IsStored cells.now.start (Waiting flight) }
-    ensures { ComesIn cells.now.row from flight result }
+/// The first of these cells from a place on that is empty or held by a flight that waits and doesn't stand before
+/// `flight`.
+#[inline(always)]
+pub(crate) fn first_later(cells: &[PackedCell], from: usize, flight: PackedFlight) -> usize
+    requires order { AllFollow (drop from cells.now) }
+    requires room { has_empty (drop from cells.now) ≡ true }
+    requires entry { flight.entry < 131_071 }
+    ensures { ComesIn cells.now from flight result }
 {
     let mut k = from;
-    while k < cells.len() {
-        let next = cells.past_earlier(k, flight);
-        match cells.cell(next) {
-            Cell::Empty => return next,
-            Cell::Fixed(_) => {}
-            Cell::Waiting(_) => return next,
-        }
-        k = next + 1;
+    while cells[k].waits_before(flight) || cells[k].is_fixed() {
+        k += 1;
     }
-    unreachable!()
+    k
 }
 
-/// Takes `flight` in at slot `from`, where no waiting flight up to the next empty slot stands before
-/// it: each flight takes the slot of the next one that waits, the last one the empty slot.
-pub(crate) fn displace<A: Allocator + Copy>(
-    cells: MadeCells<A>,
+/// Takes `flight` in at place `from`, where no waiting flight up to the next empty cell stands before
+/// it: each flight takes the cell of the next one that waits, the last one the empty cell. The answer is
+/// the number of cells that were written.
+#[inline(always)]
+pub(crate) fn displace(
+    cells: &mut [PackedCell],
     places: &mut [HeldSlot],
-    from: u32,
-    flight: Planned,
-) -> MadeCells<A>
-    requires tied { IsTied places.old cells.row }
+    from: usize,
+    flight: PackedFlight,
+) -> u64
+    requires few { length cells.old < 2 ^ 16 }
+    requires tied { IsTied places.old cells.old }
     requires some { 0 < flight.flight }
     requires number { flight.flight < length places.old }
     requires absent { place_at places.old flight.flight ≡ None }
-    requires follows { Follows flight (drop from cells.row) }
-    requires room { has_empty (drop from cells.row) ≡ true }
-    requires stored { IsStored cells.start (Waiting flight) }
-    requires ends { EndsEmpty cells from }
-    ensures tied { IsTied places.new result.row }
-    ensures start { result.start ≡ cells.start }
-    ensures row { result.row ≡ take from cells.row ++ displace flight (drop from cells.row) }
-    ensures writes { counted result ≤ counted cells + gained cells.row result.row }
-    ensures more { counted cells ≤ counted result }
+    requires follows { Follows flight (drop from cells.old) }
+    requires room { has_empty (drop from cells.old) ≡ true }
+    requires entry { flight.entry < 131_071 }
+    ensures tied { IsTied places.new cells.new }
+    ensures cells { cells.new ≡ take from cells.old ++ displace flight (drop from cells.old) }
+    ensures written { result ≡ gained cells.old cells.new }
 {
-    let start = cells.start();
-    let mut row = cells;
-    row.begin_chain();
-    let mut coming = PackedFlight::of(start, flight);
+    let mut coming = flight;
     let mut k = from;
+    let mut written = 0;
     loop {
-        let cell = row.packed(k);
+        let cell = cells[k];
         match cell.waiting() {
             Some(held) => {
-                let moved = coming.get(start);
-                row.write_next(k, Cell::Waiting(moved));
-                places[moved.flight as usize] = HeldSlot::of(k);
+                cells[k] = PackedCell::waiting_in(coming);
+                places[coming.flight() as usize] = HeldSlot::of(k as u32);
+                written += 1;
                 coming = held;
             }
             None => {
@@ -83,10 +75,9 @@ pub(crate) fn displace<A: Allocator + Copy>(
         }
         k += 1;
     }
-    let last = coming.get(start);
-    row.write_next(k, Cell::Waiting(last));
-    places[last.flight as usize] = HeldSlot::of(k);
-    row
+    cells[k] = PackedCell::waiting_in(coming);
+    places[coming.flight() as usize] = HeldSlot::of(k as u32);
+    written + 1
 }
 
 /// The flight that may move up into an empty slot `hole`, with its slot.

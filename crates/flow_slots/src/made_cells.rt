@@ -1,14 +1,17 @@
 //! The cells of a row, made as they are needed.
 ghost use Rattle.std.specs.Prelude.{◌≡◌, ℕ, ◌+◌, ◌-◌, ◌<◌, ◌≤◌, ◌++◌, ◌^◌, IfOk, true, false, drop};
-ghost use Rattle.std.specs.Prelude.{length, max, replicate, slice_set, vec_capacity};
+ghost use Rattle.std.specs.Prelude.{None, length, min, replicate, slice_set, take, vec_capacity};
 ghost use Rattle.flow_slots.specs.CellRow.{one_more};
+ghost use Rattle.flow_slots.specs.Changed.{gained};
 ghost use Rattle.flow_slots.specs.MadeRow.{MadeRow, EndsEmpty, counted};
 ghost use Rattle.flow_slots.specs.PackedCell.{IsStored, from_start};
-ghost use Rattle.flow_slots.specs.Row.{cell_at};
-ghost use Rattle.flow_slots.specs.Walk.{waits_before};
+ghost use Rattle.flow_slots.specs.Row.{cell_at, place_at, IsTied};
+ghost use Rattle.flow_slots.specs.Walk.{displace, has_empty, AllFollow};
 ghost use Rattle.flow_slots.specs.declared.cell.Cell.TheVariants.{Empty, Waiting};
 
 use crate::cell::{Cell, Planned};
+use crate::chains::{displace, first_later};
+use crate::held_slot::HeldSlot;
 use crate::packed_cell::{PackedCell, PackedFlight};
 use std::alloc::{AllocError, Allocator};
 use std::marker::Model;
@@ -54,22 +57,6 @@ fn make<A: Allocator + Copy>(row: &mut Vec<PackedCell, A>, count: u32)
     while row.len() < count as usize {
         row.push_reserved(PackedCell::empty());
     }
-}
-
-/// The first of these cells from a place on in which no flight waits that stands before this one, or the end.
-#[inline(always)]
-fn past_earlier(cells: &[PackedCell], from: usize, flight: PackedFlight) -> usize
-    requires entry { flight.entry < 131_071 }
-    ensures from { from ≤ result }
-    ensures most { result ≤ max from (length cells.now) }
-    ensures passed { (i : ℕ) → from ≤ i → i < result → waits_before flight (cell_at cells.now i) ≡ true }
-    ensures stops { waits_before flight (cell_at cells.now result) ≡ false }
-{
-    let mut place = from;
-    while place < cells.len() && cells[place].waits_before(flight) {
-        place += 1;
-    }
-    place
 }
 
 impl<A: Allocator + Copy> MadeCells<A> {
@@ -167,19 +154,6 @@ impl<A: Allocator + Copy> MadeCells<A> {
         self.row[k as usize]
     }
 
-    /// The first slot from `k` on in which no flight waits that stands before this one.
-    #[inline(always)]
-    pub(crate) fn past_earlier(&self, k: u32, flight: Planned) -> u32
-        requires slot { k ≤ length self.now.row }
-        requires stored { IsStored self.now.start (Waiting flight) }
-        ensures from { k ≤ result }
-        ensures passed { (i : ℕ) → k ≤ i → i < result → waits_before flight (cell_at self.now.row i) ≡ true }
-        ensures stops { waits_before flight (cell_at self.now.row result) ≡ false }
-    {
-        let flight = PackedFlight::of(self.start, flight);
-        past_earlier(&self.row, k as usize, flight) as u32
-    }
-
     /// Makes the cells up to slot `k`, and an empty one at their end where the row has room.
     pub(crate) fn make_to(&mut self, k: u32)
         requires { k < length self.old.row }
@@ -194,6 +168,30 @@ impl<A: Allocator + Copy> MadeCells<A> {
         } else if made < self.len && !self.row[made as usize - 1].is_empty() {
             make(&mut self.row, made + 1);
         }
+    }
+
+    /// Takes `flight` in from slot `from` on, and counts the cells that were written: it gets the first slot that is
+    /// empty or held by a later flight, which goes on in the same way.
+    #[inline(always)]
+    pub(crate) fn displace(&mut self, places: &mut [HeldSlot], from: u32, flight: Planned)
+        requires tied { IsTied places.old self.old.row }
+        requires order { AllFollow (drop from self.old.row) }
+        requires some { 0 < flight.flight }
+        requires number { flight.flight < length places.old }
+        requires absent { place_at places.old flight.flight ≡ None }
+        requires room { has_empty (drop from self.old.row) ≡ true }
+        requires stored { IsStored self.old.start (Waiting flight) }
+        requires ends { EndsEmpty self.old from }
+        ensures tied { IsTied places.new self.new.row }
+        ensures start { self.new.start ≡ self.old.start }
+        ensures row { self.new.row ≡ take from self.old.row ++ displace flight (drop from self.old.row) }
+        ensures writes { counted self.new
+            ≡ min (counted self.old + gained self.old.row self.new.row) (2 ^ 64 - 1) }
+    {
+        let coming = PackedFlight::of(self.start, flight);
+        let k = first_later(&self.row, from as usize, coming);
+        let written = displace(&mut self.row, places, k, coming);
+        self.writes = self.writes.saturating_add(written);
     }
 
     /// Writes a cell, and counts it.

@@ -4,6 +4,7 @@
 //! 1,440 minutes, and 17 bits are there for them; 15 bits are there for a flight's number, which is at most 20,000.
 ghost use Rattle.std.specs.Prelude.{◌≡◌, ◌+◌, ◌*◌, ◌/◌, ◌%◌, ◌^◌, ◌<◌, ◌↔◌, false, IfNone, IfSome, IsTrue};
 ghost use Rattle.flow_slots.specs.PackedCell.{IsStored, flight_from, from_start};
+ghost use Rattle.flow_slots.specs.Row.{IsFixedCell};
 ghost use Rattle.flow_slots.specs.Walk.{waits, waits_before};
 ghost use Rattle.flow_slots.specs.declared.cell.Cell.TheVariants.{Waiting};
 
@@ -112,6 +113,14 @@ impl PackedFlight {
             flight: flight_in(self.word),
         }
     }
+
+    /// The number of the flight.
+    #[inline(always)]
+    pub(crate) fn flight(self) -> u32
+        ensures { result ≡ self.flight }
+    {
+        flight_in(self.word)
+    }
 }
 
 impl PackedCell {
@@ -123,6 +132,15 @@ impl PackedCell {
         PackedCell {
             word: word_of(NO_ENTRY, 0),
         }
+    }
+
+    /// This flight, which waits in the slot.
+    #[inline(always)]
+    pub(crate) fn waiting_in(flight: PackedFlight) -> Self
+        requires { flight.entry < 131_071 }
+        ensures { result ≡ Waiting flight }
+    {
+        PackedCell { word: flight.word }
     }
 
     /// What stands in the slot.
@@ -169,6 +187,14 @@ impl PackedCell {
     {
         let word = self.word;
         entry_in(word) == NO_ENTRY && flight_in(word) == 0
+    }
+
+    /// Whether a flight keeps the slot. Its number is then above that of no flight, so one comparison tells.
+    #[inline(always)]
+    pub(crate) fn is_fixed(self) -> bool
+        ensures { IsTrue result ↔ IsFixedCell self }
+    {
+        word_of(NO_ENTRY, 0) < self.word
     }
 
     /// Whether a flight waits in the slot that stands before this one. An empty slot and a fixed flight have the

@@ -13,7 +13,7 @@ ghost use Rattle.flow_slots.specs.Walk.{displace, has_empty, close, push, AllFol
 
 use crate::cell::{Cell, Planned};
 use crate::cells::Cells;
-use crate::chains::{displace, first_later, vacate};
+use crate::chains::vacate;
 use crate::first_slots::FirstSlots;
 use crate::held_slot::{HeldSlot, first_held};
 use std::alloc::{AllocError, Allocator};
@@ -73,7 +73,7 @@ impl<A: Allocator + Copy> Row<A> {
     /// flight, which goes on in the same way.
     pub(crate) fn displace(&mut self, from: u32, flight: Planned)
         requires tied { IsTied self.old.places.items self.old.cells.row }
-        requires order { AllFollow self.old.cells.row }
+        requires order { AllFollow (drop from self.old.cells.row) }
         requires some { 0 < flight.flight }
         requires number { flight.flight < vec_len self.old.places }
         requires absent { place_at self.old.places.items flight.flight ≡ None }
@@ -88,9 +88,8 @@ impl<A: Allocator + Copy> Row<A> {
             ≤ self.old.cells.writes + gained self.old.cells.row self.new.cells.row }
         ensures more { self.old.cells.writes ≤ self.new.cells.writes }
     {
-        let k = first_later(&self.cells, from, flight);
-        let cells = self.cells.take_from(k);
-        self.cells = Cells::from_made(displace(cells, self.places.as_mut_slice(), k, flight));
+        self.cells
+            .displace(self.places.as_mut_slice(), from, flight);
     }
 
     /// Takes flights, which stand in the order, into an empty row: each gets the later of the first slot of its entry
@@ -165,8 +164,7 @@ impl<A: Allocator + Copy> Row<A> {
         self.places[flight as usize] = HeldSlot::of(k);
         if let Cell::Waiting(held) = cell {
             self.places[held.flight as usize] = HeldSlot::none();
-            let cells = self.cells.take_from(k + 1);
-            self.cells = Cells::from_made(displace(cells, self.places.as_mut_slice(), k + 1, held));
+            self.displace(k + 1, held);
         }
     }
 }

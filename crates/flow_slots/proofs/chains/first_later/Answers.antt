@@ -1,28 +1,19 @@
-use Rattle.std.proofs.Common.{ap, ◌∙◌}
+use Rattle.std.proofs.Common.{◌≡◌, subst, sym, ap, ◌∙◌}
+use Rattle.std.proofs.lemmas.List.{get_or_default}
+use Rattle.flow_slots.specs.declared.cell.Cell.TheVariants.{Empty}
+use Rattle.flow_slots.specs.Row.{cell_at, IsFixedCell}
 use Rattle.flow_slots.specs.Walk.{waits_before}
-use Rattle.flow_slots.proofs.Following.{ComesIn-empty, ComesIn-later, passed-earlier, passed-fixed}
+use Rattle.flow_slots.proofs.Following.{comes-in}
 use Rattle.flow_slots.proofs.Steps.{has_empty-within}
 use Rattle.flow_slots.proofs.chains.first_later.Goals as goal
 
-pub cell-requires : goal.cell-requires
-cell-requires g c =
-    let far = passed-earlier c.args.cells.now.row c.args.from c.loop-k.k c.past_earlier-next.result c.args.flight c.past_earlier-next.ensures.from c.past_earlier-next.ensures.passed c.loop-k.invariant in
-    has_empty-within c.args.cells.now.row c.past_earlier-next.result far.room
-
-pub returns-in-Empty : goal.returns-in-Empty
-returns-in-Empty g c =
-    let row = c.args.cells.now.row in
-    let far = passed-earlier row c.args.from c.loop-k.k c.past_earlier-next.result c.args.flight c.past_earlier-next.ensures.from c.past_earlier-next.ensures.passed c.loop-k.invariant in
-    ComesIn-empty row c.args.from c.past_earlier-next.result c.args.flight far.same far.room (has_empty-within row c.past_earlier-next.result far.room) c.in-Empty.ensures.value
-
-pub returns-in-Waiting : goal.returns-in-Waiting
-returns-in-Waiting g c =
-    let row = c.args.cells.now.row in
-    let far = passed-earlier row c.args.from c.loop-k.k c.past_earlier-next.result c.args.flight c.past_earlier-next.ensures.from c.past_earlier-next.ensures.passed c.loop-k.invariant in
-    ComesIn-later row c.args.from c.past_earlier-next.result c.args.flight c.in-Waiting.field-0 far.same far.room (has_empty-within row c.past_earlier-next.result far.room) c.in-Waiting.ensures.value
-    (ap (waits_before c.args.flight) c.in-Waiting.ensures.value ∙ c.past_earlier-next.ensures.stops) c.requires.order
-
-pub loop-k-preserved : goal.loop-k-preserved
-loop-k-preserved g c =
-    let far = passed-earlier c.args.cells.now.row c.args.from c.loop-k.k c.past_earlier-next.result c.args.flight c.past_earlier-next.ensures.from c.past_earlier-next.ensures.passed c.loop-k.invariant in
-    passed-fixed c.args.cells.now.row c.args.from c.past_earlier-next.result c.in-Fixed.field-0 c.args.flight c.in-Fixed.ensures.value far
+pub returns : goal.returns
+returns c =
+    let row = c.args.cells.now in
+    let k = c.loop-flight.k in
+    let within = has_empty-within row k c.loop-flight.invariant.room in
+    let here : c.index-cells-k.result ≡ cell_at row k = c.index-cells-k.is ∙ get_or_default row k c.index-cells-k.result Empty within in
+    let there : c.index-cells-k-else-waits_before.result ≡ cell_at row k = c.index-cells-k-else-waits_before.is ∙ get_or_default row k c.index-cells-k-else-waits_before.result Empty within in
+    let before = ap (waits_before c.args.flight) (sym here) ∙ (sym c.waits_before.ensures ∙ c.if-waits_before.false) in
+    let other : IsFixedCell (cell_at row k) → ⊥ = (λ h. let yes = c.is_fixed.ensures.1 (subst IsFixedCell (sym there) h) in let no = c.if-is_fixed.false in cc) in
+    comes-in row c.args.from k c.args.flight c.loop-flight.invariant before other c.requires.order

@@ -1,4 +1,4 @@
-use Rattle.std.proofs.Common.{◌≡◌, ◌≤◌, length, ap, sym, ◌∙◌, arith}
+use Rattle.std.proofs.Common.{◌≤◌, length, ap, sym, ◌∙◌, arith}
 use Rattle.flow_slots.specs.MadeRow.{filled}
 use Rattle.flow_slots.specs.PackedCell.{from_start}
 use Rattle.flow_slots.proofs.Filled.{cell_at-others}

@@ -2,8 +2,8 @@ use Rattle.std.proofs.Common.{◌≡◌, refl, sym, ap, subst, ◌∙◌, ◌+�
 use Rattle.flow_slots.specs.declared.cell.Cell.TheVariants.{Empty, Fixed}
 use Rattle.std.proofs.lemmas.List.{drop-set-lt}
 use Rattle.flow_slots.specs.Row.{cell_at, flight_of}
-use Rattle.flow_slots.specs.Walk.{Follows}
-use Rattle.flow_slots.proofs.Following.{AllFollow-next}
+use Rattle.flow_slots.specs.Walk.{AllFollow}
+use Rattle.flow_slots.proofs.Following.{AllFollow-drop}
 use Rattle.flow_slots.proofs.Gained.{gained-pushed}
 use Rattle.flow_slots.proofs.Steps.{push-empty, open_is_empty}
 use Rattle.flow_slots.proofs.Tied.{IsTied-put, IsTied-replace, IsTied-absent, IsTied-known, IsTied-some}
@@ -18,13 +18,13 @@ pub displace-requires-clause-tied : goal.displace-requires-clause-tied
 displace-requires-clause-tied g c =
     let s = c.args.self.now in
     let away = IsTied-absent s.places.items s.cells.row c.args.flight c.requires.tied c.requires.absent in
-    rw (c.as_mut_slice.ensures.value, c.take_from-cells.ensures.row, c.write.ensures.cells, c.of.ensures, c.none.ensures) (IsTied-replace s.places.items s.cells.row c.args.k c.args.flight (Fixed c.args.flight) c.in-Waiting.held away c.requires.slot c.requires.some (omega arith) refl c.in-Waiting.ensures.value)
+    rw (c.write.ensures.cells, c.of.ensures, c.none.ensures) (IsTied-replace s.places.items s.cells.row c.args.k c.args.flight (Fixed c.args.flight) c.in-Waiting.held away c.requires.slot c.requires.some (omega arith) refl c.in-Waiting.ensures.value)
 
-pub displace-requires-clause-follows : goal.displace-requires-clause-follows
-displace-requires-clause-follows g c =
+pub displace-requires-clause-order : goal.displace-requires-clause-order
+displace-requires-clause-order g c =
     let s = c.args.self.now in
     let beyond = drop-set-lt (c.args.k + 1) s.cells.row c.args.k (Fixed c.args.flight) (omega arith) in
-    rw (c.take_from-cells.ensures.row, c.write.ensures.cells) (subst (Follows c.in-Waiting.held) (sym beyond) (AllFollow-next c.args.k c.in-Waiting.held s.cells.row c.in-Waiting.ensures.value c.requires.order))
+    rw c.write.ensures.cells (subst AllFollow (sym beyond) (AllFollow-drop (c.args.k + 1) s.cells.row c.requires.order))
 
 pub displace-requires-clause-some : goal.displace-requires-clause-some
 displace-requires-clause-some g c =
@@ -53,6 +53,6 @@ returns-in_default g c =
 pub returns-in-Waiting-clause-writes : goal.returns-in-Waiting-clause-writes
 returns-in-Waiting-clause-writes g c =
     let s = c.args.self.now in
-    let row = rw (c.take_from-cells.ensures.row, c.write.ensures.cells) at c.displace.ensures.row in
-    let writes = rw (c.take_from-cells.ensures.row, c.take_from-cells.ensures.writes, c.write.ensures.cells) at c.displace.ensures.writes in
-    rw c.from_made.ensures (omega (arith, writes, gained-pushed s.cells.row _ c.displace.result.row c.args.k (Fixed c.args.flight) c.requires.slot row))
+    let row = rw c.write.ensures.cells at c.displace.ensures.row in
+    let writes = rw c.write.ensures.cells at c.displace.ensures.writes in
+    omega (arith, writes, gained-pushed s.cells.row _ c.displace.new.self.cells.row c.args.k (Fixed c.args.flight) c.requires.slot row)

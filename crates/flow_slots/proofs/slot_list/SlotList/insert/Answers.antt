@@ -1,6 +1,6 @@
 use Rattle.std.proofs.Common.{refl, ap, ◌∙◌, arith}
 use Rattle.flow_slots.specs.Period.{first_slot}
-use Rattle.flow_slots.proofs.Following.{AllFollow-settled}
+use Rattle.flow_slots.proofs.Following.{AllFollow-settled, AllFollow-drop}
 use Rattle.flow_slots.proofs.Gained.{gained-moved}
 use Rattle.flow_slots.proofs.Kept.{may_come_in, IsKept-insert, lineup-insert}
 use Rattle.flow_slots.specs.declared.cell.Planned.{Planned}
@@ -10,7 +10,7 @@ use Rattle.flow_slots.proofs.slot_list.SlotList.insert.Goals as goal
 pub displace-requires-clause-order : goal.displace-requires-clause-order
 displace-requires-clause-order g c =
     let s = c.self.inside in
-    AllFollow-settled (λ e. first_slot s.first_slots e) 0 s.row.cells.row c.self.invariant.kept.settled
+    AllFollow-drop c.at-from.result s.row.cells.row (AllFollow-settled (λ e. first_slot s.first_slots e) 0 s.row.cells.row c.self.invariant.kept.settled)
 
 pub displace-requires-clause-absent : goal.displace-requires-clause-absent
 displace-requires-clause-absent g c =
