@@ -26,11 +26,11 @@ pub(crate) fn first_later(cells: &[PackedCell], from: usize, flight: PackedFligh
     requires entry { flight.entry < 131_071 }
     ensures { ComesIn cells.now from flight result }
 {
-    let mut k = from;
-    while cells[k].waits_before(flight) || cells[k].is_fixed() {
-        k += 1;
+    let mut place = from;
+    while cells[place].waits_before(flight) || cells[place].is_fixed() {
+        place += 1;
     }
-    k
+    place
 }
 
 /// Takes `flight` in at place `from`, where no waiting flight up to the next empty cell stands before

@@ -10,10 +10,10 @@ use Rattle.flow_slots.proofs.chains.first_later.Goals as goal
 pub returns : goal.returns
 returns c =
     let row = c.args.cells.now in
-    let k = c.loop-flight.k in
-    let within = has_empty-within row k c.loop-flight.invariant.room in
-    let here : c.index-cells-k.result ≡ cell_at row k = c.index-cells-k.is ∙ get_or_default row k c.index-cells-k.result Empty within in
-    let there : c.index-cells-k-else-waits_before.result ≡ cell_at row k = c.index-cells-k-else-waits_before.is ∙ get_or_default row k c.index-cells-k-else-waits_before.result Empty within in
+    let place = c.loop-flight.place in
+    let within = has_empty-within row place c.loop-flight.invariant.room in
+    let here : c.index-cells-place.result ≡ cell_at row place = c.index-cells-place.is ∙ get_or_default row place c.index-cells-place.result Empty within in
+    let there : c.index-cells-place-else-waits_before.result ≡ cell_at row place = c.index-cells-place-else-waits_before.is ∙ get_or_default row place c.index-cells-place-else-waits_before.result Empty within in
     let before = ap (waits_before c.args.flight) (sym here) ∙ (sym c.waits_before.ensures ∙ c.if-waits_before.false) in
-    let other : IsFixedCell (cell_at row k) → ⊥ = (λ h. let yes = c.is_fixed.ensures.1 (subst IsFixedCell (sym there) h) in let no = c.if-is_fixed.false in cc) in
-    comes-in row c.args.from k c.args.flight c.loop-flight.invariant before other c.requires.order
+    let other : IsFixedCell (cell_at row place) → ⊥ = (λ h. let yes = c.is_fixed.ensures.1 (subst IsFixedCell (sym there) h) in let no = c.if-is_fixed.false in cc) in
+    comes-in row c.args.from place c.args.flight c.loop-flight.invariant before other c.requires.order
