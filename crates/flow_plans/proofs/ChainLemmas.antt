@@ -272,6 +272,30 @@ updated-newest heads later own n updates q =
     ap (λ o. unwrap_or o 0) (updates q)
     ∙ elim (same_flight own q) as (λ b. unwrap_or (cond b (Some n) (lookup (same_flight q) heads)) 0 ≡ (if b then n else newest heads q)) [ true ↦ refl | false ↦ refl ]
 
+-- where it is the same number nothing changes
+pub updated-same : (heads later : List (FlightName × ℕ)) (own : FlightName) (n : ℕ) → lookup (same_flight own) heads ≡ Some n → IsUpdated heads later own n
+    → (q : FlightName) → lookup (same_flight q) later ≡ lookup (same_flight q) heads
+updated-same heads later own n there updates q = updates q ∙ by (same_flight own q) refl where
+  by : (b : Bool) → same_flight own q ≡ b → cond b (Some n) (lookup (same_flight q) heads) ≡ lookup (same_flight q) heads
+  by true e = sym there ∙ ap (λ (r : FlightName). lookup (same_flight r) heads) (same_flight-same own q e)
+  by false e = refl
+
+pub updated-stays : (heads later : List (FlightName × ℕ)) (own : FlightName) (n : ℕ) → newest heads own ≡ n → IsUpdated heads later own n
+    → (q : FlightName) → newest later q ≡ newest heads q
+updated-stays heads later own n first updates q = updated-newest heads later own n updates q ∙ by (same_flight own q) refl where
+  by : (b : Bool) → same_flight own q ≡ b → (if b then n else newest heads q) ≡ newest heads q
+  by true e = sym first ∙ ap (λ (r : FlightName). newest heads r) (same_flight-same own q e)
+  by false e = refl
+
+pub updated-others : (heads later : List (FlightName × ℕ)) (own : FlightName) (n : ℕ) → IsUpdated heads later own n
+    → (q : FlightName) → same_flight own q ≡ false → newest later q ≡ newest heads q
+updated-others heads later own n updates q other =
+    updated-newest heads later own n updates q ∙ ap (λ (b : Bool). if b then n else newest heads q) other
+
+pub updated-own : (heads later : List (FlightName × ℕ)) (own : FlightName) (n : ℕ) → IsUpdated heads later own n → newest later own ≡ n
+updated-own heads later own n updates =
+    updated-newest heads later own n updates own ∙ ap (λ (b : Bool). if b then n else newest heads own) (same_flight-refl own)
+
 -- no flight is forgotten by it
 pub updated-names : (heads later : List (FlightName × ℕ)) (own : FlightName) (n : ℕ) → IsUpdated heads later own n
     → (q : FlightName) → lookup (same_flight q) later ≡ None → lookup (same_flight q) heads ≡ None

@@ -105,45 +105,42 @@ module _ (ps : List Plan) (n : ℕ) (p : Plan) (some : 0 < n) (within : n ≤ le
         left-later chains ps (others n ps) (n - 1) (flight_of_key p.key) others-length (omega (arith, some, within)) others-same others-gone only-own are
         l room (omega (arith, a, some)) held (next ∙ at)
 
-  module _ (chains : Chained) (held : is_held p.state ≡ true) (are : AreChained chains (others n ps)) where
+  module _ (chains : Chained) (are : AreChained chains (others n ps)) where
     same-back : (name : FlightName) (k : ℕ) → (k ≡ n - 1 → ⊥) → is_held_there name ps k ≡ is_held_there name (others n ps) k
     same-back name k ne = sym (others-same name k ne)
 
     inside : n - 1 < length (others n ps)
     inside = omega (arith, some, within, others-length)
 
-    pub join-length : length chains.older ≡ length ps
-    join-length = are.count ∙ others-length
-
-    pub join-newest : (heads : List (FlightName × ℕ)) (room : ℕ) → newest chains.heads (flight_of_key p.key) < n
+    pub join-newest : is_held p.state ≡ true → (heads : List (FlightName × ℕ)) (room : ℕ) → newest chains.heads (flight_of_key p.key) < n
         → IsUpdated chains.heads heads (flight_of_key p.key) n
         → AreChained (record { heads = heads; older = slice_set chains.older (n - 1) (newest chains.heads (flight_of_key p.key)); room = room }) ps
-    join-newest heads room few updates =
+    join-newest held heads room few updates =
         joined-newest chains (others n ps) ps (n - 1) (flight_of_key p.key) (sym others-length) inside same-back others-gone (own-held held) only-own are
         heads room (omega (arith, few)) (λ q. rw (sym at) (updated-newest chains.heads heads (flight_of_key p.key) n updates q))
 
-    pub join-later : (l room : ℕ) → n ≤ l → is_held_there (flight_of_key p.key) (others n ps) l ≡ true → slice_index chains.older l ≤ n
+    pub join-later : is_held p.state ≡ true → (l room : ℕ) → n ≤ l → is_held_there (flight_of_key p.key) (others n ps) l ≡ true → slice_index chains.older l ≤ n
         → AreChained (record { heads = chains.heads; older = slice_set (slice_set chains.older (n - 1) (slice_index chains.older l)) l n; room = room }) ps
-    join-later l room a there most =
+    join-later held l room a there most =
         subst (λ (m : ℕ). AreChained (record { heads = chains.heads; older = slice_set (slice_set chains.older (n - 1) (slice_index chains.older l)) l m; room = room }) ps) (sym at)
         (joined-later chains (others n ps) ps (n - 1) (flight_of_key p.key) (sym others-length) inside same-back others-gone (own-held held) only-own are
         l room (omega (arith, a, some)) there (omega (arith, most)))
 
-    -- it isn't in the chain yet
+    -- it isn't in a chain yet
     never : (b : Bool) → b ≡ true → b ≡ false → ⊥
     never b t f = absurd (cc)
 
-    pub join-apart : newest chains.heads (flight_of_key p.key) ≡ n → ⊥
-    join-apart e =
-        never (is_held_there (flight_of_key p.key) (others n ps) (n - 1))
-        (last-passes (is_held_there (flight_of_key p.key) (others n ps)) (length (others n ps)) (n - 1) (sym (are.heads (flight_of_key p.key)) ∙ e ∙ at))
-        (others-gone (flight_of_key p.key))
+    pub join-apart : (name : FlightName) → newest chains.heads name ≡ n → ⊥
+    join-apart name e =
+        never (is_held_there name (others n ps) (n - 1))
+        (last-passes (is_held_there name (others n ps)) (length (others n ps)) (n - 1) (sym (are.heads name) ∙ e ∙ at))
+        (others-gone name)
 
-    pub join-below : (l : ℕ) → is_held_there (flight_of_key p.key) (others n ps) l ≡ true → slice_index chains.older l ≡ n → ⊥
-    join-below l t e =
-        never (is_held_there (flight_of_key p.key) (others n ps) (n - 1))
-        (last-passes (is_held_there (flight_of_key p.key) (others n ps)) l (n - 1) (sym (are.links (flight_of_key p.key) l t) ∙ e ∙ at))
-        (others-gone (flight_of_key p.key))
+    pub join-below : (name : FlightName) (l : ℕ) → is_held_there name (others n ps) l ≡ true → slice_index chains.older l ≡ n → ⊥
+    join-below name l t e =
+        never (is_held_there name (others n ps) (n - 1))
+        (last-passes (is_held_there name (others n ps)) l (n - 1) (sym (are.links name l t) ∙ e ∙ at))
+        (others-gone name)
 
 -- a list with one plan more
 push-before : (test : Plan → Bool) (ps : List Plan) (p : Plan) (k : ℕ) → k < length ps → passes_at test (ps ++ p ∷ []) k ≡ passes_at test ps k

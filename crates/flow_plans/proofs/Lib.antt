@@ -16,3 +16,4 @@ pub mod Amendments
 pub mod Previous
 pub mod ChainMoves
 pub mod ChainWalks
+pub mod ChainChanges

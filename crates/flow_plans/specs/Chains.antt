@@ -1,14 +1,15 @@
 -- How plans are found by identification, departure and destination, which name a flight. For each flight there is a chain of the
 -- plans that are held under its name, the newest first: the number of the newest stands in a map, and beside each plan that of
 -- the next older one. Where there is none, the number is 0.
-use Rattle.std.specs.Prelude.{◌≡◌, ℕ, zero, suc, ◌+◌, ◌-◌, ◌*◌, ◌<◌, ◌≤◌, Bool, true, ◌==◌, ◌&&◌, if◌then◌else◌, List, [], ◌∷◌, length, cond, Some, None, unwrap_or, slice_index}
+use Rattle.std.specs.Prelude.{◌≡◌, ℕ, zero, suc, ◌+◌, ◌-◌, ◌*◌, ◌<◌, ◌≤◌, Bool, true, ◌==◌, ◌&&◌, if◌then◌else◌, List, [], ◌∷◌, length, cond, Some, None, IfSome, unwrap_or, slice_index}
 use Rattle.std.specs.List.{fold}
 use Rattle.std.specs.Map.{lookup}
 use Rattle.fpl_message.specs.declared.parts.Parts.{Parts}
 use Rattle.flow_plans.specs.declared.chains.FlightName.{FlightName}
 use Rattle.flow_plans.specs.declared.plan.Key.{Key}
 use Rattle.flow_plans.specs.Places.{letters_of}
-use Rattle.flow_plans.specs.Plans.{Plan, is_held}
+use Rattle.flow_plans.specs.Changes.{others}
+use Rattle.flow_plans.specs.Plans.{Plan, is_held, plan_at}
 use Rattle.flow_plans.specs.Searching.{passes_at}
 
 -- bytes as one number to the base 256
@@ -77,6 +78,24 @@ pub record AreChained (chains : Chained) (plans : List Plan) : Type 0 where
   pub count : length chains.older ≡ length plans
   pub heads : (name : FlightName) → newest chains.heads name ≡ newest_held name plans (length plans)
   pub links : (name : FlightName) → AreLinks (is_held_there name plans) chains.older
+
+-- these are the chains of plans but for the one of this number
+pub record IsApart (chains : Chained) (number : ℕ) : Type 0 where
+  pub plans : List Plan
+  pub within : (0 < number) × (number ≤ length plans)
+  pub chained : AreChained chains (others number plans)
+
+-- of whatever plans these were the chains, the one of this number under that name is now in none
+abbrev pub LeaveOut : Chained → Chained → FlightName → ℕ → Type 0
+LeaveOut chains later name number =
+    (plans : List Plan) → AreChained chains plans → IfSome (plan_at plans number) (λ p. flight_of_key p.key ≡ name)
+    → AreChained later (others number plans)
+
+-- of whatever plans but for the one of this number these were the chains, that one, held under this name, is now in its own
+abbrev pub TakeIn : Chained → Chained → FlightName → ℕ → Type 0
+TakeIn chains later name number =
+    (plans : List Plan) → AreChained chains (others number plans)
+    → IfSome (plan_at plans number) (λ p. (is_held p.state ≡ true) × (flight_of_key p.key ≡ name)) → AreChained later plans
 
 -- the numbers of a chain from this one on, and so many at most
 unfoldable pub chain_from : ℕ → List ℕ → ℕ → List ℕ

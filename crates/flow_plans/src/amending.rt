@@ -120,13 +120,15 @@ pub(crate) fn exchange<A: Allocator + Copy>(
     ensures chained { AreChained chains.new plans.new }
     ensures room { chains.old.room ≤ chains.new.room + 1 }
 {
-    let name = FlightName::of_key(plans.as_slice()[(number - 1) as usize].key());
-    if name == FlightName::of_key(plan.key()) {
-        plans.exchange(number, plan);
+    let before = FlightName::of_key(plans.as_slice()[(number - 1) as usize].key());
+    let name = FlightName::of_key(plan.key());
+    plans.exchange(number, plan);
+    if name == before {
         return;
     }
-    chains.leave(plans.as_slice(), number);
-    plans.exchange(number, plan);
-    chains.join(plans.as_slice(), number);
-    chains.forget(&name);
+    let left = chains.leave(&before, number);
+    chains.join(name, number);
+    if left == 0 {
+        chains.forget(&before);
+    }
 }

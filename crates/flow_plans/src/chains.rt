@@ -1,13 +1,12 @@
 //! Finding plans by identification, departure and destination, without a walk over all plans.
-ghost use Rattle.std.specs.Prelude.{◌≡◌, ◌≤◌, ◌<◌, ◌+◌, ◌-◌, ◌++◌, ◌∷◌, [], ℕ, Bool, true, None, OnOk};
-ghost use Rattle.std.specs.Prelude.{OnErr, IfSome, length, take, slice_index};
+ghost use Rattle.std.specs.Prelude.{◌≡◌, ◌≤◌, ◌<◌, ◌+◌, ◌-◌, ◌++◌, ◌∷◌, [], ℕ, Bool, true, false, None, OnOk};
+ghost use Rattle.std.specs.Prelude.{OnErr, length, max, take, slice_index};
 ghost use Rattle.std.specs.Map.{lookup};
 ghost use Rattle.indexmap.specs.IndexMap.{spare};
-ghost use Rattle.flow_plans.specs.Plans.{is_held, plan_at};
-ghost use Rattle.flow_plans.specs.Changes.{others};
+ghost use Rattle.flow_plans.specs.Plans.{is_held};
 ghost use Rattle.flow_plans.specs.Chains.{base_256, flight_named, flight_of_key, flight_of_parts, same_flight, newest};
 ghost use Rattle.flow_plans.specs.Chains.{GoDown, AreLinks, IsNewest, AreChained, HasRoomFor, IsUpdated, KeepNames};
-ghost use Rattle.flow_plans.specs.Chains.{StayChained};
+ghost use Rattle.flow_plans.specs.Chains.{StayChained, IsApart, LeaveOut, TakeIn};
 
 use crate::places::letters_of;
 use crate::plan::{Key, Plan};
@@ -132,50 +131,48 @@ impl<A: Allocator + Copy> Chains<A> {
         self.older.reserve(1)?;
         self.heads.reserve(1)?;
         let name = FlightName::of_key(plan.key());
-        let older = self.newest(&name);
-        put_newest(&mut self.heads, name, plans.len() as u32 + 1);
+        let older = raise_newest(&mut self.heads, name, plans.len() as u32 + 1);
         self.older.push_reserved(older);
         Ok(())
     }
 
-    /// Takes the plan of this number out of its chain. It takes no memory.
-    pub(crate) fn leave(&mut self, plans: &[Plan<A>], number: u32)
-        requires number { (0 < number) × (number ≤ length plans.now) }
-        requires chained { AreChained self.old plans.now }
-        ensures chained { AreChained self.new (others number plans.now) }
+    /// Takes the plan of this number, whose flight has this name, out of its chain, and answers the number of the newest
+    /// that is left in that. It takes no memory.
+    pub(crate) fn leave(&mut self, name: &FlightName, number: u32) -> u32
+        requires number { (0 < number) × (number ≤ length self.old.older) }
+        requires within { newest self.old.heads name.now ≤ length self.old.older }
+        ensures left { result ≡ newest self.new.heads name.now }
+        ensures out { LeaveOut self.old self.new name.now number }
         ensures kept { KeepNames self.old self.new }
     {
-        let place = (number - 1) as usize;
-        let name = FlightName::of_key(plans[place].key());
-        let newest = self.newest(&name);
+        let next = self.older[(number - 1) as usize];
+        let newest = lower_newest(&mut self.heads, name, number, next);
         if newest < number {
-            return;
+            return newest;
         }
         if newest == number {
-            set_newest(&mut self.heads, &name, self.older[place]);
-            return;
+            return next;
         }
         let later = later_than(&self.older, newest, number);
         if self.older[later] == number {
-            self.older[later] = self.older[place];
+            self.older[later] = next;
         }
+        newest
     }
 
-    /// Puts the plan of this number into its chain, which has room for it.
-    pub(crate) fn join(&mut self, plans: &[Plan<A>], number: u32)
-        requires number { (0 < number) × (number ≤ length plans.now) }
-        requires held { IfSome (plan_at plans.now number) (λ p. is_held p.state ≡ true) }
-        requires room { IfSome (plan_at plans.now number) (λ p. HasRoomFor self.old (flight_of_key p.key)) }
-        requires chained { AreChained self.old (others number plans.now) }
-        ensures chained { AreChained self.new plans.now }
+    /// Puts the plan of this number into the chain of its flight, which has this name, and for which there is room.
+    pub(crate) fn join(&mut self, name: FlightName, number: u32)
+        requires apart { IsApart self.old number }
+        requires room { HasRoomFor self.old name }
+        ensures taken { TakeIn self.old self.new name number }
         ensures room { self.old.room ≤ self.new.room + 1 }
+        ensures others { (q : FlightName) → same_flight name q ≡ false
+            → newest self.new.heads q ≡ newest self.old.heads q }
     {
         let place = (number - 1) as usize;
-        let name = FlightName::of_key(plans[place].key());
-        let newest = self.newest(&name);
+        let newest = raise_newest(&mut self.heads, name, number);
         if newest < number {
             self.older[place] = newest;
-            put_newest(&mut self.heads, name, number);
             return;
         }
         let later = later_than(&self.older, newest, number);
@@ -192,41 +189,61 @@ impl<A: Allocator + Copy> Chains<A> {
         ensures chained { AreChained self.new (take (length plans.now - 1) plans.now) }
     {
         let name = FlightName::of_key(plans[plans.len() - 1].key());
-        self.leave(plans, plans.len() as u32);
+        let left = self.leave(&name, plans.len() as u32);
         self.older.pop();
-        self.forget(&name);
+        if left == 0 {
+            self.forget(&name);
+        }
     }
 
     /// Forgets a flight under whose name no plan is held.
     pub(crate) fn forget(&mut self, name: &FlightName)
+        requires { newest self.old.heads name.now ≡ 0 }
         ensures heads { (q : FlightName) → newest self.new.heads q ≡ newest self.old.heads q }
         ensures older { self.new.older ≡ self.old.older }
         ensures room { self.old.room ≤ self.new.room }
     {
-        if self.newest(name) == 0 {
-            self.heads.swap_remove(name);
-        }
+        self.heads.swap_remove(name);
     }
 }
 
-/// Sets the number of the newest plan of a flight that is in the map.
-fn set_newest<A: Allocator + Copy>(heads: &mut Heads<A>, name: &FlightName, number: u32)
-    requires { lookup (same_flight name.now) heads.old.entries ≡ None → ⊥ }
-    ensures heads { IsUpdated heads.old.entries heads.new.entries name.now number }
+/// Gives the newest plan of a flight another number where it had this one, and answers the number before.
+fn lower_newest<A: Allocator + Copy>(
+    heads: &mut Heads<A>,
+    name: &FlightName,
+    number: u32,
+    next: u32,
+) -> u32
+    requires { 0 < number }
+    ensures before { result ≡ newest heads.old.entries name.now }
+    ensures lowered { result ≡ number → IsUpdated heads.old.entries heads.new.entries name.now next }
+    ensures kept { (result ≡ number → ⊥) → (q : FlightName)
+        → lookup (same_flight q) heads.new.entries ≡ lookup (same_flight q) heads.old.entries }
     ensures room { spare heads.new ≡ spare heads.old }
 {
-    if let Some(newest) = heads.get_mut(name) {
-        *newest = number;
+    let Some(newest) = heads.get_mut(name) else {
+        return 0;
+    };
+    let before = *newest;
+    if before == number {
+        *newest = next;
     }
+    before
 }
 
-/// Sets the number of the newest plan of a flight, for which there is room in the map.
-fn put_newest<A: Allocator + Copy>(heads: &mut Heads<A>, name: FlightName, number: u32)
-    requires { lookup (same_flight name) heads.old.entries ≡ None → 0 < spare heads.old }
-    ensures heads { IsUpdated heads.old.entries heads.new.entries name number }
+/// Makes this number that of the newest plan of a flight, for which there is room in the map, unless a newer one has
+/// it, and answers the number before.
+fn raise_newest<A: Allocator + Copy>(heads: &mut Heads<A>, name: FlightName, number: u32) -> u32
+    requires some { 0 < number }
+    requires room { lookup (same_flight name) heads.old.entries ≡ None → 0 < spare heads.old }
+    ensures before { result ≡ newest heads.old.entries name }
+    ensures raised { IsUpdated heads.old.entries heads.new.entries name (max result number) }
     ensures room { spare heads.old ≤ spare heads.new + 1 }
 {
-    heads.insert(name, number).unwrap();
+    let newest = heads.entry(name).unwrap().or_insert(0);
+    let before = *newest;
+    *newest = before.max(number);
+    before
 }
 
 /// The place of the plan from which the chain that begins with this newest one goes on below a number, or to it.

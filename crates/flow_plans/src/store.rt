@@ -16,7 +16,7 @@ ghost use Rattle.flow_plans.specs.Changes.{plan_of, moment_of, filed, cancelled,
 ghost use Rattle.flow_plans.specs.Changes.{IsJustRefusal, Answers};
 
 use crate::amending::amend_plan;
-use crate::chains::Chains;
+use crate::chains::{Chains, FlightName};
 use crate::fault::PlanFault;
 use crate::matching::{holds_key, matching};
 use crate::plan::{Plan, PlanState, Status, key_of};
@@ -367,7 +367,8 @@ fn end_plan<A: Allocator + Copy>(
 {
     let number = matching(plans.as_slice(), chains, parts)?;
     if let PlanState::Cancelled = state {
-        chains.leave(plans.as_slice(), number);
+        let name = FlightName::of_key(plans.as_slice()[(number - 1) as usize].key());
+        chains.leave(&name, number);
     }
     plans.set_state(number, state);
     Ok(number)

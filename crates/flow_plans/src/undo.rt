@@ -5,7 +5,7 @@ ghost use Rattle.flow_plans.specs.Chains.{flight_of_key, AreChained, HasRoomFor}
 ghost use Rattle.flow_plans.specs.Plans.{is_held, plan_at, status_at, changed_at, with_state};
 
 use crate::amending::exchange;
-use crate::chains::Chains;
+use crate::chains::{Chains, FlightName};
 use crate::plan::{Plan, PlanState, Status};
 use crate::plan_list::PlanList;
 use fpl_text::Minute;
@@ -70,9 +70,10 @@ fn file_again<A: Allocator + Copy>(plans: &mut PlanList<A>, chains: &mut Chains<
     ensures chained { AreChained chains.new plans.new }
 {
     let held = plans.as_slice()[(number - 1) as usize].is_held();
+    let name = FlightName::of_key(plans.as_slice()[(number - 1) as usize].key());
     plans.set_state(number, PlanState::Filed);
     if !held {
-        chains.join(plans.as_slice(), number);
+        chains.join(name, number);
     }
 }
 

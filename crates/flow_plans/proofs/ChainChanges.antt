@@ -1,0 +1,132 @@
+-- What taking a plan out of its chain, or putting it into one, means for all plans of which these are the chains.
+use Rattle.std.proofs.Common.{◌≡◌, ℕ, zero, suc, ◌-◌, ◌<◌, ◌≤◌, Bool, true, List, [], ◌∷◌, length, Some, Option, IfSome, unwrap_or, slice_get, slice_set, slice_index, get_or, refl, sym, ap, subst, ◌∙◌, arith}
+use Rattle.std.specs.Map.{lookup}
+use Rattle.flow_plans.specs.declared.chains.FlightName.{FlightName}
+use Rattle.flow_plans.specs.declared.plan.PlanState.TheVariants as state
+use Rattle.flow_plans.specs.Plans.{Plan, is_held, plan_at, with_plan, with_state}
+use Rattle.flow_plans.specs.Changes.{others}
+use Rattle.flow_plans.specs.Chains.{Chained, newest, same_flight, IsUpdated, flight_of_key, is_held_there, GoDown, AreLinks, IsNewest, AreChained, IsApart, LeaveOut, TakeIn}
+use Rattle.flow_plans.proofs.ChainMoves.{head-newest, head-within, others-length, leave-absent, leave-past, leave-newest, leave-later, join-newest, join-later, join-apart, join-below}
+use Rattle.flow_plans.proofs.Keepings.{set-there, plan-stood, changed-length, others-set, chained-forgot}
+
+-- there is a plan of each number
+pub there-is : (ps : List Plan) (i : ℕ) (R : Type 0) → i < length ps → ((p : Plan) → slice_get ps i ≡ Some p → p ≡ get_or ps i p → R) → R
+there-is [] i R h use-it = absurd (omega (arith, h))
+there-is (x ∷ ps) zero R h use-it = use-it x refl refl
+there-is (x ∷ ps) (suc i) R h use-it = there-is ps i R (omega (arith, h)) use-it
+
+-- the place that a walk down a chain came to has a plan of that chain
+abbrev pub IsReached : Chained → FlightName → ℕ → Type 0
+IsReached chains name l = (test : ℕ → Bool) → AreLinks test chains.older → IsNewest test (newest chains.heads name) → test l ≡ true
+
+reached-held : (chains : Chained) (ps : List Plan) (name : FlightName) (l : ℕ) → AreChained chains ps → IsReached chains name l → is_held_there name ps l ≡ true
+reached-held chains ps name l are reached = reached (is_held_there name ps) (are.links name) (head-newest chains ps name are)
+
+module _ (chains : Chained) (name : FlightName) (n : ℕ) (some : 0 < n) (inside : n ≤ length chains.older) where
+  within : (ps : List Plan) → AreChained chains ps → n ≤ length ps
+  within ps are = omega (arith, inside, are.count)
+
+  out : (later : Chained)
+      → ((ps : List Plan) (p : Plan) → n ≤ length ps → p ≡ get_or ps (n - 1) p → flight_of_key p.key ≡ name → AreChained chains ps → AreChained later (others n ps))
+      → LeaveOut chains later name n
+  out later by ps are named =
+      there-is ps (n - 1) (AreChained later (others n ps)) (omega (arith, some, within ps are))
+      (λ p there stood. by ps p (within ps are) stood (rw there at named) are)
+
+  pub out-absent : newest chains.heads name < n → LeaveOut chains chains name n
+  out-absent few = out chains (λ ps p most stood own are.
+      leave-absent ps n p some most stood chains are (subst (λ (q : FlightName). newest chains.heads q < n) (sym own) few))
+
+  pub out-newest : (heads : List (FlightName × ℕ)) (room : ℕ) → newest chains.heads name ≡ n
+      → IsUpdated chains.heads heads name (slice_index chains.older (n - 1))
+      → LeaveOut chains (record { heads = heads; older = chains.older; room = room }) name n
+  out-newest heads room first updates = out (record { heads = heads; older = chains.older; room = room }) (λ ps p most stood own are.
+      leave-newest ps n p some most stood chains are heads room (subst (λ (q : FlightName). newest chains.heads q ≡ n) (sym own) first)
+      (subst (λ (q : FlightName). IsUpdated chains.heads heads q (slice_index chains.older (n - 1))) (sym own) updates))
+
+  pub out-later : (l room : ℕ) → n ≤ l → IsReached chains name l → slice_index chains.older l ≡ n
+      → LeaveOut chains (record { heads = chains.heads; older = slice_set chains.older l (slice_index chains.older (n - 1)); room = room }) name n
+  out-later l room a reached next =
+      out (record { heads = chains.heads; older = slice_set chains.older l (slice_index chains.older (n - 1)); room = room }) (λ ps p most stood own are.
+      leave-later ps n p some most stood chains are l room a
+      (subst (λ (q : FlightName). is_held_there q ps l ≡ true) (sym own) (reached-held chains ps name l are reached)) next)
+
+  pub out-past : (l : ℕ) → n ≤ l → IsReached chains name l → slice_index chains.older l ≤ n → (slice_index chains.older l ≡ n → ⊥)
+      → LeaveOut chains chains name n
+  out-past l a reached most other = out chains (λ ps p few stood own are.
+      leave-past ps n p some few stood chains are l a
+      (subst (λ (q : FlightName). is_held_there q ps l ≡ true) (sym own) (reached-held chains ps name l are reached)) most other)
+
+pub out-stay : (chains left later : Chained) (name : FlightName) (n : ℕ) → ((q : FlightName) → lookup (same_flight q) later.heads ≡ lookup (same_flight q) left.heads)
+    → later.older ≡ left.older → LeaveOut chains left name n → LeaveOut chains later name n
+out-stay chains left later name n heads older gone ps are named =
+    chained-forgot left later (others n ps) (λ q. ap (λ (o : Option ℕ). unwrap_or o 0) (heads q)) older (gone ps are named)
+
+module _ (chains : Chained) (n : ℕ) (apart : IsApart chains n) where
+  pub apart-within : n - 1 < length chains.older
+  apart-within = there-is apart.plans (n - 1) (n - 1 < length chains.older) (omega (arith, apart.within)) (λ p there stood.
+      omega (arith, apart.within, apart.chained.count, others-length apart.plans n p apart.within.0 apart.within.1 stood))
+
+  pub apart-newest-within : (name : FlightName) → newest chains.heads name ≤ length chains.older
+  apart-newest-within name = omega (arith, head-within chains (others n apart.plans) name apart.chained, apart.chained.count)
+
+  pub apart-newest : (name : FlightName) → newest chains.heads name ≡ n → ⊥
+  apart-newest name first = there-is apart.plans (n - 1) ⊥ (omega (arith, apart.within)) (λ p there stood.
+      join-apart apart.plans n p apart.within.0 apart.within.1 stood chains apart.chained name first)
+
+  pub apart-below : (name : FlightName) (l : ℕ) → IsReached chains name l → slice_index chains.older l ≡ n → ⊥
+  apart-below name l reached next = there-is apart.plans (n - 1) ⊥ (omega (arith, apart.within)) (λ p there stood.
+      join-below apart.plans n p apart.within.0 apart.within.1 stood chains apart.chained name l
+      (reached-held chains (others n apart.plans) name l apart.chained reached) next)
+
+  within-these : (ps : List Plan) → AreChained chains (others n ps) → length ps ≡ length apart.plans
+  within-these ps are = omega (arith, are.count, apart.chained.count, same ps, same apart.plans) where
+    same : (qs : List Plan) → length (others n qs) ≡ length qs
+    same qs = changed-length (with_state state.Cancelled) n qs
+
+  module _ (name : FlightName) where
+    into : (later : Chained)
+        → ((ps : List Plan) (p : Plan) → n ≤ length ps → p ≡ get_or ps (n - 1) p → is_held p.state ≡ true → flight_of_key p.key ≡ name
+        → AreChained chains (others n ps) → AreChained later ps)
+        → TakeIn chains later name n
+    into later by ps are named =
+        there-is ps (n - 1) (AreChained later ps) (omega (arith, apart.within, within-these ps are)) (λ p there stood.
+        (let own = rw there at named in
+        by ps p (omega (arith, apart.within, within-these ps are)) stood own.0 own.1 are))
+
+    pub into-newest : (heads : List (FlightName × ℕ)) (room : ℕ) → newest chains.heads name < n → IsUpdated chains.heads heads name n
+        → TakeIn chains (record { heads = heads; older = slice_set chains.older (n - 1) (newest chains.heads name); room = room }) name n
+    into-newest heads room few updates =
+        into (record { heads = heads; older = slice_set chains.older (n - 1) (newest chains.heads name); room = room }) (λ ps p most stood held own are.
+        subst (λ (q : FlightName). AreChained (record { heads = heads; older = slice_set chains.older (n - 1) (newest chains.heads q); room = room }) ps) own
+        (join-newest ps n p apart.within.0 most stood chains are held heads room
+        (subst (λ (q : FlightName). newest chains.heads q < n) (sym own) few)
+        (subst (λ (q : FlightName). IsUpdated chains.heads heads q n) (sym own) updates)))
+
+    pub into-later : (heads : List (FlightName × ℕ)) (l room : ℕ) → ((q : FlightName) → newest heads q ≡ newest chains.heads q) → n ≤ l
+        → IsReached chains name l → slice_index chains.older l ≤ n
+        → TakeIn chains (record { heads = heads; older = slice_set (slice_set chains.older (n - 1) (slice_index chains.older l)) l n; room = room }) name n
+    into-later heads l room stay a reached most =
+        into (record { heads = heads; older = slice_set (slice_set chains.older (n - 1) (slice_index chains.older l)) l n; room = room }) (λ ps p few stood held own are.
+        chained-forgot (record { heads = chains.heads; older = slice_set (slice_set chains.older (n - 1) (slice_index chains.older l)) l n; room = room })
+        (record { heads = heads; older = slice_set (slice_set chains.older (n - 1) (slice_index chains.older l)) l n; room = room }) ps stay refl
+        (join-later ps n p apart.within.0 few stood chains are held l room a
+        (subst (λ (q : FlightName). is_held_there q (others n ps) l ≡ true) (sym own) (reached-held chains (others n ps) name l are reached)) most))
+
+-- a plan that is put in the place of another
+module _ (ps qs : List Plan) (n : ℕ) (q : Plan) (some : 0 < n) (most : n ≤ length ps) (changed : qs ≡ with_plan ps n q) where
+  pub exchanged-out : (chains left : Chained) (p : Plan) (name : FlightName) → p ≡ get_or ps (n - 1) p → name ≡ flight_of_key p.key
+      → AreChained chains ps → LeaveOut chains left name n → AreChained left (others n qs)
+  exchanged-out chains left p name stood own are gone =
+      rw changed (others-set left ps n p q some most stood (gone ps are (rw (plan-stood ps n p some most stood) (sym own))))
+
+  pub exchanged-in : (left joined : Chained) (name : FlightName) → is_held q.state ≡ true → name ≡ flight_of_key q.key
+      → AreChained left (others n qs) → TakeIn left joined name n → AreChained joined qs
+  exchanged-in left joined name held own are taken =
+      taken qs are (rw (changed, set-there ps (n - 1) q (omega (arith, some, most))) (held, sym own))
+
+pub exchanged-held : (ps qs : List Plan) (n : ℕ) (p : Plan) → 0 < n → n ≤ length ps → length qs ≡ length ps → with_plan qs n p ≡ ps
+    → IfSome (plan_at ps n) (λ r. is_held r.state ≡ true) → is_held p.state ≡ true
+exchanged-held ps qs n p some most count back held =
+    let there : slice_get ps (n - 1) ≡ Some p = rw back at (set-there qs (n - 1) p (omega (arith, some, most, count))) in
+    rw there at held
