@@ -31,7 +31,8 @@ fn moved_to(now: Minute, held: Minute, departure: Option<&Departure>) -> Result<
     }
 }
 
-/// The number of the plan that a message is about, and the plan with all its amendments made, or why it is refused.
+/// The number of the plan that a message is about, and the plan with all its amendments made, after the name of its
+/// flight, or why it is refused.
 #[tactic(auto, unfolding(crate::specs::Changes::amended))]
 fn amended<A: Allocator + Copy>(
     alloc: A,
@@ -39,14 +40,15 @@ fn amended<A: Allocator + Copy>(
     chains: &Chains<A>,
     message: &Chg<A>,
     now: Minute,
-) -> Result<(u32, Box<Plan<A>, A>), PlanFault>
+) -> Result<(u32, FlightName, Box<Plan<A>, A>), PlanFault>
     requires now { IsDeskTime now }
     requires few { length plans.now ≤ 20_000 }
     requires chained { AreChained chains.now plans.now }
     ensures ok { IfOk result (λ r. amended now plans.now message.now
-        ≡ Ok (record { plans = with_plan plans.now r.0 r.1.value; number = r.0 })) }
+        ≡ Ok (record { plans = with_plan plans.now r.0 r.2.value; number = r.0 })) }
     ensures within { IfOk result (λ r. (0 < r.0) × (r.0 ≤ length plans.now)) }
-    ensures held { IfOk result (λ r. (is_held r.1.value.state ≡ true)
+    ensures named { IfOk result (λ r. r.1 ≡ flight_of_key r.2.value.key) }
+    ensures held { IfOk result (λ r. (is_held r.2.value.state ≡ true)
         × IfSome (plan_at plans.now r.0) (λ p. is_held p.state ≡ true)) }
     ensures refused { IfErr result (λ e. IsRefusal e (amended now plans.now message.now)) }
 {
@@ -57,11 +59,12 @@ fn amended<A: Allocator + Copy>(
     }
     let off_block = moved_to(now, plan.off_block(), message.departure())?;
     let key = plan.key().amended(message);
-    if others_hold_key(plans, chains, number, &key) {
+    let name = FlightName::of_key(&key);
+    if others_hold_key(plans, chains, number, &name, &key) {
         return Err(PlanFault::AlreadyHeld);
     }
     match plan.amended(alloc, message, key, off_block) {
-        Ok(plan) => Ok((number, plan)),
+        Ok(plan) => Ok((number, name, plan)),
         Err(_) => Err(PlanFault::OutOfMemory),
     }
 }
@@ -91,26 +94,28 @@ pub(crate) fn amend_plan<A: Allocator + Copy>(
     ensures room { OnOk result (0 < chains.new.room) }
     ensures kept { OnErr result (StayChained chains.old chains.new) }
 {
-    let (number, mut plan) = amended(alloc, plans.as_slice(), chains, message, now)?;
+    let (number, name, mut plan) = amended(alloc, plans.as_slice(), chains, message, now)?;
     // For the name of its flight now, and for the one that it had, should that be taken back.
     let Ok(()) = chains.reserve(2) else {
         return Err(PlanFault::OutOfMemory);
     };
-    exchange(plans, chains, number, &mut plan);
+    exchange(plans, chains, number, name, &mut plan);
     Ok((number, plan))
 }
 
-/// Exchanges a plan with the one of that number, and puts it into the chain of its flight, which has room for it. It
-/// takes no memory.
+/// Exchanges a plan, whose flight has this name, with the one of that number, and puts it into the chain of its flight,
+/// which has room for it. It takes no memory.
 pub(crate) fn exchange<A: Allocator + Copy>(
     plans: &mut PlanList<A>,
     chains: &mut Chains<A>,
     number: u32,
+    name: FlightName,
     plan: &mut Plan<A>,
 )
     requires number { (0 < number) × (number ≤ length plans.old) }
     requires held { (is_held plan.old.state ≡ true)
         × IfSome (plan_at plans.old number) (λ p. is_held p.state ≡ true) }
+    requires named { name ≡ flight_of_key plan.old.key }
     requires room { HasRoomFor chains.old (flight_of_key plan.old.key) }
     requires chained { AreChained chains.old plans.old }
     ensures changed { plans.new ≡ with_plan plans.old number plan.old }
@@ -121,7 +126,6 @@ pub(crate) fn exchange<A: Allocator + Copy>(
     ensures room { chains.old.room ≤ chains.new.room + 1 }
 {
     let before = FlightName::of_key(plans.as_slice()[(number - 1) as usize].key());
-    let name = FlightName::of_key(plan.key());
     plans.exchange(number, plan);
     if name == before {
         return;

@@ -5,7 +5,7 @@ ghost use Rattle.flow_plans.specs.Plans.{plan_at, is_held_as};
 ghost use Rattle.flow_plans.specs.Matching.{is_candidate, is_gone, matching};
 ghost use Rattle.flow_plans.specs.Searching.{with_candidate, with_gone, with_one_more, passes_at, IsSound, IsCounted};
 ghost use Rattle.flow_plans.specs.Searching.{IsFreeAt, IsHeldBeside};
-ghost use Rattle.flow_plans.specs.Chains.{AreChained};
+ghost use Rattle.flow_plans.specs.Chains.{AreChained, flight_of_key};
 ghost use Rattle.flow_plans.specs.Changes.{Answers, others};
 
 use crate::chains::{Chains, FlightName};
@@ -138,15 +138,17 @@ fn is_held_beside<A: Allocator + Copy>(
 fn is_held_in<A: Allocator + Copy>(
     plans: &[Plan<A>],
     chains: &Chains<A>,
+    name: &FlightName,
     key: &Key,
     but: usize,
 ) -> bool
-    requires { AreChained chains.now plans.now }
+    requires named { name.now ≡ flight_of_key key.now }
+    requires chained { AreChained chains.now plans.now }
     ensures found { result ≡ true → IsHeldBeside key.now plans.now but }
     ensures none { result ≡ false → (place : ℕ) → IsFreeAt key.now plans.now but place }
 {
     let older = chains.older();
-    let mut number = chains.newest(&FlightName::of_key(key));
+    let mut number = chains.newest(name);
     while number > 0 {
         let place = (number - 1) as usize;
         if is_held_beside(plans, place, key, but) {
@@ -166,19 +168,21 @@ pub(crate) fn holds_key<A: Allocator + Copy>(
     requires { AreChained chains.now plans.now }
     ensures { result ≡ list_any (is_held_as key.now) plans.now }
 {
-    is_held_in(plans, chains, key, plans.len())
+    is_held_in(plans, chains, &FlightName::of_key(key), key, plans.len())
 }
 
-/// Whether a plan but that one is held with this key.
+/// Whether a plan but that one is held with this key, whose flight has this name.
 pub(crate) fn others_hold_key<A: Allocator + Copy>(
     plans: &[Plan<A>],
     chains: &Chains<A>,
     number: u32,
+    name: &FlightName,
     key: &Key,
 ) -> bool
+    requires named { name.now ≡ flight_of_key key.now }
     requires number { (0 < number) × (number ≤ length plans.now) }
     requires chained { AreChained chains.now plans.now }
     ensures { result ≡ list_any (is_held_as key.now) (others number plans.now) }
 {
-    is_held_in(plans, chains, key, (number - 1) as usize)
+    is_held_in(plans, chains, name, key, (number - 1) as usize)
 }

@@ -55,7 +55,8 @@ pub(crate) fn undo<A: Allocator + Copy>(
             file_again(plans, chains, number);
         }
         LastChange::Amended { number, mut plan } => {
-            exchange(plans, chains, number, &mut plan);
+            let name = FlightName::of_key(plan.key());
+            exchange(plans, chains, number, name, &mut plan);
         }
     }
 }

@@ -1,8 +1,10 @@
-use Rattle.std.proofs.Common.{◌≡◌, Ok, Some, true, false, ap, ◌∙◌}
+use Rattle.std.proofs.Common.{◌≡◌, Ok, Some, true, false, sym, ap, ◌∙◌}
 use Rattle.std.specs.List.{list_any}
+use Rattle.flow_plans.specs.declared.plan.Key.{Key}
 use Rattle.flow_plans.specs.declared.plan.PlanState.{PlanState}
 use Rattle.flow_plans.specs.declared.plan.PlanState.TheVariants as state
 use Rattle.flow_plans.specs.Plans.{Plan, plan_at, is_held, is_held_as}
+use Rattle.flow_plans.specs.Chains.{flight_of_key}
 use Rattle.flow_plans.specs.Matching.{matching}
 use Rattle.flow_plans.specs.Changes.{changes_key, key_after, moved_to, others, amended_plan}
 use Rattle.flow_plans.proofs.Amendments.{all-steps}
@@ -17,6 +19,14 @@ returns-in-Ok-clause-ok g c =
     let free : list_any (is_held_as (key_after c.index-plans-number.result.key c.args.message.now)) (others c.in_ok-number.number c.args.plans.now) ≡ false = cc (c.others_hold_key.ensures, c.amended-key.ensures, c.key-2.ensures, c.if-others_hold_key.false) in
     all-steps c.args.now c.args.plans.now c.args.message.now c.in_ok-number.number c.in_ok-off_block.off_block c.index-plans-number.result c.in-Ok.plan.value
     found c.in_ok-number.ensures.within.0 c.in_ok-number.ensures.within.1 c.index-plans-number.is same moved free c.in-Ok.ensures
+
+pub returns-in-Ok-clause-named : goal.returns-in-Ok-clause-named
+unfolding amended_plan
+returns-in-Ok-clause-named g c =
+    let p = c.index-plans-number.result in
+    let key : c.amended-key.result ≡ key_after p.key c.args.message.now = c.amended-key.ensures ∙ ap (λ (k : Key). key_after k c.args.message.now) c.key-2.ensures in
+    let made : c.in-Ok.plan.value.key ≡ key_after p.key c.args.message.now = ap (λ (q : Plan). q.key) c.in-Ok.ensures in
+    c.of_key-name.ensures ∙ ap (λ (k : Key). flight_of_key k) (key ∙ sym made)
 
 pub returns-in-Ok-clause-held : goal.returns-in-Ok-clause-held
 unfolding amended_plan

@@ -20,9 +20,8 @@ returns-then-eq-clause-chained g c =
     let there : plan_at c.args.plans.now c.args.number ≡ Some p = plan-stood c.args.plans.now c.args.number p c.requires.number.0 c.requires.number.1 stood in
     let held : is_held p.state ≡ true = rw there at c.requires.held.1 in
     let before : c.of_key-before.result ≡ flight_of_key p.key = c.of_key-before.ensures ∙ ap (λ k. flight_of_key k) c.key.ensures in
-    let own : c.of_key-name.result ≡ flight_of_key c.args.plan.now.key = c.of_key-name.ensures ∙ ap (λ k. flight_of_key k) c.key-2.ensures in
-    let equal : same_flight c.of_key-name.result c.of_key-before.result ≡ true = sym c.eq.ensures ∙ c.if-eq.true in
-    let same : flight_of_key c.args.plan.now.key ≡ flight_of_key p.key = sym own ∙ same_flight-same c.of_key-name.result c.of_key-before.result equal ∙ before in
+    let equal : same_flight c.args.name c.of_key-before.result ≡ true = sym c.eq.ensures ∙ c.if-eq.true in
+    let same : flight_of_key c.args.plan.now.key ≡ flight_of_key p.key = sym c.requires.named ∙ same_flight-same c.args.name c.of_key-before.result equal ∙ before in
     rw c.exchange.ensures.changed
     (chained-set c.args.chains.now c.args.plans.now (c.args.number - 1) p c.args.plan.now there (c.requires.held.0 ∙ sym held) same c.requires.chained)
 
@@ -44,8 +43,7 @@ join-requires-clause-apart g c =
 
 pub join-requires-clause-room : goal.join-requires-clause-room
 join-requires-clause-room g c =
-    let own : c.of_key-name.result ≡ flight_of_key c.args.plan.now.key = c.of_key-name.ensures ∙ ap (λ k. flight_of_key k) c.key-2.ensures in
-    subst (λ (f : FlightName). HasRoomFor c.leave-left.new.self f) (sym own)
+    subst (λ (f : FlightName). HasRoomFor c.leave-left.new.self f) (sym c.requires.named)
     (λ none. omega (arith, c.leave-left.ensures.kept.1, c.requires.room (c.leave-left.ensures.kept.0 (flight_of_key c.args.plan.now.key) none)))
 
 pub forget-requires : goal.forget-requires
@@ -65,22 +63,20 @@ returns-then-left-eq0-clause-chained g c =
     let p = c.index-as_slice-number.result in
     let stood = rw c.as_slice.ensures at c.index-as_slice-number.is in
     let before : c.of_key-before.result ≡ flight_of_key p.key = c.of_key-before.ensures ∙ ap (λ k. flight_of_key k) c.key.ensures in
-    let own : c.of_key-name.result ≡ flight_of_key c.args.plan.now.key = c.of_key-name.ensures ∙ ap (λ k. flight_of_key k) c.key-2.ensures in
     let left : AreChained c.leave-left.new.self (others c.args.number c.exchange.new.self) =
     exchanged-out c.args.plans.now c.exchange.new.self c.args.number c.args.plan.now c.requires.number.0 c.requires.number.1 c.exchange.ensures.changed
     c.args.chains.now c.leave-left.new.self p c.of_key-before.result stood before c.requires.chained c.leave-left.ensures.out in
     chained-forgot c.join.new.self c.forget.new.self c.exchange.new.self c.forget.ensures.heads c.forget.ensures.older
     (exchanged-in c.args.plans.now c.exchange.new.self c.args.number c.args.plan.now c.requires.number.0 c.requires.number.1 c.exchange.ensures.changed
-    c.leave-left.new.self c.join.new.self c.of_key-name.result c.requires.held.0 own left c.join.ensures.taken)
+    c.leave-left.new.self c.join.new.self c.args.name c.requires.held.0 c.requires.named left c.join.ensures.taken)
 
 pub returns-else-left-eq0-clause-chained : goal.returns-else-left-eq0-clause-chained
 returns-else-left-eq0-clause-chained g c =
     let p = c.index-as_slice-number.result in
     let stood = rw c.as_slice.ensures at c.index-as_slice-number.is in
     let before : c.of_key-before.result ≡ flight_of_key p.key = c.of_key-before.ensures ∙ ap (λ k. flight_of_key k) c.key.ensures in
-    let own : c.of_key-name.result ≡ flight_of_key c.args.plan.now.key = c.of_key-name.ensures ∙ ap (λ k. flight_of_key k) c.key-2.ensures in
     let left : AreChained c.leave-left.new.self (others c.args.number c.exchange.new.self) =
     exchanged-out c.args.plans.now c.exchange.new.self c.args.number c.args.plan.now c.requires.number.0 c.requires.number.1 c.exchange.ensures.changed
     c.args.chains.now c.leave-left.new.self p c.of_key-before.result stood before c.requires.chained c.leave-left.ensures.out in
     exchanged-in c.args.plans.now c.exchange.new.self c.args.number c.args.plan.now c.requires.number.0 c.requires.number.1 c.exchange.ensures.changed
-    c.leave-left.new.self c.join.new.self c.of_key-name.result c.requires.held.0 own left c.join.ensures.taken
+    c.leave-left.new.self c.join.new.self c.args.name c.requires.held.0 c.requires.named left c.join.ensures.taken

@@ -11,7 +11,7 @@ pub loop-number-init : goal.loop-number-init
 loop-number-init g c =
     let name : FlightName = flight_of_key c.args.key.now in
     let first : c.newest-number.result ≡ newest_held name c.args.plans.now (length c.args.plans.now) =
-    c.newest-number.ensures ∙ ap (λ (n : FlightName). newest c.args.chains.now.heads n) c.of_key.ensures ∙ c.requires.heads name in
+    c.newest-number.ensures ∙ ap (λ (n : FlightName). newest c.args.chains.now.heads n) c.requires.named ∙ c.requires.chained.heads name in
     rw first record {
       free = free-at-first c.args.key.now c.args.plans.now c.args.but;
       within = last-le (is_held_there name c.args.plans.now) (length c.args.plans.now);
@@ -29,7 +29,7 @@ loop-number-preserved g c =
     let i : ℕ = c.loop-number.number - 1 in
     let at : c.loop-number.number ≡ i + 1 = omega (arith, c.loop-number-test.true) in
     let next : slice_index c.older-older.result.now i ≡ newest_held name c.args.plans.now i =
-    ap (λ xs. slice_index xs i) c.older-older.ensures.value ∙ c.requires.links name i (c.loop-number.invariant.held i at) in
+    ap (λ xs. slice_index xs i) c.older-older.ensures.value ∙ c.requires.chained.links name i (c.loop-number.invariant.held i at) in
     let none : (not (i == c.args.but) && passes_at (is_held_as c.args.key.now) c.args.plans.now i) ≡ false = sym c.is_held_beside.ensures ∙ c.if-is_held_beside.false in
     let free : (k : ℕ) → i + 1 ≤ k → IsFreeAt c.args.key.now c.args.plans.now c.args.but k = λ k a. c.loop-number.invariant.free k (omega (arith, a)) in
     rw next record {
