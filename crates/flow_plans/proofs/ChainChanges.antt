@@ -1,11 +1,11 @@
 -- What taking a plan out of its chain, or putting it into one, means for all plans of which these are the chains.
-use Rattle.std.proofs.Common.{◌≡◌, ℕ, zero, suc, ◌-◌, ◌<◌, ◌≤◌, Bool, true, List, [], ◌∷◌, length, Some, Option, IfSome, unwrap_or, slice_get, slice_set, slice_index, get_or, refl, sym, ap, subst, ◌∙◌, arith}
+use Rattle.std.proofs.Common.{◌≡◌, ℕ, zero, suc, ◌-◌, ◌<◌, ◌≤◌, Bool, true, List, [], ◌∷◌, length, Some, Option, IfSome, unwrap_or, slice_get, slice_set, slice_index, get_or, refl, sym, ap, subst, arith}
 use Rattle.std.specs.Map.{lookup}
 use Rattle.flow_plans.specs.declared.chains.FlightName.{FlightName}
 use Rattle.flow_plans.specs.declared.plan.PlanState.TheVariants as state
 use Rattle.flow_plans.specs.Plans.{Plan, is_held, plan_at, with_plan, with_state}
 use Rattle.flow_plans.specs.Changes.{others}
-use Rattle.flow_plans.specs.Chains.{Chained, newest, same_flight, IsUpdated, flight_of_key, is_held_there, GoDown, AreLinks, IsNewest, AreChained, IsApart, LeaveOut, TakeIn}
+use Rattle.flow_plans.specs.Chains.{Chained, newest, same_flight, IsUpdated, flight_of_key, is_held_there, AreLinks, IsNewest, AreChained, IsApart, LeaveOut, TakeIn}
 use Rattle.flow_plans.proofs.ChainMoves.{head-newest, head-within, others-length, leave-absent, leave-past, leave-newest, leave-later, join-newest, join-later, join-apart, join-below}
 use Rattle.flow_plans.proofs.Keepings.{set-there, plan-stood, changed-length, others-set, chained-forgot}
 

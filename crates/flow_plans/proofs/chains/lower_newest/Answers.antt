@@ -1,4 +1,4 @@
-use Rattle.std.proofs.Common.{◌≡◌, ℕ, Option, refl, sym, subst}
+use Rattle.std.proofs.Common.{ℕ, Option, refl, sym, subst}
 use Rattle.std.specs.Option.{IsSome}
 use Rattle.flow_plans.proofs.ChainLemmas.{updated-same}
 use Rattle.flow_plans.proofs.chains.lower_newest.Goals as goal

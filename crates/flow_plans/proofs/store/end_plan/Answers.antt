@@ -1,4 +1,4 @@
-use Rattle.std.proofs.Common.{◌≡◌, ◌<◌, ◌≤◌, ◌-◌, length, sym, ap, ◌∙◌, arith}
+use Rattle.std.proofs.Common.{◌≡◌, ◌<◌, ◌-◌, length, sym, ap, ◌∙◌, arith}
 use Rattle.flow_plans.specs.Plans.{with_state}
 use Rattle.flow_plans.specs.Chains.{flight_of_key}
 use Rattle.flow_plans.proofs.ChainMoves.{head-within}

@@ -1,7 +1,7 @@
-use Rattle.std.proofs.Common.{◌≡◌, ◌≤◌, true, false, length, Some, refl, sym, ap, subst, ◌∙◌, arith}
+use Rattle.std.proofs.Common.{◌≡◌, true, false, Some, refl, sym, ap, subst, ◌∙◌, arith}
 use Rattle.flow_plans.specs.declared.chains.FlightName.{FlightName}
 use Rattle.flow_plans.specs.declared.plan.PlanState.TheVariants as state
-use Rattle.flow_plans.specs.Plans.{is_held, plan_at, changed_at, with_plan, with_state}
+use Rattle.flow_plans.specs.Plans.{is_held, plan_at, with_plan, with_state}
 use Rattle.flow_plans.specs.Changes.{others}
 use Rattle.flow_plans.specs.Chains.{flight_of_key, HasRoomFor, AreChained}
 use Rattle.flow_plans.proofs.Keepings.{plan-stood, changed-is, changed-length, chained-changed, others-of-unheld}

@@ -1,4 +1,4 @@
-use Rattle.std.proofs.Common.{◌≡◌, ◌+◌, ◌<◌, ◌≤◌, ◌++◌, ◌∷◌, [], List, length, ℕ, ap, ◌∙◌, arith}
+use Rattle.std.proofs.Common.{◌≡◌, ◌+◌, ◌<◌, ◌++◌, ◌∷◌, [], List, length, ℕ, ap, ◌∙◌, arith}
 use Rattle.std.specs.Prelude.{max}
 use Rattle.indexmap.specs.IndexMap.{spare}
 use Rattle.flow_plans.specs.Chains.{Chained, newest, flight_of_key, IsUpdated, AreChained}

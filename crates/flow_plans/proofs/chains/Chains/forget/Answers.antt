@@ -1,4 +1,3 @@
-use Rattle.flow_plans.specs.Chains.{newest}
 use Rattle.flow_plans.proofs.ChainLemmas.{forgotten-newest}
 use Rattle.flow_plans.proofs.chains.Chains.forget.Goals as goal
 
