@@ -1,6 +1,9 @@
 //! Fields 13 and 16: a departure, a destination.
 
 ghost use Rattle.std.specs.Prelude.{◌≡◌, ◌≤◌, ◌<◌, ◌++◌, ◌∷◌, [], List, ℕ, true, false, length, IfOk, IfSome};
+ghost use Rattle.std.specs.Prelude.{nat_eq};
+ghost use Rattle.std.specs.Cmp.{partial_equiv_from_equiv};
+ghost use Rattle.std.specs.Cmp.Lexicographic.{pointwise, lists_per, lists_equiv, nat_list_eq_equiv};
 ghost use Rattle.std.specs.Option.{ok_or};
 ghost use Rattle.fpl_text.specs.Places.{is_place, arrival_of, alternates_of, departure_of, destination_of};
 
@@ -20,7 +23,7 @@ pub struct Departure {
 }
 
 /// The alternate aerodromes of a destination, at most two, seen as the list of their names.
-#[derive(Clone, Copy, Debug, PartialEq, Eq)]
+#[derive(Clone, Copy, Debug)]
 pub struct Alternates {
     /// The names, and empty ones behind them.
     places: [Text<4>; 2],
@@ -47,6 +50,20 @@ impl Model for Alternates {
           ∙ take-append-drop a.count a.places) i;
       count = length-take-le a.count a.places (omega (arith, h.0, h.1)) i;
     } };
+}
+
+impl PartialEq for Alternates {
+    ghost eq = { λ a b. pointwise (pointwise nat_eq) a b };
+
+    ghost laws = { lists_per (partial_equiv_from_equiv nat_list_eq_equiv) };
+
+    fn eq(&self, other: &Self) -> bool {
+        self.as_slice() == other.as_slice()
+    }
+}
+
+impl Eq for Alternates {
+    ghost laws = { lists_equiv nat_list_eq_equiv };
 }
 
 impl Alternates {

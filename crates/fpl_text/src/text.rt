@@ -1,11 +1,17 @@
 //! Bounded texts.
 
-ghost use Rattle.std.specs.Prelude.{◌≡◌, ◌≤◌, [], List, ℕ, length};
+ghost use Rattle.std.specs.Prelude.{◌≡◌, ◌≤◌, [], List, ℕ, length, nat_eq};
+ghost use Rattle.std.specs.Cmp.{on_equiv, on_per, partial_equiv_from_equiv};
+ghost use Rattle.std.specs.Cmp.Lexicographic.{pointwise, nat_list_eq_equiv};
+ghost use Rattle.std.specs.Cmp.Rules.{hashing};
+ghost use Rattle.std.specs.Hash as fed;
+ghost use Rattle.std.proofs.Common.{rules};
 
+use std::hash::{Hash, Hasher};
 use std::marker::Model;
 
 /// A text of at most `N` bytes, `N` at most 255, which lies in the value itself.
-#[derive(Clone, Copy, Debug, PartialEq, Eq, Hash)]
+#[derive(Clone, Copy, Debug)]
 pub struct Text<const N: usize> {
     /// The text, and zeroes behind it.
     bytes: [u8; N],
@@ -30,6 +36,30 @@ impl<const N: usize> Model for Text<N> {
           ∙ ap (λ (rest : List ℕ). take t.len t.bytes ++ rest) (sym h.2) ∙ take-append-drop t.len t.bytes) i;
       len = length-take-le t.len t.bytes (omega (arith, h.0, h.1)) i;
     } };
+}
+
+impl<const N: usize> PartialEq for Text<N> {
+    ghost eq = { λ t u. pointwise nat_eq t u };
+
+    ghost laws = { partial_equiv_from_equiv nat_list_eq_equiv };
+
+    fn eq(&self, other: &Self) -> bool {
+        self.as_bytes() == other.as_bytes()
+    }
+}
+
+impl<const N: usize> Eq for Text<N> {
+    ghost laws = { nat_list_eq_equiv };
+}
+
+impl<const N: usize> Hash for Text<N> {
+    ghost hash_input = { λ t. fed.slice fed.u8 t };
+
+    ghost respects_eq = { Prim.search (hashing, rules) };
+
+    fn hash<H: Hasher>(&self, state: &mut H) {
+        self.as_bytes().hash(state);
+    }
 }
 
 impl<const N: usize> Default for Text<N> {
