@@ -1,5 +1,6 @@
 pub mod Chain
 pub mod Absent
+pub mod Behind
 pub mod Changes
 pub mod Displacing
 pub mod Examples

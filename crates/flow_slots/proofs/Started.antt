@@ -1,16 +1,17 @@
 -- Rows in which entries are counted from a start.
-use Rattle.std.proofs.Common.{◌≡◌, ℕ, zero, suc, ◌+◌, ◌-◌, ◌<◌, ◌≤◌, ◌++◌, [], ◌∷◌, List, map, length, set, drop, replicate, refl, sym, ap, ◌∙◌, arith}
+use Rattle.std.proofs.Common.{◌≡◌, ℕ, zero, suc, ◌+◌, ◌-◌, ◌<◌, ◌≤◌, ◌++◌, false, [], ◌∷◌, List, map, length, set, replicate, refl, sym, ap, ◌∙◌, arith}
 use Rattle.std.proofs.Math.ListN.{get_or-map}
+use Rattle.std.proofs.lemmas.Bool.{false≢true}
 use Rattle.std.proofs.lemmas.Bool.Decides.{nat_tests}
-use Rattle.std.proofs.lemmas.List.{length-map, length-set, map-set, drop-map}
+use Rattle.std.proofs.lemmas.List.{length-map, map-set}
 use Rattle.flow_slots.specs.declared.cell.Cell.{Cell}
 use Rattle.flow_slots.specs.declared.cell.Cell.TheVariants.{Empty, Waiting, Fixed}
 use Rattle.flow_slots.specs.declared.cell.Planned.{Planned}
 use Rattle.flow_slots.specs.MadeRow.{MadeRow, filled}
 use Rattle.flow_slots.specs.PackedCell.{from_start, flight_from}
-use Rattle.flow_slots.specs.Row.{cell_at}
+use Rattle.flow_slots.specs.Row.{cell_at, IsFixedCell}
 use Rattle.flow_slots.specs.Walk.{waits, waits_before}
-use Rattle.flow_slots.proofs.Filled.{length-filled, filled-more, filled-set, cell_at-filled, drop-made}
+use Rattle.flow_slots.proofs.Filled.{length-filled, filled-more, filled-set}
 
 -- the row that cells with such entries stand for
 abbrev pub started : ℕ → List Cell → ℕ → List Cell
@@ -22,6 +23,9 @@ started-empty start (suc n) = ap (λ v. Empty ∷ v) (started-empty start n)
 
 pub cell_at-started : (start : ℕ) (row : List Cell) (k : ℕ) → cell_at (map (from_start start) row) k ≡ from_start start (cell_at row k)
 cell_at-started start row k = get_or-map (from_start start) row k Empty
+
+pub stands-started : (start : ℕ) (cells : List Cell) (k : ℕ) (c : Cell) → c ≡ cell_at cells k → from_start start c ≡ cell_at (map (from_start start) cells) k
+stands-started start cells k c e = ap (from_start start) e ∙ sym (cell_at-started start cells k)
 
 -- the order of two flights is that of their entries from any start
 pub before-started : (start : ℕ) (x : Planned) (c : Cell) → waits_before (flight_from start x) (from_start start c) ≡ waits_before x c
@@ -41,36 +45,19 @@ pub started-set : (start : ℕ) (cells : List Cell) (len k : ℕ) (x c : Cell) �
 started-set start cells len k x c h is =
     ap (map (from_start start)) (filled-set cells len k x h) ∙ (map-set (from_start start) (filled cells len) k x ∙ ap (set (started start cells len) k) is)
 
-pub made-set : (start : ℕ) (cells : List Cell) (len k b n : ℕ) (x c : Cell) → k < length cells → from_start start x ≡ c → (let r : MadeRow = record { row = started start (set cells k x) len; made = length (set cells k x); before = b; writes = n; start = start } in r) ≡ record { row = set (started start cells len) k c; made = length cells; before = b; writes = n; start = start }
-made-set start cells len k b n x c h is =
-    ap (λ v. let r : MadeRow = record { row = v; made = length (set cells k x); before = b; writes = n; start = start } in r) (started-set start cells len k x c h is)
-    ∙ ap (λ v. let r : MadeRow = record { row = set (started start cells len) k c; made = v; before = b; writes = n; start = start } in r) (length-set cells k x)
-
--- the cells that weren't made
-pub drop-started : (start : ℕ) (cells : List Cell) (len : ℕ) → length cells ≤ len → drop (length cells) (started start cells len) ≡ replicate (length (started start cells len) - length cells) Empty
-drop-started start cells len h =
-    drop-map (from_start start) (length cells) (filled cells len)
-    ∙ (ap (map (from_start start)) (drop-made cells len h)
-    ∙ (started-empty start (length (filled cells len) - length cells) ∙ ap (λ n. replicate (n - length cells) Empty) (sym (length-map (filled cells len) (from_start start)))))
-
 pub made-new : (start len : ℕ) (cells : List Cell) → cells ≡ [] → (let r : MadeRow = record { row = started start cells len; made = length cells; before = 0; writes = 0; start = start } in r) ≡ record { row = replicate len Empty; made = 0; before = 0; writes = 0; start = start }
 made-new start len cells is =
     let left : len - 0 ≡ len = omega arith in
     ap (λ cs. let r : MadeRow = record { row = started start cs len; made = length cs; before = 0; writes = 0; start = start } in r) is
     ∙ ap (λ v. let r : MadeRow = record { row = v; made = 0; before = 0; writes = 0; start = start } in r) (started-empty start (len - 0) ∙ ap (λ n. replicate n Empty) left)
 
--- a cell of the row comes before a flight as the one that was made does
-pub before-row : (start : ℕ) (cells : List Cell) (len k : ℕ) (x y : Planned) → flight_from start x ≡ y → waits_before y (cell_at (started start cells len) k) ≡ waits_before x (cell_at cells k)
-before-row start cells len k x y is =
-    ap (λ v. waits_before v (cell_at (started start cells len) k)) (sym is)
-    ∙ (ap (waits_before (flight_from start x)) (cell_at-started start (filled cells len) k) ∙ (before-started start x (cell_at (filled cells len) k) ∙ ap (waits_before x) (cell_at-filled cells len k)))
-
-pub waits-started : (start : ℕ) (c : Cell) → waits (from_start start c) ≡ waits c
-waits-started start Empty = refl
-waits-started start (Waiting w) = refl
-waits-started start (Fixed f) = refl
-
 pub empty-started : (start : ℕ) (c : Cell) → from_start start c ≡ Empty → c ≡ Empty
 empty-started start Empty e = refl
 empty-started start (Waiting w) e = cc
 empty-started start (Fixed f) e = cc
+
+-- a flight keeps its slot where nobody waits and somebody stands
+pub fixed-started : (start : ℕ) (c : Cell) → waits c ≡ false → (c ≡ Empty → ⊥) → IsFixedCell (from_start start c)
+fixed-started start Empty w n = n refl
+fixed-started start (Waiting v) w n = absurd (false≢true (sym w))
+fixed-started start (Fixed f) w n = tt

@@ -1,15 +1,17 @@
 //! The row of slots as its callers see it: what stands in each slot, and how often slots were written.
 ghost use Rattle.std.specs.Prelude.{◌≡◌, ◌+◌, ◌-◌, ◌^◌, ◌<◌, ◌≤◌, ◌++◌, true, ◌↔◌, IfOk, IsTrue};
-ghost use Rattle.std.specs.Prelude.{None, drop, length, replicate, take};
+ghost use Rattle.std.specs.Prelude.{None, Some, drop, length, replicate, take};
 ghost use Rattle.flow_slots.specs.CellRow.{CellRow, written};
 ghost use Rattle.flow_slots.specs.Changed.{gained};
-ghost use Rattle.flow_slots.specs.MadeRow.{EndsEmpty, counted};
+ghost use Rattle.flow_slots.specs.MadeRow.{counted};
 ghost use Rattle.flow_slots.specs.PackedCell.{IsStored};
-ghost use Rattle.flow_slots.specs.Row.{cell_at, flight_at, place_at, IsTied};
-ghost use Rattle.flow_slots.specs.Walk.{displace, has_empty, AllFollow};
+ghost use Rattle.flow_slots.specs.Period.{first_slot};
+ghost use Rattle.flow_slots.specs.Row.{cell_at, flight_at, place_at, EntriesWithin, IsTied};
+ghost use Rattle.flow_slots.specs.Walk.{close, displace, has_empty, AllFollow};
 ghost use Rattle.flow_slots.specs.declared.cell.Cell.TheVariants.{Empty, Waiting};
 
 use crate::cell::{Cell, Planned};
+use crate::first_slots::FirstSlots;
 use crate::held_slot::HeldSlot;
 use crate::made_cells::MadeCells;
 use std::alloc::{AllocError, Allocator, Global};
@@ -39,27 +41,6 @@ impl<A: Allocator + Copy> Cells<A> {
         Ok(Cells {
             made: MadeCells::new(alloc, len, start)?,
         })
-    }
-
-    /// These cells.
-    #[inline(always)]
-    pub(crate) fn from_made(made: MadeCells<A>) -> Cells<A>
-        ensures { result ≡ record { row = made.row; writes = counted made; start = made.start } }
-    {
-        Cells { made }
-    }
-
-    /// Takes the cells out for a chain that begins at slot `k`, and leaves none.
-    pub(crate) fn take_from(&mut self, k: u32) -> MadeCells<A>
-        requires { k < length self.old.row }
-        ensures row { result.row ≡ self.old.row }
-        ensures start { result.start ≡ self.old.start }
-        ensures writes { counted result ≡ self.old.writes }
-        ensures ends { EndsEmpty result k }
-    {
-        let mut made = self.made.take();
-        made.make_to(k);
-        made
     }
 
     #[inline(always)]
@@ -131,6 +112,28 @@ impl<A: Allocator + Copy> Cells<A> {
     {
         self.made.make_to(from);
         self.made.displace(places, from, flight);
+    }
+
+    /// Takes `flight` out of slot `k`: flights move up into the hole that it leaves.
+    #[inline(always)]
+    pub(crate) fn vacate(
+        &mut self,
+        places: &mut [HeldSlot],
+        shape: &FirstSlots<A>,
+        flight: u32,
+        k: u32,
+    )
+        requires tied { IsTied places.old self.old.row }
+        requires stands { flight_at self.old.row k ≡ Some flight }
+        requires entries { EntriesWithin shape.now self.old.row }
+        ensures tied { IsTied places.new self.new.row }
+        ensures start { self.new.start ≡ self.old.start }
+        ensures row { self.new.row
+            ≡ take k self.old.row ++ close (λ e. first_slot shape.now e) k (drop (k + 1) self.old.row) }
+        ensures writes { self.new.writes ≤ self.old.writes + gained self.old.row self.new.row + 1 }
+        ensures more { self.old.writes ≤ self.new.writes }
+    {
+        self.made.vacate(places, shape, flight, k);
     }
 
     /// Writes a cell, and counts it.

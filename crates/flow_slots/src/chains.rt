@@ -1,19 +1,15 @@
 //! The chains: a flight that comes in and displaces later ones up to an empty slot, and a hole into which later
 //! ones move up.
-ghost use Rattle.std.specs.Prelude.{◌≡◌, ◌+◌, ◌-◌, ◌^◌, ◌<◌, ◌≤◌, ◌++◌, true, length, take, drop, IfSome, IfNone};
+ghost use Rattle.std.specs.Prelude.{◌≡◌, ◌+◌, ◌-◌, ◌^◌, ◌<◌, ◌++◌, true, length, map, take, drop, IfSome, IfNone};
 ghost use Rattle.std.specs.Prelude.{None, Some};
 ghost use Rattle.flow_slots.specs.Changed.{gained};
-ghost use Rattle.flow_slots.specs.MadeRow.{EndsEmpty, counted};
-ghost use Rattle.flow_slots.specs.PackedCell.{IsStored};
+ghost use Rattle.flow_slots.specs.PackedCell.{from_start, flight_from};
 ghost use Rattle.flow_slots.specs.Period.{first_slot};
 ghost use Rattle.flow_slots.specs.Row.{flight_at, place_at, IsTied, EntriesWithin, MovesUp};
 ghost use Rattle.flow_slots.specs.Walk.{displace, has_empty, next_up, close, Follows, AllFollow, ComesIn};
-ghost use Rattle.flow_slots.specs.declared.cell.Cell.TheVariants.{Waiting};
 
-use crate::cell::{Cell, Planned};
 use crate::first_slots::FirstSlots;
 use crate::held_slot::HeldSlot;
-use crate::made_cells::MadeCells;
 use crate::packed_cell::{PackedCell, PackedFlight};
 use std::alloc::Allocator;
 
@@ -80,31 +76,45 @@ pub(crate) fn displace(
     written + 1
 }
 
-/// The flight that may move up into an empty slot `hole`, with its slot.
+/// A flight that waits, and its slot.
+#[derive(Clone, Copy, Debug)]
+struct NextUp {
+    slot: usize,
+    held: PackedFlight,
+}
+
+/// The flight that may move up into an empty slot `hole`, with its slot. The row begins with these cells, whose entries
+/// are counted from the start, and empty ones follow.
 #[inline(always)]
 fn next_up<A: Allocator + Copy>(
-    cells: &MadeCells<A>,
+    cells: &[PackedCell],
     shape: &FirstSlots<A>,
-    hole: u32,
-) -> Option<(u32, Planned)>
-    requires hole { hole < cells.now.made }
-    requires entries { EntriesWithin shape.now cells.now.row }
-    ensures found { IfSome result (λ r. MovesUp shape.now cells.now.row hole r.0 r.1) }
-    ensures stored { IfSome result (λ r. IsStored cells.now.start (Waiting r.1)) }
-    ensures made { IfSome result (λ r. r.0 < cells.now.made) }
+    start: u32,
+    hole: usize,
+) -> Option<NextUp>
+    requires start { start < 2 ^ 31 }
+    requires hole { hole < length cells.now }
+    requires entries { EntriesWithin shape.now (map (from_start start) cells.now) }
+    ensures found { IfSome result
+        (λ r. MovesUp shape.now (map (from_start start) cells.now) hole r.slot (flight_from start r.held)) }
+    ensures within { IfSome result (λ r. r.slot < length cells.now) }
+    ensures entry { IfSome result (λ r. r.held.entry < 131_071) }
     ensures none { IfNone result
-        (next_up (λ e. first_slot shape.now e) hole (drop (hole + 1) cells.now.row) ≡ None) }
+        (next_up (λ e. first_slot shape.now e) hole (drop (hole + 1) (map (from_start start) cells.now))
+        ≡ None) }
 {
-    let made = cells.made();
-    for next in hole + 1..made {
-        let cell = cells.packed(next);
+    for next in hole + 1..cells.len() {
+        let cell = cells[next];
         match cell.waiting() {
             Some(waiting) => {
-                let held = waiting.get(cells.start());
-                if hole < shape.at(held.entry) {
+                let held = waiting.get(start);
+                if hole < shape.at(held.entry) as usize {
                     return None;
                 }
-                return Some((next, held));
+                return Some(NextUp {
+                    slot: next,
+                    held: waiting,
+                });
             }
             None => {
                 if cell.is_empty() {
@@ -116,34 +126,37 @@ fn next_up<A: Allocator + Copy>(
     None
 }
 
-/// Takes `flight` out of slot `k`: flights move up into the hole that it leaves.
+/// Takes `flight` out of slot `k`: flights move up into the hole that it leaves. The row begins with these cells, whose
+/// entries are counted from the start, and empty ones follow. The answer is the number of cells that were written.
+#[inline(always)]
 pub(crate) fn vacate<A: Allocator + Copy>(
-    cells: MadeCells<A>,
+    cells: &mut [PackedCell],
     places: &mut [HeldSlot],
     shape: &FirstSlots<A>,
+    start: u32,
     flight: u32,
-    k: u32,
-) -> MadeCells<A>
-    requires tied { IsTied places.old cells.row }
-    requires stands { flight_at cells.row k ≡ Some flight }
-    requires entries { EntriesWithin shape.now cells.row }
-    requires made { k < cells.made }
-    ensures tied { IsTied places.new result.row }
-    ensures start { result.start ≡ cells.start }
-    ensures row { result.row
-        ≡ take k cells.row ++ close (λ e. first_slot shape.now e) k (drop (k + 1) cells.row) }
-    ensures writes { counted result ≤ counted cells + gained cells.row result.row + 1 }
-    ensures more { counted cells ≤ counted result }
+    k: usize,
+) -> u64
+    requires few { length cells.old < 2 ^ 16 }
+    requires start { start < 2 ^ 31 }
+    requires tied { IsTied places.old cells.old }
+    requires stands { flight_at cells.old k ≡ Some flight }
+    requires entries { EntriesWithin shape.now (map (from_start start) cells.old) }
+    ensures tied { IsTied places.new cells.new }
+    ensures cells { map (from_start start) cells.new
+        ≡ take k (map (from_start start) cells.old)
+        ++ close (λ e. first_slot shape.now e) k (drop (k + 1) (map (from_start start) cells.old)) }
+    ensures written { result ≡ gained cells.old cells.new + 1 }
 {
-    let mut row = cells;
-    row.begin_chain();
     let mut hole = k;
+    let mut written = 0;
     places[flight as usize] = HeldSlot::none();
-    while let Some((next, held)) = next_up(&row, shape, hole) {
-        row.write_next(hole, Cell::Waiting(held));
-        places[held.flight as usize] = HeldSlot::of(hole);
-        hole = next;
+    while let Some(next) = next_up(cells, shape, start, hole) {
+        cells[hole] = PackedCell::waiting_in(next.held);
+        places[next.held.flight() as usize] = HeldSlot::of(hole as u32);
+        written += 1;
+        hole = next.slot;
     }
-    row.write_next(hole, Cell::Empty);
-    row
+    cells[hole] = PackedCell::empty();
+    written + 1
 }

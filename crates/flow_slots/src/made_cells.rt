@@ -1,21 +1,22 @@
 //! The cells of a row, made as they are needed.
-ghost use Rattle.std.specs.Prelude.{◌≡◌, ℕ, ◌+◌, ◌-◌, ◌<◌, ◌≤◌, ◌++◌, ◌^◌, IfOk, true, false, drop};
-ghost use Rattle.std.specs.Prelude.{None, length, min, replicate, slice_set, take, vec_capacity};
+ghost use Rattle.std.specs.Prelude.{◌≡◌, ◌+◌, ◌-◌, ◌<◌, ◌≤◌, ◌++◌, ◌^◌, IfOk, true, drop};
+ghost use Rattle.std.specs.Prelude.{None, Some, length, min, replicate, slice_set, take, vec_capacity};
 ghost use Rattle.flow_slots.specs.CellRow.{one_more};
 ghost use Rattle.flow_slots.specs.Changed.{gained};
 ghost use Rattle.flow_slots.specs.MadeRow.{MadeRow, EndsEmpty, counted};
-ghost use Rattle.flow_slots.specs.PackedCell.{IsStored, from_start};
-ghost use Rattle.flow_slots.specs.Row.{cell_at, place_at, IsTied};
-ghost use Rattle.flow_slots.specs.Walk.{displace, has_empty, AllFollow};
+ghost use Rattle.flow_slots.specs.PackedCell.{IsStored};
+ghost use Rattle.flow_slots.specs.Period.{first_slot};
+ghost use Rattle.flow_slots.specs.Row.{cell_at, flight_at, place_at, EntriesWithin, IsTied};
+ghost use Rattle.flow_slots.specs.Walk.{close, displace, has_empty, AllFollow};
 ghost use Rattle.flow_slots.specs.declared.cell.Cell.TheVariants.{Empty, Waiting};
 
 use crate::cell::{Cell, Planned};
-use crate::chains::{displace, first_later};
+use crate::chains::{displace, first_later, vacate};
+use crate::first_slots::FirstSlots;
 use crate::held_slot::HeldSlot;
 use crate::packed_cell::{PackedCell, PackedFlight};
 use std::alloc::{AllocError, Allocator};
 use std::marker::Model;
-use std::mem;
 
 /// A row of slots, whose room is there from the start. Its cells are made up to the last one that was
 /// written or that a chain was to reach; the others are empty.
@@ -25,7 +26,6 @@ pub(crate) struct MadeCells<A: Allocator + Copy> {
     len: u32,
     /// The minute from which entries are counted in the cells: no entry is before it.
     start: u32,
-    before: u64,
     writes: u64,
 }
 
@@ -39,7 +39,7 @@ impl<A: Allocator + Copy> Model for MadeCells<A> {
     ghost view = { λ c. record {
       row = map (from_start c.start) (filled c.row.items c.len);
       made = length c.row.items;
-      before = c.before;
+      before = 0;
       writes = c.writes;
       start = c.start;
     } };
@@ -76,24 +76,8 @@ impl<A: Allocator + Copy> MadeCells<A> {
             row: Vec::with_capacity(alloc, len as usize)?,
             len,
             start,
-            before: 0,
             writes: 0,
         })
-    }
-
-    /// Takes the cells out, and leaves none. A chain holds them by value, so that the count of its
-    /// writes lies in a register.
-    pub(crate) fn take(&mut self) -> MadeCells<A>
-        ensures { result ≡ self.old }
-    {
-        let none = MadeCells {
-            row: Vec::new(*self.row.allocator()),
-            len: 0,
-            start: self.start,
-            before: 0,
-            writes: 0,
-        };
-        mem::replace(self, none)
     }
 
     /// How many slots the row has.
@@ -104,31 +88,12 @@ impl<A: Allocator + Copy> MadeCells<A> {
         self.len
     }
 
-    /// The minute from which entries are counted.
-    #[inline(always)]
-    pub(crate) fn start(&self) -> u32
-        ensures value { result ≡ self.now.start }
-        ensures early { result < 2 ^ 31 }
-    {
-        self.start
-    }
-
-    /// How many cells were made.
-    #[inline(always)]
-    pub(crate) fn made(&self) -> u32
-        ensures value { result ≡ self.now.made }
-        ensures most { result ≤ length self.now.row }
-        ensures others { drop result self.now.row ≡ replicate (length self.now.row - result) Empty }
-    {
-        self.row.len() as u32
-    }
-
     /// How often a cell was written.
     #[inline(always)]
     pub(crate) fn writes(&self) -> u64
         ensures { result ≡ counted self.now }
     {
-        self.before.saturating_add(self.writes)
+        self.writes
     }
 
     /// What stands in slot `k`.
@@ -143,15 +108,6 @@ impl<A: Allocator + Copy> MadeCells<A> {
         } else {
             Cell::Empty
         }
-    }
-
-    /// What stands in slot `k`, whose cell was made, in its word.
-    #[inline(always)]
-    pub(crate) fn packed(&self, k: u32) -> PackedCell
-        requires { k < self.now.made }
-        ensures { from_start self.now.start result ≡ cell_at self.now.row k }
-    {
-        self.row[k as usize]
     }
 
     /// Makes the cells up to slot `k`, and an empty one at their end where the row has room.
@@ -194,6 +150,30 @@ impl<A: Allocator + Copy> MadeCells<A> {
         self.writes = self.writes.saturating_add(written);
     }
 
+    /// Takes `flight` out of slot `k`, and counts the cells that were written: flights move up into the hole that it
+    /// leaves.
+    #[inline(always)]
+    pub(crate) fn vacate(
+        &mut self,
+        places: &mut [HeldSlot],
+        shape: &FirstSlots<A>,
+        flight: u32,
+        k: u32,
+    )
+        requires tied { IsTied places.old self.old.row }
+        requires stands { flight_at self.old.row k ≡ Some flight }
+        requires entries { EntriesWithin shape.now self.old.row }
+        ensures tied { IsTied places.new self.new.row }
+        ensures start { self.new.start ≡ self.old.start }
+        ensures row { self.new.row
+            ≡ take k self.old.row ++ close (λ e. first_slot shape.now e) k (drop (k + 1) self.old.row) }
+        ensures writes { counted self.new
+            ≡ min (counted self.old + (gained self.old.row self.new.row + 1)) (2 ^ 64 - 1) }
+    {
+        let moved = vacate(&mut self.row, places, shape, self.start, flight, k as usize);
+        self.writes = self.writes.saturating_add(moved);
+    }
+
     /// Writes a cell, and counts it.
     #[inline(always)]
     pub(crate) fn write(&mut self, k: u32, cell: Cell)
@@ -207,38 +187,5 @@ impl<A: Allocator + Copy> MadeCells<A> {
         make(&mut self.row, k + 1);
         self.row[k as usize].set(self.start, cell);
         self.writes = self.writes.saturating_add(1);
-    }
-
-    /// Begins a chain: its writes are counted from nothing, beside those before, so that each costs one addition.
-    pub(crate) fn begin_chain(&mut self)
-        ensures { self.new ≡ record {
-          row = self.old.row;
-          made = self.old.made;
-          before = counted self.old;
-          writes = 0;
-          start = self.old.start;
-        } }
-    {
-        self.before = self.before.saturating_add(self.writes);
-        self.writes = 0;
-    }
-
-    /// Writes a cell that was made, and counts it by one addition.
-    #[inline(always)]
-    pub(crate) fn write_next(&mut self, k: u32, cell: Cell)
-        requires slot { k < self.old.made }
-        requires kept { IsStored self.old.start cell }
-        requires few { self.old.writes < 2 ^ 64 - 1 }
-        ensures small { k < 2 ^ 16 - 1 }
-        ensures cells { self.new ≡ record {
-          row = slice_set self.old.row k cell;
-          made = self.old.made;
-          before = self.old.before;
-          writes = self.old.writes + 1;
-          start = self.old.start;
-        } }
-    {
-        self.row[k as usize].set(self.start, cell);
-        self.writes += 1;
     }
 }

@@ -13,7 +13,6 @@ ghost use Rattle.flow_slots.specs.Walk.{displace, has_empty, close, push, AllFol
 
 use crate::cell::{Cell, Planned};
 use crate::cells::Cells;
-use crate::chains::vacate;
 use crate::first_slots::FirstSlots;
 use crate::held_slot::{HeldSlot, first_held};
 use std::alloc::{AllocError, Allocator};
@@ -134,8 +133,8 @@ impl<A: Allocator + Copy> Row<A> {
             ≤ self.old.cells.writes + gained self.old.cells.row self.new.cells.row + 1 }
         ensures more { self.old.cells.writes ≤ self.new.cells.writes }
     {
-        let cells = self.cells.take_from(k);
-        self.cells = Cells::from_made(vacate(cells, self.places.as_mut_slice(), shape, flight, k));
+        self.cells
+            .vacate(self.places.as_mut_slice(), shape, flight, k);
     }
 
     /// Fixes a flight that stands nowhere in slot `k`; a flight that waits there makes way.

@@ -1,4 +1,5 @@
-use Rattle.std.proofs.Common.{◌≡◌, ℕ, ◌+◌, ◌<◌, drop}
+use Rattle.std.proofs.Common.{◌≡◌, ℕ, ◌+◌, ◌<◌, map, drop}
+use Rattle.flow_slots.specs.PackedCell.{from_start}
 use Rattle.flow_slots.specs.Period.{first_slot}
 use Rattle.flow_slots.specs.Row.{cell_at, IsFixedCell}
 use Rattle.flow_slots.specs.Walk.{next_up}
@@ -6,6 +7,6 @@ use Rattle.flow_slots.proofs.chains.next_up.Given as goal
 
 abbrev pub invariant-loop-next : goal.invariant-loop-next
 invariant-loop-next g l = record {
-  between : (j : ℕ) → l.hole < j → j < l.next → IsFixedCell (cell_at l.cells.row j);
-  same : next_up (λ e. first_slot l.shape e) l.hole (drop (l.hole + 1) l.cells.row) ≡ next_up (λ e. first_slot l.shape e) l.hole (drop l.next l.cells.row);
+  between : (j : ℕ) → l.hole < j → j < l.next → IsFixedCell (cell_at (map (from_start l.start) l.cells) j);
+  same : next_up (λ e. first_slot l.shape e) l.hole (drop (l.hole + 1) (map (from_start l.start) l.cells)) ≡ next_up (λ e. first_slot l.shape e) l.hole (drop l.next (map (from_start l.start) l.cells));
 }
