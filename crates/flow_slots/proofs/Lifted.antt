@@ -123,8 +123,8 @@ has_empty-from start zero cs = has_empty-shown start cs
 has_empty-from start (suc from) [] = refl
 has_empty-from start (suc from) (c ∷ cs) = has_empty-from start from cs
 
-pub has_empty-made : (start : ℕ) (cells : List Cell) (len from b n : ℕ) (c : MadeRow) → (let r : MadeRow = record { row = started start cells len; made = length cells; before = b; writes = n; start = start } in r) ≡ c → length cells ≤ len → EndsEmpty c from → has_empty (drop from c.row) ≡ true → has_empty (drop from cells) ≡ true
-has_empty-made start cells len from b n c is fits ends e = cases (cases_lt (length cells) len) where
+pub has_empty-made : (start : ℕ) (cells : List Cell) (len from n : ℕ) (c : MadeRow) → (let r : MadeRow = record { row = started start cells len; made = length cells; writes = n; start = start } in r) ≡ c → length cells ≤ len → EndsEmpty c from → has_empty (drop from c.row) ≡ true → has_empty (drop from cells) ≡ true
+has_empty-made start cells len from n c is fits ends e = cases (cases_lt (length cells) len) where
   made : c.made ≡ length cells
   made = ap (λ v. v.made) (sym is)
 

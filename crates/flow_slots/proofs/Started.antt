@@ -45,11 +45,11 @@ pub started-set : (start : ℕ) (cells : List Cell) (len k : ℕ) (x c : Cell) �
 started-set start cells len k x c h is =
     ap (map (from_start start)) (filled-set cells len k x h) ∙ (map-set (from_start start) (filled cells len) k x ∙ ap (set (started start cells len) k) is)
 
-pub made-new : (start len : ℕ) (cells : List Cell) → cells ≡ [] → (let r : MadeRow = record { row = started start cells len; made = length cells; before = 0; writes = 0; start = start } in r) ≡ record { row = replicate len Empty; made = 0; before = 0; writes = 0; start = start }
+pub made-new : (start len : ℕ) (cells : List Cell) → cells ≡ [] → (let r : MadeRow = record { row = started start cells len; made = length cells; writes = 0; start = start } in r) ≡ record { row = replicate len Empty; made = 0; writes = 0; start = start }
 made-new start len cells is =
     let left : len - 0 ≡ len = omega arith in
-    ap (λ cs. let r : MadeRow = record { row = started start cs len; made = length cs; before = 0; writes = 0; start = start } in r) is
-    ∙ ap (λ v. let r : MadeRow = record { row = v; made = 0; before = 0; writes = 0; start = start } in r) (started-empty start (len - 0) ∙ ap (λ n. replicate n Empty) left)
+    ap (λ cs. let r : MadeRow = record { row = started start cs len; made = length cs; writes = 0; start = start } in r) is
+    ∙ ap (λ v. let r : MadeRow = record { row = v; made = 0; writes = 0; start = start } in r) (started-empty start (len - 0) ∙ ap (λ n. replicate n Empty) left)
 
 pub empty-started : (start : ℕ) (c : Cell) → from_start start c ≡ Empty → c ≡ Empty
 empty-started start Empty e = refl

@@ -7,15 +7,14 @@ use Rattle.flow_slots.specs.Row.{cell_at}
 pub record MadeRow : Type 0 where
   pub row : List Cell
   pub made : ℕ
-  -- how often a cell was written before the last chain began, and since then
-  pub before : ℕ
+  -- how often a cell was written
   pub writes : ℕ
   -- the minute from which entries are counted in memory
   pub start : ℕ
 
--- how often a cell was written in all; the count stays at its greatest value
+-- the count of the cells written, which stays at its greatest value
 abbrev pub counted : MadeRow → ℕ
-counted c = min (c.before + c.writes) (2 ^ 64 - 1)
+counted c = min c.writes (2 ^ 64 - 1)
 
 -- the row of so many slots that begins with these cells
 abbrev pub filled : List Cell → ℕ → List Cell

@@ -39,7 +39,6 @@ impl<A: Allocator + Copy> Model for MadeCells<A> {
     ghost view = { λ c. record {
       row = map (from_start c.start) (filled c.row.items c.len);
       made = length c.row.items;
-      before = 0;
       writes = c.writes;
       start = c.start;
     } };
@@ -67,7 +66,6 @@ impl<A: Allocator + Copy> MadeCells<A> {
         ensures { IfOk result (λ c. c ≡ record {
           row = replicate len Empty;
           made = 0;
-          before = 0;
           writes = 0;
           start = start;
         }) }

@@ -17,7 +17,7 @@ first_later-k-requires-clause-order g c =
 pub first_later-k-requires-clause-room : goal.first_later-k-requires-clause-room
 first_later-k-requires-clause-room g c =
     let s = c.self.inside in
-    rw c.deref.ensures.value (has_empty-made s.start s.row.items s.len c.args.from 0 s.writes c.args.self.now c.self.view_is c.self.invariant.made c.requires.ends c.requires.room)
+    rw c.deref.ensures.value (has_empty-made s.start s.row.items s.len c.args.from s.writes c.args.self.now c.self.view_is c.self.invariant.made c.requires.ends c.requires.room)
 
 pub displace-written-requires-clause-tied : goal.displace-written-requires-clause-tied
 displace-written-requires-clause-tied g c =
@@ -40,7 +40,7 @@ returns-clause-row g c =
     let new = c.displace-written.new.cells in
     let same : length new ≡ length cells = c.displace-written.auto.cells ∙ ap length c.deref_mut.ensures.value in
     let is = with_items_is s.row new (omega (arith, same, s.row.ok.0)) in
-    let room = has_empty-made s.start s.row.items s.len c.args.from 0 s.writes c.args.self.now c.self.view_is c.self.invariant.made c.requires.ends c.requires.room in
+    let room = has_empty-made s.start s.row.items s.len c.args.from s.writes c.args.self.now c.self.view_is c.self.invariant.made c.requires.ends c.requires.room in
     let first = rw c.deref.ensures.value at c.first_later-k.ensures.same in
     let row = (rw c.deref_mut.ensures.value at c.displace-written.ensures.cells) ∙ first in
     let lifted = displaced-lifted s.start cells new s.len from c.of-coming.result c.args.flight room c.of-coming.ensures.value same row in
