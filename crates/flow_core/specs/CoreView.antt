@@ -10,6 +10,8 @@ use Rattle.flow_core.specs.State.{State, Input, Record}
 use Rattle.flow_core.specs.declared.change.Change.{Change}
 use Rattle.flow_core.specs.Steps.{run}
 use Rattle.flow_core.specs.Changes.{changes_between, rows_in}
+use Rattle.flow_plans.specs.declared.setup.TheConstants.{MAX_ENTRIES}
+use Rattle.flow_core.specs.declared.entry.TheConstants.{MAX_FEEDERS}
 
 abbrev pub inputs : List Record → List Input
 inputs journal = map (λ e. e.input) journal
@@ -17,10 +19,10 @@ inputs journal = map (λ e. e.input) journal
 -- the state kept in these fields is that of the run
 pub record IsRun (s : State) : Type 0 where
   pub is : s ≡ run s.setup (inputs s.journal)
-  pub feeders : AllByRecursion (λ e. e.input.feeder < 64) s.journal
+  pub feeders : AllByRecursion (λ e. e.input.feeder < MAX_FEEDERS) s.journal
   pub within : AllByRecursion (λ e. e.receipt.first_notice + e.receipt.notices ≤ length s.traffic.notices) s.journal
   pub room : length s.journal ≤ s.setup.max_entries
-  pub limit : s.setup.max_entries ≤ 1_000_000
+  pub limit : s.setup.max_entries ≤ MAX_ENTRIES
 
 -- without the last entry
 abbrev pub without_last : {X : Type 0} → List X → List X

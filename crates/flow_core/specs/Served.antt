@@ -4,6 +4,7 @@ use Rattle.flow_intake.specs.NextFrame.{second}
 use Rattle.flow_core.specs.State.{State, Input}
 use Rattle.flow_core.specs.Steps.{step}
 use Rattle.flow_core.specs.Output.{answer_text}
+use Rattle.fpl_message.specs.declared.filed_text.TheConstants.{MAX_BYTES}
 
 -- a frame as the filing of feeder 0
 abbrev pub as_input : List ℕ → Input
@@ -11,12 +12,12 @@ as_input frame = record { feeder = 0; text = second frame }
 
 -- the state after a frame: a frame that is too long gets no entry, nor does one at a full journal
 unfoldable pub served : State → List ℕ → State
-served s frame = if nat_le (length frame) 2000 then (if nat_lt (length s.journal) s.setup.max_entries then step s (as_input frame) else s) else s
+served s frame = if nat_le (length frame) MAX_BYTES then (if nat_lt (length s.journal) s.setup.max_entries then step s (as_input frame) else s) else s
 
 -- and what is written for it
 unfoldable pub said : State → List ℕ → List ℕ
 said s frame =
-    if nat_le (length frame) 2000
+    if nat_le (length frame) MAX_BYTES
     then (if nat_lt (length s.journal) s.setup.max_entries then answer_text (step s (as_input frame)) (length s.journal) else codes "- NO 91 JournalFull\n")
     else codes "- NO 90 TooLong\n"
 

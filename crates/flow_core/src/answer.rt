@@ -1,5 +1,5 @@
 //! Answer lines and slot notices as text.
-ghost use Rattle.std.specs.Prelude.{◌≡◌, ◌≤◌, ◌+◌, ◌++◌, ◌-◌, ◌^◌, min, OnOk, OnErr, length, codes, decimal};
+ghost use Rattle.std.specs.Prelude.{◌≡◌, ◌≤◌, ◌+◌, ◌++◌, ◌-◌, OnOk, OnErr, length, codes, decimal};
 ghost use Rattle.std.specs.List.{flat_map};
 ghost use Rattle.std.specs.Io.KnownBytes.{Appends};
 ghost use Rattle.fpl_message.specs.Numbers.{number_of, name_of};
@@ -7,6 +7,7 @@ ghost use Rattle.flow_intake.specs.Writes.{AppendsFront};
 ghost use Rattle.arrayvec.specs.ArrayVec.{array_vec_len};
 ghost use Rattle.flow_core.specs.Output.{kind_text, window_text, plan_text, refusal_text, verdict_text, answer_line};
 ghost use Rattle.flow_core.specs.Output.{flight_text, told_text, notice_line};
+ghost use Rattle.flow_intake.specs.Source.{counted_up};
 
 use crate::line::{Line, put, put_number};
 use crate::receipt::Receipt;
@@ -198,7 +199,7 @@ fn write_line<W: Write>(writer: &mut Counted<W>, receipt: &Receipt) -> Result<()
     ensures err { OnErr result (AppendsFront (W.contents writer.old.device) (W.contents writer.new.device)
         (answer_line receipt.now)) }
     ensures calm { OnOk result (writer.new.failures ≡ writer.old.failures) }
-    ensures failed { OnErr result (writer.new.failures ≡ min (writer.old.failures + 1) (2 ^ 64 - 1)) }
+    ensures failed { OnErr result (writer.new.failures ≡ counted_up writer.old.failures) }
 {
     let mut line = ArrayVec::new();
     put_answer(&mut line, receipt);
@@ -212,7 +213,7 @@ fn write_notice<W: Write>(writer: &mut Counted<W>, notice: &Notice) -> Result<()
     ensures err { OnErr result (AppendsFront (W.contents writer.old.device) (W.contents writer.new.device)
         (notice_line notice.now)) }
     ensures calm { OnOk result (writer.new.failures ≡ writer.old.failures) }
-    ensures failed { OnErr result (writer.new.failures ≡ min (writer.old.failures + 1) (2 ^ 64 - 1)) }
+    ensures failed { OnErr result (writer.new.failures ≡ counted_up writer.old.failures) }
 {
     let mut line = ArrayVec::new();
     put_notice(&mut line, notice);
@@ -230,7 +231,7 @@ pub(crate) fn write_lines<W: Write>(
     ensures err { OnErr result (AppendsFront (W.contents writer.old.device) (W.contents writer.new.device)
         (answer_line receipt.now ++ flat_map notice_line notices.now)) }
     ensures calm { OnOk result (writer.new.failures ≡ writer.old.failures) }
-    ensures failed { OnErr result (writer.new.failures ≡ min (writer.old.failures + 1) (2 ^ 64 - 1)) }
+    ensures failed { OnErr result (writer.new.failures ≡ counted_up writer.old.failures) }
 {
     write_line(writer, receipt)?;
     write_notices(writer, notices)
@@ -242,7 +243,7 @@ fn write_notices<W: Write>(writer: &mut Counted<W>, notices: &[Notice]) -> Resul
     ensures err { OnErr result (AppendsFront (W.contents writer.old.device) (W.contents writer.new.device)
         (flat_map notice_line notices.now)) }
     ensures calm { OnOk result (writer.new.failures ≡ writer.old.failures) }
-    ensures failed { OnErr result (writer.new.failures ≡ min (writer.old.failures + 1) (2 ^ 64 - 1)) }
+    ensures failed { OnErr result (writer.new.failures ≡ counted_up writer.old.failures) }
 {
     for notice in notices {
         write_notice(writer, notice)?;

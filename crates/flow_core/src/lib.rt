@@ -36,7 +36,7 @@ mod serving;
 
 pub use change::Change;
 pub use desk::{Core, StepFault};
-pub use entry::{Entry, EntryCopy};
+pub use entry::{Entry, EntryCopy, MAX_FEEDERS};
 pub use flow_intake::{Counted, Frame, Intake, IntakeFault, MAX_INPUT, WriteFault};
 pub use flow_regulations::{Notice, Said, Told, Window};
 pub use flow_traffic::{Kind, Verdict};

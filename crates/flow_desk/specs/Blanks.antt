@@ -8,6 +8,7 @@ use Rattle.flow_core.specs.History.{History, state_of}
 use Rattle.flow_desk.specs.Fronts.{FrontView}
 use Rattle.flow_desk.specs.Seats.{SeatView, WriterView}
 use Rattle.flow_desk.specs.Locks.{Counts}
+use Rattle.flow_core.specs.declared.entry.TheConstants.{MAX_FEEDERS}
 
 -- which desk it will be, and what was filed before
 pub record BlankView : Type 0 where
@@ -26,7 +27,7 @@ pub record IsBlank (core : History) (head : Book) (front : FrontView) (counts : 
   pub counted : Counts (length seats) (state_of core).journal counts
   pub writer : (publisher.knows ≡ true) × (publisher.book ≡ head) × (publisher.setup ≡ core.setup) × (publisher.entries ≡ (state_of core).journal)
   pub free : All (IsFree head core.setup (state_of core).journal) seats
-  pub few : length seats ≤ 64
+  pub few : length seats ≤ MAX_FEEDERS
 
 -- the number of the first entry whose feeder isn't below this, where they are numbered from n
 abbrev pub first_beyond : ℕ → ℕ → List Record → Option ℕ

@@ -10,6 +10,7 @@ use Rattle.flow_desk.specs.Fronts.{FrontView}
 use Rattle.flow_desk.specs.Seats.{WriterView}
 use Rattle.flow_desk.specs.Passes.{PassView}
 use Rattle.flow_desk.specs.Histories.{own, after}
+use Rattle.flow_core.specs.declared.entry.TheConstants.{MAX_FEEDERS}
 
 -- each feeder's entries are counted, and there are no others
 pub record Counts (feeders : ℕ) (es : List Record) (counts : List ℕ) : Type 0 where
@@ -25,7 +26,7 @@ pub record IsLocked (book : Book) (setup : Settings) (feeders : ℕ) (core : His
   pub book_is : front.book ≡ book
   pub entries_are : front.entries ≡ (state_of core).journal
   pub counted : Counts feeders (state_of core).journal counts
-  pub few : feeders ≤ 64
+  pub few : feeders ≤ MAX_FEEDERS
   pub published : MatchOption publisher ⊥ (λ p. (p.knows ≡ true) × (p.book ≡ book) × (p.setup ≡ setup) × (p.entries ≡ (state_of core).journal))
 
 -- the history begins with what the pass has seen, which has all of its feeder's entries; they are as many as its receipts

@@ -5,12 +5,13 @@ use mathlib.Core.List.{IsPrefix}
 use lib.ListN.{get_elem?}
 use Rattle.flow_desk.specs.Boards.{Shown, IsBoard}
 use Rattle.flow_desk.specs.declared.rule.View.{View}
+use Rattle.fpl_text.specs.declared.minute.TheConstants.{YEAR_2000}
 
 -- who has been told nothing
 abbrev pub newcomer : View
 newcomer = record {
   knows = false;
-  setup = record { start = 15_778_080; taxi = 0; max_plans = 1; max_entries = 1 };
+  setup = record { start = YEAR_2000; taxi = 0; max_plans = 1; max_entries = 1 };
   front = record { book = record { number = 0; log_name = 0; cells_name = 0 }; entries = [] };
 }
 

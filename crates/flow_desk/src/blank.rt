@@ -10,14 +10,11 @@ ghost use Rattle.flow_desk.specs.Blanks.{IsFree, IsBlank, first_beyond};
 use crate::history::{Front, Head, open_history};
 use crate::locked::count_one;
 use crate::seat::{Publisher, Seat};
-use flow_core::Core;
+use flow_core::{Core, MAX_FEEDERS};
 use flow_plans::Setup;
 use std::alloc::{Allocator, Global};
 use std::marker::Model;
 use std::sync::Wait;
-
-/// The feeders of a desk at most.
-pub const MAX_FEEDERS: usize = 64;
 
 /// Why no desk was made.
 #[derive(Clone, Copy, Debug, PartialEq, Eq)]
@@ -64,8 +61,8 @@ impl<R: Wait + Drop, A: Allocator + Copy> Model for Blank<R, A> {
 
 /// Whether a desk may have so many feeders.
 fn is_desk_size(feeders: usize) -> bool
-    ensures yes { IsTrue result → (0 < feeders) × (feeders ≤ 64) }
-    ensures no { IsFalse result → (feeders ≡ 0) ⊎ (64 < feeders) }
+    ensures yes { IsTrue result → (0 < feeders) × (feeders ≤ MAX_FEEDERS) }
+    ensures no { IsFalse result → (feeders ≡ 0) ⊎ (MAX_FEEDERS < feeders) }
 {
     1 <= feeders && feeders <= MAX_FEEDERS
 }
@@ -158,7 +155,7 @@ fn parts_for<R: Wait + Drop, A: Allocator + Copy>(
     core: &Core<A>,
     feeders: usize,
 ) -> Result<Parts<R, A>, DeskFault>
-    requires feeders { (0 < feeders) × (feeders ≤ 64) }
+    requires feeders { (0 < feeders) × (feeders ≤ MAX_FEEDERS) }
     requires within { first_beyond feeders 1 (state_of core.now).journal ≡ None }
     ensures made { IfOk result (λ p. (length p.seats.items ≡ feeders)
         × IsBlank core.now p.head p.front p.counts.items p.publisher p.seats.items) }
@@ -188,7 +185,7 @@ fn made_of<R: Wait + Drop, A: Allocator + Copy>(
     core: Core<A>,
     feeders: usize,
 ) -> Result<Blank<R, A>, (DeskFault, Core<A>)>
-    requires feeders { (0 < feeders) × (feeders ≤ 64) }
+    requires feeders { (0 < feeders) × (feeders ≤ MAX_FEEDERS) }
     requires within { first_beyond feeders 1 (state_of core).journal ≡ None }
     ensures made { IfOk result (λ b. (b.setup ≡ core.setup) × (b.feeders ≡ feeders)
         × (b.entries ≡ (state_of core).journal)) }
@@ -221,8 +218,8 @@ impl<R: Wait + Drop, A: Allocator + Copy> Blank<R, A> {
     /// Makes a desk at which nothing was filed, with one reader place for each of 1 to 64 feeders.
     pub fn new(rt: R, alloc: A, setup: Setup, feeders: usize) -> Result<Self, DeskFault>
         ensures made { IfOk result (λ b. (b.setup ≡ setup) × (b.feeders ≡ feeders) × (b.entries ≡ []) × (0 < feeders)
-            × (feeders ≤ 64)) }
-        ensures feeders { IsErrOf result DeskFault.Feeders ↔ ((feeders ≡ 0) ⊎ (64 < feeders)) }
+            × (feeders ≤ MAX_FEEDERS)) }
+        ensures feeders { IsErrOf result DeskFault.Feeders ↔ ((feeders ≡ 0) ⊎ (MAX_FEEDERS < feeders)) }
         ensures beyond { IfErr result (λ e. (n : ℕ) → e ≢ DeskFault.FeederBeyond n) }
     {
         if !is_desk_size(feeders) {
@@ -246,11 +243,11 @@ impl<R: Wait + Drop, A: Allocator + Copy> Blank<R, A> {
         feeders: usize,
     ) -> Result<Self, (DeskFault, Core<A>)>
         ensures made { IfOk result (λ b. (b.setup ≡ core.setup) × (b.feeders ≡ feeders)
-            × (b.entries ≡ (state_of core).journal) × (0 < feeders) × (feeders ≤ 64)) }
+            × (b.entries ≡ (state_of core).journal) × (0 < feeders) × (feeders ≤ MAX_FEEDERS)) }
         ensures within { IfOk result (λ b. first_beyond feeders 1 (state_of core).journal ≡ None) }
-        ensures feeders { IfErr result (λ e. (e.0 ≡ DeskFault.Feeders) ↔ ((feeders ≡ 0) ⊎ (64 < feeders))) }
+        ensures feeders { IfErr result (λ e. (e.0 ≡ DeskFault.Feeders) ↔ ((feeders ≡ 0) ⊎ (MAX_FEEDERS < feeders))) }
         ensures beyond { IfErr result (λ e. (n : ℕ) → (e.0 ≡ DeskFault.FeederBeyond n)
-            ↔ ((0 < feeders) × (feeders ≤ 64) × (first_beyond feeders 1 (state_of core).journal ≡ Some n))) }
+            ↔ ((0 < feeders) × (feeders ≤ MAX_FEEDERS) × (first_beyond feeders 1 (state_of core).journal ≡ Some n))) }
         ensures back { IfErr result (λ e. e.1 ≡ core) }
     {
         if !is_desk_size(feeders) {

@@ -35,9 +35,10 @@ mod rule;
 mod seat;
 mod slots;
 
-pub use blank::{Blank, DeskFault, MAX_FEEDERS};
+pub use blank::{Blank, DeskFault};
 pub use desk::{CloseFault, Desk};
 pub use feeders::{Done, End, Gate, run_feeders};
+pub use flow_core::MAX_FEEDERS;
 pub use name::Name;
 pub use pass::Pass;
 pub use seat::NoVersion;

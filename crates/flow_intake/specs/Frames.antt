@@ -5,6 +5,7 @@
 -- In codes: 40 and 41 are the brackets, 32, 13 and 10 the blanks space, carriage return and line feed.
 use Rattle.std.specs.Prelude.{ℕ, zero, suc, Bool, true, false, not, ◌||◌, List, [], ◌∷◌, ◌++◌, length, nat_le, ◌==◌, if◌then◌else◌, Option, Some, None}
 use Rattle.std.specs.Option.{option_map_or}
+use Rattle.fpl_message.specs.declared.filed_text.TheConstants.{MAX_BYTES}
 
 -- the bytes before the first that stops, and those from it on
 abbrev pub until : (ℕ → Bool) → List ℕ → List ℕ
@@ -70,4 +71,4 @@ ended_frames bytes = ended_in (length bytes) bytes
 
 -- what is kept of a frame: nothing, where it is too long
 abbrev pub kept_of : List ℕ → Option (List ℕ)
-kept_of bytes = if nat_le (length bytes) 2000 then Some bytes else None
+kept_of bytes = if nat_le (length bytes) MAX_BYTES then Some bytes else None

@@ -4,6 +4,7 @@ use Rattle.fpl_message.specs.Filings.{FilingText}
 use Rattle.flow_intake.specs.declared.intake.Frame.{Frame}
 use Rattle.flow_intake.specs.Frames.{Cut, first_cut, frames}
 use Rattle.flow_intake.specs.NextFrame.{filing_in, filing_of}
+use Rattle.flow_intake.specs.declared.pieces.TheConstants.{MAX_INPUT}
 
 -- the filings of the frames of an input: none for a frame that is too long
 abbrev pub filings_of : List ℕ → List (Option FilingText)
@@ -29,4 +30,4 @@ AnswerInTurn (filing ∷ filings) old new =
 -- where no frame is left, the whole input, so many bytes taken and these, isn't longer than it may be
 abbrev pub EndsWithin : {A : Type 0} → Option (Frame A) → ℕ → Option (List ℕ) → Type 0
 EndsWithin (Some frame) taken left = Unit {0}
-EndsWithin None taken left = IfSome left (λ bytes. taken + length bytes ≤ 4000000000)
+EndsWithin None taken left = IfSome left (λ bytes. taken + length bytes ≤ MAX_INPUT)

@@ -7,6 +7,7 @@ use Rattle.fpl_message.specs.Filings.{FilingText}
 use Rattle.fpl_message.specs.declared.edition.Edition.TheVariants as edition
 use Rattle.flow_intake.specs.Frames.{Cut, first_cut, ended_frames, kept_of}
 use Rattle.flow_intake.specs.Reader.{Ahead}
+use Rattle.fpl_message.specs.declared.filed_text.TheConstants.{MAX_BYTES}
 
 -- a frame read by the second edition
 abbrev pub second : List ℕ → FilingText
@@ -14,7 +15,7 @@ second frame = record { edition = edition.Second; bytes = frame }
 
 -- the filing of a frame: none, where it is too long
 abbrev pub filing_of : List ℕ → Option FilingText
-filing_of frame = if nat_le (length frame) 2000 then Some (second frame) else None
+filing_of frame = if nat_le (length frame) MAX_BYTES then Some (second frame) else None
 
 -- the filing that was made of a frame
 abbrev pub filing_in : {A : Type 0} → Frame A → Option FilingText

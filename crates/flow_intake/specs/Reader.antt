@@ -3,6 +3,7 @@ use Rattle.std.specs.Prelude.{◌≡◌, ℕ, ◌+◌, ◌<◌, Bool, true, fals
 use Rattle.std.specs.List.{list_any}
 use Rattle.std.specs.Io.KnownBytes.{Consumes, IsAtEnd}
 use Rattle.flow_intake.specs.Frames.{Cut, cut, kept_of}
+use Rattle.flow_intake.specs.declared.pieces.TheConstants.{MAX_INPUT}
 
 -- the bytes read and not yet taken, how many were taken, and whether the reader has ended
 pub record Ahead : Type 0 where
@@ -20,7 +21,7 @@ Came before after = (came : List ℕ) × Consumes before after came
 
 -- so many bytes came that the input is longer than it may be
 abbrev pub CameTooMuch : Ahead → Option (List ℕ) → Option (List ℕ) → Type 0
-CameTooMuch old before after = (came : List ℕ) × Consumes before after came × (4000000000 < old.taken + length old.unread + length came)
+CameTooMuch old before after = (came : List ℕ) × Consumes before after came × (MAX_INPUT < old.taken + length old.unread + length came)
 
 -- the bytes that came stand behind those that were unread
 abbrev pub Filled : Ahead → Ahead → Option (List ℕ) → Option (List ℕ) → Type 0

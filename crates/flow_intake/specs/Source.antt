@@ -1,5 +1,5 @@
 -- An input as its frames are taken from it.
-use Rattle.std.specs.Prelude.{◌≡◌, ◌+◌, length, ℕ, Bool, List, [], Option, Some, None}
+use Rattle.std.specs.Prelude.{◌≡◌, ◌+◌, ◌-◌, ◌^◌, min, length, ℕ, Bool, List, [], Option, Some, None}
 use Rattle.flow_intake.specs.Frames.{Cut, first_cut}
 use Rattle.flow_intake.specs.NextFrame.{filing_in, filing_of}
 use Rattle.fpl_message.specs.Filings.{FilingText}
@@ -14,6 +14,10 @@ pub record Source : Type 0 where
   pub failures : ℕ
   pub ended : Bool
   pub failed : Bool
+
+-- how many calls failed after one more did: the count stays at its greatest number
+abbrev pub counted_up : ℕ → ℕ
+counted_up failures = min (failures + 1) (2 ^ 64 - 1)
 
 -- the frame is the first of the bytes, and what is left is the rest; or there is none, and nothing is left
 abbrev pub IsFirst : {A : Type 0} → Option (Frame A) → List ℕ → List ℕ → Type 0

@@ -1,9 +1,10 @@
 //! A reader or a writer with the count of its calls that failed.
-ghost use Rattle.std.specs.Prelude.{◌≡◌, ◌+◌, ◌-◌, ◌^◌, ◌<◌, min, length, MatchResult, OnOk, OnErr, OnSome, IfOk};
+ghost use Rattle.std.specs.Prelude.{◌≡◌, ◌+◌, ◌-◌, ◌^◌, ◌<◌, length, MatchResult, OnOk, OnErr, OnSome, IfOk};
 ghost use Rattle.std.specs.Prelude.{IfSome, IfNone, take, ◌≤◌, if◌then◌else◌};
 ghost use Rattle.std.specs.Io.{ReadsAtMost, WritesAtMost};
 ghost use Rattle.std.specs.Io.KnownBytes.{ReadConsumes, WriteAppends, Keeps, Appends};
 ghost use Rattle.flow_intake.specs.Writes.{AppendsFront};
+ghost use Rattle.flow_intake.specs.Source.{counted_up};
 
 use std::io;
 use std::io::{Read, Write};
@@ -37,7 +38,7 @@ impl<D> Counted<D> {
     /// Counts a call that failed.
     fn count(&mut self, failed: bool)
         ensures failures { self.new.failures
-            ≡ (if failed then min (self.old.failures + 1) (2 ^ 64 - 1) else self.old.failures) }
+            ≡ (if failed then counted_up self.old.failures else self.old.failures) }
         ensures device { self.new.device ≡ self.old.device }
     {
         if failed {
@@ -54,7 +55,7 @@ impl<R: Read> Read for Counted<R> {
         ensures bound { ReadsAtMost result buf.new }
         ensures bytes { ReadConsumes (R.remaining self.old.device) (R.remaining self.new.device) result buf.new }
         ensures counts { MatchResult result (λ _. self.new.failures ≡ self.old.failures) (λ _.
-            self.new.failures ≡ min (self.old.failures + 1) (2 ^ 64 - 1)) }
+            self.new.failures ≡ counted_up self.old.failures) }
     {
         let read = self.device.read(buf);
         self.count(read.is_err());
@@ -71,8 +72,8 @@ impl<W: Write> Write for Counted<W> {
         ensures calm { IfOk result (λ n. 0 < n → self.new.failures ≡ self.old.failures) }
         ensures empty { length buf.now ≡ 0 → OnOk result (self.new.failures ≡ self.old.failures) }
         ensures counts { MatchResult result (λ n. n ≡ 0 → 0 < length buf.now
-            → self.new.failures ≡ min (self.old.failures + 1) (2 ^ 64 - 1)) (λ _.
-            self.new.failures ≡ min (self.old.failures + 1) (2 ^ 64 - 1)) }
+            → self.new.failures ≡ counted_up self.old.failures) (λ _.
+            self.new.failures ≡ counted_up self.old.failures) }
     {
         let written = self.device.write(buf);
         let failed = match &written {
@@ -86,7 +87,7 @@ impl<W: Write> Write for Counted<W> {
     fn flush(&mut self) -> io::Result<()>
         ensures bytes { Keeps (W.contents self.old.device) (W.contents self.new.device) }
         ensures counts { MatchResult result (λ _. self.new.failures ≡ self.old.failures) (λ _.
-            self.new.failures ≡ min (self.old.failures + 1) (2 ^ 64 - 1)) }
+            self.new.failures ≡ counted_up self.old.failures) }
     {
         let flushed = self.device.flush();
         self.count(flushed.is_err());
@@ -106,7 +107,7 @@ fn write_some<W: Write>(writer: &mut Counted<W>, bytes: &[u8]) -> Option<usize>
         Appends (W.contents writer.old.device) (W.contents writer.new.device) (take n bytes.now)) }
     ensures calm { OnSome result (writer.new.failures ≡ writer.old.failures) }
     ensures none { IfNone result (Keeps (W.contents writer.old.device) (W.contents writer.new.device)) }
-    ensures failed { IfNone result (writer.new.failures ≡ min (writer.old.failures + 1) (2 ^ 64 - 1)) }
+    ensures failed { IfNone result (writer.new.failures ≡ counted_up writer.old.failures) }
 {
     match writer.write(bytes) {
         Ok(n) if n > 0 => Some(n),
@@ -120,7 +121,7 @@ pub fn write_bytes<W: Write>(writer: &mut Counted<W>, bytes: &[u8]) -> Result<()
     ensures ok { OnOk result (Appends (W.contents writer.old.device) (W.contents writer.new.device) bytes.now) }
     ensures calm { OnOk result (writer.new.failures ≡ writer.old.failures) }
     ensures err { OnErr result (AppendsFront (W.contents writer.old.device) (W.contents writer.new.device) bytes.now) }
-    ensures failed { OnErr result (writer.new.failures ≡ min (writer.old.failures + 1) (2 ^ 64 - 1)) }
+    ensures failed { OnErr result (writer.new.failures ≡ counted_up writer.old.failures) }
 {
     let mut written = 0;
     'turns: while written < bytes.len() {

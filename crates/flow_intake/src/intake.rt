@@ -1,10 +1,12 @@
 //! The frames of an input.
-ghost use Rattle.std.specs.Prelude.{◌≡◌, ◌≢◌, ◌≤◌, ◌<◌, ◌+◌, ◌^◌, Some, None, false, min, length, IfErr, IfOk};
+ghost use Rattle.std.specs.Prelude.{◌≡◌, ◌≢◌, ◌≤◌, ◌<◌, ◌+◌, Some, None, false, length, IfErr, IfOk};
 ghost use Rattle.std.specs.Prelude.{IfNone, IfSome, IsOkAnd, OnErr, OnOk, IsErrOf, Err, IsTrue, IsNone, ◌-◌};
 ghost use Rattle.flow_intake.specs.InTurn.{EndsWithin, GivesNext};
 ghost use Rattle.flow_intake.specs.NextFrame.{Cuts, Gives, Misses, Starves, filing_in, filing_kept};
 ghost use Rattle.flow_intake.specs.Source.{CutsFirst, KeepsTotal, MissesFirst};
 ghost use Rattle.flow_intake.specs.Reader.{Agrees, Came, CameTooMuch, Finished, Unfinished};
+ghost use Rattle.flow_intake.specs.declared.pieces.TheConstants.{MAX_INPUT};
+ghost use Rattle.flow_intake.specs.Source.{counted_up};
 
 use crate::counted::Counted;
 use crate::fault::IntakeFault;
@@ -35,7 +37,7 @@ fn finish<R: Read, A: Allocator>(
         (R.remaining reader.new.device) kept.old kept.new) }
     ensures agrees { OnOk result (Agrees pieces.new (R.remaining reader.new.device)) }
     ensures nearer { OnOk result (pieces.old.taken ≤ pieces.new.taken) }
-    ensures within { OnOk result (pieces.new.taken ≤ 4000000000) }
+    ensures within { OnOk result (pieces.new.taken ≤ MAX_INPUT) }
     ensures err { OnErr result (Came (R.remaining reader.old.device) (R.remaining reader.new.device)) }
     ensures read { IsErrOf result IntakeFault.Read
         → Unfinished first pieces.old (R.remaining reader.old.device) (R.remaining reader.new.device) }
@@ -44,7 +46,7 @@ fn finish<R: Read, A: Allocator>(
     ensures memory { result ≢ Err IntakeFault.OutOfMemory }
     ensures calm { OnOk result (reader.new.failures ≡ reader.old.failures) }
     ensures failed { IsErrOf result IntakeFault.Read
-        → reader.new.failures ≡ min (reader.old.failures + 1) (2 ^ 64 - 1) }
+        → reader.new.failures ≡ counted_up reader.old.failures }
 {
     if first == b'(' {
         take_until(reader, pieces, Until::Bracket, kept)?;
@@ -84,8 +86,8 @@ pub fn cut_frame<R: Read, A: Allocator>(
     ensures still { IsTrue pieces.old.ended → (pieces.new ≡ pieces.old) × (reader.new ≡ reader.old) }
     ensures agrees { OnOk result (Agrees pieces.new (R.remaining reader.new.device)) }
     ensures nearer { IfOk result (λ found. IsTrue found → pieces.old.taken < pieces.new.taken) }
-    ensures within { IfOk result (λ found. IsTrue found → pieces.new.taken ≤ 4000000000) }
-    ensures most { OnOk result (pieces.new.taken ≤ 4000000000) }
+    ensures within { IfOk result (λ found. IsTrue found → pieces.new.taken ≤ MAX_INPUT) }
+    ensures most { OnOk result (pieces.new.taken ≤ MAX_INPUT) }
 
     // What the bytes that came show, and when each fault comes.
     ensures err { OnErr result (Came (R.remaining reader.old.device) (R.remaining reader.new.device)) }
@@ -97,7 +99,7 @@ pub fn cut_frame<R: Read, A: Allocator>(
     ensures memory { result ≢ Err IntakeFault.OutOfMemory }
     ensures calm { OnOk result (reader.new.failures ≡ reader.old.failures) }
     ensures failed { IsErrOf result IntakeFault.Read
-        → reader.new.failures ≡ min (reader.old.failures + 1) (2 ^ 64 - 1) }
+        → reader.new.failures ≡ counted_up reader.old.failures }
 {
     if pieces.has_ended() {
         return Ok(false);
@@ -126,7 +128,7 @@ fn next_frame<R: Read, A: Allocator + Copy>(
     ensures ended { IsTrue pieces.old.ended → IfOk result (λ frame. IsNone frame) }
     ensures still { IsTrue pieces.old.ended → (pieces.new ≡ pieces.old) × (reader.new ≡ reader.old) }
     ensures agrees { OnOk result (Agrees pieces.new (R.remaining reader.new.device)) }
-    ensures most { OnOk result (pieces.new.taken ≤ 4000000000) }
+    ensures most { OnOk result (pieces.new.taken ≤ MAX_INPUT) }
 
     // When each fault comes.
     ensures going { OnErr result (pieces.old.ended ≡ false) }
@@ -134,11 +136,11 @@ fn next_frame<R: Read, A: Allocator + Copy>(
         → CameTooMuch pieces.old (R.remaining reader.old.device) (R.remaining reader.new.device) }
     ensures calm { OnOk result (reader.new.failures ≡ reader.old.failures) }
     ensures failed { IsErrOf result IntakeFault.Read
-        → reader.new.failures ≡ min (reader.old.failures + 1) (2 ^ 64 - 1) }
+        → reader.new.failures ≡ counted_up reader.old.failures }
     ensures memory { IsErrOf result IntakeFault.OutOfMemory → (reader.new.failures ≡ reader.old.failures)
         × Misses pieces.old pieces.new (R.remaining reader.old.device) (R.remaining reader.new.device)
         × Agrees pieces.new (R.remaining reader.new.device) }
-    ensures room { IsErrOf result IntakeFault.OutOfMemory → pieces.new.taken ≤ 4000000000 }
+    ensures room { IsErrOf result IntakeFault.OutOfMemory → pieces.new.taken ≤ MAX_INPUT }
 {
     if !cut_frame(reader, pieces, kept)? {
         return Ok(None);
@@ -224,16 +226,16 @@ impl<R: Read, A: Allocator + Copy> Intake<R, A> {
 
         // When the first fault comes.
         ensures read { self.old.failed ≡ false → IsErrOf result IntakeFault.Read
-            → self.new.failures ≡ min (self.old.failures + 1) (2 ^ 64 - 1) }
+            → self.new.failures ≡ counted_up self.old.failures }
         ensures much { IsErrOf result IntakeFault.TooMuch
-            → IfSome self.old.left (λ bytes. 4000000000 < self.old.taken + length bytes) }
+            → IfSome self.old.left (λ bytes. MAX_INPUT < self.old.taken + length bytes) }
         ensures calm { OnOk result (self.new.failures ≡ self.old.failures) }
         ensures memory { IsErrOf result IntakeFault.OutOfMemory → (self.new.failures ≡ self.old.failures)
             × MissesFirst self.old.left self.new.left × KeepsTotal self.old self.new
-            × (self.new.taken ≤ 4000000000) }
+            × (self.new.taken ≤ MAX_INPUT) }
 
         // An input of more than 4,000,000,000 bytes has no end that is answered.
-        ensures most { OnOk result (self.new.taken ≤ 4000000000) }
+        ensures most { OnOk result (self.new.taken ≤ MAX_INPUT) }
         ensures end { IfOk result (λ frame. EndsWithin frame self.old.taken self.old.left) }
     {
         if self.failed {

@@ -15,12 +15,13 @@ pub struct Kept<A: Allocator = Global> {
 
 impl<A: Allocator> Model for Kept<A> {
     ghost use Rattle.std.specs.Prelude.{List, ℕ, Option, Some, None, if◌then◌else◌, ◌≤◌, length, vec_capacity};
+    ghost use Rattle.fpl_message.specs.declared.filed_text.TheConstants.{MAX_BYTES};
 
     ghost Value = { Option (List ℕ) };
 
     ghost view = { λ k. if k.is_long then None else Some k.bytes.items };
 
-    ghost invariant = { λ k. (length k.bytes.items ≤ 2000) × (2000 ≤ vec_capacity k.bytes) };
+    ghost invariant = { λ k. (length k.bytes.items ≤ MAX_BYTES) × (MAX_BYTES ≤ vec_capacity k.bytes) };
 }
 
 impl<A: Allocator> Kept<A> {
@@ -62,7 +63,7 @@ impl<A: Allocator> Kept<A> {
     /// The bytes of a frame that isn't too long, at most 2,000. None for one that is.
     pub fn bytes(&self) -> Option<&[u8]>
         ensures { MatchOption result (self.now ≡ None) (λ bytes. (self.now ≡ Some bytes.now)
-            × (length bytes.now ≤ 2000)) }
+            × (length bytes.now ≤ MAX_BYTES)) }
     {
         if self.is_long {
             None

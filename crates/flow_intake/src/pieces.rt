@@ -1,5 +1,5 @@
 //! An input in pieces, from any reader, however it cuts the bytes.
-ghost use Rattle.std.specs.Prelude.{◌≡◌, ◌≢◌, ◌≤◌, ◌<◌, ◌+◌, ◌-◌, ◌^◌, [], false, true, min, length, drop, slice_get};
+ghost use Rattle.std.specs.Prelude.{◌≡◌, ◌≢◌, ◌≤◌, ◌<◌, ◌+◌, ◌-◌, [], false, true, length, drop, slice_get};
 ghost use Rattle.std.specs.Prelude.{IfOk, OnOk, IsErrOf, IsSomeAnd, Err, IsTrue};
 ghost use Rattle.std.specs.List.{position};
 ghost use Rattle.memchr.specs.Find.{is_byte2};
@@ -8,6 +8,7 @@ ghost use Rattle.std.specs.Io.KnownBytes.{Consumes};
 ghost use Rattle.flow_intake.specs.Reader.{Agrees, BeginsWithStop, CameTooMuch, Filled, StopsFrom, TakesIf, Took};
 ghost use Rattle.flow_intake.specs.Reader.{TookRun};
 ghost use Rattle.flow_intake.specs.Until.{stops_at};
+ghost use Rattle.flow_intake.specs.Source.{counted_up};
 
 use crate::counted::Counted;
 use crate::fault::IntakeFault;
@@ -97,6 +98,7 @@ impl<A: Allocator> Model for Pieces<A> {
     ghost use Rattle.std.specs.Prelude.{◌≡◌, ◌≤◌, ◌-◌, ◌+◌, length, slice_range};
     ghost use Rattle.flow_intake.specs.Frames.{is_bracket, ends_order};
     ghost use Rattle.flow_intake.specs.Reader.{Ahead, StopsFrom};
+    ghost use Rattle.flow_intake.specs.declared.pieces.TheConstants.{MAX_INPUT, PIECE};
 
     ghost Value = { Ahead };
 
@@ -106,8 +108,8 @@ impl<A: Allocator> Model for Pieces<A> {
       ended = p.ended;
     } };
 
-    ghost invariant = { λ p. (p.at ≤ p.end) × (p.end ≤ length p.piece.items) × (length p.piece.items ≡ 65536)
-        × (p.end - p.at ≤ p.total) × (p.total ≤ 4000000000)
+    ghost invariant = { λ p. (p.at ≤ p.end) × (p.end ≤ length p.piece.items) × (length p.piece.items ≡ PIECE)
+        × (p.end - p.at ≤ p.total) × (p.total ≤ MAX_INPUT)
         × StopsFrom is_bracket (slice_range p.piece.items p.at p.end) (p.brackets - p.at)
         × StopsFrom ends_order (slice_range p.piece.items p.at p.end) (p.order_ends - p.at) };
 }
@@ -159,7 +161,7 @@ impl<A: Allocator> Pieces<A> {
     /// Whether the reader has no more. No more bytes were taken of it than an input may have.
     pub(crate) fn has_ended(&self) -> bool
         ensures ended { result ≡ self.now.ended }
-        ensures within { self.now.taken ≤ 4000000000 }
+        ensures within { self.now.taken ≤ MAX_INPUT }
     {
         self.ended
     }
@@ -170,7 +172,7 @@ impl<A: Allocator> Pieces<A> {
         ensures unread { self.new.unread ≡ drop count self.old.unread }
         ensures taken { self.new.taken ≡ self.old.taken + count }
         ensures ended { self.new.ended ≡ self.old.ended }
-        ensures within { self.new.taken ≤ 4000000000 }
+        ensures within { self.new.taken ≤ MAX_INPUT }
     {
         self.at += count;
     }
@@ -191,7 +193,7 @@ impl<A: Allocator> Pieces<A> {
         ensures memory { result ≢ Err IntakeFault.OutOfMemory }
         ensures calm { OnOk result (reader.new.failures ≡ reader.old.failures) }
         ensures failed { IsErrOf result IntakeFault.Read
-            → reader.new.failures ≡ min (reader.old.failures + 1) (2 ^ 64 - 1) }
+            → reader.new.failures ≡ counted_up reader.old.failures }
     {
         match reader.read(self.piece.as_mut_slice()) {
             Err(_) => Err(IntakeFault::Read),
@@ -232,7 +234,7 @@ fn make_ready<R: Read, A: Allocator>(
     ensures memory { result ≢ Err IntakeFault.OutOfMemory }
     ensures calm { OnOk result (reader.new.failures ≡ reader.old.failures) }
     ensures failed { IsErrOf result IntakeFault.Read
-        → reader.new.failures ≡ min (reader.old.failures + 1) (2 ^ 64 - 1) }
+        → reader.new.failures ≡ counted_up reader.old.failures }
 {
     if !pieces.unread().is_empty() {
         return Ok(());
@@ -249,7 +251,7 @@ fn take_run<A: Allocator>(pieces: &mut Pieces<A>, until: Until, kept: &mut Kept<
     ensures took { TookRun (stops_at until) pieces.old pieces.new kept.old kept.new }
     ensures stop { BeginsWithStop (stops_at until) pieces.new.unread }
     ensures ended { pieces.new.ended ≡ pieces.old.ended }
-    ensures within { pieces.new.taken ≤ 4000000000 }
+    ensures within { pieces.new.taken ≤ MAX_INPUT }
 {
     let unread = pieces.unread();
     let count = stop_in(unread, until).unwrap_or(unread.len());
@@ -271,7 +273,7 @@ pub(crate) fn take_until<R: Read, A: Allocator>(
     ensures stop { OnOk result (BeginsWithStop (stops_at until) pieces.new.unread) }
     ensures end { OnOk result (pieces.new.unread ≡ [] → IsTrue pieces.new.ended) }
     ensures agrees { OnOk result (Agrees pieces.new (R.remaining reader.new.device)) }
-    ensures within { OnOk result (pieces.new.taken ≤ 4000000000) }
+    ensures within { OnOk result (pieces.new.taken ≤ MAX_INPUT) }
     ensures read { IsErrOf result IntakeFault.Read → (pieces.new.unread ≡ [])
         × (Took (stops_at until) pieces.old pieces.new (R.remaining reader.old.device)
         (R.remaining reader.new.device) kept.old kept.new) }
@@ -280,7 +282,7 @@ pub(crate) fn take_until<R: Read, A: Allocator>(
     ensures memory { result ≢ Err IntakeFault.OutOfMemory }
     ensures calm { OnOk result (reader.new.failures ≡ reader.old.failures) }
     ensures failed { IsErrOf result IntakeFault.Read
-        → reader.new.failures ≡ min (reader.old.failures + 1) (2 ^ 64 - 1) }
+        → reader.new.failures ≡ counted_up reader.old.failures }
 {
     'pieces: loop {
         make_ready(reader, pieces)?;
@@ -298,7 +300,7 @@ pub(crate) fn take_until<R: Read, A: Allocator>(
 pub(crate) fn take_if<A: Allocator>(pieces: &mut Pieces<A>, byte: u8, kept: &mut Kept<A>)
     ensures took { TakesIf byte pieces.old pieces.new kept.old kept.new }
     ensures ended { pieces.new.ended ≡ pieces.old.ended }
-    ensures within { pieces.old.taken ≤ 4000000000 → pieces.new.taken ≤ 4000000000 }
+    ensures within { pieces.old.taken ≤ MAX_INPUT → pieces.new.taken ≤ MAX_INPUT }
 {
     let Some(next) = pieces.front() else {
         return;

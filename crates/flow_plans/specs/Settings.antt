@@ -1,5 +1,7 @@
 -- When a desk starts, and its limits.
 use Rattle.std.specs.Prelude.{ℕ, ◌≤◌, ◌<◌}
+use Rattle.flow_plans.specs.declared.setup.TheConstants.{MAX_TAXI, MAX_PLANS, MAX_ENTRIES}
+use Rattle.fpl_text.specs.declared.minute.TheConstants.{YEAR_2000, YEAR_2099}
 
 pub record Settings : Type 0 where
   -- the desk's time at the start, in minutes from 1970-01-01 00:00 UTC
@@ -13,8 +15,8 @@ pub record Settings : Type 0 where
 
 -- a moment of the years 2000 to 2098
 abbrev pub IsDeskTime : ℕ → Type 0
-IsDeskTime minute = (15_778_080 ≤ minute) × (minute < 67_848_480)
+IsDeskTime minute = (YEAR_2000 ≤ minute) × (minute < YEAR_2099)
 
 abbrev pub IsWithinLimits : Settings → Type 0
 IsWithinLimits s =
-    IsDeskTime s.start × (s.taxi ≤ 120) × (1 ≤ s.max_plans) × (s.max_plans ≤ 20_000) × (1 ≤ s.max_entries) × (s.max_entries ≤ 1_000_000)
+    IsDeskTime s.start × (s.taxi ≤ MAX_TAXI) × (1 ≤ s.max_plans) × (s.max_plans ≤ MAX_PLANS) × (1 ≤ s.max_entries) × (s.max_entries ≤ MAX_ENTRIES)

@@ -2,6 +2,12 @@
 use Rattle.std.specs.Prelude.{ℕ, ◌+◌, ◌*◌, ◌/◌, ◌%◌, ◌==◌, Bool, nat_lt, if◌then◌else◌, Option, Some, None, Result, Ok, Err}
 use Rattle.fpl_message.specs.declared.refusal.Refusal.{Refusal}
 use Rattle.fpl_message.specs.declared.refusal.Refusal.TheVariants.{NotLater, DelayTooLong, Past, TooEarly}
+use Rattle.fpl_text.specs.declared.minute.TheConstants.{YEAR_2099}
+use Rattle.flow_plans.specs.declared.times.TheConstants.{FURTHEST_AHEAD, LONGEST_DELAY}
+
+-- no off-block moment of a desk reaches this one
+abbrev pub off_blocks_end : ℕ
+off_blocks_end = YEAR_2099 + FURTHEST_AHEAD
 
 -- what comes next, unless this refusal applies
 abbrev pub unless : {X : Type 0} → Bool → Refusal → Result X Refusal → Result X Refusal
@@ -19,7 +25,7 @@ off_block_of now None time = first_from now time
 
 -- an off-block moment lies from the desk's time to 120 hours after it
 abbrev pub unless_out_of_time : {X : Type 0} → ℕ → ℕ → Result X Refusal → Result X Refusal
-unless_out_of_time now moment next = unless (nat_lt moment now) Past (unless (nat_lt (now + 7200) moment) TooEarly next)
+unless_out_of_time now moment next = unless (nat_lt moment now) Past (unless (nat_lt (now + FURTHEST_AHEAD) moment) TooEarly next)
 
 -- the off-block moment after a delay to this time of day (ICAO Doc 4444, appendix 3, field type 13 in DLA): the first one
 -- after the moment that is held, at most 720 minutes later
@@ -27,4 +33,4 @@ unfoldable pub delayed_to : ℕ → ℕ → ℕ → Result ℕ Refusal
 delayed_to now held time =
     let moment = first_from (held + 1) time in
     unless (held % 1440 == time) NotLater
-    (unless (nat_lt (held + 720) moment) DelayTooLong (unless_out_of_time now moment (Ok moment)))
+    (unless (nat_lt (held + LONGEST_DELAY) moment) DelayTooLong (unless_out_of_time now moment (Ok moment)))

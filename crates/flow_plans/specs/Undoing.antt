@@ -5,6 +5,8 @@ use Rattle.flow_plans.specs.declared.undo.LastChange.TheVariants as change
 use Rattle.flow_plans.specs.declared.plan.PlanState.TheVariants as state
 use Rattle.flow_plans.specs.Chains.{Chained, flight_of_key, AreChained, HasRoomFor}
 use Rattle.flow_plans.specs.Plans.{Plan, is_held, plan_at, changed_at, with_plan, with_state, with_off_block}
+use Rattle.flow_plans.specs.declared.setup.TheConstants.{MAX_PLANS, MAX_TAXI}
+use Rattle.flow_plans.specs.Times.{off_blocks_end}
 
 -- the plans before this change, where it can be taken back
 abbrev pub undone : {A : Type 0} → List Plan → last_change.LastChange A → Option (List Plan)
@@ -18,7 +20,7 @@ undone plans (change.Amended number plan) = Some (with_plan plans number plan.va
 abbrev pub IsOf : {A : Type 0} → last_change.LastChange A → List Plan → Type 0
 IsOf change.Nothing plans = Unit {0}
 IsOf change.Filed plans = 0 < length plans
-IsOf (change.Delayed number moment) plans = (0 < number) × (number ≤ length plans) × (moment < 67_855_680)
+IsOf (change.Delayed number moment) plans = (0 < number) × (number ≤ length plans) × (moment < off_blocks_end)
 IsOf (change.Ended number) plans = (0 < number) × (number ≤ length plans)
 IsOf (change.Amended number plan) plans =
     (0 < number) × (number ≤ length plans) × (is_held plan.value.state ≡ true) × IfSome (plan_at plans number) (λ p. is_held p.state ≡ true)
@@ -34,4 +36,4 @@ CanReturn chains (change.Amended number plan) plans = HasRoomFor chains (flight_
 -- what a store keeps to
 abbrev pub IsKept : {A : Type 0} → ℕ → ℕ → List Plan → Chained → last_change.LastChange A → Type 0
 IsKept max_plans taxi plans chains change =
-    (length plans ≤ max_plans) × (max_plans ≤ 20_000) × (taxi ≤ 120) × IsOf change plans × AreChained chains plans × CanReturn chains change plans
+    (length plans ≤ max_plans) × (max_plans ≤ MAX_PLANS) × (taxi ≤ MAX_TAXI) × IsOf change plans × AreChained chains plans × CanReturn chains change plans

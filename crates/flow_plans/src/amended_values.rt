@@ -3,6 +3,7 @@ ghost use Rattle.std.specs.Prelude.{◌≡◌, ◌<◌, IfSome, unwrap_or, optio
 ghost use Rattle.std.specs.Option.{option_map_or};
 ghost use Rattle.fpl_items.specs.Items.{is_exempt};
 ghost use Rattle.flow_plans.specs.Changes.{elapsed_after, alternates_after};
+ghost use Rattle.fpl_text.specs.declared.time.TheConstants.{ELAPSED_LIMIT};
 
 use fpl_items::Other18;
 use fpl_text::{Alternates, Destination, FlightRules, Rules};
@@ -40,10 +41,10 @@ pub(crate) fn exempt_after<A: Allocator + Copy>(held: bool, amended: Option<&Oth
 
 /// The elapsed time of an amended field 16 that has one, or else the one held.
 pub(crate) fn elapsed_after(held: u32, amended: Option<&Destination>) -> u32
-    requires held { held < 6000 }
-    requires amended { IfSome amended (λ amended. IfSome amended.now.elapsed (λ minutes. minutes < 6000)) }
+    requires held { held < ELAPSED_LIMIT }
+    requires amended { IfSome amended (λ amended. IfSome amended.now.elapsed (λ minutes. minutes < ELAPSED_LIMIT)) }
     ensures value { result ≡ elapsed_after held (option_copied amended.entry) }
-    ensures bound { result < 6000 }
+    ensures bound { result < ELAPSED_LIMIT }
 {
     match amended {
         Some(destination) => destination.elapsed.unwrap_or(held),

@@ -6,7 +6,8 @@ ghost use Rattle.flow_plans.specs.Plans.{is_held, plan_at, with_plan};
 ghost use Rattle.flow_plans.specs.Chains.{AreChained, flight_of_key, HasRoomFor, StayChained};
 ghost use Rattle.flow_plans.specs.Changes.{moved_to, amended, Answers, IsRefusal};
 ghost use Rattle.flow_plans.specs.Matching.{matching};
-ghost use Rattle.flow_plans.specs.Times.{delayed_to};
+ghost use Rattle.flow_plans.specs.Times.{delayed_to, off_blocks_end};
+ghost use Rattle.flow_plans.specs.declared.setup.TheConstants.{MAX_PLANS};
 
 use crate::chains::{Chains, FlightName};
 use crate::fault::PlanFault;
@@ -21,9 +22,9 @@ use std::alloc::Allocator;
 /// The off-block moment, which an amended field 13 moves as a delay does.
 fn moved_to(now: Minute, held: Minute, departure: Option<&Departure>) -> Result<Minute, PlanFault>
     requires now { IsDeskTime now }
-    requires held { held < 67_855_680 }
+    requires held { held < off_blocks_end }
     ensures answer { Answers result (moved_to now held (option_copied departure.entry)) }
-    ensures bound { IfOk result (λ moment. moment < 67_855_680) }
+    ensures bound { IfOk result (λ moment. moment < off_blocks_end) }
 {
     match departure {
         Some(departure) => delayed_to(now, held, departure.time),
@@ -42,7 +43,7 @@ fn amended<A: Allocator + Copy>(
     now: Minute,
 ) -> Result<(u32, FlightName, Box<Plan<A>, A>), PlanFault>
     requires now { IsDeskTime now }
-    requires few { length plans.now ≤ 20_000 }
+    requires few { length plans.now ≤ MAX_PLANS }
     requires chained { AreChained chains.now plans.now }
     ensures ok { IfOk result (λ r. amended now plans.now message.now
         ≡ Ok (record { plans = with_plan plans.now r.0 r.2.value; number = r.0 })) }
@@ -79,7 +80,7 @@ pub(crate) fn amend_plan<A: Allocator + Copy>(
     now: Minute,
 ) -> Result<(u32, Box<Plan<A>, A>), PlanFault>
     requires now { IsDeskTime now }
-    requires few { length plans.old ≤ 20_000 }
+    requires few { length plans.old ≤ MAX_PLANS }
     requires chained { AreChained chains.old plans.old }
     ensures ok { IfOk result (λ r. amended now plans.old message.now
         ≡ Ok (record { plans = plans.new; number = r.0 })) }

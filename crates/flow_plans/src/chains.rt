@@ -7,6 +7,7 @@ ghost use Rattle.flow_plans.specs.Plans.{is_held};
 ghost use Rattle.flow_plans.specs.Chains.{base_256, flight_named, flight_of_key, flight_of_parts, same_flight, newest};
 ghost use Rattle.flow_plans.specs.Chains.{GoDown, AreLinks, IsNewest, AreChained, HasRoomFor, IsUpdated, KeepNames};
 ghost use Rattle.flow_plans.specs.Chains.{StayChained, IsApart, LeaveOut, TakeIn};
+ghost use Rattle.flow_plans.specs.declared.setup.TheConstants.{MAX_PLANS};
 
 use crate::places::letters_of;
 use crate::plan::{Key, Plan};
@@ -122,7 +123,7 @@ impl<A: Allocator + Copy> Chains<A> {
 
     /// Puts a plan behind these at the front of its chain. After an `Err` all chains are as they were.
     pub(crate) fn append(&mut self, plans: &[Plan<A>], plan: &Plan<A>) -> Result<(), AllocError>
-        requires few { length plans.now ≤ 20_000 }
+        requires few { length plans.now ≤ MAX_PLANS }
         requires held { is_held plan.now.state ≡ true }
         requires chained { AreChained self.old plans.now }
         ensures ok { OnOk result (AreChained self.new (plans.now ++ plan.now ∷ [])) }
@@ -136,8 +137,8 @@ impl<A: Allocator + Copy> Chains<A> {
         Ok(())
     }
 
-    /// Takes the plan of this number, whose flight has this name, out of its chain, and answers the number of the newest
-    /// that is left in that. It takes no memory.
+    /// Takes the plan of this number, whose flight has this name, out of its chain, and answers the newest number
+    /// that is left there. It takes no memory.
     pub(crate) fn leave(&mut self, name: &FlightName, number: u32) -> u32
         requires number { (0 < number) × (number ≤ length self.old.older) }
         requires within { newest self.old.heads name.now ≤ length self.old.older }
@@ -184,7 +185,7 @@ impl<A: Allocator + Copy> Chains<A> {
     /// name. It takes no memory.
     pub(crate) fn pop(&mut self, plans: &[Plan<A>])
         requires some { 0 < length plans.now }
-        requires few { length plans.now ≤ 20_000 }
+        requires few { length plans.now ≤ MAX_PLANS }
         requires chained { AreChained self.old plans.now }
         ensures chained { AreChained self.new (take (length plans.now - 1) plans.now) }
     {

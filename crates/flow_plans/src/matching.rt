@@ -7,6 +7,7 @@ ghost use Rattle.flow_plans.specs.Searching.{with_candidate, with_gone, with_one
 ghost use Rattle.flow_plans.specs.Searching.{IsFreeAt, IsHeldBeside};
 ghost use Rattle.flow_plans.specs.Chains.{AreChained, flight_of_key};
 ghost use Rattle.flow_plans.specs.Changes.{Answers, others};
+ghost use Rattle.flow_plans.specs.declared.setup.TheConstants.{MAX_PLANS};
 
 use crate::chains::{Chains, FlightName};
 use crate::fault::PlanFault;
@@ -97,7 +98,7 @@ pub(crate) fn matching<A: Allocator + Copy>(
     chains: &Chains<A>,
     parts: &Parts,
 ) -> Result<u32, PlanFault>
-    requires few { length plans.now ≤ 20_000 }
+    requires few { length plans.now ≤ MAX_PLANS }
     requires chained { AreChained chains.now plans.now }
     ensures answer { Answers result (matching plans.now parts.now) }
     ensures within { IfOk result (λ n. (0 < n) × (n ≤ length plans.now)) }

@@ -12,13 +12,15 @@ ghost use Rattle.flow_plans.specs.Matching.{agrees, is_candidate, is_gone};
 ghost use Rattle.flow_plans.specs.Changes.{plan_of, key_of, changes_key, key_after, amended_plan};
 ghost use Rattle.std.specs.Option.{option_map_or};
 ghost use Rattle.std.specs.Str.{bytes_eq};
+ghost use Rattle.flow_plans.specs.declared.setup.TheConstants.{MAX_TAXI};
+ghost use Rattle.flow_plans.specs.Times.{off_blocks_end};
 
 use crate::amended_values::{alternates_after, elapsed_after, exempt_after, rules_after};
 use crate::near::words_of_ends;
 use crate::texts::Texts;
 use fpl_items::Other18;
 use fpl_message::{Chg, Fpl, Parts, Spot};
-use fpl_text::{Alternates, Day, FlightRules, Minute, Text};
+use fpl_text::{Alternates, Day, ELAPSED_LIMIT, FlightRules, Minute, Text};
 use std::alloc::{AllocError, Allocator, Global};
 use std::marker::Model;
 
@@ -36,9 +38,6 @@ pub struct Status {
     pub state: PlanState,
     pub off_block: Minute,
 }
-
-/// No elapsed time to a place of the way is longer, in minutes.
-const LONGEST_ON_WAY: u32 = 6000;
 
 /// What names a plan: two held plans never have the same key.
 #[derive(Debug, Drop, PartialEq, Eq, Hash)]
@@ -154,6 +153,8 @@ pub struct Plan<A: Allocator + Copy = Global> {
 impl<A: Allocator + Copy> Model for Plan<A> {
     ghost use Rattle.std.specs.Prelude.{◌<◌};
     ghost use Rattle.flow_plans.specs.Plans.{Plan as Held};
+    ghost use Rattle.flow_plans.specs.Times.{off_blocks_end};
+    ghost use Rattle.fpl_text.specs.declared.time.TheConstants.{ELAPSED_LIMIT};
 
     ghost Value = { Held };
 
@@ -168,14 +169,14 @@ impl<A: Allocator + Copy> Model for Plan<A> {
       texts = p.texts;
     } };
 
-    ghost invariant = { λ p. (p.off_block < 67_855_680) × (p.elapsed < 6000) };
+    ghost invariant = { λ p. (p.off_block < off_blocks_end) × (p.elapsed < ELAPSED_LIMIT) };
 }
 
 impl<A: Allocator + Copy> Plan<A> {
     /// The plan that a flight plan message files, with this off-block moment. Refused where memory is.
     #[tactic(auto, unfolding(crate::specs::Changes::plan_of))]
     pub(crate) fn new(alloc: A, message: &Fpl<A>, off_block: Minute) -> Result<Self, AllocError>
-        requires { off_block < 67_855_680 }
+        requires { off_block < off_blocks_end }
         ensures { IfOk result (λ p. p ≡ plan_of off_block message.now) }
     {
         let texts = Texts::new(
@@ -210,7 +211,7 @@ impl<A: Allocator + Copy> Plan<A> {
         off_block: Minute,
     ) -> Result<Box<Self, A>, AllocError>
         requires key { key ≡ key_after self.now.key message.now }
-        requires off_block { off_block < 67_855_680 }
+        requires off_block { off_block < off_blocks_end }
         ensures { IfOk result (λ p. p.value ≡ amended_plan off_block message.now self.now) }
     {
         let elapsed = elapsed_after(self.elapsed_time(), message.destination());
@@ -306,7 +307,7 @@ impl<A: Allocator + Copy> Plan<A> {
 
     /// Gives the plan another off-block moment.
     pub(crate) fn set_off_block(&mut self, moment: Minute)
-        requires { moment < 67_855_680 }
+        requires { moment < off_blocks_end }
         ensures { self.new ≡ with_off_block moment self.old }
     {
         self.off_block = moment;
@@ -315,7 +316,7 @@ impl<A: Allocator + Copy> Plan<A> {
     /// The off-block moment, which lies before 2099-01-06.
     pub fn off_block(&self) -> Minute
         ensures value { result ≡ self.now.off_block }
-        ensures bound { result < 67_855_680 }
+        ensures bound { result < off_blocks_end }
     {
         self.off_block
     }
@@ -346,7 +347,7 @@ impl<A: Allocator + Copy> Plan<A> {
     #[inline(always)]
     pub fn elapsed(&self, place: &[u8]) -> Option<u32>
         ensures value { result ≡ elapsed_at place.now self.now }
-        ensures bound { IfSome result (λ minutes. minutes < 6000) }
+        ensures bound { IfSome result (λ minutes. minutes < ELAPSED_LIMIT) }
     {
         self.texts.elapsed(place)
     }
@@ -355,7 +356,7 @@ impl<A: Allocator + Copy> Plan<A> {
     #[inline]
     #[tactic(auto, unfolding(fpl_text::specs::Moments::moment_within))]
     pub(crate) fn take_off(&self, taxi: u32) -> Minute
-        requires { taxi ≤ 120 }
+        requires { taxi ≤ MAX_TAXI }
         ensures { result ≡ take_off taxi self.now }
     {
         self.off_block.plus(taxi).unwrap()
@@ -365,7 +366,7 @@ impl<A: Allocator + Copy> Plan<A> {
     #[inline(always)]
     #[tactic(auto, unfolding(crate::specs::Entries::entry_at))]
     pub(crate) fn entry_at(&self, taxi: u32, spot: &Spot) -> Option<Minute>
-        requires { taxi ≤ 120 }
+        requires { taxi ≤ MAX_TAXI }
         ensures { result ≡ entry_at taxi spot.now self.now }
     {
         match spot {
@@ -400,7 +401,7 @@ impl<A: Allocator + Copy> Plan<A> {
         start: Minute,
         end: Minute,
     ) -> Option<Minute>
-        requires { taxi ≤ 120 }
+        requires { taxi ≤ MAX_TAXI }
         ensures { result ≡ subject taxi spot.now start end self.now }
     {
         if self.exempt || self.state != PlanState::Filed {
@@ -456,14 +457,14 @@ impl<A: Allocator + Copy> Plan<A> {
         ensures destination { self.now.elapsed ≤ result }
         ensures way { (place : List ℕ) → IfSome (elapsed_at place self.now) (λ minutes. minutes ≤ result) }
     {
-        let way = self.texts.longest().min(LONGEST_ON_WAY) as u16;
+        let way = self.texts.longest().min(ELAPSED_LIMIT) as u16;
         way.max(self.elapsed)
     }
 
     /// The total elapsed time, in minutes, at most 5,999.
     pub fn elapsed_time(&self) -> u32
         ensures value { result ≡ self.now.elapsed }
-        ensures bound { result < 6000 }
+        ensures bound { result < ELAPSED_LIMIT }
     {
         u32::from(self.elapsed)
     }

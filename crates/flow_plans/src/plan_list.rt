@@ -8,6 +8,8 @@ ghost use Rattle.flow_plans.specs.Chains.{AreChained, StayChained};
 ghost use Rattle.flow_plans.specs.Entries.{subject};
 ghost use Rattle.flow_plans.specs.Plans.{is_held, plan_at, filed_off_block, with_plan, changed_at, with_state};
 ghost use Rattle.flow_plans.specs.Plans.{with_off_block};
+ghost use Rattle.flow_plans.specs.declared.setup.TheConstants.{MAX_PLANS};
+ghost use Rattle.flow_plans.specs.Times.{off_blocks_end};
 
 use crate::chains::Chains;
 use crate::outline::Outline;
@@ -105,7 +107,7 @@ impl<A: Allocator + Copy> PlanList<A> {
         end: Minute,
     ) -> u32
         requires some { 0 < from }
-        requires few { length self.now ≤ 20_000 }
+        requires few { length self.now ≤ MAX_PLANS }
         ensures from { from ≤ result }
         ensures passed { (n : ℕ) → from ≤ n → n < result
             → IfSome (plan_at self.now n) (λ plan. subject taxi spot.now start end plan ≡ None) }
@@ -122,7 +124,7 @@ impl<A: Allocator + Copy> PlanList<A> {
 
     /// Appends a plan, also to the chain of its flight. After an `Err` the plans and all chains are as they were.
     pub(crate) fn append(&mut self, chains: &mut Chains<A>, plan: Plan<A>) -> Result<(), AllocError>
-        requires few { length self.old ≤ 20_000 }
+        requires few { length self.old ≤ MAX_PLANS }
         requires held { is_held plan.state ≡ true }
         requires chained { AreChained chains.old self.old }
         ensures ok { OnOk result (self.new ≡ self.old ++ plan ∷ []) }
@@ -162,7 +164,7 @@ impl<A: Allocator + Copy> PlanList<A> {
     #[tactic(auto, unfolding(crate::specs::Plans::changed_at))]
     pub(crate) fn set_off_block(&mut self, number: u32, moment: Minute)
         requires number { (0 < number) × (number ≤ length self.old) }
-        requires bound { moment < 67_855_680 }
+        requires bound { moment < off_blocks_end }
         ensures { self.new ≡ changed_at (with_off_block moment) number self.old }
     {
         let place = (number - 1) as usize;

@@ -2,7 +2,7 @@
 ghost use Rattle.std.specs.Prelude.{◌≡◌, ◌≤◌, ◌<◌, ◌↔◌, IsSome, IfSome, IsTrue};
 ghost use Rattle.flow_plans.specs.Settings.{IsWithinLimits, IsDeskTime};
 
-use fpl_text::Minute;
+use fpl_text::{Minute, YEAR_2000, YEAR_2099};
 use std::marker::Model;
 
 /// The taxi time at most, in minutes.
@@ -11,10 +11,6 @@ pub const MAX_TAXI: u32 = 120;
 pub const MAX_PLANS: u32 = 20_000;
 /// The entries of a journal at most.
 pub const MAX_ENTRIES: u32 = 1_000_000;
-/// 2000-01-01 00:00 UTC.
-const FIRST_MINUTE: u32 = 15_778_080;
-/// 2099-01-01 00:00 UTC.
-const END_MINUTE: u32 = 67_848_480;
 
 /// When a desk starts, the taxi time of every aerodrome, and how much the desk takes in.
 #[derive(Clone, Copy, Debug, PartialEq, Eq)]
@@ -94,7 +90,7 @@ impl Setup {
     /// The minutes from off-block to take-off.
     pub fn taxi(&self) -> u32
         ensures value { result ≡ self.now.taxi }
-        ensures bound { result ≤ 120 }
+        ensures bound { result ≤ MAX_TAXI }
     {
         self.taxi
     }
@@ -103,7 +99,7 @@ impl Setup {
     pub fn max_plans(&self) -> u32
         ensures value { result ≡ self.now.max_plans }
         ensures some { 1 ≤ result }
-        ensures bound { result ≤ 20_000 }
+        ensures bound { result ≤ MAX_PLANS }
     {
         self.max_plans
     }
@@ -112,7 +108,7 @@ impl Setup {
     pub fn max_entries(&self) -> u32
         ensures value { result ≡ self.now.max_entries }
         ensures some { 1 ≤ result }
-        ensures bound { result ≤ 1_000_000 }
+        ensures bound { result ≤ MAX_ENTRIES }
     {
         self.max_entries
     }
@@ -123,5 +119,5 @@ pub fn is_desk_time(moment: Minute) -> bool
     ensures { IsTrue result ↔ IsDeskTime moment }
 {
     let minutes = moment.minutes();
-    FIRST_MINUTE <= minutes && minutes < END_MINUTE
+    YEAR_2000 <= minutes && minutes < YEAR_2099
 }

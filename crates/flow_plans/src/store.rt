@@ -11,9 +11,10 @@ ghost use Rattle.flow_plans.specs.Plans.{changed_at, with_state, with_off_block}
 ghost use Rattle.fpl_message.specs.declared.order.Spot.{Spot};
 ghost use Rattle.flow_plans.specs.Near.{row_of, word_at, HasBitsOf};
 ghost use Rattle.flow_plans.specs.Matching.{matching};
-ghost use Rattle.flow_plans.specs.Times.{delayed_to};
+ghost use Rattle.flow_plans.specs.Times.{delayed_to, off_blocks_end};
 ghost use Rattle.flow_plans.specs.Changes.{plan_of, moment_of, filed, cancelled, departed, delayed, amended, IsRefusal};
 ghost use Rattle.flow_plans.specs.Changes.{IsJustRefusal, Answers};
+ghost use Rattle.flow_plans.specs.declared.setup.TheConstants.{MAX_PLANS};
 
 use crate::amending::amend_plan;
 use crate::chains::{Chains, FlightName};
@@ -81,7 +82,7 @@ impl<A: Allocator + Copy> PlanStore<A> {
     pub fn count(&self) -> u32
         ensures count { result ≡ length self.now.plans }
         ensures limit { result ≤ self.now.max_plans }
-        ensures bound { result ≤ 20_000 }
+        ensures bound { result ≤ MAX_PLANS }
     {
         self.plans.len() as u32
     }
@@ -353,7 +354,7 @@ fn end_plan<A: Allocator + Copy>(
     parts: &Parts,
     state: PlanState,
 ) -> Result<u32, PlanFault>
-    requires few { length plans.old ≤ 20_000 }
+    requires few { length plans.old ≤ MAX_PLANS }
     requires chained { AreChained chains.old plans.old }
     ensures found { Answers result (matching plans.old parts.now) }
     ensures changed { IfOk result (λ n. plans.new ≡ changed_at (with_state state) n plans.old) }
@@ -383,11 +384,11 @@ fn delay_plan<A: Allocator + Copy>(
     now: Minute,
 ) -> Result<(u32, Minute), PlanFault>
     requires now { IsDeskTime now }
-    requires few { length plans.old ≤ 20_000 }
+    requires few { length plans.old ≤ MAX_PLANS }
     requires chained { AreChained chains.now plans.old }
     ensures ok { IfOk result (λ r. delayed now plans.old message.now
         ≡ Ok (record { plans = plans.new; number = r.0 })) }
-    ensures within { IfOk result (λ r. (0 < r.0) × (r.0 ≤ length plans.new) × (r.1 < 67_855_680)) }
+    ensures within { IfOk result (λ r. (0 < r.0) × (r.0 ≤ length plans.new) × (r.1 < off_blocks_end)) }
     ensures back { IfOk result (λ r. changed_at (with_off_block r.1) r.0 plans.new ≡ plans.old) }
     ensures refused { IfErr result (λ e. IsJustRefusal e (delayed now plans.old message.now)) }
     ensures count { length plans.new ≡ length plans.old }
@@ -414,7 +415,7 @@ fn why_refused<A: Allocator + Copy>(
     ensures ok { IfOk result (λ moment. filed max_plans now plans.now message.now
         ≡ Ok (plans.now ++ plan_of moment message.now ∷ [])) }
     ensures room { OnOk result (length plans.now < max_plans) }
-    ensures bound { IfOk result (λ moment. moment < 67_855_680) }
+    ensures bound { IfOk result (λ moment. moment < off_blocks_end) }
     ensures refused { IfErr result (λ e. IsRefusal e (filed max_plans now plans.now message.now)) }
     ensures memory { result ≢ Err PlanFault.OutOfMemory }
 {

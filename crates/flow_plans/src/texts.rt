@@ -8,6 +8,7 @@ ghost use Rattle.flow_plans.specs.Changes.{texts_after};
 ghost use Rattle.flow_plans.specs.Plans.{Texts as Held};
 ghost use Rattle.flow_plans.specs.Near.{word_at, HasBitsOf};
 ghost use Rattle.fpl_items.specs.Places.{bit_of, may_have};
+ghost use Rattle.fpl_text.specs.declared.time.TheConstants.{ELAPSED_LIMIT};
 
 use crate::amended_values::text_after;
 use crate::near::words_on_way;
@@ -203,7 +204,7 @@ impl<A: Allocator + Copy> Texts<A> {
     #[inline(always)]
     pub(crate) fn elapsed(&self, place: &[u8]) -> Option<u32>
         ensures value { result ≡ elapsed_to place.now (items_of (words_of self.now.field18)) }
-        ensures bound { IfSome result (λ minutes. minutes < 6000) }
+        ensures bound { IfSome result (λ minutes. minutes < ELAPSED_LIMIT) }
     {
         self.estimates.elapsed(place)
     }

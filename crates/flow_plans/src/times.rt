@@ -1,8 +1,9 @@
 //! Off-block moments: what a flight plan asks for, and what a delay makes of one.
 ghost use Rattle.std.specs.Prelude.{◌≡◌, ◌≤◌, ◌<◌, ◌+◌, ◌-◌, ◌*◌, Ok, Err, Some, None, IfOk, MatchOption};
 ghost use Rattle.flow_plans.specs.Settings.{IsDeskTime};
-ghost use Rattle.flow_plans.specs.Times.{first_from, delayed_to};
+ghost use Rattle.flow_plans.specs.Times.{first_from, delayed_to, off_blocks_end};
 ghost use Rattle.flow_plans.specs.Changes.{moment_of, Answers};
+ghost use Rattle.fpl_text.specs.declared.minute.TheConstants.{GREATEST_MINUTE};
 
 use crate::fault::PlanFault;
 use fpl_message::Fpl;
@@ -19,9 +20,9 @@ pub(crate) const FURTHEST_AHEAD: u32 = 7200;
 #[tactic(auto, unfolding(crate::specs::Times::delayed_to))]
 pub(crate) fn delayed_to(now: Minute, held: Minute, time: TimeOfDay) -> Result<Minute, PlanFault>
     requires now { IsDeskTime now }
-    requires held { held < 67_855_680 }
+    requires held { held < off_blocks_end }
     ensures answer { Answers result (delayed_to now held time) }
-    ensures bound { IfOk result (λ moment. moment < 67_855_680) }
+    ensures bound { IfOk result (λ moment. moment < off_blocks_end) }
 {
     if held.time_of_day() == time {
         return Err(PlanFault::NotLater);
@@ -42,7 +43,7 @@ pub(crate) fn delayed_to(now: Minute, held: Minute, time: TimeOfDay) -> Result<M
 /// The first moment at a time of day that is not before another.
 #[tactic(auto, unfolding(crate::specs::Times::first_from))]
 fn first_from(moment: Minute, time: TimeOfDay) -> Minute
-    requires { moment < 67_855_681 }
+    requires { moment ≤ off_blocks_end }
     ensures { result ≡ first_from moment time }
 {
     let minutes = moment.minutes();
@@ -57,7 +58,7 @@ fn first_from(moment: Minute, time: TimeOfDay) -> Minute
 /// The moment of these minutes.
 #[tactic(auto, unfolding(fpl_text::specs::Moments::moment_within))]
 fn minute_of(minutes: u32) -> Minute
-    requires { minutes ≤ 100_000_000 }
+    requires { minutes ≤ GREATEST_MINUTE }
     ensures { result ≡ minutes }
 {
     Minute::new(minutes).unwrap()
@@ -66,7 +67,7 @@ fn minute_of(minutes: u32) -> Minute
 /// The moment at a time of a day. None where it lies too far ahead for any desk.
 #[tactic(auto, unfolding(fpl_text::specs::Moments::moment_within))]
 fn moment_on(day: Day, time: TimeOfDay) -> Option<Minute>
-    ensures { MatchOption result (100_000_000 < 1440 * day + time) (λ moment. moment ≡ 1440 * day + time) }
+    ensures { MatchOption result (GREATEST_MINUTE < 1440 * day + time) (λ moment. moment ≡ 1440 * day + time) }
 {
     Minute::new(1440 * day.number() + u32::from(time.minutes()))
 }
@@ -74,7 +75,7 @@ fn moment_on(day: Day, time: TimeOfDay) -> Option<Minute>
 /// The off-block moment that a flight plan asks for. None where it lies too far ahead for any desk.
 pub(crate) fn moment_of<A: Allocator + Copy>(message: &Fpl<A>, now: Minute) -> Option<Minute>
     requires { IsDeskTime now }
-    ensures { MatchOption result (100_000_000 < moment_of now message.now)
+    ensures { MatchOption result (GREATEST_MINUTE < moment_of now message.now)
         (λ moment. moment ≡ moment_of now message.now) }
 {
     let time = message.departure().time;

@@ -3,6 +3,7 @@ ghost use Rattle.std.specs.Prelude.{◌≡◌, ◌≤◌, ◌<◌, ◌+◌, ◌-
 ghost use Rattle.flow_plans.specs.Undoing.{undone, IsOf, CanReturn};
 ghost use Rattle.flow_plans.specs.Chains.{flight_of_key, AreChained, HasRoomFor};
 ghost use Rattle.flow_plans.specs.Plans.{is_held, plan_at, status_at, changed_at, with_state};
+ghost use Rattle.flow_plans.specs.declared.setup.TheConstants.{MAX_PLANS};
 
 use crate::amending::exchange;
 use crate::chains::{Chains, FlightName};
@@ -35,7 +36,7 @@ pub(crate) fn undo<A: Allocator + Copy>(
 )
     requires change { IsSome (undone plans.old last) }
     requires number { IsOf last plans.old }
-    requires few { length plans.old ≤ 20_000 }
+    requires few { length plans.old ≤ MAX_PLANS }
     requires chained { AreChained chains.old plans.old }
     requires room { CanReturn chains.old last plans.old }
     ensures undone { undone plans.old last ≡ Some plans.new }

@@ -9,6 +9,7 @@ use Rattle.std.specs.declared.cmp.Reverse.{Reverse}
 use Rattle.flow_plans.specs.Plans.{Plan, plan_at, is_filed}
 use Rattle.flow_regulations.specs.declared.due_queue.Awaited.{Awaited}
 use Rattle.flow_regulations.specs.Listing.{Listed, is_due_flight, IsListed, IsSettled}
+use Rattle.flow_regulations.specs.declared.due.TheConstants.{ISSUE_LEAD}
 
 -- flights with the off-block moments that their plans had when they were noted, in any order, and for how many there is room
 pub record Awaiting : Type 0 where
@@ -18,13 +19,13 @@ pub record Awaiting : Type 0 where
 -- each filed plan that isn't due is among them
 abbrev pub Covers : ℕ → List Plan → List Awaited → Type 0
 Covers now plans flights =
-    (number : ℕ) (p : Plan) → 0 < number → plan_at plans number ≡ Some p → is_filed p.state ≡ true → now + 120 < p.off_block
+    (number : ℕ) (p : Plan) → 0 < number → plan_at plans number ≡ Some p → is_filed p.state ≡ true → now + ISSUE_LEAD < p.off_block
     → Contains flights (record { off_block = p.off_block; number = number })
 
 -- the plan is filed, still has that off-block moment, and wasn't due earlier
 abbrev pub awaits : ℕ → List Plan → Awaited → Bool
 awaits earlier plans a =
-    option_map_or (λ p. is_filed p.state && (p.off_block == a.off_block) && nat_lt (earlier + 120) p.off_block) (plan_at plans a.number) false
+    option_map_or (λ p. is_filed p.state && (p.off_block == a.off_block) && nat_lt (earlier + ISSUE_LEAD) p.off_block) (plan_at plans a.number) false
 
 -- a flight that became due
 abbrev pub BecameDue : ℕ → ℕ → List Plan → ℕ → Type 0

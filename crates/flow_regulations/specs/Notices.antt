@@ -10,6 +10,7 @@ use Rattle.flow_regulations.specs.declared.notice.Window.{Window}
 use Rattle.flow_regulations.specs.declared.notice.Window.TheVariants as window
 use Rattle.flow_regulations.specs.Regulations.{Regulation}
 use Rattle.flow_regulations.specs.Advice.{advice}
+use Rattle.flow_regulations.specs.declared.window.TheConstants.{MINUTES_EARLY, MINUTES_LATE}
 
 -- what is said, from what was last told and the advice now
 abbrev pub says : Option Told → Option Told → Option Said
@@ -54,8 +55,8 @@ told_from n taxi regulations (p ∷ ps) (t ∷ ts) =
 abbrev pub window_at : ℕ → ℕ → Window
 window_at ctot time =
     let d = (time + 1440 - ctot % 1440) % 1440 in
-    if nat_lt d 720 then (if nat_lt 10 d then window.Late else window.InWindow)
-    else (if nat_lt d 1435 then window.Early else window.InWindow)
+    if nat_lt d 720 then (if nat_lt MINUTES_LATE d then window.Late else window.InWindow)
+    else (if nat_lt d (1440 - MINUTES_EARLY) then window.Early else window.InWindow)
 
 unfoldable pub window_of : Option Told → ℕ → Window
 window_of None time = window.None

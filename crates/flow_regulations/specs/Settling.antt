@@ -6,10 +6,11 @@ use Rattle.flow_slots.specs.Period.{slot_time, first_slot}
 use Rattle.flow_slots.specs.Assignment.{Placed, greedy, slots}
 use Rattle.flow_slots.specs.Lineup.{insert_fixed, assigned}
 use Rattle.flow_regulations.specs.Regulations.{Regulation, subject_to, has_flight, waiting_from, lineup_of}
+use Rattle.flow_regulations.specs.declared.due.TheConstants.{ISSUE_LEAD}
 
 -- a filed flight is due from two hours before its off-block moment on
 abbrev pub is_due : ℕ → Plan → Bool
-is_due now p = is_filed p.state && nat_le p.off_block (now + 120)
+is_due now p = is_filed p.state && nat_le p.off_block (now + ISSUE_LEAD)
 
 -- a flight keeps its slot when it has departed, or while it is subject and due and its slot is not before its entry
 abbrev pub keeps : ℕ → ℕ → Regulation → ℕ → Plan → Bool

@@ -8,6 +8,7 @@ ghost use Rattle.flow_slots.specs.Lineup.{fixed_slot};
 ghost use Rattle.flow_regulations.specs.Advice.{delay_in, caused_by, worse, advice};
 ghost use Rattle.flow_regulations.specs.Listing.{regulation_of};
 ghost use Rattle.flow_regulations.specs.Marks.{Covers};
+ghost use Rattle.fpl_text.specs.declared.minute.TheConstants.{GREATEST_MINUTE};
 
 use crate::marks::next_marked;
 use crate::notice::Told;
@@ -47,7 +48,7 @@ fn delay_in<A: Allocator + Copy>(
         (λ p. result ≡ option_map (caused_by (regulation_of regulation.now))
         (delay_in plans.now.taxi number p (regulation_of regulation.now))) }
     ensures bound { IfSome (plan_at plans.now.plans number)
-        (λ p. IfSome result (λ d. take_off plans.now.taxi p + d.minutes ≤ 100_000_000)) }
+        (λ p. IfSome result (λ d. take_off plans.now.taxi p + d.minutes ≤ GREATEST_MINUTE)) }
 {
     let slot = fixed_moment(&regulation.list, number)?;
     let entry = plans.entry(number, &regulation.spot)?;

@@ -9,12 +9,12 @@ use fpl_text::Minute;
 use std::alloc::Allocator;
 
 /// How long before its off-block moment a flight is due, in minutes.
-const ISSUE_LEAD: u32 = 120;
+pub const ISSUE_LEAD: u32 = 120;
 
 /// The last off-block moment whose flights are due now, in minutes from 1970-01-01 00:00 UTC.
 #[inline(always)]
 pub fn due_until(now: Minute) -> u32
-    ensures { result ≡ now + 120 }
+    ensures { result ≡ now + ISSUE_LEAD }
 {
     now.minutes() + ISSUE_LEAD
 }

@@ -8,6 +8,7 @@ ghost use Rattle.std.specs.declared.cmp.Reverse.{Reverse};
 ghost use Rattle.flow_plans.specs.Plans.{Plan as Held, plan_at};
 ghost use Rattle.flow_regulations.specs.Awaiting.{Covers, awaits, BecameDue, AreHeld, earlier_first};
 ghost use Rattle.flow_regulations.specs.Listing.{HoldNewlyDue};
+ghost use Rattle.flow_regulations.specs.declared.due.TheConstants.{ISSUE_LEAD};
 
 use crate::due::due_until;
 use flow_plans::PlanStore;
@@ -194,9 +195,9 @@ fn take_from<A: Allocator + Copy>(
     ensures order { IsHeap earlier_first (heap_items heap.new) }
     ensures numbers { All (λ x. 0 < x.0.number) (heap_items heap.new) }
     ensures became { All (BecameDue earlier now plans.now.plans) due.new.items }
-    ensures taken { (x : Reverse Awaited) → Contains (heap_items heap.old) x → x.0.off_block ≤ now + 120
+    ensures taken { (x : Reverse Awaited) → Contains (heap_items heap.old) x → x.0.off_block ≤ now + ISSUE_LEAD
         → awaits earlier plans.now.plans x.0 ≡ true → Contains due.new.items x.0.number }
-    ensures left { (x : Reverse Awaited) → Contains (heap_items heap.old) x → now + 120 < x.0.off_block
+    ensures left { (x : Reverse Awaited) → Contains (heap_items heap.old) x → now + ISSUE_LEAD < x.0.off_block
         → Contains (heap_items heap.new) x }
     ensures fewer { heap_len heap.new + length due.new.items ≤ heap_len heap.old }
     ensures room { heap_capacity heap.new ≡ heap_capacity heap.old }

@@ -6,7 +6,7 @@ ghost use Rattle.flow_regulations.specs.Asked.{IsAsked};
 
 use flow_plans::PlanStore;
 use fpl_message::Spot;
-use fpl_text::Minute;
+use fpl_text::{GREATEST_MINUTE, Minute};
 use std::alloc::Allocator;
 
 /// The place that was asked last, and the entry of the flight there.
@@ -70,12 +70,12 @@ pub(crate) fn entry_of<A: Allocator + Copy>(
     requires some { 0 < number }
     requires within { number ≤ length plans.now.plans }
     ensures { (p : Plan) → plan_at plans.now.plans number ≡ Some p
-        → result ≡ subject plans.now.taxi spot.now 0 100_000_000 p }
+        → result ≡ subject plans.now.taxi spot.now 0 GREATEST_MINUTE p }
 {
     plans.subject(
         number,
         spot,
         Minute::from_minutes(0),
-        Minute::from_minutes(100_000_000),
+        Minute::from_minutes(GREATEST_MINUTE),
     )
 }

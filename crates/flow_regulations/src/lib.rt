@@ -46,7 +46,7 @@ mod telling;
 mod window;
 
 pub use closed::Closed;
-pub use due::due_until;
+pub use due::{ISSUE_LEAD, due_until};
 pub use due_queue::{Awaited, DueQueue};
 pub use notice::{Notice, Said, Told, Window};
 pub use places::Place;

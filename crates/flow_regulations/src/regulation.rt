@@ -16,6 +16,9 @@ ghost use Rattle.flow_regulations.specs.Listing.{Listed, regulation_of, with_lin
 ghost use Rattle.flow_regulations.specs.Listing.{keeps_slot, placed, with_no_flights, is_named, fixed_waiting};
 ghost use Rattle.flow_regulations.specs.Listing.{IsListedIn, IsSettledBut, AreSameBut, IsRenewed, IsFixedWaiting};
 ghost use Rattle.flow_regulations.specs.Listing.{IsLookedAgain, is_due_flight};
+ghost use Rattle.fpl_text.specs.declared.minute.TheConstants.{GREATEST_MINUTE};
+ghost use Rattle.flow_plans.specs.declared.setup.TheConstants.{MAX_PLANS};
+ghost use Rattle.flow_slots.specs.Period.{most_slots};
 
 use crate::due::is_due;
 use crate::entry_asked::{EntryAsked, entry_of};
@@ -39,12 +42,13 @@ impl<A: Allocator + Copy> Model for Regulation<A> {
     ghost use Rattle.std.specs.Prelude.{◌≤◌};
     ghost use Rattle.flow_slots.specs.Period.{IsRegular};
     ghost use Rattle.flow_regulations.specs.Listing.{Listed};
+    ghost use Rattle.flow_plans.specs.declared.setup.TheConstants.{MAX_PLANS};
 
     ghost Value = { Listed };
 
     ghost view = { λ r. record { id = r.id; spot = r.spot; lineup = r.list.lineup } };
 
-    ghost invariant = { λ r. IsRegular r.list.lineup.period × (r.list.lineup.capacity ≤ 20_000) };
+    ghost invariant = { λ r. IsRegular r.list.lineup.period × (r.list.lineup.capacity ≤ MAX_PLANS) };
 }
 
 impl<A: Allocator + Copy> Regulation<A> {
@@ -57,7 +61,7 @@ impl<A: Allocator + Copy> Regulation<A> {
         max_plans: u32,
     ) -> Result<Self, AllocError>
         requires some { 0 < max_plans }
-        requires most { max_plans ≤ 20_000 }
+        requires most { max_plans ≤ MAX_PLANS }
         ensures empty { IfOk result (λ r. r ≡ with_no_flights id spot shape max_plans) }
         ensures regular { OnOk result (IsRegular shape) }
     {
@@ -95,7 +99,7 @@ impl<A: Allocator + Copy> Regulation<A> {
 
     /// The greatest number of a flight that it may hold.
     pub(crate) fn last(&self) -> u32
-        ensures most { result ≤ 20_000 }
+        ensures most { result ≤ MAX_PLANS }
         ensures others { (f : ℕ) → result < f → IsOut f self.now }
     {
         self.list.max_plans()
@@ -145,7 +149,7 @@ impl<A: Allocator + Copy> Regulation<A> {
     /// This entry at its place, where it lies in the period.
     #[inline(always)]
     fn subject_from(&self, entry: &Option<Minute>) -> Option<Minute>
-        ensures { (taxi : ℕ) (p : Held) → entry.now ≡ subject taxi self.now.spot 0 100_000_000 p
+        ensures { (taxi : ℕ) (p : Held) → entry.now ≡ subject taxi self.now.spot 0 GREATEST_MINUTE p
             → result ≡ subject_to taxi (regulation_of self.now) p }
     {
         let shape = self.list.shape();
@@ -164,7 +168,7 @@ impl<A: Allocator + Copy> Regulation<A> {
     fn fixed_slot(&self, number: u32) -> Option<u32>
         ensures slot { result ≡ fixed_slot self.now.lineup number }
         ensures below { IfSome result (λ k. k < len_of self.now.lineup) }
-        ensures most { IfSome result (λ k. k < 30_000) }
+        ensures most { IfSome result (λ k. k < most_slots) }
         ensures order { IsInOrder self.now }
     {
         if self.list.is_fixed(number) {

@@ -20,6 +20,7 @@ ghost use Rattle.flow_regulations.specs.Settling.{pairs_of};
 ghost use Rattle.flow_regulations.specs.Notices.{notices_from, told_from};
 ghost use Rattle.flow_regulations.specs.Places.{ArePlaces};
 ghost use Rattle.flow_regulations.specs.Quiet.{AreQuietBut, AllQuiet};
+ghost use Rattle.flow_plans.specs.declared.setup.TheConstants.{MAX_PLANS};
 
 use crate::advice::advice_of;
 use crate::closed::Closed;
@@ -63,6 +64,7 @@ impl<A: Allocator + Copy> Model for Regulations<A> {
     ghost use Rattle.std.specs.Prelude.{◌<◌, ◌≤◌, vec_capacity};
     ghost use Rattle.flow_regulations.specs.Listing.{Listing, HaveCapacity, AreApart, names_in};
     ghost use Rattle.flow_regulations.specs.Marks.{AreMarked, AreInRows};
+    ghost use Rattle.flow_plans.specs.declared.setup.TheConstants.{MAX_PLANS};
 
     ghost Value = { Listing };
 
@@ -72,7 +74,8 @@ impl<A: Allocator + Copy> Model for Regulations<A> {
       room = vec_capacity r.regulations;
     } };
 
-    ghost invariant = { λ r. (0 < r.max_plans) × (r.max_plans ≤ 20_000) × HaveCapacity r.max_plans r.regulations.items
+    ghost invariant = { λ r. (0 < r.max_plans) × (r.max_plans ≤ MAX_PLANS)
+        × HaveCapacity r.max_plans r.regulations.items
         × AreApart (names_in r.regulations.items) × AreMarked r.words.items r.regulations.items
         × AreInRows r.rows.items 0 r.regulations.items };
 }
@@ -81,7 +84,7 @@ impl<A: Allocator + Copy> Regulations<A> {
     /// No regulations, for flights numbered from 1 to `max_plans`, which is 1 to 20,000.
     pub fn new(alloc: A, max_plans: u32) -> Self
         requires some { 0 < max_plans }
-        requires most { max_plans ≤ 20_000 }
+        requires most { max_plans ≤ MAX_PLANS }
         ensures limit { result.max_plans ≡ max_plans }
         ensures lists { result.lists ≡ [] }
     {

@@ -5,6 +5,11 @@ ghost use Rattle.flow_regulations.specs.Notices.{window_of};
 use crate::notice::{Told, Window};
 use fpl_text::TimeOfDay;
 
+/// How many minutes before its take-off time a flight may depart, and how many after it.
+const MINUTES_EARLY: u16 = 5;
+
+const MINUTES_LATE: u16 = 10;
+
 /// How a departure at this time of day lies to the calculated take-off time that the plan was last told (ATFCM Users
 /// Manual, slot tolerance: from 5 minutes before it to 10 minutes after it). Times of day alone are compared, by their
 /// difference of -720 to 719 minutes.
@@ -18,12 +23,12 @@ pub fn window_of(told: Option<&Told>, time: TimeOfDay) -> Window
     let ctot = told.ctot.time_of_day().minutes();
     let later = (time.minutes() + 1440 - ctot) % 1440;
     if later < 720 {
-        if later > 10 {
+        if later > MINUTES_LATE {
             Window::Late
         } else {
             Window::InWindow
         }
-    } else if later < 1435 {
+    } else if later < 1440 - MINUTES_EARLY {
         Window::Early
     } else {
         Window::InWindow

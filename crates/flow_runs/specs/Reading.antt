@@ -10,16 +10,17 @@ use Rattle.flow_intake.specs.Cutting.{Cutting}
 use Rattle.flow_runs.specs.declared.fault.RunFault.{RunFault}
 use Rattle.flow_runs.specs.declared.fault.RunFault.TheVariants as fault
 use Rattle.flow_runs.specs.Dealing.{AreDealt}
+use Rattle.fpl_message.specs.declared.filed_text.TheConstants.{MAX_BYTES}
 
 -- the whole filings among some frames
 unfoldable pub filings : List (List ℕ) → List FilingText
 filings [] = []
-filings (f ∷ fs) = if nat_le (length f) 2000 then second f ∷ filings fs else filings fs
+filings (f ∷ fs) = if nat_le (length f) MAX_BYTES then second f ∷ filings fs else filings fs
 
 -- a line for each frame that is too long
 unfoldable pub long_lines : List (List ℕ) → List ℕ
 long_lines [] = []
-long_lines (f ∷ fs) = if nat_le (length f) 2000 then long_lines fs else codes "- NO 90 TooLong\n" ++ long_lines fs
+long_lines (f ∷ fs) = if nat_le (length f) MAX_BYTES then long_lines fs else codes "- NO 90 TooLong\n" ++ long_lines fs
 
 -- of these frames the whole filings are dealt and counted, and of the others it was told that they are too long
 pub record HasRead (feeders : ℕ) (frames : List (List ℕ)) (feeds : List (List FilingText)) (count : ℕ) (begun written : Option (List ℕ)) : Type 0 where

@@ -15,6 +15,7 @@ pub mod Holders
 pub mod Kept
 pub mod Leaving
 pub mod Lifted
+pub mod Limits
 pub mod Made
 pub mod MovingUp
 pub mod Optimal

@@ -6,6 +6,7 @@ pub mod ChangeList
 pub mod Changed
 pub mod Lineup
 pub mod LineupLaws
+pub mod Limits
 pub mod MadeRow
 pub mod Order
 pub mod PackedCell

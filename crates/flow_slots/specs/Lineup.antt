@@ -4,7 +4,7 @@ use Rattle.std.specs.Prelude.{◌≡◌, ℕ, ◌+◌, ◌<◌, ◌≤◌, not, 
 use Rattle.std.specs.List.{AllByRecursion}
 use Rattle.flow_slots.specs.declared.cell.Planned.{Planned}
 use Rattle.flow_slots.specs.declared.cell.Cell.{Cell}
-use Rattle.flow_slots.specs.Period.{Period, IsRegular, first_slot, slots_before_end}
+use Rattle.flow_slots.specs.Period.{Period, IsRegular, first_slot, slots_before_end, most_flights}
 use Rattle.flow_slots.specs.Order.{stands_before, insert, without}
 use Rattle.flow_slots.specs.Assignment.{Placed, greedy, slots}
 use Rattle.flow_slots.specs.Row.{waiting_of, IsSettled, IsTied, AllWithin}
@@ -94,7 +94,7 @@ pub record IsKept (p : Period) (capacity : ℕ) (row : List Cell) (places : List
   pub places_len : length places ≡ capacity + 1
   pub regular : IsRegular p
   pub some_flight : 0 < capacity
-  pub flights : capacity ≤ 20000
+  pub flights : capacity ≤ most_flights
 
 -- so is a row whose entries are counted from the start of the period
 pub record IsKeptFrom (start : ℕ) (p : Period) (capacity : ℕ) (row : List Cell) (places : List (Option ℕ)) : Type 0 where

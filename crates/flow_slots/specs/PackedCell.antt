@@ -6,13 +6,14 @@ use Rattle.std.proofs.lemmas.Bool.{eqb-true}
 use Rattle.flow_slots.specs.declared.cell.Cell.{Cell}
 use Rattle.flow_slots.specs.declared.cell.Cell.TheVariants.{Empty, Waiting, Fixed}
 use Rattle.flow_slots.specs.declared.cell.Planned.{Planned}
+use Rattle.flow_slots.specs.declared.packed_cell.TheConstants.{FLIGHTS, NO_ENTRY}
 
 -- what a number can say beside a start: an entry that isn't before it and not so late as that of no flight, and a
 -- flight's number below 2 ^ 15, where 0 is no flight that is fixed
 abbrev pub IsStored : ℕ → Cell → Type 0
 IsStored start Empty = Unit {0}
-IsStored start (Waiting w) = (start ≤ w.entry) × (w.entry < start + 131_071) × (w.flight < 32_768)
-IsStored start (Fixed f) = (0 < f) × (f < 32_768)
+IsStored start (Waiting w) = (start ≤ w.entry) × (w.entry < start + NO_ENTRY) × (w.flight < FLIGHTS)
+IsStored start (Fixed f) = (0 < f) × (f < FLIGHTS)
 
 -- a flight whose entry was counted from the start
 abbrev pub flight_from : ℕ → Planned → Planned
@@ -26,27 +27,27 @@ from_start start (Fixed f) = Fixed f
 
 -- the place of a flight in the order, as one number
 abbrev pub packed_rank : Planned → ℕ
-packed_rank w = 32_768 * w.entry + w.flight
+packed_rank w = FLIGHTS * w.entry + w.flight
 
 -- the flight of such a place in the order
 abbrev pub ranked : ℕ → Planned
-ranked word = record { entry = word / 32_768; flight = word % 32_768 }
+ranked word = record { entry = word / FLIGHTS; flight = word % FLIGHTS }
 
 -- the cell that an entry and a flight stand for
 abbrev pub unpacked : ℕ → ℕ → Cell
 unpacked entry flight =
-    if entry == 131_071 then (if flight == 0 then Empty else Fixed flight)
+    if entry == NO_ENTRY then (if flight == 0 then Empty else Fixed flight)
     else Waiting (record { entry = entry; flight = flight })
 
 -- the cell that a number stands for
 abbrev pub cell_of : ℕ → Cell
-cell_of word = unpacked (word / 32_768) (word % 32_768)
+cell_of word = unpacked (word / FLIGHTS) (word % FLIGHTS)
 
 -- the entry and the flight of a cell
 abbrev pub entry_number : Cell → ℕ
-entry_number Empty = 131_071
+entry_number Empty = NO_ENTRY
 entry_number (Waiting w) = w.entry
-entry_number (Fixed f) = 131_071
+entry_number (Fixed f) = NO_ENTRY
 
 abbrev pub flight_number : Cell → ℕ
 flight_number Empty = 0
@@ -55,24 +56,24 @@ flight_number (Fixed f) = f
 
 -- the number of a cell
 abbrev pub word_of : Cell → ℕ
-word_of cell = 32_768 * entry_number cell + flight_number cell
+word_of cell = FLIGHTS * entry_number cell + flight_number cell
 
 -- a place in the order gives its number back
 pub rank_back : (word : ℕ) → packed_rank (ranked word) ≡ word
-rank_back word = div-add-mod word 32_768
+rank_back word = div-add-mod word FLIGHTS
 
 -- a cell gives its numbers back
 pub entry_back : (entry flight : ℕ) → entry_number (unpacked entry flight) ≡ entry
-entry_back entry flight = none (eqb entry 131_071) refl where
-  none : (b : Bool) → eqb entry 131_071 ≡ b → entry_number (cond b (cond (eqb flight 0) Empty (Fixed flight)) (Waiting (record { entry = entry; flight = flight }))) ≡ entry
+entry_back entry flight = none (eqb entry NO_ENTRY) refl where
+  none : (b : Bool) → eqb entry NO_ENTRY ≡ b → entry_number (cond b (cond (eqb flight 0) Empty (Fixed flight)) (Waiting (record { entry = entry; flight = flight }))) ≡ entry
   none false e = refl
   none true e = empty (eqb flight 0) where
     empty : (b : Bool) → entry_number (cond b Empty (Fixed flight)) ≡ entry
-    empty true = sym (eqb-true entry 131_071 e)
-    empty false = sym (eqb-true entry 131_071 e)
+    empty true = sym (eqb-true entry NO_ENTRY e)
+    empty false = sym (eqb-true entry NO_ENTRY e)
 
 pub flight_back : (entry flight : ℕ) → flight_number (unpacked entry flight) ≡ flight
-flight_back entry flight = none (eqb entry 131_071) where
+flight_back entry flight = none (eqb entry NO_ENTRY) where
   empty : (b : Bool) → eqb flight 0 ≡ b → flight_number (cond b Empty (Fixed flight)) ≡ flight
   empty true e = sym (eqb-true flight 0 e)
   empty false e = refl
@@ -83,7 +84,7 @@ flight_back entry flight = none (eqb entry 131_071) where
 
 pub word_back : (word : ℕ) → word_of (cell_of word) ≡ word
 word_back word =
-    let entry = word / 32_768 in
-    let flight = word % 32_768 in
-    ap (λ e. 32_768 * e + flight_number (unpacked entry flight)) (entry_back entry flight)
-    ∙ (ap (λ f. 32_768 * entry + f) (flight_back entry flight) ∙ div-add-mod word 32_768)
+    let entry = word / FLIGHTS in
+    let flight = word % FLIGHTS in
+    ap (λ e. FLIGHTS * e + flight_number (unpacked entry flight)) (entry_back entry flight)
+    ∙ (ap (λ f. FLIGHTS * entry + f) (flight_back entry flight) ∙ div-add-mod word FLIGHTS)

@@ -3,6 +3,8 @@
 -- 1970-01-01 00:00 UTC.
 use Rattle.std.specs.Prelude.{◌≡◌, ℕ, ◌+◌, ◌-◌, ◌*◌, ◌/◌, ◌<◌, ◌≤◌, nat_lt, if◌then◌else◌, List, [], ◌∷◌, length, slice_index_or}
 use Rattle.fpl_text.specs.declared.part.Part.{Part}
+use Rattle.flow_slots.specs.declared.shape.TheConstants.{MOST_AN_HOUR, LONGEST_PERIOD, MOST_PARTS}
+use Rattle.fpl_text.specs.declared.minute.TheConstants.{YEAR_2000, YEAR_2099}
 
 -- a regulation's period, from `start` to before `end`: it begins with so many slots an hour, and each
 -- of the parts begins a further sub-period with a rate of its own
@@ -15,22 +17,15 @@ pub record Period : Type 0 where
 -- each sub-period begins before the next one, the last one before the end; at most 240 slots an hour,
 -- and at least 1 in the last sub-period, whose slots run on after the end
 abbrev pub AreSubperiods : ℕ → ℕ → ℕ → List Part → Type 0
-AreSubperiods end start rate [] = (start < end) × (rate ≤ 240) × (0 < rate)
-AreSubperiods end start rate (p ∷ ps) = (start < p.from) × (rate ≤ 240) × AreSubperiods end p.from p.rate ps
-
--- the first minute of 2000, and the first one after 2098
-abbrev pub year_2000 : ℕ
-year_2000 = 15778080
-
-abbrev pub after_2098 : ℕ
-after_2098 = 67848480
+AreSubperiods end start rate [] = (start < end) × (rate ≤ MOST_AN_HOUR) × (0 < rate)
+AreSubperiods end start rate (p ∷ ps) = (start < p.from) × (rate ≤ MOST_AN_HOUR) × AreSubperiods end p.from p.rate ps
 
 -- the years 2000 to 2098, 1 to 1440 minutes, 1 to 8 sub-periods
 pub record IsRegular (p : Period) : Type 0 where
-  pub not_before : year_2000 ≤ p.start
-  pub before : p.end < after_2098
-  pub at_most_a_day : p.end - p.start ≤ 1440
-  pub few : length p.parts ≤ 7
+  pub not_before : YEAR_2000 ≤ p.start
+  pub before : p.end < YEAR_2099
+  pub at_most_a_day : p.end - p.start ≤ LONGEST_PERIOD
+  pub few : length p.parts ≤ MOST_PARTS
   pub subperiods : AreSubperiods p.end p.start p.rate p.parts
 
 -- a moment in the period
@@ -67,6 +62,17 @@ first_slot p moment = first_from p.start p.rate p.parts moment
 -- how many slots lie before the end
 abbrev pub slots_before_end : Period → ℕ
 slots_before_end p = first_slot p p.end
+
+-- so many of the longest period at the greatest rate, and of no other more
+abbrev pub most_before_end : ℕ
+most_before_end = MOST_AN_HOUR * LONGEST_PERIOD / 60
+
+-- so many flights at most may stand in a list, and its slots are numbered below this
+abbrev pub most_flights : ℕ
+most_flights = 20_000
+
+abbrev pub most_slots : ℕ
+most_slots = 30_000
 
 -- `k` is the first slot not before `moment`
 abbrev pub IsFirstSlot : Period → ℕ → ℕ → Type 0

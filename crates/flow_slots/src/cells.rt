@@ -93,8 +93,8 @@ impl<A: Allocator + Copy> Cells<A> {
         self.made.cell(k)
     }
 
-    /// Takes `flight` in from slot `from` on: it gets the first slot that is empty or held by a later flight, which goes
-    /// on in the same way.
+    /// Takes `flight` in from slot `from` on: it gets the first slot that is empty or held by a later flight, which
+    /// goes on in the same way.
     #[inline(always)]
     pub(crate) fn displace(&mut self, places: &mut [HeldSlot], from: u32, flight: Planned)
         requires tied { IsTied places.old self.old.row }

@@ -7,6 +7,7 @@ ghost use Rattle.flow_slots.specs.PackedCell.{from_start, flight_from};
 ghost use Rattle.flow_slots.specs.Period.{first_slot};
 ghost use Rattle.flow_slots.specs.Row.{flight_at, place_at, IsTied, EntriesWithin, MovesUp};
 ghost use Rattle.flow_slots.specs.Walk.{displace, has_empty, next_up, close, Follows, AllFollow, ComesIn};
+ghost use Rattle.flow_slots.specs.declared.packed_cell.TheConstants.{NO_ENTRY};
 
 use crate::first_slots::FirstSlots;
 use crate::held_slot::HeldSlot;
@@ -19,7 +20,7 @@ use std::alloc::Allocator;
 pub(crate) fn first_later(cells: &[PackedCell], from: usize, flight: PackedFlight) -> usize
     requires order { AllFollow (drop from cells.now) }
     requires room { has_empty (drop from cells.now) ≡ true }
-    requires entry { flight.entry < 131_071 }
+    requires entry { flight.entry < NO_ENTRY }
     ensures { ComesIn cells.now from flight result }
 {
     let mut place = from;
@@ -46,7 +47,7 @@ pub(crate) fn displace(
     requires absent { place_at places.old flight.flight ≡ None }
     requires follows { Follows flight (drop from cells.old) }
     requires room { has_empty (drop from cells.old) ≡ true }
-    requires entry { flight.entry < 131_071 }
+    requires entry { flight.entry < NO_ENTRY }
     ensures tied { IsTied places.new cells.new }
     ensures cells { cells.new ≡ take from cells.old ++ displace flight (drop from cells.old) }
     ensures written { result ≡ gained cells.old cells.new }
@@ -98,7 +99,7 @@ fn next_up<A: Allocator + Copy>(
     ensures found { IfSome result
         (λ r. MovesUp shape.now (map (from_start start) cells.now) hole r.slot (flight_from start r.held)) }
     ensures within { IfSome result (λ r. r.slot < length cells.now) }
-    ensures entry { IfSome result (λ r. r.held.entry < 131_071) }
+    ensures entry { IfSome result (λ r. r.held.entry < NO_ENTRY) }
     ensures none { IfNone result
         (next_up (λ e. first_slot shape.now e) hole (drop (hole + 1) (map (from_start start) cells.now))
         ≡ None) }

@@ -22,9 +22,9 @@
 //! - *What it costs*: a change touches the cells from the flight's first slot to the end of its chain, and writes one
 //!   cell a flight that moves. Only `SlotList::new` takes memory.
 //!
-//! `slot_list` has the calls, `row` and `chains` the walks, `shape` periods and rates, `first_slots` a table of first
-//! slots by minutes; `cells`, `made_cells`, `packed_cell` and `held_slot` are how cells and places lie in memory.
-//! `laws` says what the fresh assignment is, and how each change and each list of changes is undone.
+//! `slot_list` has the calls, `row` and `chains` the walks, `shape` periods and rates with their limits, `first_slots`
+//! a table of first slots by minutes; `cells`, `made_cells`, `packed_cell` and `held_slot` are how cells and places lie
+//! in memory. `laws` says what the fresh assignment is, and how each change and each list of changes is undone.
 #![tactic(auto)]
 
 mod cell;
@@ -43,5 +43,5 @@ mod slot_list;
 pub use cell::{Cell, Planned};
 pub use cells::Cells;
 pub use change_list::Change;
-pub use shape::Shape;
+pub use shape::{LONGEST_PERIOD, Limit, Shape, broken_limit};
 pub use slot_list::SlotList;

@@ -2,7 +2,7 @@
 //!
 //! It has the minutes of an entry from a start, which the row keeps once: that of its period. A period has at most
 //! 1,440 minutes, and 17 bits are there for them; 15 bits are there for a flight's number, which is at most 20,000.
-ghost use Rattle.std.specs.Prelude.{◌≡◌, ◌+◌, ◌*◌, ◌/◌, ◌%◌, ◌^◌, ◌<◌, ◌↔◌, false, IfNone, IfSome, IsTrue};
+ghost use Rattle.std.specs.Prelude.{◌≡◌, ◌+◌, ◌*◌, ◌/◌, ◌%◌, ◌^◌, ◌<◌, ◌≤◌, ◌↔◌, false, IfNone, IfSome, IsTrue};
 ghost use Rattle.flow_slots.specs.PackedCell.{IsStored, flight_from, from_start};
 ghost use Rattle.flow_slots.specs.Row.{IsFixedCell};
 ghost use Rattle.flow_slots.specs.Walk.{waits, waits_before};
@@ -66,9 +66,9 @@ impl Model for PackedFlight {
 /// The word of an entry and a flight.
 #[inline(always)]
 fn word_of(entry: u32, flight: u32) -> u32
-    requires entry { entry < 131_072 }
-    requires flight { flight < 32_768 }
-    ensures { result ≡ 32_768 * entry + flight }
+    requires entry { entry ≤ NO_ENTRY }
+    requires flight { flight < FLIGHTS }
+    ensures { result ≡ FLIGHTS * entry + flight }
 {
     FLIGHTS * entry + flight
 }
@@ -76,7 +76,7 @@ fn word_of(entry: u32, flight: u32) -> u32
 /// The entry in a word.
 #[inline(always)]
 fn entry_in(word: u32) -> u32
-    ensures { result ≡ word / 32_768 }
+    ensures { result ≡ word / FLIGHTS }
 {
     word / FLIGHTS
 }
@@ -84,7 +84,7 @@ fn entry_in(word: u32) -> u32
 /// The flight in a word.
 #[inline(always)]
 fn flight_in(word: u32) -> u32
-    ensures { result ≡ word % 32_768 }
+    ensures { result ≡ word % FLIGHTS }
 {
     word % FLIGHTS
 }
@@ -95,7 +95,7 @@ impl PackedFlight {
     pub(crate) fn of(start: u32, planned: Planned) -> Self
         requires { IsStored start (Waiting planned) }
         ensures value { flight_from start result ≡ planned }
-        ensures kept { (result.entry < 131_071) × (result.flight < 32_768) }
+        ensures kept { (result.entry < NO_ENTRY) × (result.flight < FLIGHTS) }
     {
         PackedFlight {
             word: word_of(planned.entry - start, planned.flight),
@@ -137,7 +137,7 @@ impl PackedCell {
     /// This flight, which waits in the slot.
     #[inline(always)]
     pub(crate) fn waiting_in(flight: PackedFlight) -> Self
-        requires { flight.entry < 131_071 }
+        requires { flight.entry < NO_ENTRY }
         ensures { result ≡ Waiting flight }
     {
         PackedCell { word: flight.word }
@@ -169,7 +169,7 @@ impl PackedCell {
     #[inline(always)]
     pub(crate) fn waiting(self) -> Option<PackedFlight>
         ensures value { IfSome result (λ w. Cell.Waiting w ≡ self) }
-        ensures kept { IfSome result (λ w. (w.entry < 131_071) × (w.flight < 32_768)) }
+        ensures kept { IfSome result (λ w. (w.entry < NO_ENTRY) × (w.flight < FLIGHTS)) }
         ensures none { IfNone result (waits self ≡ false) }
     {
         let word = self.word;
@@ -201,7 +201,7 @@ impl PackedCell {
     /// greatest entry, so one comparison of the words tells.
     #[inline(always)]
     pub(crate) fn waits_before(&self, flight: PackedFlight) -> bool
-        requires { flight.entry < 131_071 }
+        requires { flight.entry < NO_ENTRY }
         ensures { result ≡ waits_before flight self.now }
     {
         self.word < flight.word

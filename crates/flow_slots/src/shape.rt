@@ -1,26 +1,31 @@
 //! The period of a regulation with its rates: which times its slots have, and which of them is the first not before
 //! an entry.
-ghost use Rattle.std.specs.Prelude.{◌≡◌, ◌+◌, ◌-◌, ◌*◌, ◌<◌, ◌≤◌, ◌↔◌, IsSome, IfSome, IsTrue};
+ghost use Rattle.std.specs.Prelude.{◌≡◌, ◌+◌, ◌-◌, ◌*◌, ◌<◌, ◌≤◌, ◌↔◌, IsSome, IfSome, IsTrue, None, length};
+ghost use Rattle.flow_slots.specs.Limits.{rises, rates_fit, is_period, broken_limit};
 ghost use Rattle.flow_slots.specs.Period.{Period, IsRegular, IsWithin, AreSubperiods, slots_in, time_from, first_from};
 ghost use Rattle.flow_slots.specs.Period.{slot_time, first_slot, slots_before_end, IsFirstSlot};
+ghost use Rattle.flow_slots.specs.Period.{most_before_end, most_slots};
 
-use fpl_text::{Minute, Part};
+use fpl_text::{Minute, Part, YEAR_2000, YEAR_2099};
 use std::marker::Model;
-
-/// The first minute of the year 2000.
-const YEAR_2000: u32 = 15_778_080;
-
-/// The first minute after the year 2098.
-const AFTER_2098: u32 = 67_848_480;
 
 /// The greatest number of slots an hour.
 const MOST_AN_HOUR: u32 = 240;
 
 /// The longest period, in minutes.
-const LONGEST: u32 = 1440;
+pub const LONGEST_PERIOD: u32 = 1440;
 
 /// The greatest number of further sub-periods.
 const MOST_PARTS: usize = 7;
+
+/// A limit of a regulation.
+#[derive(Clone, Copy, Debug, PartialEq, Eq)]
+pub enum Limit {
+    /// That of its period and sub-periods.
+    Period,
+    /// That of its hourly rates.
+    Rate,
+}
 
 /// The period of a regulation and its hourly rates, from which its list of slots is made (ATFCM Users
 /// Manual, slot allocation). It begins with one rate, and each of the parts begins a further
@@ -30,13 +35,14 @@ pub struct Shape {
     start: Minute,
     end: Minute,
     rate: u32,
-    parts: [Part; 7],
+    parts: [Part; MOST_PARTS],
     count: usize,
 }
 
 impl Model for Shape {
     ghost use Rattle.std.specs.Prelude.{◌≤◌, take};
     ghost use Rattle.flow_slots.specs.Period.{Period, IsRegular};
+    ghost use Rattle.flow_slots.specs.declared.shape.TheConstants.{MOST_PARTS};
 
     ghost Value = { Period };
 
@@ -47,7 +53,7 @@ impl Model for Shape {
       parts = take s.count s.parts;
     } };
 
-    ghost invariant = { λ s. (s.count ≤ 7) × IsRegular (record {
+    ghost invariant = { λ s. (s.count ≤ MOST_PARTS) × IsRegular (record {
       start = s.start;
       end = s.end;
       rate = s.rate;
@@ -57,35 +63,69 @@ impl Model for Shape {
 
 /// How many slots lie in so many minutes.
 fn slots_in(rate: u32, minutes: u32) -> u32
-    requires rate { rate ≤ 240 }
-    requires minutes { minutes ≤ 1440 }
+    requires rate { rate ≤ MOST_AN_HOUR }
+    requires minutes { minutes ≤ LONGEST_PERIOD }
     ensures { result ≡ slots_in rate minutes }
 {
     (minutes * rate).div_ceil(60)
 }
 
-/// Whether the sub-periods begin one after the other before the end, and the rates keep the limits.
-fn are_subperiods(start: Minute, end: Minute, rate: u32, parts: &[Part]) -> bool
-    ensures { IsTrue result ↔ AreSubperiods end start rate parts.now }
+/// Whether each sub-period begins after the one before it, and the last one before the end.
+fn rises(end: Minute, start: Minute, parts: &[Part]) -> bool
+    ensures { result ≡ rises end start parts.now }
 {
-    let mut from = start;
-    let mut hourly = rate;
+    let mut last = start;
     for part in parts {
-        if part.from <= from || MOST_AN_HOUR < hourly {
+        if part.from <= last {
             return false;
         }
-        from = part.from;
+        last = part.from;
+    }
+    last < end
+}
+
+/// Whether each rate is at most 240 flights an hour, and the last one at least 1.
+fn rates_fit(rate: u32, parts: &[Part]) -> bool
+    ensures { result ≡ rates_fit rate parts.now }
+{
+    let mut hourly = rate;
+    for part in parts {
+        if MOST_AN_HOUR < hourly {
+            return false;
+        }
         hourly = part.rate;
     }
-    from < end && hourly <= MOST_AN_HOUR && 0 < hourly
+    0 < hourly && hourly <= MOST_AN_HOUR
+}
+
+/// Whether the period has 1 to 1,440 minutes, and its sub-periods begin one after the other within it.
+fn is_period(start: Minute, end: Minute, parts: &[Part]) -> bool
+    ensures { result ≡ is_period start end parts.now }
+{
+    end.minutes().saturating_sub(start.minutes()) <= LONGEST_PERIOD && rises(end, start, parts)
+}
+
+/// Which limit of a regulation these break: a period of 1 to 1,440 minutes, whose sub-periods begin one after the other
+/// within it, or rates of at most 240 flights an hour, the last one at least 1. That of the period comes first.
+pub fn broken_limit(start: Minute, end: Minute, rate: u32, parts: &[Part]) -> Option<Limit>
+    ensures { result
+        ≡ broken_limit (record { start = start; end = end; rate = rate; parts = parts.now }) }
+{
+    if !is_period(start, end, parts) {
+        return Some(Limit::Period);
+    }
+    if !rates_fit(rate, parts) {
+        return Some(Limit::Rate);
+    }
+    None
 }
 
 /// The minute of slot `k`.
 fn time_from(start: Minute, end: Minute, rate: u32, parts: &[Part], k: u32) -> Minute
     requires subperiods { AreSubperiods end start rate parts.now }
-    requires at_most_a_day { end - start ≤ 1440 }
-    requires before { end < 67_848_480 }
-    requires last { k ≤ 30000 }
+    requires at_most_a_day { end - start ≤ LONGEST_PERIOD }
+    requires before { end < YEAR_2099 }
+    requires last { k ≤ most_slots }
     ensures { result ≡ time_from start rate parts.now k }
 {
     let mut from = start;
@@ -106,7 +146,7 @@ fn time_from(start: Minute, end: Minute, rate: u32, parts: &[Part], k: u32) -> M
 /// The number of the first slot not before a moment in minutes.
 fn first_from(start: Minute, end: Minute, rate: u32, parts: &[Part], moment: u32) -> u32
     requires subperiods { AreSubperiods end start rate parts.now }
-    requires at_most_a_day { end - start ≤ 1440 }
+    requires at_most_a_day { end - start ≤ LONGEST_PERIOD }
     requires not_before { start ≤ moment }
     requires not_after { moment ≤ end }
     ensures { result ≡ first_from start rate parts.now moment }
@@ -127,22 +167,22 @@ fn first_from(start: Minute, end: Minute, rate: u32, parts: &[Part], moment: u32
 
 impl Shape {
     /// The shape of a regulation from `start` to before `end`, which begins with so many slots an hour;
-    /// each part begins a further sub-period. None outside the limits: start and end in the years 2000
-    /// to 2098, 1 to 1440 minutes apart; at most 7 parts, whose moments rise strictly between start and
-    /// end; rates of at most 240, the last one at least 1.
+    /// each part begins a further sub-period. In the years 2000 to 2098 and with at most 7 parts there is one exactly
+    /// where [`broken_limit`] tells none, and otherwise none.
     pub fn new(start: Minute, end: Minute, rate: u32, parts: &[Part]) -> Option<Shape>
         ensures limits { IsSome result
             ↔ IsRegular (record { start = start; end = end; rate = rate; parts = parts.now }) }
+        ensures exact { YEAR_2000 ≤ start → end < YEAR_2099 → length parts.now ≤ MOST_PARTS
+            → (IsSome result
+            ↔ (broken_limit (record { start = start; end = end; rate = rate; parts = parts.now }) ≡ None)) }
         ensures value { IfSome result
             (λ s. s ≡ record { start = start; end = end; rate = rate; parts = parts.now }) }
     {
         let count = parts.len();
-        if count > MOST_PARTS || !are_subperiods(start, end, rate, parts) {
+        if count > MOST_PARTS || start.minutes() < YEAR_2000 || YEAR_2099 <= end.minutes() {
             return None;
         }
-        let first = start.minutes();
-        let last = end.minutes();
-        if first < YEAR_2000 || AFTER_2098 <= last || first + LONGEST < last {
+        if broken_limit(start, end, rate, parts).is_some() {
             return None;
         }
         let mut held = [Part {
@@ -162,7 +202,7 @@ impl Shape {
     /// The moment of slot `k`, counted from 0: a sub-period of so many slots an hour has one each
     /// 60 / rate minutes from its beginning, rounded down, and the last one goes on after the end.
     pub fn slot_time(&self, k: u32) -> Minute
-        requires { k ≤ 30000 }
+        requires { k ≤ most_slots }
         ensures { result ≡ slot_time self.now k }
     {
         time_from(
@@ -233,7 +273,7 @@ impl Shape {
     pub(crate) fn first_slot_in(&self, minutes: u32) -> u32
         requires { minutes < self.now.end - self.now.start }
         ensures value { result ≡ first_slot self.now (self.now.start + minutes) }
-        ensures most { result ≤ 5760 }
+        ensures most { result ≤ most_before_end }
     {
         let moment = self.start.minutes() + minutes;
         first_from(
@@ -248,7 +288,7 @@ impl Shape {
     /// How many slots lie before the end.
     pub fn slots_before_end(&self) -> u32
         ensures value { result ≡ slots_before_end self.now }
-        ensures at_most { result ≤ 5760 }
+        ensures at_most { result ≤ most_before_end }
         ensures regular { IsRegular self.now }
     {
         first_from(

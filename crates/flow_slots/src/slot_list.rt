@@ -1,7 +1,7 @@
 //! The slot list with all its calls. Their contracts say what each makes of the lineup, which the row stands for.
 ghost use Rattle.std.specs.Prelude.{◌≡◌, ℕ, ◌+◌, ◌<◌, ◌≤◌, length, [], None, Some, ◌↔◌, IfOk, OnOk, IfSome, IsSome};
 ghost use Rattle.std.specs.Prelude.{IsTrue};
-ghost use Rattle.flow_slots.specs.Period.{IsWithin, IsRegular};
+ghost use Rattle.flow_slots.specs.Period.{IsWithin, IsRegular, most_flights, most_slots};
 ghost use Rattle.flow_slots.specs.Changed.{moved_flights};
 ghost use Rattle.flow_slots.specs.Delay.{HasLeastDelay, Rise, waiting_slots};
 ghost use Rattle.flow_slots.specs.FirstServed.{IsFirstServed};
@@ -61,7 +61,7 @@ impl<A: Allocator + Copy> SlotList<A> {
     /// is 1 to 20,000. Refused where memory is.
     pub fn new(alloc: A, shape: Shape, max_plans: u32) -> Result<SlotList<A>, AllocError>
         requires some { 0 < max_plans }
-        requires most { max_plans ≤ 20000 }
+        requires most { max_plans ≤ most_flights }
         ensures empty { IfOk result
             (λ s. s ≡ record {
               lineup = record { period = shape; capacity = max_plans; waiting = []; fixed = [] };
@@ -82,7 +82,7 @@ impl<A: Allocator + Copy> SlotList<A> {
     /// The greatest flight number: each flight that is held has one from 1 to it.
     pub fn max_plans(&self) -> u32
         ensures value { result ≡ self.now.lineup.capacity }
-        ensures most { result ≤ 20000 }
+        ensures most { result ≤ most_flights }
         ensures held { (flight k : ℕ) → held_slot self.now.lineup flight ≡ Some k → (0 < flight) × (flight ≤ result) }
     {
         self.capacity
@@ -91,7 +91,7 @@ impl<A: Allocator + Copy> SlotList<A> {
     /// How many slots the list has: those before the end, and `max_plans` more.
     pub fn len(&self) -> u32
         ensures value { result ≡ len_of self.now.lineup }
-        ensures most { result ≤ 30_000 }
+        ensures most { result ≤ most_slots }
     {
         self.row.cells.len()
     }
@@ -125,7 +125,7 @@ impl<A: Allocator + Copy> SlotList<A> {
     pub fn slot_of(&self, flight: u32) -> Option<u32>
         ensures slot { result ≡ held_slot self.now.lineup flight }
         ensures within { IfSome result (λ k. k < len_of self.now.lineup) }
-        ensures most { IfSome result (λ k. k < 30_000) }
+        ensures most { IfSome result (λ k. k < most_slots) }
         ensures holder { IfSome result (λ k. held_flight self.now.lineup k ≡ Some flight) }
         ensures number { IfSome result (λ _. IsNumber self.now.lineup flight) }
         ensures lined { IsLineup self.now.lineup }
@@ -165,7 +165,7 @@ impl<A: Allocator + Copy> SlotList<A> {
         ensures slot { IfSome result (λ flight. held_slot self.now.lineup flight ≡ Some k) }
         ensures number { IfSome result (λ flight. IsNumber self.now.lineup flight) }
         ensures within { IfSome result (λ _. k < len_of self.now.lineup) }
-        ensures most { IfSome result (λ _. k < 30_000) }
+        ensures most { IfSome result (λ _. k < most_slots) }
     {
         if k < self.row.cells.len() {
             self.row.cells.at(k)

@@ -23,8 +23,10 @@ use Rattle.flow_traffic.specs.declared.verdict.Kind.TheVariants as kind
 use Rattle.flow_traffic.specs.declared.verdict.Verdict.TheVariants.{Accepted, Refused}
 use Rattle.flow_traffic.specs.Traffic.{Traffic}
 use Rattle.flow_traffic.specs.State.{State, with_lists, traffic_of}
-use Rattle.flow_traffic.specs.Opening.{is_period, rates_fit, regulation_by}
-use Rattle.flow_traffic.specs.Asked.{Asked, asked, changed_by, verdict_on, is_departure, departing, asked_by_message, asked_to_open, asked_to_shut, asked_at, is_called, ordered, max_regulations}
+use Rattle.flow_slots.specs.Limits.{rates_fit}
+use Rattle.flow_traffic.specs.Opening.{is_period, regulation_by}
+use Rattle.flow_traffic.specs.Asked.{Asked, asked, changed_by, verdict_on, is_departure, departing, asked_by_message, asked_to_open, asked_to_shut, asked_at, is_called, ordered}
+use Rattle.flow_traffic.specs.declared.opening.TheConstants.{MAX_REGULATIONS}
 use Rattle.flow_traffic.specs.Answers.{settle, told_to, Answers}
 use Rattle.flow_traffic.specs.Kept.{IsSettledFor}
 use Rattle.flow_traffic.proofs.Telling.{told_to-same}
@@ -60,7 +62,7 @@ message-refused t m r e = rw e refl
 
 -- ---- orders
 
-pub opened-asked : (t : Traffic) (m : OpenReg) → is_period m ≡ true → rates_fit m.rate m.more ≡ true → list_any (is_called m.id) t.regulations ≡ false → nat_le max_regulations (length t.regulations) ≡ false
+pub opened-asked : (t : Traffic) (m : OpenReg) → is_period m ≡ true → rates_fit m.rate m.more ≡ true → list_any (is_called m.id) t.regulations ≡ false → nat_le MAX_REGULATIONS (length t.regulations) ≡ false
     → asked t (ord (open_reg m)) ≡ Ok (ordered t kind.Open t.now (t.regulations ++ regulation_by m ∷ []))
 unfolding asked_to_open
 opened-asked t m a b c d = rw (a, b, c, d) refl
@@ -77,7 +79,7 @@ pub held-refused : (t : Traffic) (m : OpenReg) → is_period m ≡ true → rate
 unfolding asked_to_open
 held-refused t m a b c = rw (a, b, c) refl
 
-pub full-refused : (t : Traffic) (m : OpenReg) → is_period m ≡ true → rates_fit m.rate m.more ≡ true → list_any (is_called m.id) t.regulations ≡ false → nat_le max_regulations (length t.regulations) ≡ true
+pub full-refused : (t : Traffic) (m : OpenReg) → is_period m ≡ true → rates_fit m.rate m.more ≡ true → list_any (is_called m.id) t.regulations ≡ false → nat_le MAX_REGULATIONS (length t.regulations) ≡ true
     → asked t (ord (open_reg m)) ≡ Err refusal.RegulationsFull
 unfolding asked_to_open
 full-refused t m a b c d = rw (a, b, c, d) refl

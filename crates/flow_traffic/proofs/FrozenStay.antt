@@ -35,8 +35,10 @@ use Rattle.flow_traffic.specs.declared.verdict.Kind.TheVariants as kind
 use Rattle.flow_traffic.specs.declared.verdict.Verdict.TheVariants.{Refused}
 use Rattle.flow_traffic.specs.Traffic.{Traffic, regulation_named}
 use Rattle.flow_traffic.specs.State.{State, traffic_of}
-use Rattle.flow_traffic.specs.Opening.{is_period, rates_fit, regulation_by}
-use Rattle.flow_traffic.specs.Asked.{Asked, asked, asked_by_message, asked_to_open, asked_to_shut, asked_at, changed_by, departing, is_called, is_departure, max_regulations, ordered, verdict_on}
+use Rattle.flow_slots.specs.Limits.{rates_fit}
+use Rattle.flow_traffic.specs.Opening.{is_period, regulation_by}
+use Rattle.flow_traffic.specs.Asked.{Asked, asked, asked_by_message, asked_to_open, asked_to_shut, asked_at, changed_by, departing, is_called, is_departure, ordered, verdict_on}
+use Rattle.flow_traffic.specs.declared.opening.TheConstants.{MAX_REGULATIONS}
 use Rattle.flow_traffic.specs.Answers.{Answers, settle}
 use Rattle.flow_traffic.specs.Frozen.{frozen_pairs, IsFrozenStill, FrozenPairsStay}
 use Rattle.flow_traffic.proofs.Changing.{ok-same, unless-ok, filed-same, delayed-same, amended-same, cancelled-same, departed-same, departed-there}
@@ -246,7 +248,7 @@ module _ (t : Traffic) (all : (at : ℕ) → t.now ≤ at → MayStay t.taxi at 
       let b = unless-ok (not (is_period m)) refusal.BadPeriod _ x e in
       let c = unless-ok (not (rates_fit m.rate m.more)) refusal.BadRate _ x b in
       let d = unless-ok (list_any (is_called m.id) t.regulations) refusal.RegulationHeld _ x c in
-      let f = unless-ok (nat_le max_regulations (length t.regulations)) refusal.RegulationsFull _ x d in
+      let f = unless-ok (nat_le MAX_REGULATIONS (length t.regulations)) refusal.RegulationsFull _ x d in
       let here : AllByRecursion (AStays t.taxi t.now t.plans a) (t.regulations ++ regulation_by m ∷ []) =
       all-last (AStays t.taxi t.now t.plans a) t.regulations (regulation_by m) (this-stays t.taxi t.now t.plans a t.regulations now-all) (λ has. absurd has) in
       subst (StaysBy (ord (open_reg m))) (ok-same (ordered t kind.Open t.now (t.regulations ++ regulation_by m ∷ [])) x f)

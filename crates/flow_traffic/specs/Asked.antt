@@ -20,7 +20,9 @@ use Rattle.flow_traffic.specs.declared.verdict.Kind.TheVariants as kind
 use Rattle.flow_traffic.specs.declared.verdict.Verdict.{Verdict}
 use Rattle.flow_traffic.specs.declared.verdict.Verdict.TheVariants.{Accepted, Departed}
 use Rattle.flow_traffic.specs.Traffic.{Traffic, told_of}
-use Rattle.flow_traffic.specs.Opening.{is_period, rates_fit, regulation_by}
+use Rattle.flow_slots.specs.Limits.{rates_fit}
+use Rattle.flow_traffic.specs.Opening.{is_period, regulation_by}
+use Rattle.flow_traffic.specs.declared.opening.TheConstants.{MAX_REGULATIONS}
 
 -- plans, time and regulations as they are asked for, before the regulations are settled, and the verdict
 pub record Asked : Type 0 where
@@ -70,10 +72,6 @@ asked_by_message t m =
 
 -- ---- orders
 
--- how many regulations may be open at once
-abbrev pub max_regulations : ℕ
-max_regulations = 64
-
 abbrev pub is_called : List ℕ → Regulation → Bool
 is_called id r = bytes_eq r.id id
 
@@ -87,7 +85,7 @@ asked_to_open t m =
     unless (not (is_period m)) refusal.BadPeriod
     (unless (not (rates_fit m.rate m.more)) refusal.BadRate
     (unless (list_any (is_called m.id) t.regulations) refusal.RegulationHeld
-    (unless (nat_le max_regulations (length t.regulations)) refusal.RegulationsFull
+    (unless (nat_le MAX_REGULATIONS (length t.regulations)) refusal.RegulationsFull
     (Ok (ordered t kind.Open t.now (t.regulations ++ regulation_by m ∷ []))))))
 
 -- SHUT: the regulation of that name is open no more

@@ -12,14 +12,16 @@ use Rattle.flow_slots.specs.Assignment.{is_in}
 use Rattle.flow_regulations.specs.Listing.{Listed, regulation_of, IsListed, IsSettled, is_named}
 use Rattle.flow_regulations.specs.Quiet.{AllQuiet, KeepsSlots}
 use Rattle.flow_traffic.specs.State.{State}
-use Rattle.flow_traffic.specs.Asked.{departing, max_regulations}
+use Rattle.flow_traffic.specs.Asked.{departing}
+use Rattle.flow_traffic.specs.declared.opening.TheConstants.{MAX_REGULATIONS}
+use Rattle.flow_plans.specs.declared.setup.TheConstants.{MAX_PLANS}
 
 pub record IsKept (s : State) (told : List (Option Told)) : Type 0 where
   pub desk_time : IsDeskTime s.time
   pub limit : s.listing.max_plans ≡ s.store.max_plans
-  pub few : length s.listing.lists ≤ max_regulations
+  pub few : length s.listing.lists ≤ MAX_REGULATIONS
   pub room : length s.store.plans ≤ s.store.max_plans
-  pub most : s.store.max_plans ≤ 20_000
+  pub most : s.store.max_plans ≤ MAX_PLANS
   pub each : length told ≡ length s.store.plans
   pub listed : IsListed s.store.taxi s.listing.max_plans s.store.plans s.listing.lists
   pub settled_in : IsSettled s.store.taxi s.time s.store.plans s.listing.lists

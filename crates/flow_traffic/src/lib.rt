@@ -18,8 +18,8 @@
 //!   change by itself. A SHUT keeps the regulation that it closed. Each reading begins, notes, tells the noted plans
 //!   their slots and finishes by the same calls.
 //!
-//! `messages` and `orders` carry out what is asked for, `opening` has the limits of a regulation, `changes` says
-//! which plans a reading may have changed, `same` compares two desks.
+//! `messages` and `orders` carry out what is asked for, `opening` says whether a regulation may be opened, `changes`
+//! says which plans a reading may have changed, `same` compares two desks.
 #![tactic(auto)]
 
 mod changes;
@@ -31,5 +31,6 @@ mod traffic;
 mod undo;
 mod verdict;
 
+pub use opening::MAX_REGULATIONS;
 pub use traffic::Traffic;
 pub use verdict::{Kind, Verdict};

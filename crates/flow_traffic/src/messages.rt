@@ -18,6 +18,8 @@ ghost use Rattle.flow_traffic.specs.Asked.{changed_by, verdict_on, is_departure}
 ghost use Rattle.flow_traffic.specs.Answers.{Answers, told_to};
 ghost use Rattle.flow_traffic.specs.Frozen.{FrozenPairsStay};
 ghost use Rattle.flow_traffic.specs.Kept.{IsSettledFor};
+ghost use Rattle.flow_regulations.specs.declared.due.TheConstants.{ISSUE_LEAD};
+ghost use Rattle.flow_plans.specs.declared.setup.TheConstants.{MAX_PLANS};
 
 use crate::traffic::Traffic;
 use crate::undo::{Last, Undoing};
@@ -37,7 +39,7 @@ impl<A: Allocator + Copy> Traffic<A> {
         ensures before { OnOk result (self.new.before ≡ Some self.old.traffic) }
         ensures err { OnErr result (self.new ≡ record { traffic = self.old.traffic; before = None }) }
         ensures grow { length self.old.traffic.notices ≤ length self.new.traffic.notices }
-        ensures few { length self.new.traffic.notices ≤ length self.old.traffic.notices + 20_000 }
+        ensures few { length self.new.traffic.notices ≤ length self.old.traffic.notices + MAX_PLANS }
     {
         self.undoing.begin();
         let Ok(()) = make_room(
@@ -215,7 +217,7 @@ fn settle_for<A: Allocator + Copy>(
 
 /// Whether a plan is filed, and its flight isn't due.
 fn awaits<A: Allocator + Copy>(plan: &Plan<A>, now: Minute) -> bool
-    ensures { result ≡ (is_filed plan.now.state && nat_lt (now + 120) plan.now.off_block) }
+    ensures { result ≡ (is_filed plan.now.state && nat_lt (now + ISSUE_LEAD) plan.now.off_block) }
 {
     matches!(plan.state(), PlanState::Filed) && due_until(now) < plan.off_block().minutes()
 }

@@ -5,6 +5,7 @@ ghost use Rattle.fpl_message.specs.Reads.{ord};
 ghost use Rattle.flow_plans.specs.Settings.{IsDeskTime};
 ghost use Rattle.flow_traffic.specs.Answers.{Answers};
 ghost use Rattle.flow_traffic.specs.Frozen.{FrozenPairsStay};
+ghost use Rattle.flow_plans.specs.declared.setup.TheConstants.{MAX_PLANS};
 
 use crate::opening::shape_to_open;
 use crate::traffic::Traffic;
@@ -24,7 +25,7 @@ impl<A: Allocator + Copy> Traffic<A> {
         ensures before { OnOk result (self.new.before ≡ Some self.old.traffic) }
         ensures err { OnErr result (self.new ≡ record { traffic = self.old.traffic; before = None }) }
         ensures grow { length self.old.traffic.notices ≤ length self.new.traffic.notices }
-        ensures few { length self.new.traffic.notices ≤ length self.old.traffic.notices + 20_000 }
+        ensures few { length self.new.traffic.notices ≤ length self.old.traffic.notices + MAX_PLANS }
     {
         self.undoing.begin();
         let shape = match shape_to_open(order, &self.regulations) {
@@ -65,7 +66,7 @@ impl<A: Allocator + Copy> Traffic<A> {
         ensures before { OnOk result (self.new.before ≡ Some self.old.traffic) }
         ensures err { OnErr result (self.new ≡ record { traffic = self.old.traffic; before = None }) }
         ensures grow { length self.old.traffic.notices ≤ length self.new.traffic.notices }
-        ensures few { length self.new.traffic.notices ≤ length self.old.traffic.notices + 20_000 }
+        ensures few { length self.new.traffic.notices ≤ length self.old.traffic.notices + MAX_PLANS }
     {
         self.undoing.begin();
         if !self.regulations.is_open(id) {
@@ -97,7 +98,7 @@ impl<A: Allocator + Copy> Traffic<A> {
         ensures before { OnOk result (self.new.before ≡ Some self.old.traffic) }
         ensures err { OnErr result (self.new ≡ record { traffic = self.old.traffic; before = None }) }
         ensures grow { length self.old.traffic.notices ≤ length self.new.traffic.notices }
-        ensures few { length self.new.traffic.notices ≤ length self.old.traffic.notices + 20_000 }
+        ensures few { length self.new.traffic.notices ≤ length self.old.traffic.notices + MAX_PLANS }
     {
         self.undoing.begin();
         if at.minutes() < self.time.minutes() {

@@ -6,6 +6,7 @@ ghost use Rattle.flow_plans.specs.Settings.{IsDeskTime};
 ghost use Rattle.flow_traffic.specs.Traffic.{no_traffic, slots_of};
 ghost use Rattle.flow_traffic.specs.Answers.{Answers, HasDeskMoments};
 ghost use Rattle.flow_traffic.specs.Frozen.{FrozenPairsStay};
+ghost use Rattle.flow_plans.specs.declared.setup.TheConstants.{MAX_PLANS};
 
 use crate::undo::{Last, Undoing};
 use crate::verdict::Verdict;
@@ -120,7 +121,7 @@ impl<A: Allocator + Copy> Traffic<A> {
         ensures before { OnOk result (self.new.before ≡ Some self.old.traffic) }
         ensures err { OnErr result (self.new ≡ record { traffic = self.old.traffic; before = None }) }
         ensures grow { length self.old.traffic.notices ≤ length self.new.traffic.notices }
-        ensures few { length self.new.traffic.notices ≤ length self.old.traffic.notices + 20_000 }
+        ensures few { length self.new.traffic.notices ≤ length self.old.traffic.notices + MAX_PLANS }
     {
         match reading {
             Reading::Msg(message) => self.answer_message(message),

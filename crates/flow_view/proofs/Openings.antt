@@ -9,7 +9,8 @@ use Rattle.std.proofs.lemmas.Option.{get_or_from_slice_get, slice_get_within, sl
 use Rattle.flow_core.specs.State.{Record}
 use Rattle.std.proofs.Common.{subst}
 use Rattle.flow_traffic.specs.declared.verdict.Kind.TheVariants as kind
-use Rattle.flow_traffic.specs.Opening.{is_period, rates_fit, regulation_by}
+use Rattle.flow_slots.specs.Limits.{rates_fit}
+use Rattle.flow_traffic.specs.Opening.{is_period, regulation_by}
 use Rattle.std.specs.Str.{bytes_eq}
 use Rattle.std.proofs.lemmas.List.{map-append}
 use Rattle.std.proofs.lemmas.List.Sums.{fold-append}
@@ -26,7 +27,8 @@ use Rattle.flow_regulations.specs.Regulations.{Regulation, has_flight}
 use Rattle.flow_regulations.specs.Settling.{settled, frozen_at_departure}
 use Rattle.flow_regulations.specs.declared.notice.Told.{Told}
 use Rattle.flow_traffic.specs.Traffic.{Traffic}
-use Rattle.flow_traffic.specs.Asked.{Asked, asked, asked_by_message, asked_to_open, asked_to_shut, asked_at, changed_by, verdict_on, is_departure, departing, is_called, ordered, max_regulations}
+use Rattle.flow_traffic.specs.Asked.{Asked, asked, asked_by_message, asked_to_open, asked_to_shut, asked_at, changed_by, verdict_on, is_departure, departing, is_called, ordered}
+use Rattle.flow_traffic.specs.declared.opening.TheConstants.{MAX_REGULATIONS}
 use Rattle.flow_traffic.specs.Answers.{settle}
 use Rattle.flow_core.specs.State.{State, Input, fresh}
 use Rattle.flow_core.specs.Steps.{step, steps, run, answered}
@@ -111,13 +113,13 @@ unfolding asked_by_message asked_to_open asked_to_shut asked_at
 asked-opens t (msg m) a e = asked-opens-by t m (changed_by t.max_plans t.now t.plans m) a e
 asked-opens t (ord (open_reg m)) a e =
     let made : Asked = ordered t kind.Open t.now (t.regulations ++ regulation_by m ∷ []) in
-    let full : Result Asked Refusal = unless (nat_le max_regulations (length t.regulations)) refusal.RegulationsFull (Ok made) in
+    let full : Result Asked Refusal = unless (nat_le MAX_REGULATIONS (length t.regulations)) refusal.RegulationsFull (Ok made) in
     let held : Result Asked Refusal = unless (list_any (is_called m.id) t.regulations) refusal.RegulationHeld full in
     let rates : Result Asked Refusal = unless (not (rates_fit m.rate m.more)) refusal.BadRate held in
     let e1 : rates ≡ Ok a = after-test (not (is_period m)) refusal.BadPeriod rates a e in
     let e2 : held ≡ Ok a = after-test (not (rates_fit m.rate m.more)) refusal.BadRate held a e1 in
     let e3 : full ≡ Ok a = after-test (list_any (is_called m.id) t.regulations) refusal.RegulationHeld full a e2 in
-    let e4 : Ok made ≡ Ok a = after-test (nat_le max_regulations (length t.regulations)) refusal.RegulationsFull (Ok made) a e3 in
+    let e4 : Ok made ≡ Ok a = after-test (nat_le MAX_REGULATIONS (length t.regulations)) refusal.RegulationsFull (Ok made) a e3 in
     opens-along t (ord (open_reg m)) made a e4 (sym (map-append opening_of t.regulations (regulation_by m ∷ [])))
 asked-opens t (ord (shut_reg id)) a e =
     let made : Asked = ordered t kind.Shut t.now (filter (λ r. not (is_called id r)) t.regulations) in

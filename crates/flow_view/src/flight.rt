@@ -5,6 +5,7 @@ ghost use Rattle.flow_plans.specs.Entries.{take_off, entry_at};
 ghost use Rattle.flow_core.specs.Changes.{rows_at};
 ghost use Rattle.flow_core.specs.History.{state_of};
 ghost use Rattle.flow_view.specs.Shown.{flight_of, flight_at};
+ghost use Rattle.flow_plans.specs.declared.setup.TheConstants.{MAX_TAXI};
 
 use flow_core::{Core, Told};
 use flow_plans::{Plan, PlanState};
@@ -29,7 +30,7 @@ pub struct Flight {
 /// The moment of take-off.
 #[tactic(auto, unfolding(fpl_text::specs::Moments::moment_within))]
 fn take_off<A: Allocator + Copy>(plan: &Plan<A>, taxi: u32) -> Minute
-    requires { taxi ≤ 120 }
+    requires { taxi ≤ MAX_TAXI }
     ensures { result ≡ take_off taxi plan.now }
 {
     plan.off_block().plus(taxi).unwrap()
@@ -38,7 +39,7 @@ fn take_off<A: Allocator + Copy>(plan: &Plan<A>, taxi: u32) -> Minute
 /// The planned moment of entry at a place.
 #[tactic(auto, unfolding(flow_plans::specs::Entries::entry_at))]
 pub fn entry_at<A: Allocator + Copy>(plan: &Plan<A>, taxi: u32, spot: &Spot) -> Option<Minute>
-    requires { taxi ≤ 120 }
+    requires { taxi ≤ MAX_TAXI }
     ensures { result ≡ entry_at taxi spot.now plan.now }
 {
     match spot {
@@ -70,7 +71,7 @@ fn flight_of<A: Allocator + Copy>(
     spot: &Spot,
     told: Option<Told>,
 ) -> Flight
-    requires { taxi ≤ 120 }
+    requires { taxi ≤ MAX_TAXI }
     ensures { result ≡ flight_of taxi spot.now plan.now told }
 {
     let key = plan.key();

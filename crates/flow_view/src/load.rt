@@ -4,6 +4,7 @@ ghost use Rattle.std.specs.Option.{option_map_or};
 ghost use Rattle.flow_slots.specs.Period.{first_slot};
 ghost use Rattle.flow_view.specs.Load.{is_from_to, load_in, loads, held_later};
 ghost use Rattle.flow_view.specs.Totals.{entry_of};
+ghost use Rattle.flow_slots.specs.declared.shape.TheConstants.{LONGEST_PERIOD};
 
 use crate::slot_row::SlotRow;
 use flow_slots::Shape;
@@ -109,7 +110,7 @@ fn load_in(shape: &Shape, rows: &[SlotRow], from: Minute, to: Minute) -> Load
 fn load_at(shape: &Shape, rows: &[SlotRow], step: u32, index: u32) -> Load
     requires some { 0 < step }
     requires within { step * index < shape.now.end - shape.now.start }
-    requires long { step ≤ 1440 }
+    requires long { step ≤ LONGEST_PERIOD }
     ensures { result ≡ load_in shape.now rows.now (shape.now.start + step * index)
         (min (shape.now.start + step * index + step) shape.now.end) }
 {
@@ -132,7 +133,7 @@ pub fn loads_of<A: Allocator + Copy>(
     step: u32,
 ) -> Result<Vec<Load, A>, AllocError>
     requires some { 0 < step }
-    requires most { step ≤ 1440 }
+    requires most { step ≤ LONGEST_PERIOD }
     ensures { IfOk result (λ v. v.items ≡ loads step shape.now rows.now) }
 {
     let (start, end) = shape.period();

@@ -1,6 +1,7 @@
 //! Shares of a length, and round numbers.
 ghost use Rattle.std.specs.Prelude.{◌≡◌, ◌≤◌, ◌<◌, ◌*◌, IfSome};
 ghost use Rattle.flow_view.specs.Scale.{share, first_reaching, count_between, minutes_between};
+ghost use Rattle.flow_slots.specs.declared.shape.TheConstants.{LONGEST_PERIOD};
 
 /// How many lines lie above the lowest one of a panel at most.
 const MOST_LINES: u32 = 5;
@@ -19,9 +20,6 @@ pub const PANEL_WIDTH: u32 = 7120;
 
 /// How many minutes lie between two labels. Each divides the day.
 const ROUND_TIMES: [u32; 11] = [1, 2, 5, 10, 15, 20, 30, 60, 120, 180, 240];
-
-/// The longest period, in minutes.
-pub const LONGEST: u32 = 1440;
 
 /// So much of a length as a part is of a whole, rounded down, and all of it where the part is greater.
 pub fn share(length: u32, part: u32, whole: u32) -> u32
@@ -61,7 +59,7 @@ pub fn count_between(greatest: u32) -> u32
 /// many minutes.
 #[tactic(auto, unfolding(crate::specs::Scale::minutes_between))]
 pub fn minutes_between(minutes: u32) -> u32
-    requires { minutes ≤ LONGEST }
+    requires { minutes ≤ LONGEST_PERIOD }
     ensures value { result ≡ minutes_between minutes }
     ensures apart { LABEL_WIDTH * minutes ≤ PANEL_WIDTH * result }
     ensures some { 0 < result }

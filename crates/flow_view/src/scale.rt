@@ -2,8 +2,11 @@
 ghost use Rattle.std.specs.Prelude.{◌≡◌, ◌≤◌, ◌<◌, ◌+◌, ◌-◌, ◌*◌, min, max};
 ghost use Rattle.std.specs.Int.{div_ceil};
 ghost use Rattle.flow_view.specs.Scale.{share, count_between, minutes_between, bar_of, label_of};
+ghost use Rattle.flow_slots.specs.declared.shape.TheConstants.{LONGEST_PERIOD};
+ghost use Rattle.flow_view.specs.declared.rounds.TheConstants.{LABEL_WIDTH};
 
-use crate::rounds::{LONGEST, MOST_FLIGHTS, PANEL_WIDTH, count_between, minutes_between, share};
+use crate::rounds::{MOST_FLIGHTS, PANEL_WIDTH, count_between, minutes_between, share};
+use flow_slots::LONGEST_PERIOD;
 use fpl_text::Minute;
 
 /// How high a panel of a chart is, in tenths of a pixel.
@@ -22,7 +25,7 @@ pub struct Scale {
     /// How many lines lie above the lowest one.
     pub lines: u32,
     ghost wide: { 0 < minutes },
-    ghost day: { minutes ≤ 1440 },
+    ghost day: { minutes ≤ LONGEST_PERIOD },
     ghost some: { 0 < between },
     ghost round: { between ≤ 10_000 },
     ghost high: { 0 < lines },
@@ -34,7 +37,7 @@ impl Scale {
     /// of more than 50,000 as 50,000.
     pub fn new(start: Minute, end: Minute, greatest: u32) -> Scale
         ensures start { result.start ≡ start }
-        ensures minutes { result.minutes ≡ min (max (end - start) 1) LONGEST }
+        ensures minutes { result.minutes ≡ min (max (end - start) 1) LONGEST_PERIOD }
         ensures between { result.between ≡ count_between (min greatest MOST_FLIGHTS) }
         ensures lines { result.lines ≡ max (div_ceil (min greatest MOST_FLIGHTS) result.between) 1 }
         ensures reaches { greatest ≤ MOST_FLIGHTS → greatest ≤ result.between * result.lines }
@@ -44,7 +47,7 @@ impl Scale {
         let between = count_between(greatest);
         Scale {
             start,
-            minutes: minutes.clamp(1, LONGEST),
+            minutes: minutes.clamp(1, LONGEST_PERIOD),
             between,
             lines: greatest.div_ceil(between).max(1),
         }
@@ -91,7 +94,7 @@ impl Scale {
     /// How many minutes lie between two labels.
     pub fn minutes_between(&self) -> u32
         ensures value { result ≡ minutes_between self.now.minutes }
-        ensures apart { 560 * self.now.minutes ≤ PANEL_WIDTH * result }
+        ensures apart { LABEL_WIDTH * self.now.minutes ≤ PANEL_WIDTH * result }
         ensures some { 0 < result }
         ensures most { result ≤ 240 }
     {

@@ -1,6 +1,8 @@
 //! Sums and counts of the rows of a slot list.
 ghost use Rattle.std.specs.Prelude.{◌≡◌, ◌≤◌, ◌<◌, length};
 ghost use Rattle.flow_view.specs.Totals.{entry_of, delay_of, totals_of};
+ghost use Rattle.fpl_text.specs.declared.minute.TheConstants.{GREATEST_MINUTE};
+ghost use Rattle.flow_plans.specs.declared.setup.TheConstants.{MAX_ENTRIES};
 
 use crate::slot_row::SlotRow;
 use fpl_text::Minute;
@@ -34,7 +36,7 @@ impl SlotRow {
     /// The minutes from the planned entry to the slot.
     pub fn delay(&self) -> u32
         ensures value { result ≡ delay_of self.now }
-        ensures bound { result ≤ 100_000_000 }
+        ensures bound { result ≤ GREATEST_MINUTE }
     {
         match self.entry() {
             Some(entry) => self.time.minutes().saturating_sub(entry.minutes()),
@@ -45,7 +47,7 @@ impl SlotRow {
 
 /// The sums and counts of the rows.
 pub fn totals_of(rows: &[SlotRow]) -> Totals
-    requires { length rows.now ≤ 1_000_000 }
+    requires { length rows.now ≤ MAX_ENTRIES }
     ensures { result ≡ totals_of rows.now }
 {
     let mut totals = Totals {

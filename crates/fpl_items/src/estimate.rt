@@ -1,6 +1,7 @@
 //! One estimate of an EET item, as it is noted.
 ghost use Rattle.std.specs.Prelude.{◌≡◌, ◌<◌, ◌≤◌, length};
 ghost use Rattle.fpl_items.specs.Places.{name_of};
+ghost use Rattle.fpl_text.specs.declared.time.TheConstants.{ELAPSED_LIMIT};
 
 use crate::places::name_of;
 
@@ -12,7 +13,7 @@ pub struct Estimate {
     name: [u8; 12],
     /// From take-off to the place, in minutes.
     minutes: u16,
-    ghost bound: { minutes < 6000 },
+    ghost bound: { minutes < ELAPSED_LIMIT },
 }
 
 /// A note of no place, for room that isn't used.
@@ -35,7 +36,7 @@ impl Estimate {
     /// An estimate for a place.
     pub(crate) fn new(place: &[u8], minutes: u32) -> Estimate
         requires place { length place.now ≤ 11 }
-        requires minutes { minutes < 6000 }
+        requires minutes { minutes < ELAPSED_LIMIT }
         ensures { (result.name ≡ name_of place.now) × (result.minutes ≡ minutes) }
     {
         Estimate {
@@ -47,7 +48,7 @@ impl Estimate {
     /// The minutes from take-off to the place.
     pub(crate) fn minutes(&self) -> u32
         ensures value { result ≡ self.now.minutes }
-        ensures bound { result < 6000 }
+        ensures bound { result < ELAPSED_LIMIT }
     {
         u32::from(self.minutes)
     }

@@ -3,6 +3,7 @@ ghost use Rattle.std.specs.Prelude.{◌≡◌, ◌≤◌, ◌<◌, ◌∷◌, �
 ghost use Rattle.std.specs.Prelude.{OnErr};
 ghost use Rattle.fpl_items.specs.Places.{may_have, name_of};
 ghost use Rattle.fpl_items.specs.Estimates.{first_for};
+ghost use Rattle.fpl_text.specs.declared.time.TheConstants.{ELAPSED_LIMIT};
 
 use crate::estimate::Estimate;
 use crate::note_list::NoteList;
@@ -69,7 +70,7 @@ impl<A: Allocator + Copy> Estimates<A> {
     #[inline(always)]
     pub fn elapsed(&self, place: &[u8]) -> Option<u32>
         ensures value { result ≡ first_for place.now self.now }
-        ensures bound { IfSome result (λ minutes. minutes < 6000) }
+        ensures bound { IfSome result (λ minutes. minutes < ELAPSED_LIMIT) }
     {
         if !may_have(self.places, place) {
             return None;
@@ -121,7 +122,7 @@ fn longest_of(notes: &[Estimate], other: u32) -> u32
 fn first_for(notes: &[Estimate], place: &[u8]) -> Option<u32>
     requires { length place.now ≤ 11 }
     ensures value { result ≡ first_for place.now notes.now }
-    ensures bound { IfSome result (λ minutes. minutes < 6000) }
+    ensures bound { IfSome result (λ minutes. minutes < ELAPSED_LIMIT) }
 {
     let name = name_of(place);
     for note in notes {

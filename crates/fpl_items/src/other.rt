@@ -13,6 +13,7 @@ ghost use Rattle.fpl_items.specs.Items.{begins_item, words_before, is_estimate, 
 ghost use Rattle.fpl_items.specs.Items.{items_of, field_fault, items_or_fault, elapsed_to, is_exempt, day_of_words};
 ghost use Rattle.fpl_items.specs.Items.{day_of_items, Say, SaysAfter};
 ghost use Rattle.fpl_items.specs.Routes.{Gives};
+ghost use Rattle.fpl_text.specs.declared.time.TheConstants.{ELAPSED_LIMIT};
 
 use crate::estimate::Estimate;
 use crate::estimates::Estimates;
@@ -343,7 +344,7 @@ impl<A: Allocator + Copy> Other18<A> {
     /// The elapsed time, in minutes, of the first estimate for a place.
     pub fn elapsed(&self, place: &[u8]) -> Option<u32>
         ensures value { result ≡ elapsed_to place.now self.now }
-        ensures bound { IfSome result (λ minutes. minutes < 6000) }
+        ensures bound { IfSome result (λ minutes. minutes < ELAPSED_LIMIT) }
     {
         self.estimates.elapsed(place)
     }

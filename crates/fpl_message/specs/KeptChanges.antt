@@ -6,6 +6,7 @@ use Rattle.fpl_items.specs.Items.{items_of}
 use Rattle.fpl_message.specs.declared.changes.Changes.{Changes}
 use Rattle.fpl_message.specs.Messages.{field, Chg}
 use Rattle.fpl_message.specs.Modifications.{amended_text}
+use Rattle.fpl_text.specs.declared.time.TheConstants.{ELAPSED_LIMIT}
 
 -- the amended text of the field 22 at a place
 abbrev pub text_at : List (List ℕ) → Option ℕ → Option (List ℕ)
@@ -33,5 +34,5 @@ pub record StandAmong {A : Type 0} (fields : List (List ℕ)) (c : Changes A) : 
   pub field10 : ForSome c.field10 (λ at. at < length fields)
   pub field15 : ForSome c.field15 (λ at. at < length fields)
   pub field18 : ForSome c.field18 (λ at. at < length fields)
-  pub elapsed : ForSome c.destination (λ destination. ForSome destination.elapsed (λ minutes. minutes < 6000))
+  pub elapsed : ForSome c.destination (λ destination. ForSome destination.elapsed (λ minutes. minutes < ELAPSED_LIMIT))
   pub items : option_map (λ text. items_of (words_of text)) (text_at fields c.field18) ≡ c.other

@@ -29,12 +29,13 @@ const _: () = prove!(size_of::<FiledText>() <= 32);
 impl<A: Allocator + Copy> Model for FiledText<A> {
     ghost use Rattle.std.specs.Prelude.{◌≤◌, length};
     ghost use Rattle.fpl_message.specs.Filings.{FilingText};
+    ghost use Rattle.fpl_message.specs.declared.filed_text.TheConstants.{MAX_BYTES};
 
     ghost Value = { FilingText };
 
     ghost view = { λ t. record { edition = t.edition; bytes = t.bytes.items } };
 
-    ghost invariant = { λ t. length t.bytes.items ≤ 2000 };
+    ghost invariant = { λ t. length t.bytes.items ≤ MAX_BYTES };
 }
 
 impl<A: Allocator + Copy> FiledText<A> {
@@ -51,7 +52,7 @@ impl<A: Allocator + Copy> FiledText<A> {
     /// A text of these bytes, to be read by the rules of today. After an `Err` there is none.
     pub fn new(alloc: A, bytes: &[u8]) -> Result<Self, FilingFault>
         ensures value { IfOk result (λ text. text ≡ record { edition = Edition.Second; bytes = bytes.now }) }
-        ensures long { IsErrOf result FilingFault.TooLong ↔ (2000 < length bytes.now) }
+        ensures long { IsErrOf result FilingFault.TooLong ↔ (MAX_BYTES < length bytes.now) }
     {
         if bytes.len() > MAX_BYTES {
             return Err(FilingFault::TooLong);
@@ -66,7 +67,7 @@ impl<A: Allocator + Copy> FiledText<A> {
     /// Copies these bytes over those that were there. The memory grows to just their length where it is too small; if
     /// that is refused, there are no bytes.
     pub(crate) fn renew(&mut self, edition: Edition, bytes: &[u8]) -> Result<(), AllocError>
-        requires { length bytes.now ≤ 2000 }
+        requires { length bytes.now ≤ MAX_BYTES }
         ensures ok { OnOk result (self.new ≡ record { edition = edition; bytes = bytes.now }) }
         ensures err { OnErr result (self.new ≡ record { edition = edition; bytes = [] }) }
     {
@@ -86,7 +87,7 @@ impl<A: Allocator + Copy> FiledText<A> {
     /// The bytes as they were filed, at most 2,000.
     pub fn text(&self) -> &[u8]
         ensures value { result.now ≡ self.now.bytes }
-        ensures bound { length result.now ≤ 2000 }
+        ensures bound { length result.now ≤ MAX_BYTES }
     {
         self.bytes.as_slice()
     }

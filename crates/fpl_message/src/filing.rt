@@ -2,6 +2,7 @@
 ghost use Rattle.std.specs.Prelude.{◌≡◌, ◌≤◌, ◌<◌, ◌↔◌, [], length, IfOk, IfErr, OnOk, IsErrOf};
 ghost use Rattle.fpl_message.specs.Reads.{reading_of};
 ghost use Rattle.fpl_message.specs.Said.{said};
+ghost use Rattle.fpl_message.specs.declared.filed_text.TheConstants.{MAX_BYTES};
 
 use crate::edition::Edition;
 use crate::filed_text::{FiledText, FilingFault, MAX_BYTES};
@@ -38,7 +39,7 @@ impl<A: Allocator + Copy> Filing<A> {
     /// A filing of these bytes, read by the rules of today. After an `Err` there is none.
     pub fn new(alloc: A, bytes: &[u8]) -> Result<Self, FilingFault>
         ensures value { IfOk result (λ filing. filing ≡ record { edition = Edition.Second; bytes = bytes.now }) }
-        ensures long { IsErrOf result FilingFault.TooLong ↔ (2000 < length bytes.now) }
+        ensures long { IsErrOf result FilingFault.TooLong ↔ (MAX_BYTES < length bytes.now) }
     {
         Filing::read_as(alloc, Edition::Second, bytes)
     }
@@ -46,7 +47,7 @@ impl<A: Allocator + Copy> Filing<A> {
     /// A filing of these bytes, read by the rules of that edition. After an `Err` there is none.
     pub fn read_as(alloc: A, edition: Edition, bytes: &[u8]) -> Result<Self, FilingFault>
         ensures value { IfOk result (λ filing. filing ≡ record { edition = edition; bytes = bytes.now }) }
-        ensures long { IsErrOf result FilingFault.TooLong ↔ (2000 < length bytes.now) }
+        ensures long { IsErrOf result FilingFault.TooLong ↔ (MAX_BYTES < length bytes.now) }
     {
         let mut filing = Filing::empty(alloc, edition);
         filing.renew_as(alloc, edition, bytes)?;
@@ -57,7 +58,7 @@ impl<A: Allocator + Copy> Filing<A> {
     /// nothing has changed; after OutOfMemory it is a filing of no bytes.
     pub fn renew(&mut self, alloc: A, bytes: &[u8]) -> Result<(), FilingFault>
         ensures value { OnOk result (self.new ≡ record { edition = Edition.Second; bytes = bytes.now }) }
-        ensures long { IsErrOf result FilingFault.TooLong ↔ (2000 < length bytes.now) }
+        ensures long { IsErrOf result FilingFault.TooLong ↔ (MAX_BYTES < length bytes.now) }
         ensures same { IsErrOf result FilingFault.TooLong → self.new ≡ self.old }
         ensures none { IsErrOf result FilingFault.OutOfMemory
             → self.new ≡ record { edition = Edition.Second; bytes = [] } }
@@ -101,7 +102,7 @@ impl<A: Allocator + Copy> Filing<A> {
     /// serves too.
     fn renew_as(&mut self, alloc: A, edition: Edition, bytes: &[u8]) -> Result<(), FilingFault>
         ensures value { OnOk result (self.new ≡ record { edition = edition; bytes = bytes.now }) }
-        ensures long { IsErrOf result FilingFault.TooLong ↔ (2000 < length bytes.now) }
+        ensures long { IsErrOf result FilingFault.TooLong ↔ (MAX_BYTES < length bytes.now) }
         ensures same { IsErrOf result FilingFault.TooLong → self.new ≡ self.old }
         ensures none { IsErrOf result FilingFault.OutOfMemory → self.new ≡ record { edition = edition; bytes = [] } }
     {
@@ -123,7 +124,7 @@ impl<A: Allocator + Copy> Filing<A> {
     /// The bytes as they were given, at most 2,000.
     pub fn text(&self) -> &[u8]
         ensures value { result.now ≡ self.now.bytes }
-        ensures bound { length result.now ≤ 2000 }
+        ensures bound { length result.now ≤ MAX_BYTES }
     {
         self.text.text()
     }

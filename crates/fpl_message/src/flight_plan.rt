@@ -6,6 +6,7 @@ ghost use Rattle.fpl_text.specs.Words.{words_of};
 ghost use Rattle.fpl_items.specs.Items.{items_of};
 ghost use Rattle.fpl_message.specs.FlightPlans.{fpl_of};
 ghost use Rattle.fpl_message.specs.Messages.{field};
+ghost use Rattle.fpl_text.specs.declared.time.TheConstants.{ELAPSED_LIMIT};
 
 use crate::fault::{Fault, boxed};
 use crate::refusal::Refusal;
@@ -33,6 +34,7 @@ impl<A: Allocator + Copy> Model for Fpl<A> {
     ghost use Rattle.fpl_items.specs.Items.{items_of};
     ghost use Rattle.fpl_items.specs.Routes.{is_route};
     ghost use Rattle.fpl_message.specs.Messages.{Fpl as Plan, field};
+    ghost use Rattle.fpl_text.specs.declared.time.TheConstants.{ELAPSED_LIMIT};
 
     ghost Value = { Plan };
 
@@ -47,7 +49,7 @@ impl<A: Allocator + Copy> Model for Fpl<A> {
       items = m.other;
     } };
 
-    ghost invariant = { λ m. (length m.fields ≡ 9) × (is_route (field m.fields 6) ≡ true) × (m.elapsed < 6000)
+    ghost invariant = { λ m. (length m.fields ≡ 9) × (is_route (field m.fields 6) ≡ true) × (m.elapsed < ELAPSED_LIMIT)
         × (m.other ≡ items_of (words_of (field m.fields 8))) };
 }
 
@@ -134,7 +136,7 @@ impl<A: Allocator + Copy> Fpl<A> {
     /// The total elapsed time of field 16, in minutes, at most 5,999.
     pub fn elapsed(&self) -> u32
         ensures value { result ≡ self.now.elapsed }
-        ensures bound { result < 6000 }
+        ensures bound { result < ELAPSED_LIMIT }
     {
         self.elapsed
     }

@@ -6,6 +6,7 @@ ghost use Rattle.fpl_items.specs.Items.{items_of};
 ghost use Rattle.fpl_message.specs.Refusals.{Gives};
 ghost use Rattle.fpl_message.specs.Modifications.{chg_of};
 ghost use Rattle.fpl_message.specs.KeptChanges.{text_at};
+ghost use Rattle.fpl_text.specs.declared.time.TheConstants.{ELAPSED_LIMIT};
 
 use crate::changes::{Changes, amended_at};
 use crate::fault::{Fault, boxed};
@@ -73,7 +74,7 @@ impl<A: Allocator + Copy> Chg<A> {
     /// An amended field 16, of which an elapsed time is at most 5,999 minutes.
     pub fn destination(&self) -> Option<&Destination>
         ensures value { option_copied result ≡ self.now.destination }
-        ensures bound { IfSome result (λ amended. IfSome amended.now.elapsed (λ minutes. minutes < 6000)) }
+        ensures bound { IfSome result (λ amended. IfSome amended.now.elapsed (λ minutes. minutes < ELAPSED_LIMIT)) }
     {
         self.changes.destination.as_ref()
     }

@@ -5,6 +5,7 @@ ghost use Rattle.fpl_text.specs.Fields.{fields_or_fault};
 ghost use Rattle.fpl_message.specs.Refusals.{Gives, by_text};
 ghost use Rattle.fpl_message.specs.Said.{said, said_message};
 ghost use Rattle.fpl_message.specs.Reads.{reading_of, reading_or_refusal, message_of, begins_message, msg};
+ghost use Rattle.fpl_message.specs.declared.filed_text.TheConstants.{MAX_BYTES};
 
 use crate::edition::Edition;
 use crate::fault::{Fault, text_fault};
@@ -28,7 +29,7 @@ pub(crate) fn read<A: Allocator + Copy>(
     edition: Edition,
     bytes: &[u8],
 ) -> Result<(), AllocError>
-    requires { length bytes.now ≤ 2000 }
+    requires { length bytes.now ≤ MAX_BYTES }
     ensures { OnOk result (said reading.new ≡ reading_of (record { edition = edition; bytes = bytes.now })) }
 {
     match read_filed(alloc, room, reading, edition, bytes) {
@@ -49,7 +50,7 @@ fn read_filed<A: Allocator + Copy>(
     edition: Edition,
     bytes: &[u8],
 ) -> Result<(), Fault>
-    requires { length bytes.now ≤ 2000 }
+    requires { length bytes.now ≤ MAX_BYTES }
     ensures { Gives (λ _. said reading.new) result
         (reading_or_refusal (record { edition = edition; bytes = bytes.now })) }
 {
@@ -66,7 +67,7 @@ fn read_filed<A: Allocator + Copy>(
 
 /// The squeezed text of bytes in this room, or why there is none.
 fn squeezed<A: Allocator + Copy>(room: Vec<u8, A>, bytes: &[u8]) -> Result<Squeezed<A>, Fault>
-    requires { length bytes.now ≤ 2000 }
+    requires { length bytes.now ≤ MAX_BYTES }
     ensures { Gives (λ text. text) result (by_text (squeezed_or_fault bytes.now)) }
 {
     match Squeezed::read_in(room, bytes) {

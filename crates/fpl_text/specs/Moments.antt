@@ -9,6 +9,7 @@ use Rattle.jiff_core.specs.Date.{epoch_day, IsYmd}
 use Rattle.fpl_text.specs.Days.{civil_at}
 use Rattle.fpl_text.specs.Bytes.{is_digit}
 use Rattle.fpl_text.specs.Times.{two_digits, time_of_day}
+use Rattle.fpl_text.specs.declared.minute.TheConstants.{GREATEST_MINUTE, YEAR_2099}
 
 -- the minutes to that time of a day, which is not before 1970
 abbrev pub minute_of : Date → ℕ → ℕ → ℕ
@@ -57,7 +58,14 @@ moment_of text =
 
 -- a number of minutes, where it is one that a moment may have
 unfoldable pub moment_within : ℕ → Option ℕ
-moment_within minutes = if nat_le minutes 100_000_000 then Some minutes else None
+moment_within minutes = if nat_le minutes GREATEST_MINUTE then Some minutes else None
+
+-- the number of the day of the greatest moment, and that of the day after the year 2099
+abbrev pub last_day : ℕ
+last_day = GREATEST_MINUTE / 1440
+
+abbrev pub end_of_2099 : ℕ
+end_of_2099 = YEAR_2099 / 1440 + 365
 
 -- a number below 100 as two digits
 abbrev pub digit_pair : ℕ → List ℕ

@@ -1,9 +1,9 @@
 //! Days of the calendar.
 
-ghost use Rattle.std.specs.Prelude.{◌≡◌, ◌≤◌, ℕ, pos, unsigned_abs};
+ghost use Rattle.std.specs.Prelude.{◌≡◌, ◌≤◌, ◌<◌, ℕ, pos, unsigned_abs};
 ghost use Rattle.jiff_core.specs.Calendar.{IsBetween};
 ghost use Rattle.jiff_core.specs.Date.{epoch_day};
-ghost use Rattle.fpl_text.specs.Moments.{day_of};
+ghost use Rattle.fpl_text.specs.Moments.{day_of, last_day, end_of_2099};
 
 use crate::date::read_date;
 use jiff::civil::Date;
@@ -21,7 +21,7 @@ impl Model for Day {
 
     ghost view = { λ d. d.number };
 
-    ghost invariant = { λ d. d.number ≤ 69_444 };
+    ghost invariant = { λ d. d.number ≤ last_day };
 
     ghost inverse = { λ number. record { number = number } };
 }
@@ -30,7 +30,7 @@ impl Model for Day {
 fn day_number(date: Date) -> u32
     requires { IsBetween (pos 2000) (pos 2099) date.year }
     ensures value { result ≡ unsigned_abs (epoch_day date) }
-    ensures bound { result ≤ 47_481 }
+    ensures bound { result < end_of_2099 }
 {
     date.to_plain().to_unix_epoch_day() as u32
 }
@@ -49,7 +49,7 @@ impl Day {
     pub fn of(date: Date) -> Day
         requires { IsBetween (pos 2000) (pos 2099) date.year }
         ensures value { result ≡ unsigned_abs (epoch_day date) }
-        ensures bound { result ≤ 47_481 }
+        ensures bound { result < end_of_2099 }
     {
         Day {
             number: day_number(date),
@@ -58,7 +58,7 @@ impl Day {
 
     /// The day with that number, of which [`Minute::day`](crate::Minute::day) makes use.
     pub(crate) fn numbered(number: u32) -> Day
-        requires { number ≤ 69_444 }
+        requires { number ≤ last_day }
         ensures { result ≡ number }
     {
         Day { number }
@@ -67,7 +67,7 @@ impl Day {
     /// How many days it lies after 1970-01-01.
     pub fn number(self) -> u32
         ensures value { result ≡ self }
-        ensures bound { result ≤ 69_444 }
+        ensures bound { result ≤ last_day }
     {
         self.number
     }
@@ -75,7 +75,7 @@ impl Day {
     /// The date.
     pub fn date(self) -> Date
         ensures value { epoch_day result ≡ pos self }
-        ensures bound { self ≤ 69_444 }
+        ensures bound { self ≤ last_day }
     {
         Date::from_plain(civil::Date::from_unix_epoch_day(i64::from(self.number)).unwrap())
     }

@@ -15,6 +15,7 @@ ghost use Rattle.fpl_text.specs.declared.craft.Craft.{Craft};
 ghost use Rattle.fpl_text.specs.declared.heading.Heading.{Heading};
 ghost use Rattle.fpl_text.specs.declared.ident.Ident.{Ident};
 ghost use Rattle.fpl_text.specs.Moments.{IsYymmdd, moment_of, day_digits, hhmm_of};
+ghost use Rattle.fpl_text.specs.declared.minute.TheConstants.{YEAR_2000, YEAR_2099};
 
 /// The fields of a text are the one list whose join by hyphens stands in its brackets.
 pub fn one_list_of_fields()
@@ -30,7 +31,7 @@ pub fn one_day_text()
 
 /// The digits that are written for a moment of the years 2000 to 2098 are read as that moment.
 pub fn moment_reads_back()
-    ensures { (minute : ℕ) → 15_778_080 ≤ minute → minute < 67_848_480
+    ensures { (minute : ℕ) → YEAR_2000 ≤ minute → minute < YEAR_2099
         → moment_of (day_digits (minute / 1440) ++ hhmm_of (minute % 1440)) ≡ Some minute }
 {}
 

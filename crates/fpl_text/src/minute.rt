@@ -5,6 +5,7 @@ ghost use Rattle.jiff_core.specs.Calendar.{IsBetween};
 ghost use Rattle.jiff_core.specs.Date.{epoch_day};
 ghost use Rattle.fpl_text.specs.Moments.{minute_of, moment_of, moment_within, digit_pair, yymmdd_of, hhmm_of};
 ghost use Rattle.fpl_text.specs.Moments.{day_digits, IsYymmdd};
+ghost use Rattle.fpl_text.specs.declared.minute.TheConstants.{GREATEST_MINUTE};
 
 use crate::date::read_date;
 use crate::day::Day;
@@ -12,6 +13,13 @@ use crate::text::Text;
 use crate::time::TimeOfDay;
 use jiff::civil::Date;
 use std::marker::Model;
+
+/// The greatest moment, in minutes from 1970-01-01 00:00 UTC.
+pub const GREATEST_MINUTE: u32 = 100_000_000;
+/// 2000-01-01 00:00 UTC, the first moment that ten digits name.
+pub const YEAR_2000: u32 = 15_778_080;
+/// 2099-01-01 00:00 UTC, the first moment after those that ten digits name.
+pub const YEAR_2099: u32 = 67_848_480;
 
 /// A moment, in whole minutes from 1970-01-01 00:00 UTC, at most 100,000,000.
 #[derive(Clone, Copy, Debug, PartialEq, Eq, PartialOrd, Ord, Hash)]
@@ -24,7 +32,7 @@ impl Model for Minute {
 
     ghost view = { λ m. m.minutes };
 
-    ghost invariant = { λ m. m.minutes ≤ 100_000_000 };
+    ghost invariant = { λ m. m.minutes ≤ GREATEST_MINUTE };
 
     ghost inverse = { λ minutes. record { minutes = minutes } };
 }
@@ -63,7 +71,7 @@ impl Minute {
 
     /// That time of a day, which is no later than the last moment that there is.
     pub fn on(day: Day, time: TimeOfDay) -> Minute
-        requires { 1440 * day + time ≤ 100_000_000 }
+        requires { 1440 * day + time ≤ GREATEST_MINUTE }
         ensures { result ≡ 1440 * day + time }
     {
         Minute {
@@ -76,7 +84,7 @@ impl Minute {
     pub fn new(minutes: u32) -> Option<Minute>
         ensures { result ≡ moment_within minutes }
     {
-        if minutes <= 100_000_000 {
+        if minutes <= GREATEST_MINUTE {
             Some(Minute { minutes })
         } else {
             None
@@ -88,7 +96,7 @@ impl Minute {
     pub fn plus(self, minutes: u32) -> Option<Minute>
         ensures { result ≡ moment_within (self + minutes) }
     {
-        if minutes <= 100_000_000 - self.minutes {
+        if minutes <= GREATEST_MINUTE - self.minutes {
             Some(Minute {
                 minutes: self.minutes + minutes,
             })
@@ -99,7 +107,7 @@ impl Minute {
 
     /// The moment that lies so many minutes after 1970-01-01 00:00 UTC.
     pub fn from_minutes(minutes: u32) -> Minute
-        requires { minutes ≤ 100_000_000 }
+        requires { minutes ≤ GREATEST_MINUTE }
         ensures { result ≡ minutes }
     {
         Minute { minutes }
@@ -108,7 +116,7 @@ impl Minute {
     /// How many minutes it lies after 1970-01-01 00:00 UTC.
     pub fn minutes(self) -> u32
         ensures value { result ≡ self }
-        ensures bound { result ≤ 100_000_000 }
+        ensures bound { result ≤ GREATEST_MINUTE }
     {
         self.minutes
     }

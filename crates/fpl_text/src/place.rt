@@ -6,6 +6,7 @@ ghost use Rattle.std.specs.Cmp.{partial_equiv_from_equiv};
 ghost use Rattle.std.specs.Cmp.Lexicographic.{pointwise, lists_per, lists_equiv, nat_list_eq_equiv};
 ghost use Rattle.std.specs.Option.{ok_or};
 ghost use Rattle.fpl_text.specs.Places.{is_place, arrival_of, alternates_of, departure_of, destination_of};
+ghost use Rattle.fpl_text.specs.declared.time.TheConstants.{ELAPSED_LIMIT};
 
 use crate::byte::all_letters;
 use crate::fault::FieldFault;
@@ -150,7 +151,7 @@ impl Departure {
 #[tactic(auto, unfolding(crate::specs::Places::arrival_of, crate::specs::Places::is_place))]
 fn arrival_of(word: &[u8]) -> Option<(Text<4>, Option<u32>)>
     ensures value { result ≡ arrival_of word.now }
-    ensures bound { IfSome result (λ arrival. IfSome arrival.1 (λ minutes. minutes < 6000)) }
+    ensures bound { IfSome result (λ arrival. IfSome arrival.1 (λ minutes. minutes < ELAPSED_LIMIT)) }
 {
     if word.len() < 4 || !is_place(&word[..4]) {
         return None;
@@ -185,7 +186,7 @@ fn alternates_of(words: Words<'_>) -> Option<Alternates>
 #[tactic(auto, unfolding(crate::specs::Places::destination_of))]
 fn destination_of(field: &[u8]) -> Option<Destination>
     ensures value { result ≡ destination_of field.now }
-    ensures bound { IfSome result (λ destination. IfSome destination.elapsed (λ minutes. minutes < 6000)) }
+    ensures bound { IfSome result (λ destination. IfSome destination.elapsed (λ minutes. minutes < ELAPSED_LIMIT)) }
 {
     let mut words = Words::new(field);
     let (place, elapsed) = arrival_of(words.next()?)?;
@@ -202,7 +203,7 @@ impl Destination {
     /// most two words of four letters.
     pub fn read(field: &[u8]) -> Result<Destination, FieldFault>
         ensures value { result ≡ ok_or (destination_of field.now) (FieldFault.BadField 16) }
-        ensures bound { IfOk result (λ destination. IfSome destination.elapsed (λ minutes. minutes < 6000)) }
+        ensures bound { IfOk result (λ destination. IfSome destination.elapsed (λ minutes. minutes < ELAPSED_LIMIT)) }
     {
         destination_of(field).ok_or(FieldFault::BadField(16))
     }

@@ -7,6 +7,9 @@ ghost use Rattle.fpl_text.specs.Times.{two_digits, hhmm_below, time_of_day, elap
 use crate::byte::all_digits;
 use std::marker::Model;
 
+/// No elapsed time comes to so many minutes: four digits say at most 99 hours and 59 minutes.
+pub const ELAPSED_LIMIT: u32 = 6000;
+
 /// A time of day, seen as its minutes after midnight.
 #[derive(Clone, Copy, Debug, PartialEq, Eq)]
 pub struct TimeOfDay {
@@ -98,7 +101,7 @@ pub(crate) fn hhmm_below(hours: u8, text: &[u8]) -> Option<u16>
 /// Reads an elapsed time hhmm, of hours 00 to 99 and minutes 00 to 59, in minutes.
 pub fn read_elapsed(text: &[u8]) -> Option<u32>
     ensures value { result ≡ elapsed_time text.now }
-    ensures bound { IfSome result (λ minutes. minutes < 6000) }
+    ensures bound { IfSome result (λ minutes. minutes < ELAPSED_LIMIT) }
 {
     let minutes = hhmm_below(100, text)?;
     Some(u32::from(minutes))

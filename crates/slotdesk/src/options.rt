@@ -2,6 +2,7 @@
 
 use clap::builder::ValueParser;
 use clap::{Arg, ArgAction, Command, Error};
+use flow_core::MAX_FEEDERS;
 use flow_plans::{MAX_PLANS, MAX_TAXI};
 use std::alloc::{AllocError, Global};
 
@@ -13,9 +14,6 @@ const ABOUT: &str = "A flight plan desk with departure slots.\n\n\
 const VERSION: &str = "0.1.0 (journal version 2)";
 
 const USAGE: &str = "slotdesk <--start <yymmddhhmm>|--resume> [OPTIONS] < FILE";
-
-/// How many feeders there are at most.
-const MAX_FEEDERS: u64 = 64;
 
 const AFTER: &str =
     "With 2 or more feeders the answers come at the end of the input. With --resume the taxi time and the\n\
@@ -77,7 +75,7 @@ fn feeders_argument<'a>(alloc: Global) -> Arg<'a> {
         .long("feeders")
         .value_name("N")
         .default_value("1")
-        .value_parser(ValueParser::unsigned(1, MAX_FEEDERS))
+        .value_parser(ValueParser::unsigned(1, MAX_FEEDERS as u64))
         .help("How many feeders file at the same time, 1 to 64")
 }
 
