@@ -5,7 +5,8 @@ use Rattle.fpl_text.specs.declared.part.Part.{Part}
 use Rattle.fpl_text.specs.declared.minute.TheConstants.{YEAR_2000, YEAR_2099}
 use Rattle.flow_slots.specs.declared.shape.Limit.{Limit}
 use Rattle.flow_slots.specs.declared.shape.Limit.TheVariants as limit
-use Rattle.flow_slots.specs.declared.shape.TheConstants.{LONGEST_PERIOD, MOST_AN_HOUR, MOST_PARTS}
+use Rattle.flow_slots.specs.declared.shape.TheConstants.{LONGEST_PERIOD, MOST_AN_HOUR}
+use Rattle.fpl_text.specs.declared.part.TheConstants.{MOST_PARTS}
 use Rattle.flow_slots.specs.Period.{Period, AreSubperiods, IsRegular}
 use Rattle.flow_slots.specs.Limits.{rises, rates_fit, is_period, broken_limit}
 

@@ -3,7 +3,8 @@
 -- 1970-01-01 00:00 UTC.
 use Rattle.std.specs.Prelude.{◌≡◌, ℕ, ◌+◌, ◌-◌, ◌*◌, ◌/◌, ◌<◌, ◌≤◌, nat_lt, if◌then◌else◌, List, [], ◌∷◌, length, slice_index_or}
 use Rattle.fpl_text.specs.declared.part.Part.{Part}
-use Rattle.flow_slots.specs.declared.shape.TheConstants.{MOST_AN_HOUR, LONGEST_PERIOD, MOST_PARTS}
+use Rattle.flow_slots.specs.declared.shape.TheConstants.{MOST_AN_HOUR, LONGEST_PERIOD}
+use Rattle.fpl_text.specs.declared.part.TheConstants.{MOST_PARTS}
 use Rattle.fpl_text.specs.declared.minute.TheConstants.{YEAR_2000, YEAR_2099}
 
 -- a regulation's period, from `start` to before `end`: it begins with so many slots an hour, and each

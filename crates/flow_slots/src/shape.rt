@@ -6,7 +6,7 @@ ghost use Rattle.flow_slots.specs.Period.{Period, IsRegular, IsWithin, AreSubper
 ghost use Rattle.flow_slots.specs.Period.{slot_time, first_slot, slots_before_end, IsFirstSlot};
 ghost use Rattle.flow_slots.specs.Period.{most_before_end, most_slots};
 
-use fpl_text::{Minute, Part, YEAR_2000, YEAR_2099};
+use fpl_text::{MOST_PARTS, Minute, Part, YEAR_2000, YEAR_2099};
 use std::marker::Model;
 
 /// The greatest number of slots an hour.
@@ -14,9 +14,6 @@ const MOST_AN_HOUR: u32 = 240;
 
 /// The longest period, in minutes.
 pub const LONGEST_PERIOD: u32 = 1440;
-
-/// The greatest number of further sub-periods.
-const MOST_PARTS: usize = 7;
 
 /// A limit of a regulation.
 #[derive(Clone, Copy, Debug, PartialEq, Eq)]
@@ -42,7 +39,7 @@ pub struct Shape {
 impl Model for Shape {
     ghost use Rattle.std.specs.Prelude.{◌≤◌, take};
     ghost use Rattle.flow_slots.specs.Period.{Period, IsRegular};
-    ghost use Rattle.flow_slots.specs.declared.shape.TheConstants.{MOST_PARTS};
+    ghost use Rattle.fpl_text.specs.declared.part.TheConstants.{MOST_PARTS};
 
     ghost Value = { Period };
 

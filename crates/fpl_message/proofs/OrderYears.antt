@@ -1,10 +1,11 @@
 -- The moments that orders name lie in the years 2000 to 2098.
-use Rattle.std.proofs.Common.{◌≡◌, ℕ, ◌<◌, ◌≤◌, refl, Bool, true, false, cond, List, [], ◌∷◌, length, codes, ◌∙◌, ap, subst}
+use Rattle.std.proofs.Common.{◌≡◌, ℕ, ◌*◌, ◌<◌, ◌≤◌, refl, Bool, true, false, cond, List, [], ◌∷◌, length, codes, ◌∙◌, ap, subst}
 use Rattle.std.specs.Prelude.{Option, Some, None, Result, Ok, Err, nat_le, ◌==◌}
 use Rattle.std.specs.Option.{option_map, ok_or}
 use Rattle.std.specs.List.{All}
 use Rattle.std.proofs.lemmas.List.Elements.{All-cons, All-nil}
 use Rattle.fpl_text.specs.declared.part.Part.{Part}
+use Rattle.fpl_text.specs.declared.part.TheConstants.{MOST_PARTS}
 use Rattle.fpl_text.specs.Fields.{fields_or_fault}
 use Rattle.fpl_text.specs.Moments.{moment_of}
 use Rattle.fpl_text.specs.Squeezing.{squeezed_or_fault}
@@ -89,7 +90,7 @@ more-years First words parts is = none (length words == 0) is
         let empty : parts ≡ [] = cc in
         rw empty (All-nil (λ (part : Part). IsOfYears part.from))
     none false h = absurd cc
-more-years Second words parts is = some (nat_le (length words) 14) is
+more-years Second words parts is = some (nat_le (length words) (2 * MOST_PARTS)) is
   where
     some : (b : Bool) → cond b (parts_of words) None ≡ Some parts → All (λ (part : Part). IsOfYears part.from) parts
     some true h = parts-years words parts h

@@ -3,6 +3,7 @@ use Rattle.std.specs.Prelude.{ℕ, ◌+◌, ◌-◌, ◌*◌, Bool, ◌==◌, �
 use Rattle.std.specs.Option.{option_map, ok_or}
 use Rattle.std.specs.List.{list_all}
 use Rattle.fpl_text.specs.declared.part.Part.{Part}
+use Rattle.fpl_text.specs.declared.part.TheConstants.{MOST_PARTS}
 use Rattle.fpl_text.specs.Bytes.{is_letter, is_digit, is_letter_or_digit}
 use Rattle.fpl_text.specs.Moments.{moment_of}
 use Rattle.fpl_text.specs.Places.{is_place}
@@ -79,7 +80,7 @@ parts_of (moment ∷ rate ∷ words) = part_of moment rate >>? (λ part. option_
 -- the further sub-periods: none in the first edition, at most 7 in the second
 unfoldable pub more_of : Edition → List (List ℕ) → Option (List Part)
 more_of First words = if length words == 0 then Some [] else None
-more_of Second words = if nat_le (length words) 14 then parts_of words else None
+more_of Second words = if nat_le (length words) (2 * MOST_PARTS) then parts_of words else None
 
 -- what stands behind OPEN: a name, a spot, the first moment and the one after the last, a rate, and further sub-periods
 abbrev pub open_of : Edition → List (List ℕ) → Option OpenReg

@@ -1,31 +1,29 @@
 //! The further sub-periods of a regulation.
-ghost use Rattle.std.specs.Prelude.{◌≡◌, ◌≤◌, ◌<◌, ◌∷◌, ◌++◌, ◌-◌, [], true, nat_le, if◌then◌else◌, length};
+ghost use Rattle.std.specs.Prelude.{◌≡◌, ◌≤◌, ◌<◌, ◌∷◌, ◌++◌, ◌*◌, ◌-◌, [], true, nat_le, if◌then◌else◌, length};
 ghost use Rattle.fpl_text.specs.Bytes.{is_digit};
 ghost use Rattle.fpl_message.specs.Orders.{rate_of, part_of, parts_of, more_of};
 
 use crate::edition::Edition;
-use fpl_text::{Minute, Part, Words, all_digits, read_moment};
+use fpl_text::{MOST_PARTS, Minute, Part, Words, all_digits, read_moment};
 use std::marker::Model;
-
-/// The further sub-periods of a regulation at most.
-const MOST: usize = 7;
 
 /// The further sub-periods of a regulation, at most 7, seen as their list.
 #[derive(Drop)]
 pub struct SubPeriods {
-    parts: [Part; MOST],
+    parts: [Part; MOST_PARTS],
     count: usize,
 }
 
 impl Model for SubPeriods {
     ghost use Rattle.std.specs.Prelude.{◌≤◌, List, take};
     ghost use Rattle.fpl_text.specs.declared.part.Part.{Part};
+    ghost use Rattle.fpl_text.specs.declared.part.TheConstants.{MOST_PARTS};
 
     ghost Value = { List Part };
 
     ghost view = { λ s. take s.count s.parts };
 
-    ghost invariant = { λ s. s.count ≤ 7 };
+    ghost invariant = { λ s. s.count ≤ MOST_PARTS };
 }
 
 impl SubPeriods {
@@ -34,14 +32,14 @@ impl SubPeriods {
         ensures { result ≡ [] }
     {
         SubPeriods {
-            parts: [Part { from, rate: 0 }; MOST],
+            parts: [Part { from, rate: 0 }; MOST_PARTS],
             count: 0,
         }
     }
 
     /// One more behind the others.
     fn push(&mut self, part: Part)
-        requires { length self.old < 7 }
+        requires { length self.old < MOST_PARTS }
         ensures { self.new ≡ self.old ++ part ∷ [] }
     {
         self.parts[self.count] = part;
@@ -51,7 +49,7 @@ impl SubPeriods {
     /// The sub-periods, in order.
     pub fn as_slice(&self) -> &[Part]
         ensures value { result.now ≡ self.now }
-        ensures fits { length result.now ≤ 7 }
+        ensures fits { length result.now ≤ MOST_PARTS }
     {
         &self.parts[..self.count]
     }
@@ -97,12 +95,12 @@ fn part_of(moment: &[u8], rate: &[u8]) -> Option<Part>
 
 /// Reads pairs of a moment and a rate, at most 7.
 fn parts_of(from: Minute, mut words: Words<'_>) -> Option<SubPeriods>
-    ensures { result ≡ (if nat_le (length words.entry) 14 then parts_of words.entry else None) }
+    ensures { result ≡ (if nat_le (length words.entry) (2 * MOST_PARTS) then parts_of words.entry else None) }
 {
     let mut parts = SubPeriods::none(from);
     while let Some(moment) = words.next() {
         let rate = words.next()?;
-        if parts.as_slice().len() == MOST {
+        if parts.as_slice().len() == MOST_PARTS {
             return None;
         }
         parts.push(part_of(moment, rate)?);

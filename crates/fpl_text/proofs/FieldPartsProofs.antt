@@ -1,9 +1,9 @@
 -- Fields 3, 7 and 9 have their forms exactly where they are their parts, one after the other.
-use Rattle.std.proofs.Common.{◌≡◌, ◌↔◌, ℕ, zero, suc, ◌+◌, ◌-◌, ◌<◌, ◌≤◌, ◌*◌, ◌⊎◌, inl, inr, Bool, true, false, cond, ◌&&◌, eqb, leb, List, [], ◌∷◌, ◌++◌, length, take, drop, get_or, sym, refl, ap, subst, ◌∙◌, arith, append_assoc, length-append, ⊎_elim}
+use Rattle.std.proofs.Common.{◌≡◌, ◌↔◌, ℕ, zero, suc, ◌+◌, ◌-◌, ◌<◌, ◌≤◌, ◌*◌, Bool, true, false, cond, ◌&&◌, eqb, leb, List, [], ◌∷◌, ◌++◌, length, take, drop, get_or, sym, refl, ap, subst, ◌∙◌, arith, append_assoc, length-append}
 use Rattle.std.specs.Prelude.{Option, Some, None, codes}
 use Rattle.std.specs.Option.{option_map, option_and_then}
 use Rattle.std.specs.List.{list_all, prefix_len, starts_with}
-use Rattle.std.proofs.lemmas.Bool.{cases_Bool, and_parts, and_from, eqb-true, eq-eqb, ne_eqb, leb-true, le-leb, false≢true, cond-true, cond-false}
+use Rattle.std.proofs.lemmas.Bool.{and_parts, and_from, eqb-true, eq-eqb, ne_eqb, leb-true, le-leb, cond-true, cond-false}
 use Rattle.std.proofs.lemmas.Bool.Decides.{nat_tests}
 use Rattle.std.proofs.lemmas.List.{append-nil, take-append-drop, get_or-drop, get_or-append-add, length-drop, drop-drop}
 use Rattle.std.proofs.Math.Seq.{drop-append_seam, take-append_seam, drop-append-add, drop-cons, get_or-append_seam}
@@ -18,7 +18,7 @@ use Rattle.fpl_text.specs.Fields.{title_of}
 use Rattle.fpl_text.specs.Headings.{sender_len, receiver_len, number_len, is_number, number_in, heading_with, heading_of}
 use Rattle.fpl_text.specs.Bytes.{is_letter, is_digit, is_letter_or_digit}
 use Rattle.fpl_text.specs.Places.{is_octal, octal_number, transponder_of, ident_of}
-use Rattle.fpl_text.specs.FieldParts.{SpellsCode, IsIdent, SpellsCount, AreOneOrTwo, IsCraft, IsMessageNumber, SpellsNumber, title_text, IsHeading}
+use Rattle.fpl_text.specs.FieldParts.{SpellsCode, IsIdent, SpellsCount, IsCraft, IsMessageNumber, SpellsNumber, title_text, IsHeading}
 
 -- a run at the front: its bytes, and where it ends
 pub run-all : (p : ℕ → Bool) (xs : List ℕ) → list_all p (take (prefix_len p xs) xs) ≡ true

@@ -48,7 +48,7 @@ pub use fields::{Fields, Title, begins_amendment, split};
 pub use heading::Heading;
 pub use ident::Ident;
 pub use minute::{GREATEST_MINUTE, Minute, YEAR_2000, YEAR_2099, read_moment};
-pub use part::Part;
+pub use part::{MOST_PARTS, Part};
 pub use path::is_path;
 pub use place::{Alternates, Departure, Destination};
 pub use squeezed::Squeezed;

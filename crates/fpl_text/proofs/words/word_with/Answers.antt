@@ -1,5 +1,4 @@
-use Rattle.std.proofs.Common.{◌≡◌, ap, ◌∙◌, sym, arith}
-use Rattle.fpl_text.specs.Words.{words_from, words_from_byte}
+use Rattle.std.proofs.Common.{◌≡◌, arith}
 use Rattle.fpl_text.proofs.WordsLemmas.{from-space, from-nowhere, from-first, from-behind}
 use Rattle.fpl_text.proofs.words.word_with.Goals as goal
 

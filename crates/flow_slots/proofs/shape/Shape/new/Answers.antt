@@ -3,7 +3,7 @@ use Rattle.std.proofs.lemmas.Bool.{false≢true}
 use Rattle.flow_slots.specs.Limits.{broken_limit}
 use Rattle.flow_slots.specs.Period.{Period, IsRegular}
 use Rattle.fpl_text.specs.declared.minute.TheConstants.{YEAR_2000, YEAR_2099}
-use Rattle.flow_slots.specs.declared.shape.TheConstants.{MOST_PARTS}
+use Rattle.fpl_text.specs.declared.part.TheConstants.{MOST_PARTS}
 use Rattle.fpl_text.specs.declared.part.Part.{Part}
 use Rattle.flow_slots.proofs.Limits.{unbroken, regular-unbroken, nothing, not-nothing, take-front}
 use Rattle.flow_slots.proofs.shape.Shape.new.Goals as goal

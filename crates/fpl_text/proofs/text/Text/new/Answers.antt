@@ -1,4 +1,4 @@
-use Rattle.std.proofs.Common.{◌≡◌, ℕ, ◌+◌, ◌-◌, ◌++◌, List, length, drop, replicate, sym, ap, ◌∙◌, arith}
+use Rattle.std.proofs.Common.{◌≡◌, ℕ, ◌-◌, ◌++◌, List, length, drop, replicate, sym, ap, ◌∙◌, arith}
 use Rattle.std.proofs.lemmas.List.{length-append, length-drop, length-replicate}
 use Rattle.fpl_text.proofs.TextLemmas.{drop-blanks, drop-front}
 use Rattle.fpl_text.proofs.text.Text.new.Goals as goal
