@@ -12,23 +12,11 @@ use flow_traffic::Traffic;
 use std::alloc::{AllocError, Allocator};
 
 /// The new row of a plan that a step changed.
-#[derive(Debug, Drop, PartialEq, Eq)]
+#[derive(Clone, Copy, Debug, PartialEq, Eq)]
 pub struct Change {
     /// The plan's number, from 1.
     pub plan: u32,
     pub row: Row,
-}
-
-impl Change {
-    /// A copy. It takes no memory.
-    pub fn copied(&self) -> Change
-        ensures { result ≡ self.now }
-    {
-        Change {
-            plan: self.plan,
-            row: self.row.copied(),
-        }
-    }
 }
 
 /// Whether this is the same state.
@@ -74,14 +62,10 @@ fn row_with(status: Option<Status>, told: &Option<Told>) -> Option<Row>
         Some(status) => status,
         None => return None,
     };
-    let told = match told {
-        Some(told) => Some(told.copied()),
-        None => None,
-    };
     Some(Row {
         state: status.state,
         off_block: status.off_block,
-        told,
+        told: *told,
     })
 }
 

@@ -9,42 +9,21 @@ use fpl_text::Minute;
 use std::alloc::Allocator;
 
 /// A plan's state, its off-block moment, and what it was last told.
-#[derive(Debug, Drop, PartialEq, Eq)]
+#[derive(Clone, Copy, Debug, PartialEq, Eq)]
 pub struct Row {
     pub state: PlanState,
     pub off_block: Minute,
     pub told: Option<Told>,
 }
 
-impl Row {
-    /// A copy. It takes no memory.
-    pub fn copied(&self) -> Row
-        ensures { result ≡ self.now }
-    {
-        let told = match &self.told {
-            Some(told) => Some(told.copied()),
-            None => None,
-        };
-        Row {
-            state: self.state,
-            off_block: self.off_block,
-            told,
-        }
-    }
-}
-
 /// The row of a plan that was last told this.
 fn row_of<A: Allocator + Copy>(plan: &Plan<A>, told: &Option<Told>) -> Row
     ensures { result ≡ row_of plan.now told.now }
 {
-    let told = match told {
-        Some(told) => Some(told.copied()),
-        None => None,
-    };
     Row {
         state: plan.state(),
         off_block: plan.off_block(),
-        told,
+        told: *told,
     }
 }
 

@@ -78,16 +78,6 @@ fn rows_of<A: Allocator + Copy>(alloc: A, core: &Core<A>) -> Result<Vec<Option<R
     Ok(rows)
 }
 
-/// A copy of what may be a row.
-fn copy_of(row: &Option<Row>) -> Option<Row>
-    ensures { result ≡ row.now }
-{
-    match row {
-        Some(row) => Some(row.copied()),
-        None => None,
-    }
-}
-
 impl<A: Allocator + Copy> Board<A> {
     /// The board of a core, whose journal is this history.
     pub fn new(alloc: A, front: &Front, core: &Core<A>) -> Result<Self, AllocError>
@@ -131,7 +121,7 @@ impl<A: Allocator + Copy> Board<A> {
             return None;
         }
         match self.rows.get((plan - 1) as usize) {
-            Some(row) => copy_of(row),
+            Some(row) => *row,
             None => None,
         }
     }
@@ -143,7 +133,7 @@ fn put_row(rows: &mut [Option<Row>], change: &Change)
 {
     let at = (change.plan as usize).saturating_sub(1);
     if at < rows.len() {
-        rows[at] = Some(change.row.copied());
+        rows[at] = Some(change.row);
     }
 }
 

@@ -5,6 +5,7 @@ pub mod InTurn
 pub mod NextFrames
 pub mod Results
 pub mod Firsts
+pub mod FirstFrames
 pub mod FrameLists
 pub mod Takes
 pub mod Runs

@@ -1,8 +1,9 @@
 -- One frame, past the blanks before it.
-use Rattle.std.proofs.Common.{◌≡◌, ℕ, ◌+◌, Bool, true, false, cond, leb, List, [], ◌∷◌, ◌++◌, length, refl, sym, ap, ◌∙◌, subst, arith, drop, Option, Some, None, IfSome, IsTrue, slice_get, append_assoc, append-nil, length-append}
+use Rattle.std.proofs.Common.{◌≡◌, ℕ, ◌+◌, Bool, true, false, cond, leb, List, [], ◌∷◌, ◌++◌, length, refl, sym, ap, ◌∙◌, subst, arith, drop, Option, Some, None, IfSome, IsTrue, slice_get, append_assoc, append-nil, length-append, length-drop, slice_range}
 use Rattle.std.proofs.KnownBytes.{Consumes-nil, Consumes-trans}
 use Rattle.fpl_message.specs.Filings.{FilingText}
 use Rattle.flow_intake.specs.Frames.{Cut, cut, first_cut, since, is_text, kept_of}
+use Rattle.flow_intake.specs.FirstFrame.{Shows}
 use Rattle.flow_intake.specs.Reader.{Ahead, Agrees, Came, CameTooMuch, BeginsWithStop, Took, Finished, Unfinished}
 use Rattle.flow_intake.specs.NextFrame.{second, filing_kept, IsFiled, GaveFirst, GaveNone, Starves}
 use Rattle.flow_intake.proofs.Runs.{since-run}
@@ -103,3 +104,23 @@ IsFiled-kept kept frame e = rw e (by (leb (length frame) 2000))
 -- and the filing made of it is that
 pub GaveFirst-filed : (old new : Ahead) (before after : Option (List ℕ)) (kept : Option (List ℕ)) (filing : Option FilingText) → GaveFirst (filing_kept kept) old new before after → filing ≡ filing_kept kept → GaveFirst filing old new before after
 GaveFirst-filed old new before after kept filing g e = subst (λ (f : Option FilingText). GaveFirst f old new before after) (sym e) g
+
+-- the bytes that were there show the end of the frame
+pub GaveFirst-shown : (old new : Ahead) (before : Option (List ℕ)) (begin end : ℕ) (kept : Option (List ℕ)) → Agrees old before → Shows old.unread begin end → new.unread ≡ drop end old.unread → new.taken ≡ old.taken + end
+    → kept ≡ kept_of (slice_range old.unread begin end) → GaveFirst (filing_kept kept) old new before before
+GaveFirst-shown old new before begin end kept agrees shows rest count is =
+    record {
+      came = [];
+      consumed = Consumes-nil before;
+      whole = record { frame = slice_range old.unread begin end; rest = drop end old.unread; ended = true };
+      is = ap first_cut (append-nil old.unread) ∙ shows.is;
+      rest = rest;
+      going = going old.ended refl;
+      seen = λ _. refl;
+      count = omega (arith, count, shows.within, ap length rest, length-drop end old.unread);
+      filed = IsFiled-kept kept (slice_range old.unread begin end) is;
+    }
+  where
+    going : (b : Bool) → old.ended ≡ b → b ≡ false
+    going false e = refl
+    going true e = absurd (omega (arith, shows.some, shows.within, ap length (agrees e).0))

@@ -55,7 +55,7 @@ order-ends b bytes e =
     let s = since-some ends_order bytes e in
     ap (λ (bs : List ℕ). (order_cut (b ∷ until ends_order bytes) bs).ended) s.2
 
-text-at : (bytes : List ℕ) (k : ℕ) → position is_text bytes ≡ Some k → since is_text bytes ≡ drop k bytes
+pub text-at : (bytes : List ℕ) (k : ℕ) → position is_text bytes ≡ Some k → since is_text bytes ≡ drop k bytes
 text-at bytes k e =
     let found : k ≡ unwrap_or (position is_text bytes) (length bytes) = sym (ap (λ (o : Option ℕ). unwrap_or o (length bytes)) e) in
     ap (since is_text) (sym (take-append-drop k bytes)) ∙ since-run is_text (take k bytes) (drop k bytes) (none-before-found is_text bytes k found) (stop-behind-found is_text bytes k found)
@@ -67,7 +67,7 @@ position-within test bytes k e = by (ltb (position_or_len test bytes) (length by
     by true l e = let is : position_or_len test bytes ≡ k = cc in omega (arith, is, ltb-true (position_or_len test bytes) (length bytes) l)
     by false l e = absurd (cc)
 
-drop-at : (bytes : List ℕ) (k : ℕ) → k < length bytes → drop k bytes ≡ get_or bytes k 0 ∷ drop (k + 1) bytes
+pub drop-at : (bytes : List ℕ) (k : ℕ) → k < length bytes → drop k bytes ≡ get_or bytes k 0 ∷ drop (k + 1) bytes
 drop-at [] k l = absurd (omega arith)
 drop-at (x ∷ xs) zero l = refl
 drop-at (x ∷ xs) (suc k) l = let n : suc k + 1 ≡ suc (k + 1) = omega arith in rw n (drop-at xs k (omega arith))

@@ -10,6 +10,7 @@ ghost use Rattle.flow_intake.specs.Source.{counted_up};
 
 use crate::counted::Counted;
 use crate::fault::IntakeFault;
+use crate::first_frame::first_frame;
 use crate::kept::Kept;
 use crate::pieces::{Pieces, Until, take_if, take_until};
 use fpl_message::{Filing, FilingFault};
@@ -101,6 +102,11 @@ pub fn cut_frame<R: Read, A: Allocator>(
     ensures failed { IsErrOf result IntakeFault.Read
         → reader.new.failures ≡ counted_up reader.old.failures }
 {
+    if let Some(span) = first_frame(pieces.unread()) {
+        kept.set(&pieces.unread()[span.begin..span.end]);
+        pieces.skip(span.end);
+        return Ok(true);
+    }
     if pieces.has_ended() {
         return Ok(false);
     }

@@ -1,5 +1,6 @@
 //! The bytes of a frame, as far as they are kept.
 ghost use Rattle.std.specs.Prelude.{◌≡◌, ◌∷◌, [], ◌≤◌, Some, None, IfOk, MatchOption, length};
+ghost use Rattle.flow_intake.specs.Frames.{kept_of};
 ghost use Rattle.flow_intake.specs.Reader.{KeepsMore};
 
 use fpl_message::MAX_BYTES;
@@ -42,6 +43,20 @@ impl<A: Allocator> Kept<A> {
         self.bytes.clear();
         self.bytes.push_reserved(first);
         self.is_long = false;
+    }
+
+    /// Takes this frame.
+    pub(crate) fn set(&mut self, frame: &[u8])
+        ensures { self.new ≡ kept_of frame.now }
+    {
+        self.bytes.clear();
+        self.is_long = frame.len() > MAX_BYTES;
+        if self.is_long {
+            return;
+        }
+        let Ok(()) = self.bytes.extend_from_slice(frame) else {
+            unreachable!()
+        };
     }
 
     /// Takes more bytes of the frame.

@@ -12,6 +12,7 @@
 
 mod counted;
 mod fault;
+mod first_frame;
 mod intake;
 mod kept;
 pub mod laws;

@@ -35,7 +35,7 @@ pub(crate) enum Until {
 /// Where the first byte stands that is no blank. Blanks before a frame are few, so a search by vectors would gain
 /// nothing.
 #[inline(always)]
-fn text_in(bytes: &[u8]) -> Option<usize>
+pub(crate) fn text_in(bytes: &[u8]) -> Option<usize>
     ensures { result ≡ position is_text bytes.now }
 {
     bytes.iter().position(|byte| !(*byte == b' ' || *byte == b'\r' || *byte == b'\n'))
@@ -43,7 +43,7 @@ fn text_in(bytes: &[u8]) -> Option<usize>
 
 /// Where the first byte stands that stops the run.
 #[inline(always)]
-fn stop_in(bytes: &[u8], until: Until) -> Option<usize>
+pub(crate) fn stop_in(bytes: &[u8], until: Until) -> Option<usize>
     ensures { result ≡ position (stops_at until) bytes.now }
 {
     match until {
@@ -145,7 +145,7 @@ impl<A: Allocator> Pieces<A> {
     }
 
     /// The bytes that were read and not yet taken.
-    fn unread(&self) -> &[u8]
+    pub(crate) fn unread(&self) -> &[u8]
         ensures { result.now ≡ self.now.unread }
     {
         &self.piece[self.at..self.end]

@@ -59,11 +59,11 @@ pub(crate) fn alternates_after(held: &Alternates, amended: Option<&Destination>)
     match amended {
         Some(destination) => {
             if destination.elapsed.is_some() {
-                destination.alternates.copied()
+                destination.alternates
             } else {
-                held.copied()
+                *held
             }
         }
-        None => held.copied(),
+        None => *held,
     }
 }

@@ -100,12 +100,12 @@ impl Key {
         ensures { result ≡ key_after self.now message.now }
     {
         let dest = match message.destination() {
-            Some(destination) => destination.place.copied(),
-            None => self.dest.copied(),
+            Some(destination) => destination.place,
+            None => self.dest,
         };
         Key {
-            ident: self.ident.copied(),
-            dep: self.dep.copied(),
+            ident: self.ident,
+            dep: self.dep,
             dest,
             day: self.day,
         }
@@ -193,7 +193,7 @@ impl<A: Allocator + Copy> Plan<A> {
             state: PlanState::Filed,
             off_block,
             elapsed: message.elapsed() as u16,
-            alternates: message.destination().alternates.copied(),
+            alternates: message.destination().alternates,
             rules: message.rules().rules,
             exempt: message.other().exempt(),
             texts,
@@ -489,9 +489,9 @@ pub(crate) fn key_of<A: Allocator + Copy>(message: &Fpl<A>, off_block: Minute) -
     ensures { result ≡ key_of off_block message.now }
 {
     Key {
-        ident: message.ident().name.copied(),
-        dep: message.departure().place.copied(),
-        dest: message.destination().place.copied(),
+        ident: message.ident().name,
+        dep: message.departure().place,
+        dest: message.destination().place,
         day: off_block.day(),
     }
 }

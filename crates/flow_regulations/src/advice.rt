@@ -54,7 +54,7 @@ fn delay_in<A: Allocator + Copy>(
     let entry = plans.entry(number, &regulation.spot)?;
     Some(Delay {
         minutes: slot.minutes().saturating_sub(entry.minutes()),
-        regulation: regulation.id.copied(),
+        regulation: regulation.id,
     })
 }
 

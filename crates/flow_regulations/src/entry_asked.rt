@@ -55,7 +55,7 @@ impl EntryAsked {
     {
         if !self.is_at(spot) {
             self.entry = entry_of(plans, number, spot);
-            self.spot = Some(spot.copied());
+            self.spot = Some(*spot);
         }
     }
 }

@@ -4,22 +4,10 @@ ghost use Rattle.std.specs.Prelude.{◌≡◌};
 use fpl_text::{Minute, Text};
 
 /// A calculated take-off time (CTOT), and the name of the regulation that causes it.
-#[derive(Debug, Drop, PartialEq, Eq)]
+#[derive(Clone, Copy, Debug, PartialEq, Eq)]
 pub struct Told {
     pub ctot: Minute,
     pub regulation: Text<8>,
-}
-
-impl Told {
-    /// A copy, which takes no memory.
-    pub fn copied(&self) -> Told
-        ensures { result ≡ self.now }
-    {
-        Told {
-            ctot: self.ctot,
-            regulation: self.regulation.copied(),
-        }
-    }
 }
 
 /// What is said to a plan: a slot (SAM), another slot (SRM), or none any more (SLC).

@@ -23,13 +23,13 @@ pub(crate) fn says(told: &Option<Told>, advice: &Option<Told>) -> Option<Said>
 {
     match (told, advice) {
         (None, None) => None,
-        (None, Some(new)) => Some(Said::Sam(new.copied())),
+        (None, Some(new)) => Some(Said::Sam(*new)),
         (Some(_), None) => Some(Said::Slc),
         (Some(old), Some(new)) => {
             if old.ctot == new.ctot {
                 None
             } else {
-                Some(Said::Srm(new.copied()))
+                Some(Said::Srm(*new))
             }
         }
     }
@@ -47,9 +47,9 @@ fn notice_to<A: Allocator + Copy>(plan: &Plan<A>, says: Said) -> Notice
 {
     let key = plan.key();
     Notice {
-        ident: key.ident.copied(),
-        dep: key.dep.copied(),
-        dest: key.dest.copied(),
+        ident: key.ident,
+        dep: key.dep,
+        dest: key.dest,
         off_block: plan.off_block(),
         says,
     }

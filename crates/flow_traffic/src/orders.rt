@@ -35,10 +35,9 @@ impl<A: Allocator + Copy> Traffic<A> {
                 return Ok(Verdict::Refused(refusal));
             }
         };
-        let (id, place) = (order.id.copied(), order.place.copied());
         let Ok(()) = self
             .regulations
-            .open(self.alloc, id, place, shape, &self.plans, self.time)
+            .open(self.alloc, order.id, order.place, shape, &self.plans, self.time)
         else {
             return Err(AllocError);
         };

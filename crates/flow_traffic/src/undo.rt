@@ -315,16 +315,6 @@ impl<A: Allocator + Copy> Undoing<A> {
     }
 }
 
-/// A copy of what a plan was told, which takes no memory.
-fn copied_told(told: &Option<Told>) -> Option<Told>
-    ensures { result ≡ told.now }
-{
-    match told {
-        Some(told) => Some(told.copied()),
-        None => None,
-    }
-}
-
 /// Notes what these plans were last told.
 fn note_told<A: Allocator + Copy>(
     changed: &[u32],
@@ -339,7 +329,7 @@ fn note_told<A: Allocator + Copy>(
     ensures capacity { vec_capacity noted.new ≡ vec_capacity noted.old }
 {
     for number in changed {
-        noted.push_reserved(copied_told(&told[(*number - 1) as usize]));
+        noted.push_reserved(told[(*number - 1) as usize]);
     }
 }
 
@@ -354,7 +344,7 @@ fn tell_again<A: Allocator + Copy>(
     ensures { told.new.items ≡ told_again changed.now noted.now told.old.items }
 {
     for (index, number) in changed.iter().enumerate() {
-        told[(*number - 1) as usize] = copied_told(&noted[index]);
+        told[(*number - 1) as usize] = noted[index];
     }
 }
 

@@ -76,9 +76,9 @@ fn flight_of<A: Allocator + Copy>(
 {
     let key = plan.key();
     Flight {
-        ident: key.ident.copied(),
-        dep: key.dep.copied(),
-        dest: key.dest.copied(),
+        ident: key.ident,
+        dep: key.dep,
+        dest: key.dest,
         off_block: plan.off_block(),
         state: plan.state(),
         entry: entry_at(plan, taxi, spot),

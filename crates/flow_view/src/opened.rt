@@ -41,8 +41,8 @@ impl<A: Allocator + Copy> Opened<A> {
         ensures { IfOk result (λ o. o ≡ opening_of (regulation_by order.now)) }
     {
         Ok(Opened {
-            id: order.id.copied(),
-            place: order.place.copied(),
+            id: order.id,
+            place: order.place,
             from: order.from,
             to: order.to,
             rate: order.rate,

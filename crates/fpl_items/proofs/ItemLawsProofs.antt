@@ -1,12 +1,12 @@
 -- The items of field 18 make up its words.
-use Rattle.std.proofs.Common.{◌≡◌, ◌↔◌, ℕ, suc, ◌+◌, ◌-◌, ◌<◌, ◌≤◌, ◌⊎◌, inl, inr, Bool, true, false, not, cond, ◌&&◌, eqb, leb, ltb, List, [], ◌∷◌, ◌++◌, length, take, drop, get_or, sym, refl, ap, subst, ◌∙◌, arith, append_assoc, length-append, drop-cons, ⊎_elim}
-use Rattle.std.specs.Prelude.{Option, Some, None, Result, Ok, Err, codes, slice_index_or}
-use Rattle.std.specs.List.{list_all, prefix_len, position_or_len}
-use Rattle.std.proofs.lemmas.Bool.{cases_Bool, and_parts, and_from, eqb-true, eq-eqb, ne_eqb, leb-true, le-leb, ltb-true, lt-ltb, false≢true, cond-true, cond-false, not_from_false}
+use Rattle.std.proofs.Common.{◌≡◌, ℕ, suc, ◌+◌, ◌<◌, ◌≤◌, ◌⊎◌, inl, inr, Bool, true, false, not, cond, ◌&&◌, eqb, leb, ltb, List, [], ◌∷◌, ◌++◌, length, take, drop, get_or, sym, refl, ap, subst, ◌∙◌, arith, length-append, drop-cons}
+use Rattle.std.specs.Prelude.{Option, Some, None, Ok, codes, slice_index_or}
+use Rattle.std.specs.List.{list_all}
+use Rattle.std.proofs.lemmas.Bool.{and_parts, and_from, eqb-true, eq-eqb, ne_eqb, leb-true, le-leb, ltb-true, lt-ltb, false≢true, cond-true, cond-false, not_from_false}
 use Rattle.std.proofs.lemmas.List.{take-append-drop, length-take-le, length-drop, get_or-take}
 use Rattle.std.proofs.lemmas.List.Sums.{passes_at_first}
-use Rattle.std.proofs.Math.Seq.{drop-append-add, take-append_seam, get_or-append_seam}
-use Rattle.fpl_text.specs.Bytes.{is_letter, is_digit, is_letter_or_digit}
+use Rattle.std.proofs.Math.Seq.{drop-append-add, take-append_seam}
+use Rattle.fpl_text.specs.Bytes.{is_letter, is_letter_or_digit}
 use Rattle.fpl_text.specs.Words.{words_of}
 use Rattle.fpl_items.specs.declared.fault.ItemFault.{ItemFault}
 use Rattle.fpl_items.specs.declared.fault.ItemFault.TheVariants.{BadField}

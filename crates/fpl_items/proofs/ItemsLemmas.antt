@@ -1,5 +1,5 @@
 -- Where an item begins, by what stands at the front of its first word.
-use Rattle.std.proofs.Common.{◌≡◌, ℕ, length-append, not, ◌++◌, suc, ◌<◌, ◌≤◌, Bool, true, false, ◌&&◌, eqb, ltb, leb, List, [], ◌∷◌, length, take, get_or, sym, refl, ap, ◌∙◌, arith, ⊎_elim}
+use Rattle.std.proofs.Common.{◌≡◌, ℕ, not, suc, ◌<◌, ◌≤◌, Bool, true, false, ◌&&◌, eqb, ltb, leb, List, [], ◌∷◌, length, take, get_or, sym, refl, ap, ◌∙◌, arith, ⊎_elim}
 use Rattle.std.specs.List.{list_all, prefix_len}
 use Rattle.std.proofs.lemmas.Bool.{and_parts, cases_Bool, cond-true, cond-false, eq-eqb, eqb-true, false_from_ne_true, false≢true, le-ltb, ltb-true}
 use Rattle.std.proofs.lemmas.List.{length-take, get_or-take}

@@ -14,7 +14,7 @@ use fpl_text::{Minute, Text, Words, all_letters, all_letters_or_digits, is_lette
 use std::alloc::{Allocator, Global};
 
 /// Where the flow of flights is regulated.
-#[derive(Debug, Drop, PartialEq, Eq)]
+#[derive(Clone, Copy, Debug, PartialEq, Eq)]
 pub enum Spot {
     /// At departure from this aerodrome.
     Dep(Text<4>),
@@ -22,19 +22,6 @@ pub enum Spot {
     Arr(Text<4>),
     /// At this place on the way.
     Via(Text<11>),
-}
-
-impl Spot {
-    /// A copy, which takes no memory.
-    pub fn copied(&self) -> Spot
-        ensures { result ≡ self.now }
-    {
-        match self {
-            Spot::Dep(place) => Spot::Dep(place.copied()),
-            Spot::Arr(place) => Spot::Arr(place.copied()),
-            Spot::Via(place) => Spot::Via(place.copied()),
-        }
-    }
 }
 
 /// An order to open a regulation, in the form that it must have. Its limits are the desk's: that the period is 1 to

@@ -102,13 +102,6 @@ impl Alternates {
         self.places[self.count as usize] = place;
         self.count += 1;
     }
-
-    /// A copy, which takes no memory.
-    pub fn copied(&self) -> Alternates
-        ensures { result ≡ self.now }
-    {
-        *self
-    }
 }
 
 /// Field 16: a destination, the total estimated elapsed time in minutes where it is given, and alternates (ICAO Doc

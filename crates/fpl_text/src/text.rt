@@ -95,11 +95,4 @@ impl<const N: usize> Text<N> {
     {
         &self.bytes[..self.len as usize]
     }
-
-    /// A copy, which takes no memory.
-    pub fn copied(&self) -> Self
-        ensures { result ≡ self.now }
-    {
-        *self
-    }
 }

@@ -1,4 +1,4 @@
-use Rattle.std.proofs.Common.{◌≡◌, length}
+use Rattle.std.proofs.Common.{length}
 use Rattle.fpl_items.proofs.OtherLemmas.{NotedSoFar}
 use Rattle.fpl_items.specs.Items.{words_before}
 use Rattle.fpl_items.proofs.other.note_before_item.Given as goal

@@ -1,6 +1,5 @@
-use Rattle.std.proofs.Common.{rules, ◌≡◌, ◌<◌, ◌≤◌, ◌∙◌, sym, subst, refl, None, length, List, true, false, arith}
+use Rattle.std.proofs.Common.{rules, ◌<◌, ◌≤◌, ◌∙◌, sym, subst, refl, length, List}
 use Rattle.std.proofs.lemmas.Bool.{false≢true}
-use Rattle.flow_slots.specs.Limits.{broken_limit}
 use Rattle.flow_slots.specs.Period.{Period, IsRegular}
 use Rattle.fpl_text.specs.declared.minute.TheConstants.{YEAR_2000, YEAR_2099}
 use Rattle.fpl_text.specs.declared.part.TheConstants.{MOST_PARTS}

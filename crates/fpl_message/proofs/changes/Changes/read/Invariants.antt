@@ -1,4 +1,4 @@
-use Rattle.std.proofs.Common.{◌≡◌, drop, length}
+use Rattle.std.proofs.Common.{◌≡◌, drop}
 use Rattle.fpl_message.specs.Modifications.{amended, unamended}
 use Rattle.fpl_message.specs.KeptChanges.{kept, StandAmong}
 use Rattle.fpl_message.proofs.changes.Changes.read.Given as goal

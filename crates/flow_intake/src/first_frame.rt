@@ -1,0 +1,48 @@
+//! The first frame of some bytes, where they show its end: most frames stand whole in the piece that was read last, and
+//! are taken at once.
+ghost use Rattle.std.specs.Prelude.{◌≡◌, IfSome};
+ghost use Rattle.flow_intake.specs.FirstFrame.{EndsAt, Shows};
+
+use crate::pieces::{Until, stop_in, text_in};
+
+/// Where the first frame of some bytes stands in them.
+#[derive(Clone, Copy)]
+pub(crate) struct Span {
+    /// Behind the blanks.
+    pub(crate) begin: usize,
+    /// Behind the frame.
+    pub(crate) end: usize,
+}
+
+/// How long a frame is with which these bytes begin, if they show its end.
+fn frame_len(bytes: &[u8]) -> Option<usize>
+    ensures { IfSome result (λ len. EndsAt bytes.now len) }
+{
+    if bytes.is_empty() {
+        return None;
+    }
+    let behind = &bytes[1..];
+    if bytes[0] != b'(' {
+        return match stop_in(behind, Until::OrderEnd) {
+            Some(at) => Some(at + 1),
+            None => None,
+        };
+    }
+    match stop_in(behind, Until::Bracket) {
+        Some(at) if behind[at] == b')' => Some(at + 2),
+        Some(at) => Some(at + 1),
+        None => None,
+    }
+}
+
+/// Where the first frame of some bytes stands, if they show its end.
+pub(crate) fn first_frame(bytes: &[u8]) -> Option<Span>
+    ensures { IfSome result (λ span. Shows bytes.now span.begin span.end) }
+{
+    let begin = text_in(bytes)?;
+    let len = frame_len(&bytes[begin..])?;
+    Some(Span {
+        begin,
+        end: begin + len,
+    })
+}
