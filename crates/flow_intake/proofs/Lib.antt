@@ -11,5 +11,4 @@ pub mod Takes
 pub mod Runs
 pub mod Ranges
 pub mod Written
-pub mod FirstBytes
 pub mod Waits

@@ -13,7 +13,8 @@ ghost use Rattle.flow_intake.specs.Source.{counted_up};
 use crate::counted::Counted;
 use crate::fault::IntakeFault;
 use crate::kept::Kept;
-use memchr::{memchr2, memrchr2};
+use fpl_text::find_either;
+use memchr::memrchr2;
 use std::alloc::{AllocError, Allocator, Global};
 use std::io::Read;
 use std::marker::Model;
@@ -48,8 +49,8 @@ pub(crate) fn stop_in(bytes: &[u8], until: Until) -> Option<usize>
 {
     match until {
         Until::Text => text_in(bytes),
-        Until::Bracket => memchr2(b'(', b')', bytes),
-        Until::OrderEnd => memchr2(b'\n', b'(', bytes),
+        Until::Bracket => find_either(b'(', b')', bytes),
+        Until::OrderEnd => find_either(b'\n', b'(', bytes),
     }
 }
 

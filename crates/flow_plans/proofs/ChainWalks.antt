@@ -1,10 +1,9 @@
 -- What a walk over a chain meets.
-use Rattle.std.proofs.Common.{◌≡◌, ℕ, zero, suc, ◌+◌, ◌-◌, ◌<◌, ◌≤◌, ◌==◌, Bool, true, false, if◌then◌else◌, List, [], ◌∷◌, length, slice_index, refl, sym, ap, ◌∙◌, arith}
+use Rattle.std.proofs.Common.{◌≡◌, ℕ, zero, suc, ◌+◌, ◌-◌, ◌≤◌, ◌==◌, Bool, true, false, if◌then◌else◌, List, [], ◌∷◌, length, slice_index, refl, sym, ap, ◌∙◌, arith}
 use Rattle.std.proofs.lemmas.Bool.Decides.{nat_tests}
 use Rattle.flow_plans.specs.declared.chains.FlightName.{FlightName}
 use Rattle.flow_plans.specs.Plans.{Plan}
 use Rattle.flow_plans.specs.Chains.{Chained, newest, is_held_there, newest_held, last_number, AreLinks, AreChained, chain_from, held_numbers}
-use Rattle.flow_plans.proofs.LastNumbers.{last-more}
 
 walk-none : (m : ℕ) (older : List ℕ) → chain_from m older 0 ≡ []
 unfolding chain_from

@@ -3,6 +3,7 @@ pub mod DaysLemmas
 pub mod FieldLawsProofs
 pub mod FieldPartsProofs
 pub mod PathLemmas
+pub mod SearchLemmas
 pub mod PlacesLemmas
 pub mod TextLemmas
 pub mod SqueezingLemmas

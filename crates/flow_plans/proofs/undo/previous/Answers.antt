@@ -4,7 +4,7 @@ use Rattle.std.proofs.lemmas.Option.{slice_get-get_or}
 use Rattle.flow_plans.specs.declared.plan.PlanState.TheVariants as state
 use Rattle.flow_plans.specs.Plans.{Plan, plan_at, status_of, with_state, with_off_block}
 use Rattle.flow_plans.proofs.Keepings.{set-there}
-use Rattle.flow_plans.proofs.Previous.{first-there, first-end, with-elsewhere, changed-elsewhere, changed-own}
+use Rattle.flow_plans.proofs.Previous.{first-there, with-elsewhere, changed-elsewhere, changed-own}
 use Rattle.flow_plans.proofs.undo.previous.Goals.{in_default-via-in-Filed+else-place-plans, in_default-via-in-Delayed+else-number-delayed, in_default-via-in-Ended+else-number-ended, in_default-via-in-Amended+else-number-amended}
 use Rattle.flow_plans.proofs.undo.previous.Goals as goal
 
