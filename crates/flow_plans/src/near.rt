@@ -1,7 +1,7 @@
 //! What stands in a table of words for the places to which a flight comes.
 //!
-//! The table has a row for each kind of place and each bit of a place, so 192 rows: departures, arrivals and places on
-//! the way have 64 each.
+//! The table has a row for each kind of place and each bit of a place: departures, arrivals and places on the way have
+//! 64 each.
 ghost use Rattle.std.specs.Prelude.{◌≡◌, ◌+◌, ◌<◌, ◌≤◌, ℕ};
 ghost use Rattle.std.specs.Int.{bit_at};
 ghost use Rattle.flow_plans.specs.Near.{row_of, word_at, HasBitsOf};
@@ -10,11 +10,14 @@ ghost use Rattle.fpl_items.specs.Places.{bit_of};
 use fpl_items::bit_of;
 use fpl_message::Spot;
 
+/// The rows of a table of words by places.
+pub const ROWS: u32 = 192;
+
 /// The row of a place in a table of words by places.
 #[tactic(auto, unfolding(crate::specs::Near::row_of))]
 pub fn row_of(spot: &Spot) -> usize
     ensures value { result ≡ row_of spot.now }
-    ensures bound { result < 192 }
+    ensures bound { result < ROWS }
 {
     match spot {
         Spot::Dep(place) => bit_of(place.as_bytes()) as usize,

@@ -35,7 +35,7 @@ use crate::notice::{Notice, Told};
 use crate::places::Place;
 use crate::regulation::Regulation;
 use crate::telling::tell;
-use flow_plans::PlanStore;
+use flow_plans::{PlanStore, ROWS};
 use flow_slots::{Planned, Shape, SlotList};
 use fpl_message::Spot;
 use fpl_text::{Minute, Text};
@@ -43,7 +43,7 @@ use std::alloc::{AllocError, Allocator, Global};
 use std::marker::Model;
 
 /// The last row of a table of words by places.
-const LAST_ROW: u32 = 191;
+const LAST_ROW: u32 = ROWS - 1;
 
 /// The open regulations in order of opening, each with its slot list (ATFCM Users Manual, slot allocation).
 #[derive(Drop)]

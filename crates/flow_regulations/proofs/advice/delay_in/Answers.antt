@@ -22,7 +22,7 @@ pub returns-clause-value : goal.returns-clause-value
 returns-clause-value g c =
     let s = c.regulation.inside in
     let v : Listed = record { id = s.id; spot = s.spot; lineup = s.list.lineup } in
-    rw (c.copied.ensures, c.saturating_sub.ensures, c.minutes.ensures.value, c.minutes-2.ensures.value)
+    rw (c.saturating_sub.ensures, c.minutes.ensures.value, c.minutes-2.ensures.value)
     (IsDelay-some c.args.plans.now.taxi c.args.number c.in_ok-slot.slot c.in_ok-entry.entry (plan_at c.args.plans.now.plans c.args.number) v c.args.regulation.now c.fixed_moment.result c.entry.result
     c.regulation.view_is c.fixed_moment.ensures c.in_ok-slot.was c.entry.ensures c.in_ok-entry.was)
 

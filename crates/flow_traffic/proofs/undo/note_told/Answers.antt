@@ -13,11 +13,11 @@ loop-number-preserved g c =
     let ns : List ℕ = c.args.changed.now in
     let ts : List (Option Told) = c.args.told.now in
     let n : ℕ = get_or ns j 0 in
-    let o : Option Told = c.copied_told.result in
+    let o : Option Told = c.index-told-number.result in
     let within : j < length ns = c.loop-number-test.true in
     let number = c.requires.numbers j 0 within in
     let here : n - 1 < length ts = omega (arith, number.0, number.1) in
-    let at : slice_get ts (n - 1) ≡ Some o = slice_get-get_or ts (n - 1) o here ∙ ap Some (rw c.copied_told.ensures (sym c.index-told-number.is)) in
+    let at : slice_get ts (n - 1) ≡ Some o = slice_get-get_or ts (n - 1) o here ∙ ap Some (sym c.index-told-number.is) in
     let A : List (Option Told) → Type 0 = λ os. AreTold (take (j + 1) ns) ts os in
     let B : List ℕ → Type 0 = λ ms. AreTold ms ts (s.noted.items ++ o ∷ []) in
     record {

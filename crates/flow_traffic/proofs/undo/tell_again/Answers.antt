@@ -13,10 +13,10 @@ loop-index-preserved g c =
     let os : List (Option Told) = c.args.noted.now in
     let ts : List (Option Told) = c.args.told.now.items in
     let n : ℕ = get_or ns j 0 in
-    let o : Option Told = c.copied_told.result in
+    let o : Option Told = c.index-noted-index.result in
     let within : j < length ns = c.loop-index-test.true in
     let inside : j < length os = omega (arith, within, c.requires.each) in
-    let is : get_or os j o ≡ o = rw c.copied_told.ensures (sym c.index-noted-index.is) in
+    let is : get_or os j o ≡ o = sym c.index-noted-index.is in
     record {
       told = ap (λ (us : List (Option Told)). slice_set us (n - 1) o) s.invariant.told
           ∙ sym (again-more (take j ns) (take j os) ts n o (length-take-le j os (omega (arith, inside)) ∙ sym (length-take-le j ns (omega (arith, within)))))

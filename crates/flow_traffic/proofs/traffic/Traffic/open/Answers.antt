@@ -32,7 +32,7 @@ tell-requires-clause-numbers g c =
     let lists : List Listed = i.regulations.lists in
     let new : List Listed = c.open.new.self.lists in
     let r : Regulation = regulation_by c.args.order.now in
-    let opened : IsOpened taxi max i.time plans r lists new = rw (c.copied-id.ensures, c.copied-place.ensures, c.in-Ok.ensures.shape) at c.in-Ok-open.ensures.opened in
+    let opened : IsOpened taxi max i.time plans r lists new = rw c.in-Ok.ensures.shape at c.in-Ok-open.ensures.opened in
     let settled = opened-settled taxi max i.time plans r lists new opened c.self.invariant.kept.settled_in in
     let within = c.in-Ok-note_fixed.ensures.fixed.numbers taxi i.time plans settled in
     within
@@ -46,7 +46,7 @@ tell-requires-clause-quiet g c =
     let lists : List Listed = i.regulations.lists in
     let new : List Listed = c.open.new.self.lists in
     let r : Regulation = regulation_by c.args.order.now in
-    let opened : IsOpened taxi max i.time plans r lists new = rw (c.copied-id.ensures, c.copied-place.ensures, c.in-Ok.ensures.shape) at c.in-Ok-open.ensures.opened in
+    let opened : IsOpened taxi max i.time plans r lists new = rw c.in-Ok.ensures.shape at c.in-Ok-open.ensures.opened in
     quiet-but-opened taxi max i.time plans r lists new i.told.items c.note_fixed.new.self.changed opened c.in-Ok-note_fixed.ensures.fixed.others c.self.invariant.kept.quiet
 
 pub invariant_of-self-2 : goal.invariant_of-self-2
@@ -60,7 +60,7 @@ invariant_of-self-2 g c =
     let lists : List Listed = i.regulations.lists in
     let new : List Listed = c.open.new.self.lists in
     let r : Regulation = regulation_by c.args.order.now in
-    let opened : IsOpened taxi max i.time plans r lists new = rw (c.copied-id.ensures, c.copied-place.ensures, c.in-Ok.ensures.shape) at c.in-Ok-open.ensures.opened in
+    let opened : IsOpened taxi max i.time plans r lists new = rw c.in-Ok.ensures.shape at c.in-Ok-open.ensures.opened in
     let settled = opened-settled taxi max i.time plans r lists new opened c.self.invariant.kept.settled_in in
     let within = c.in-Ok-note_fixed.ensures.fixed.numbers taxi i.time plans settled in
     let u : LastReading = record c.tell.new.self { which = reading.Open } in
@@ -99,7 +99,7 @@ returns-clause-answers g c =
     let lists : List Listed = i.regulations.lists in
     let new : List Listed = c.open.new.self.lists in
     let r : Regulation = regulation_by c.args.order.now in
-    let opened : IsOpened taxi max i.time plans r lists new = rw (c.copied-id.ensures, c.copied-place.ensures, c.in-Ok.ensures.shape) at c.in-Ok-open.ensures.opened in
+    let opened : IsOpened taxi max i.time plans r lists new = rw c.in-Ok.ensures.shape at c.in-Ok-open.ensures.opened in
     let t : Traffic = traffic_of s i.told.items i.notices.items in
     rw (c.accepted.ensures, sym (ap (λ (v : Undoable). v.traffic) c.self.view_is))
     (order-answers s i.time new i.told.items c.tell.new.told.items i.notices.items c.tell.new.notices.items (open_reg c.args.order.now) kind.Open (t.regulations ++ r ∷ [])
@@ -124,7 +124,7 @@ returns-clause-few g c =
     let lists : List Listed = i.regulations.lists in
     let new : List Listed = c.open.new.self.lists in
     let r : Regulation = regulation_by c.args.order.now in
-    let opened : IsOpened taxi max i.time plans r lists new = rw (c.copied-id.ensures, c.copied-place.ensures, c.in-Ok.ensures.shape) at c.in-Ok-open.ensures.opened in
+    let opened : IsOpened taxi max i.time plans r lists new = rw c.in-Ok.ensures.shape at c.in-Ok-open.ensures.opened in
     let settled = opened-settled taxi max i.time plans r lists new opened c.self.invariant.kept.settled_in in
     let within = c.in-Ok-note_fixed.ensures.fixed.numbers taxi i.time plans settled in
     omega (
