@@ -1,4 +1,4 @@
-use Rattle.std.proofs.Common.{ap, ◌∙◌}
+use Rattle.std.proofs.Common.{ap}
 use Rattle.std.specs.Io.KnownBytes.{prepend_known}
 use Rattle.flow_intake.specs.Source.{Source}
 use Rattle.flow_intake.proofs.InTurn.{EndsWithin-ok, GivesNext-ok, SameTotal-missed, SameTotal-ok}
