@@ -1,8 +1,10 @@
 -- An input as its frames are taken from it.
-use Rattle.std.specs.Prelude.{◌≡◌, ◌+◌, ◌-◌, ◌^◌, min, length, ℕ, Bool, List, [], Option, Some, None}
+use Rattle.std.specs.Prelude.{◌≡◌, ◌+◌, ◌-◌, ◌^◌, min, length, ℕ, Bool, List, [], Option, Some, None, Result, Ok, Err}
 use Rattle.flow_intake.specs.Frames.{Cut, first_cut}
 use Rattle.flow_intake.specs.NextFrame.{filing_in, filing_of}
 use Rattle.fpl_message.specs.Filings.{FilingText}
+use Rattle.flow_intake.specs.declared.fault.IntakeFault.{IntakeFault}
+use Rattle.flow_intake.specs.declared.fault.IntakeFault.TheVariants as fault
 use Rattle.flow_intake.specs.declared.intake.Frame.{Frame}
 use Rattle.flow_intake.specs.declared.intake.Frame.TheVariants.{Whole}
 
@@ -18,6 +20,17 @@ pub record Source : Type 0 where
 -- how many calls failed after one more did: the count stays at its greatest number
 abbrev pub counted_up : ℕ → ℕ
 counted_up failures = min (failures + 1) (2 ^ 64 - 1)
+
+-- how many calls of the reader have failed after a call that ended with this fault
+abbrev pub failures_with : IntakeFault → ℕ → ℕ
+failures_with fault.Read before = counted_up before
+failures_with fault.TooMuch before = before
+failures_with fault.OutOfMemory before = before
+
+-- the same after a call that answered this: one more only where the reader failed
+abbrev pub failures_after : {T : Type 0} → Result T IntakeFault → ℕ → ℕ
+failures_after (Ok x) before = before
+failures_after (Err e) before = failures_with e before
 
 -- the frame is the first of the bytes, and what is left is the rest; or there is none, and nothing is left
 abbrev pub IsFirst : {A : Type 0} → Option (Frame A) → List ℕ → List ℕ → Type 0

@@ -1,9 +1,9 @@
 //! A reader or a writer with the count of its calls that failed.
-ghost use Rattle.std.specs.Prelude.{◌≡◌, ◌+◌, ◌-◌, ◌^◌, ◌<◌, length, MatchResult, OnOk, OnErr, OnSome, IfOk};
+ghost use Rattle.std.specs.Prelude.{◌≡◌, ◌+◌, ◌-◌, ◌^◌, ◌<◌, length, MatchResult, OnOk, OnSome, IfOk};
 ghost use Rattle.std.specs.Prelude.{IfSome, IfNone, take, ◌≤◌, if◌then◌else◌};
 ghost use Rattle.std.specs.Io.{ReadsAtMost, WritesAtMost};
 ghost use Rattle.std.specs.Io.KnownBytes.{ReadConsumes, WriteAppends, Keeps, Appends};
-ghost use Rattle.flow_intake.specs.Writes.{AppendsFront};
+ghost use Rattle.flow_intake.specs.Writes.{Writes};
 ghost use Rattle.flow_intake.specs.Source.{counted_up};
 
 use std::io;
@@ -118,10 +118,7 @@ fn write_some<W: Write>(writer: &mut Counted<W>, bytes: &[u8]) -> Option<usize>
 
 /// Writes all the bytes. After an `Err` a front of them was written.
 pub fn write_bytes<W: Write>(writer: &mut Counted<W>, bytes: &[u8]) -> Result<(), WriteFault>
-    ensures ok { OnOk result (Appends (W.contents writer.old.device) (W.contents writer.new.device) bytes.now) }
-    ensures calm { OnOk result (writer.new.failures ≡ writer.old.failures) }
-    ensures err { OnErr result (AppendsFront (W.contents writer.old.device) (W.contents writer.new.device) bytes.now) }
-    ensures failed { OnErr result (writer.new.failures ≡ counted_up writer.old.failures) }
+    ensures { Writes W.contents result writer.old writer.new bytes.now }
 {
     let mut written = 0;
     'turns: while written < bytes.len() {

@@ -3,10 +3,9 @@ ghost use Rattle.std.specs.Prelude.{◌≡◌, ◌≢◌, ◌≤◌, ◌<◌, �
 ghost use Rattle.std.specs.Prelude.{IfNone, IfSome, IsOkAnd, OnErr, OnOk, IsErrOf, Err, IsTrue, IsNone, ◌-◌};
 ghost use Rattle.flow_intake.specs.InTurn.{EndsWithin, GivesNext};
 ghost use Rattle.flow_intake.specs.NextFrame.{Cuts, Gives, Misses, Starves, filing_in, filing_kept};
-ghost use Rattle.flow_intake.specs.Source.{CutsFirst, KeepsTotal, MissesFirst};
+ghost use Rattle.flow_intake.specs.Source.{CutsFirst, KeepsTotal, MissesFirst, failures_after};
 ghost use Rattle.flow_intake.specs.Reader.{Agrees, Came, CameTooMuch, Finished, Unfinished};
 ghost use Rattle.flow_intake.specs.declared.pieces.TheConstants.{MAX_INPUT};
-ghost use Rattle.flow_intake.specs.Source.{counted_up};
 
 use crate::counted::Counted;
 use crate::fault::IntakeFault;
@@ -45,9 +44,7 @@ fn finish<R: Read, A: Allocator>(
     ensures much { IsErrOf result IntakeFault.TooMuch
         → CameTooMuch pieces.old (R.remaining reader.old.device) (R.remaining reader.new.device) }
     ensures memory { result ≢ Err IntakeFault.OutOfMemory }
-    ensures calm { OnOk result (reader.new.failures ≡ reader.old.failures) }
-    ensures failed { IsErrOf result IntakeFault.Read
-        → reader.new.failures ≡ counted_up reader.old.failures }
+    ensures failures { reader.new.failures ≡ failures_after result reader.old.failures }
 {
     if first == b'(' {
         take_until(reader, pieces, Until::Bracket, kept)?;
@@ -98,9 +95,7 @@ pub fn cut_frame<R: Read, A: Allocator>(
     ensures much { IsErrOf result IntakeFault.TooMuch
         → CameTooMuch pieces.old (R.remaining reader.old.device) (R.remaining reader.new.device) }
     ensures memory { result ≢ Err IntakeFault.OutOfMemory }
-    ensures calm { OnOk result (reader.new.failures ≡ reader.old.failures) }
-    ensures failed { IsErrOf result IntakeFault.Read
-        → reader.new.failures ≡ counted_up reader.old.failures }
+    ensures failures { reader.new.failures ≡ failures_after result reader.old.failures }
 {
     if let Some(span) = first_frame(pieces.unread()) {
         kept.set(&pieces.unread()[span.begin..span.end]);
@@ -140,11 +135,9 @@ fn next_frame<R: Read, A: Allocator + Copy>(
     ensures going { OnErr result (pieces.old.ended ≡ false) }
     ensures much { IsErrOf result IntakeFault.TooMuch
         → CameTooMuch pieces.old (R.remaining reader.old.device) (R.remaining reader.new.device) }
-    ensures calm { OnOk result (reader.new.failures ≡ reader.old.failures) }
-    ensures failed { IsErrOf result IntakeFault.Read
-        → reader.new.failures ≡ counted_up reader.old.failures }
-    ensures memory { IsErrOf result IntakeFault.OutOfMemory → (reader.new.failures ≡ reader.old.failures)
-        × Misses pieces.old pieces.new (R.remaining reader.old.device) (R.remaining reader.new.device)
+    ensures failures { reader.new.failures ≡ failures_after result reader.old.failures }
+    ensures memory { IsErrOf result IntakeFault.OutOfMemory
+        → Misses pieces.old pieces.new (R.remaining reader.old.device) (R.remaining reader.new.device)
         × Agrees pieces.new (R.remaining reader.new.device) }
     ensures room { IsErrOf result IntakeFault.OutOfMemory → pieces.new.taken ≤ MAX_INPUT }
 {
@@ -231,14 +224,11 @@ impl<R: Read, A: Allocator + Copy> Intake<R, A> {
         ensures failed { IsTrue self.old.failed → IsErrOf result IntakeFault.Read × (self.new ≡ self.old) }
 
         // When the first fault comes.
-        ensures read { self.old.failed ≡ false → IsErrOf result IntakeFault.Read
-            → self.new.failures ≡ counted_up self.old.failures }
+        ensures failures { self.old.failed ≡ false → self.new.failures ≡ failures_after result self.old.failures }
         ensures much { IsErrOf result IntakeFault.TooMuch
             → IfSome self.old.left (λ bytes. MAX_INPUT < self.old.taken + length bytes) }
-        ensures calm { OnOk result (self.new.failures ≡ self.old.failures) }
-        ensures memory { IsErrOf result IntakeFault.OutOfMemory → (self.new.failures ≡ self.old.failures)
-            × MissesFirst self.old.left self.new.left × KeepsTotal self.old self.new
-            × (self.new.taken ≤ MAX_INPUT) }
+        ensures memory { IsErrOf result IntakeFault.OutOfMemory
+            → MissesFirst self.old.left self.new.left × KeepsTotal self.old self.new × (self.new.taken ≤ MAX_INPUT) }
 
         // An input of more than 4,000,000,000 bytes has no end that is answered.
         ensures most { OnOk result (self.new.taken ≤ MAX_INPUT) }

@@ -8,7 +8,7 @@ ghost use Rattle.std.specs.Io.KnownBytes.{Consumes};
 ghost use Rattle.flow_intake.specs.Reader.{Agrees, BeginsWithStop, CameTooMuch, Filled, StopsFrom, TakesIf, Took};
 ghost use Rattle.flow_intake.specs.Reader.{TookRun};
 ghost use Rattle.flow_intake.specs.Until.{stops_at};
-ghost use Rattle.flow_intake.specs.Source.{counted_up};
+ghost use Rattle.flow_intake.specs.Source.{failures_after};
 
 use crate::counted::Counted;
 use crate::fault::IntakeFault;
@@ -192,9 +192,7 @@ impl<A: Allocator> Pieces<A> {
         ensures much { IsErrOf result IntakeFault.TooMuch
             → CameTooMuch self.old (R.remaining reader.old.device) (R.remaining reader.new.device) }
         ensures memory { result ≢ Err IntakeFault.OutOfMemory }
-        ensures calm { OnOk result (reader.new.failures ≡ reader.old.failures) }
-        ensures failed { IsErrOf result IntakeFault.Read
-            → reader.new.failures ≡ counted_up reader.old.failures }
+        ensures failures { reader.new.failures ≡ failures_after result reader.old.failures }
     {
         match reader.read(self.piece.as_mut_slice()) {
             Err(_) => Err(IntakeFault::Read),
@@ -233,9 +231,7 @@ fn make_ready<R: Read, A: Allocator>(
     ensures much { IsErrOf result IntakeFault.TooMuch
         → CameTooMuch pieces.old (R.remaining reader.old.device) (R.remaining reader.new.device) }
     ensures memory { result ≢ Err IntakeFault.OutOfMemory }
-    ensures calm { OnOk result (reader.new.failures ≡ reader.old.failures) }
-    ensures failed { IsErrOf result IntakeFault.Read
-        → reader.new.failures ≡ counted_up reader.old.failures }
+    ensures failures { reader.new.failures ≡ failures_after result reader.old.failures }
 {
     if !pieces.unread().is_empty() {
         return Ok(());
@@ -281,9 +277,7 @@ pub(crate) fn take_until<R: Read, A: Allocator>(
     ensures much { IsErrOf result IntakeFault.TooMuch
         → CameTooMuch pieces.old (R.remaining reader.old.device) (R.remaining reader.new.device) }
     ensures memory { result ≢ Err IntakeFault.OutOfMemory }
-    ensures calm { OnOk result (reader.new.failures ≡ reader.old.failures) }
-    ensures failed { IsErrOf result IntakeFault.Read
-        → reader.new.failures ≡ counted_up reader.old.failures }
+    ensures failures { reader.new.failures ≡ failures_after result reader.old.failures }
 {
     'pieces: loop {
         make_ready(reader, pieces)?;

@@ -1,4 +1,4 @@
-use Rattle.std.proofs.Common.{arith, ◌∙◌, length-drop}
+use Rattle.std.proofs.Common.{arith, rules, ◌∙◌, length-drop}
 use Rattle.std.proofs.lemmas.List.{take_rest}
 use Rattle.flow_intake.proofs.Written.{Appends-more, AppendsFront-stop}
 use Rattle.flow_intake.proofs.counted.write_bytes.Goals as goal
@@ -12,6 +12,10 @@ turns-preserved g c =
       c.in-Some.ensures.calm ∙ c.turns.invariant.2,
     )
 
-pub returns-in_default-clause-err : goal.returns-in_default-clause-err
-returns-in_default-clause-err g c =
-    AppendsFront-stop (g.W.Write.contents c.args.writer.now.device) (g.W.Write.contents c.turns.writer.device) (g.W.Write.contents c.write_some.new.writer.device) c.args.bytes.now c.turns.written c.turns.invariant.1 c.in_default.ensures.none
+pub returns-in_default : goal.returns-in_default
+returns-in_default g c = record {
+  ok = tt;
+  err = AppendsFront-stop (g.W.Write.contents c.args.writer.now.device) (g.W.Write.contents c.turns.writer.device) (g.W.Write.contents c.write_some.new.writer.device) c.args.bytes.now c.turns.written c.turns.invariant.1 c.in_default.ensures.none;
+  calm = tt;
+  failed = search rules;
+}

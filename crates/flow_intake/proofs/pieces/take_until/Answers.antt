@@ -41,5 +41,5 @@ pieces-preserved g c = record {
   took = Took-more (stops_at c.args.until) c.args.pieces.now c.pieces.pieces c.make_ready.new.pieces c.take_run.new.pieces
       (g.R.Read.remaining c.args.reader.now.device) (g.R.Read.remaining c.pieces.reader.device) (g.R.Read.remaining c.make_ready.new.reader.device) c.args.kept.now c.pieces.kept c.take_run.new.kept
       c.pieces.invariant.took c.in_ok-make_ready.ensures.filled c.in_ok-make_ready.ensures.taken c.take_run.ensures.took;
-  calm = c.in_ok-make_ready.ensures.calm ∙ c.pieces.invariant.calm;
+  calm = c.in_ok-make_ready.ensures.failures ∙ c.pieces.invariant.calm;
 }

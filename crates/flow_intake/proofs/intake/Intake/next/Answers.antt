@@ -1,4 +1,4 @@
-use Rattle.std.proofs.Common.{ap, ◌∙◌}
+use Rattle.std.proofs.Common.{ap}
 use Rattle.std.specs.Io.KnownBytes.{prepend_known}
 use Rattle.flow_intake.specs.Source.{Source}
 use Rattle.flow_intake.proofs.InTurn.{EndsWithin-ok, GivesNext-ok, SameTotal-missed, SameTotal-ok}
@@ -28,9 +28,8 @@ pub returns-clause-memory : goal.returns-clause-memory
 returns-clause-memory g c = λ e.
     let m = c.next_frame-result.ensures.memory e in
     let left = ap (λ (s : Source). s.left) c.self.view_is in (
-      m.0 ∙ ap (λ (s : Source). s.failures) c.self.view_is,
-      MissesFirst-given c.self.inside.pieces c.next_frame-result.new.pieces (g.R.Read.remaining c.self.inside.reader.device) (g.R.Read.remaining c.next_frame-result.new.reader.device) c.args.self.now.left m.1 m.2 left,
-      SameTotal-missed c.self.inside.pieces c.next_frame-result.new.pieces (g.R.Read.remaining c.self.inside.reader.device) (g.R.Read.remaining c.next_frame-result.new.reader.device) c.args.self.now.left c.args.self.now.taken m.1 left
+      MissesFirst-given c.self.inside.pieces c.next_frame-result.new.pieces (g.R.Read.remaining c.self.inside.reader.device) (g.R.Read.remaining c.next_frame-result.new.reader.device) c.args.self.now.left m.0 m.1 left,
+      SameTotal-missed c.self.inside.pieces c.next_frame-result.new.pieces (g.R.Read.remaining c.self.inside.reader.device) (g.R.Read.remaining c.next_frame-result.new.reader.device) c.args.self.now.left c.args.self.now.taken m.0 left
           (ap (λ (s : Source). s.taken) c.self.view_is),
       c.next_frame-result.ensures.room e,
     )
