@@ -1,5 +1,5 @@
 -- What looks at a slot list and at the plans find.
-use Rattle.std.proofs.Common.{◌≡◌, ℕ, ◌<◌, ◌≤◌, ◌++◌, ◌⊎◌, inl, inr, ◌&&◌, Bool, true, false, not, cond, leb, ltb, List, [], ◌∷◌, Option, Some, None, refl, sym, ap, subst, ◌∙◌, arith}
+use Rattle.std.proofs.Common.{◌≡◌, ℕ, ◌≤◌, ◌++◌, ◌⊎◌, inl, inr, ◌&&◌, Bool, true, false, not, cond, leb, ltb, List, [], ◌∷◌, Option, Some, None, refl, sym, ap, subst, ◌∙◌, arith}
 use Rattle.std.specs.Prelude.{IsSome, IfSome, codes}
 use Rattle.std.specs.Str.{bytes_eq}
 use Rattle.std.proofs.lemmas.Bool.{cases_eq, le-ltb, leb-true, false≢true, and_right, le-leb, ltb-true, ltb-false, lt-ltb, and_from, false_from_ne_true, and_parts}

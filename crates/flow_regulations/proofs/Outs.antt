@@ -1,13 +1,13 @@
 -- A flight that isn't held in an open regulation, which need not be asked.
 use Rattle.std.proofs.Common.{◌≡◌, ℕ, ◌+◌, ◌<◌, ◌≤◌, ◌⊎◌, inl, inr, Bool, true, false, not, cond, eqb, List, [], ◌∷◌, length, Option, Some, None, refl, sym, ap, subst, ◌∙◌}
 use Rattle.std.specs.Prelude.{IfSome}
-use Rattle.std.specs.Option.{is_some, option_map, option_map_or}
+use Rattle.std.specs.Option.{is_some, option_map}
 use Rattle.std.proofs.lemmas.Bool.{cases_eq, eqb-true, true≢false}
 use Rattle.flow_plans.specs.Plans.{Plan, plan_at}
 use Rattle.flow_slots.specs.declared.cell.Planned.{Planned}
 use Rattle.flow_plans.specs.Entries.{take_off}
 use Rattle.flow_slots.specs.Period.{slot_time}
-use Rattle.flow_slots.specs.Lineup.{Lineup, NoneIs, held_slot, fixed_slot, entry_in, waiting_entry, without_fixed, without_flight, with_waiting}
+use Rattle.flow_slots.specs.Lineup.{Lineup, NoneIs, held_slot, fixed_slot, entry_in, without_fixed, without_flight, with_waiting}
 use Rattle.flow_slots.specs.ChangeList.{fixed_there}
 use Rattle.flow_slots.proofs.Held.{held_slot-without}
 use Rattle.flow_regulations.specs.declared.advice.Delay.{Delay}

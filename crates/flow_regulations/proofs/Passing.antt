@@ -1,7 +1,7 @@
 -- Regulations that a walk passes: a flight isn't held in them.
 use Rattle.std.proofs.Common.{◌≡◌, ℕ, zero, suc, ◌+◌, ◌-◌, ◌<◌, ◌≤◌, Bool, true, false, List, [], ◌∷◌, ◌++◌, length, map, take, drop, get_or, Option, None, Some, ltb, refl, sym, ap, subst, ◌∙◌, arith}
 use Rattle.std.specs.Prelude.{bit_or, replicate}
-use Rattle.std.proofs.lemmas.List.{drop_all, drop_more, get_or_default, length-append, length-replicate, append-nil, append_assoc}
+use Rattle.std.proofs.lemmas.List.{drop_all, drop_more, length-append, length-replicate, append-nil, append_assoc}
 use Rattle.std.proofs.lemmas.Bool.{ltb-true, ltb-false}
 use Rattle.flow_plans.specs.Plans.{Plan, plan_at}
 use Rattle.flow_regulations.specs.declared.advice.Delay.{Delay}
