@@ -12,7 +12,7 @@ use Rattle.std.specs.Prelude.{◌⊎◌, max, min}
 use Rattle.std.proofs.lemmas.Bool.{cases_lt, leb-true, leb-false}
 use Rattle.std.proofs.lemmas.List.{length-map, get_or_past}
 use Rattle.std.proofs.Math.ListN.{get_or-map}
-use Rattle.fpl_text.specs.Bytes.{is_blank, is_border, is_digit, is_letter, is_other_mark, is_plain}
+use Rattle.fpl_text.specs.Bytes.{is_border, is_digit, is_letter, is_other_mark, is_plain}
 use Rattle.fpl_text.specs.Lanes.{HasLanes, HasFlags, flag, behind, is_kept}
 
 and_flags : (p q : Bool) → bit_and (flag p) (flag q) ≡ flag (p && q)
@@ -92,14 +92,6 @@ flags-other t v x long =
 chosen : (p : Bool) (x : ℕ) → cond (eqb (flag p) 255) 32 x ≡ cond p 32 x
 chosen true x = refl
 chosen false x = refl
-
--- a space where a flag is set
-pub lanes-spaces : (flags v : List ℕ) (p : ℕ → Bool) → length v ≡ 16 → HasFlags flags p
-    → HasLanes (sel_l (zip2 eqb flags (replicate 16 255)) (replicate 16 32) v) (λ k. cond (p k) 32 (get_or v k 0))
-lanes-spaces flags v p long h =
-    lanes-same _ _ _
-    (λ k l. (λ i. cond (eqb (h.each k l i) (get_or-replicate 16 k 255 0 l i)) (get_or-replicate 16 k 32 0 l i) (get_or v k 0)) ∙ chosen (p k) (get_or v k 0))
-    (lanes-compared eqb flags (replicate 16 255) (replicate 16 32) v h.long refl refl long)
 
 abbrev is_set : ℕ → Bool
 is_set x = leb 128 x
@@ -310,10 +302,6 @@ letters_and_others x = sym (or_assoc (leb 65 x && leb x 90) (is_digit x) (is_oth
 pub borders_are : (x : ℕ) → eqb x 45 || eqb x 40 || eqb x 41 ≡ is_border x
 unfolding is_border
 borders_are x = refl
-
-pub blanks_are : (x : ℕ) → eqb x 32 || eqb x 13 || eqb x 10 ≡ is_blank x
-unfolding is_blank
-blanks_are x = refl
 
 -- flags of 16 bytes of a text, by their places there
 pub flags-at : (test : ℕ → Bool) (text v flags : List ℕ) (at_place : ℕ) → HasLanes v (λ k. get_or text (at_place + k) 0) → HasFlags flags (λ k. test (get_or v k 0)) → HasFlags flags (λ k. test (get_or text (at_place + k) 0))

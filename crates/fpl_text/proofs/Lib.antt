@@ -7,6 +7,7 @@ pub mod SearchLemmas
 pub mod PlacesLemmas
 pub mod TextLemmas
 pub mod SqueezingLemmas
+pub mod CommonLemmas
 pub mod SqueezingLawsProofs
 pub mod WordsLemmas
 pub mod MomentsLemmas

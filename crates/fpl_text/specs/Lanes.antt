@@ -6,6 +6,11 @@ pub record HasLanes (v : List ℕ) (f : ℕ → ℕ) : Type 0 where
   pub long : length v ≡ 16
   pub each : (k : ℕ) → k < 16 → slice_index v k ≡ f k
 
+-- v has 16 lanes, and each of the first `count` lanes k holds f k
+pub record HasFront (v : List ℕ) (count : ℕ) (f : ℕ → ℕ) : Type 0 where
+  pub long : length v ≡ 16
+  pub each : (k : ℕ) → k < count → slice_index v k ≡ f k
+
 -- a test as a lane: all bits, or none
 abbrev pub flag : Bool → ℕ
 flag set = if set then 255 else 0

@@ -3,8 +3,7 @@
 ghost use Rattle.std.specs.Prelude.{◌≡◌, ◌≤◌, ◌<◌, ◌+◌, ◌↔◌, ◌==◌, ◌&&◌, ◌||◌, if◌then◌else◌, nat_le, not, ℕ, Bool};
 ghost use Rattle.std.specs.Prelude.{true, false, length, slice_index, take, drop, count_by};
 ghost use Rattle.std.specs.Int.{bit_at};
-ghost use Rattle.fpl_text.specs.Bytes.{is_blank, is_border, is_letter, is_digit, is_letter_or_digit, is_other_mark};
-ghost use Rattle.fpl_text.specs.Bytes.{is_plain, is_path_byte, is_either};
+ghost use Rattle.fpl_text.specs.Bytes.{is_border, is_common, is_either, is_letter, is_letter_or_digit, is_path_byte};
 ghost use Rattle.fpl_text.specs.Lanes.{HasLanes, HasFlags, behind, is_kept};
 
 use std::simd::prelude::*;
@@ -63,16 +62,6 @@ fn either(a: u8x16, b: u8x16) -> u8x16
     a | b
 }
 
-/// A space where the flag is set, and elsewhere the lane.
-#[inline(always)]
-pub(crate) fn spaces_or(flags: u8x16, v: u8x16) -> u8x16
-    ensures { (p : ℕ → Bool) → HasFlags flags p → HasLanes result (λ k. if p k then 32 else slice_index v k) }
-{
-    flags
-        .simd_eq(u8x16::splat(255))
-        .select(u8x16::splat(b' '), v)
-}
-
 /// Which lanes hold a byte of this range.
 #[inline(always)]
 fn between(v: u8x16, low: u8, high: u8) -> u8x16
@@ -89,31 +78,12 @@ fn or_equal_to(flags: u8x16, v: u8x16, byte: u8) -> u8x16
     either(flags, equal_to(v, byte))
 }
 
-/// Which lanes hold a blank.
-#[inline(always)]
-pub(crate) fn blank_lanes(v: u8x16) -> u8x16
-    ensures { HasFlags result (λ k. is_blank (slice_index v k)) }
-{
-    or_equal_to(or_equal_to(equal_to(v, b' '), v, b'\r'), v, b'\n')
-}
-
 /// Which lanes hold a border.
 #[inline(always)]
 pub(crate) fn border_lanes(v: u8x16) -> u8x16
     ensures { HasFlags result (λ k. is_border (slice_index v k)) }
 {
     or_equal_to(or_equal_to(equal_to(v, b'-'), v, b'('), v, b')')
-}
-
-/// Which lanes hold a digit or a mark that is no border. Full stop, stroke, digits and colon are one range.
-#[inline(always)]
-fn digit_or_mark_lanes(v: u8x16) -> u8x16
-    ensures { HasFlags result (λ k. is_digit (slice_index v k) || is_other_mark (slice_index v k)) }
-{
-    let range = between(v, b'.', b':');
-    let two = or_equal_to(or_equal_to(range, v, b','), v, b'\'');
-    let four = or_equal_to(or_equal_to(two, v, b'?'), v, b'+');
-    or_equal_to(four, v, b'=')
 }
 
 /// Which lanes hold a letter.
@@ -159,12 +129,20 @@ pub(crate) fn lanes_of_neither(v: u8x16, one: u8, other: u8) -> u8x16
     both(other_lanes(v, one), other_lanes(v, other))
 }
 
-/// Which lanes hold a plain byte.
+/// Which lanes hold a common byte.
 #[inline(always)]
-pub(crate) fn plain_lanes(v: u8x16) -> u8x16
-    ensures { HasFlags result (λ k. is_plain (slice_index v k)) }
+pub(crate) fn common_lanes(v: u8x16) -> u8x16
+    ensures { HasFlags result (λ k. is_common (slice_index v k)) }
 {
-    either(between(v, b'A', b'Z'), digit_or_mark_lanes(v))
+    either(between(v, b'A', b'Z'), between(v, b'.', b':'))
+}
+
+/// Which lanes hold a space.
+#[inline(always)]
+pub(crate) fn space_lanes(v: u8x16) -> u8x16
+    ensures { HasFlags result (λ k. slice_index v k == 32) }
+{
+    equal_to(v, b' ')
 }
 
 /// How many of the lanes from a place on are set.

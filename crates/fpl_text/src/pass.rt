@@ -3,12 +3,12 @@
 ghost use Rattle.std.specs.Prelude.{◌≡◌, ◌<◌, ◌≤◌, ◌+◌, ◌&&◌, ◌++◌, ◌∷◌, [], if◌then◌else◌, not, ℕ, List, true, false};
 ghost use Rattle.std.specs.Prelude.{length, take, slice_index, IfOk, IfErr, MatchOption, Ok, Err};
 ghost use Rattle.fpl_text.specs.Squeezing.{squeezed_or_fault, blanks};
-ghost use Rattle.fpl_text.specs.Lanes.{HasLanes};
+ghost use Rattle.fpl_text.specs.Lanes.{HasFront};
 ghost use Rattle.fpl_text.specs.Passes.{IsPass, StandsAt, gap, is_easy, border_behind, as_space};
 ghost use Rattle.fpl_text.specs.declared.fault.TextFault.TheVariants.{Empty, BadByte};
 
 use crate::byte::{is_blank, is_border, is_plain};
-use crate::lanes::{blank_lanes, border_lanes, kept_front, load, plain_lanes, spaces_or};
+use crate::lanes::{border_lanes, common_lanes, kept_front, load, space_lanes};
 use std::simd::prelude::*;
 
 /// How far a text is squeezed.
@@ -114,7 +114,7 @@ fn pass_bytes(text: &[u8], out: &mut [u8], from: Pass) -> Result<Pass, usize>
 /// What a look at 16 bytes tells.
 #[derive(Clone, Copy)]
 struct Front {
-    /// The bytes, each blank as a space.
+    /// The bytes.
     lanes: u8x16,
     /// How many of the first of them are easy.
     count: usize,
@@ -122,7 +122,8 @@ struct Front {
     border: bool,
 }
 
-/// Looks at the 16 bytes from a place on, behind a border or not. A blank in the last of them is left to the next 16.
+/// Looks at the 16 bytes from a place on, behind a border or not: mostly all of them are common bytes, borders, and
+/// spaces between two common bytes, which are easy. A space in the last of them is left to the next 16.
 #[inline(always)]
 fn easy_front(bytes: &[u8], at: usize, border: bool) -> Front
     requires { at + 16 ≤ length bytes.now }
@@ -131,13 +132,17 @@ fn easy_front(bytes: &[u8], at: usize, border: bool) -> Front
         → is_easy text place border k ≡ true }
     ensures border { (text : List ℕ) (place : ℕ) → StandsAt text place bytes.now at
         → result.border ≡ border_behind text place border result.count }
-    ensures lanes { HasLanes result.lanes (λ k. as_space (slice_index bytes.now (at + k))) }
+    ensures lanes { HasFront result.lanes result.count (λ k. as_space (slice_index bytes.now (at + k))) }
 {
-    let here = load(bytes, at);
-    let blanks = blank_lanes(here);
-    let (count, border) = kept_front(plain_lanes(here), border_lanes(here), blanks, border);
+    let lanes = load(bytes, at);
+    let (count, border) = kept_front(
+        common_lanes(lanes),
+        border_lanes(lanes),
+        space_lanes(lanes),
+        border,
+    );
     Front {
-        lanes: spaces_or(blanks, here),
+        lanes,
         count,
         border,
     }
@@ -154,7 +159,7 @@ fn front_at(text: &[u8], out: &[u8], place: usize, border: bool) -> Front
     ensures bound { result.count ≤ 16 }
     ensures easy { (k : ℕ) → k < result.count → is_easy text.now place border k ≡ true }
     ensures border { result.border ≡ border_behind text.now place border result.count }
-    ensures lanes { HasLanes result.lanes (λ k. as_space (slice_index out.now (place + 16 + k))) }
+    ensures lanes { HasFront result.lanes result.count (λ k. as_space (slice_index out.now (place + 16 + k))) }
 {
     if text.len() - place >= 16 {
         easy_front(text, place, border)
