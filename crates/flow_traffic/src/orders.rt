@@ -35,9 +35,14 @@ impl<A: Allocator + Copy> Traffic<A> {
                 return Ok(Verdict::Refused(refusal));
             }
         };
-        let Ok(()) = self
-            .regulations
-            .open(self.alloc, order.id, order.place, shape, &self.plans, self.time)
+        let Ok(()) = self.regulations.open(
+            self.alloc,
+            order.id,
+            order.place,
+            shape,
+            &self.plans,
+            self.time,
+        )
         else {
             return Err(AllocError);
         };
