@@ -15,7 +15,10 @@ use Rattle.flow_core.specs.State.{State}
 use Rattle.flow_core.specs.Steps.{step}
 use Rattle.flow_core.specs.Output.{answer_text}
 use Rattle.flow_core.specs.Served.{served, said, output, after, as_input}
-use Rattle.flow_core.specs.Serving.{Answered, AnswersFrame, AnswersPart, AppendsMore, Serving, Stopped, Starved}
+use Rattle.flow_core.specs.Serving.{Answered, AnswersFrame, AnswersPart, AppendsMore, Serving, Stopped, Starved, fault_of}
+use Rattle.flow_core.specs.declared.serving.ServeFault.TheVariants as serve
+use Rattle.flow_intake.specs.declared.fault.IntakeFault.{IntakeFault}
+use Rattle.flow_intake.specs.declared.fault.IntakeFault.TheVariants as intake
 
 module _ (s : State) (frame : List ℕ) where
   -- a frame that is too long
@@ -268,3 +271,14 @@ in_both (inr b) f h = h b
 
 pub err_is : {T E : Type 0} {x y : E} → x ≡ y → IsErrOf {T = T} (Err x) y
 err_is {T} {E} {x} {y} e = let again : E → Result T E = λ z. Err z in ap again e
+
+-- why no frame came, by the fault of serving
+pub of-read : (e : IntakeFault) → fault_of e ≡ serve.Read → e ≡ intake.Read
+of-read intake.Read is = refl
+of-read intake.TooMuch is = absurd (cc)
+of-read intake.OutOfMemory is = absurd (cc)
+
+pub of-much : (e : IntakeFault) → fault_of e ≡ serve.TooMuch → e ≡ intake.TooMuch
+of-much intake.Read is = absurd (cc)
+of-much intake.TooMuch is = refl
+of-much intake.OutOfMemory is = absurd (cc)

@@ -10,7 +10,7 @@ use Rattle.flow_regulations.specs.declared.notice.Told.{Told}
 use Rattle.flow_traffic.specs.Traffic.{Traffic}
 use Rattle.flow_core.specs.declared.row.Row.{Row}
 use Rattle.flow_core.specs.declared.change.Change.{Change}
-use Rattle.flow_core.specs.State.{Input, rows_of}
+use Rattle.flow_core.specs.State.{rows_of}
 use Rattle.flow_core.specs.History.{History, state_of}
 
 abbrev pub same_state : PlanState → PlanState → Bool

@@ -1,5 +1,5 @@
 -- How far serving has come, and how it can stop.
-use Rattle.std.specs.Prelude.{◌≡◌, ◌≤◌, ℕ, List, ◌++◌, length, Option}
+use Rattle.std.specs.Prelude.{◌≡◌, ◌≤◌, ℕ, List, ◌++◌, length, Option, Result, Ok, Err}
 use Rattle.std.specs.Io.KnownBytes.{Appends, Consumes}
 use Rattle.fpl_message.specs.Filings.{FilingText}
 use Rattle.flow_intake.specs.Frames.{frames, ended_frames}
@@ -7,8 +7,13 @@ use Rattle.flow_intake.specs.Reader.{Ahead}
 use Rattle.flow_intake.specs.NextFrame.{filing_of}
 use Rattle.flow_intake.specs.Cutting.{Cutting}
 use Rattle.flow_intake.specs.Writes.{AppendsFront}
+use Rattle.flow_intake.specs.Source.{counted_up}
+use Rattle.flow_intake.specs.declared.fault.IntakeFault.{IntakeFault}
+use Rattle.flow_intake.specs.declared.fault.IntakeFault.TheVariants as intake
 use Rattle.flow_core.specs.State.{State}
 use Rattle.flow_core.specs.Served.{served, said, output, after}
+use Rattle.flow_core.specs.declared.serving.ServeFault.{ServeFault}
+use Rattle.flow_core.specs.declared.serving.ServeFault.TheVariants as fault
 
 -- these bytes were appended, and perhaps more
 abbrev pub AppendsMore : Option (List ℕ) → Option (List ℕ) → List ℕ → Type 0
@@ -43,6 +48,28 @@ pub record Starved (first now : State) (begun written : Option (List ℕ)) (inpu
   pub consumed : Consumes input rest read
   pub state : now ≡ after first (ended_frames read)
   pub whole : Appends begun written (output first (ended_frames read))
+
+-- the fault where no frame came
+abbrev pub fault_of : IntakeFault → ServeFault
+fault_of intake.Read = fault.Read
+fault_of intake.TooMuch = fault.TooMuch
+fault_of intake.OutOfMemory = fault.OutOfMemory
+
+-- how many calls of the reader have failed after serving has ended so: one more only where it failed
+abbrev pub reader_failures : Result (Unit {0}) ServeFault → ℕ → ℕ
+reader_failures (Ok x) before = before
+reader_failures (Err fault.Read) before = counted_up before
+reader_failures (Err fault.TooMuch) before = before
+reader_failures (Err fault.Write) before = before
+reader_failures (Err fault.OutOfMemory) before = before
+
+-- the same of the writer
+abbrev pub writer_failures : Result (Unit {0}) ServeFault → ℕ → ℕ
+writer_failures (Ok x) before = before
+writer_failures (Err fault.Read) before = before
+writer_failures (Err fault.TooMuch) before = before
+writer_failures (Err fault.Write) before = counted_up before
+writer_failures (Err fault.OutOfMemory) before = before
 
 -- ---- one frame
 

@@ -1,13 +1,12 @@
-use Rattle.std.proofs.Common.{◌≡◌, ◌∙◌, ◌+◌, ◌++◌, [], ◌∷◌, ◌<◌, ◌≤◌, ℕ, List, length, length-append, map, take, subst, sym, ap, arith, Option, IfSome}
+use Rattle.std.proofs.Common.{◌≡◌, ◌∙◌, ◌+◌, ◌++◌, [], ◌∷◌, ℕ, List, length, length-append, take, subst, ap, arith, Option, IfSome}
 use Rattle.std.specs.List.{filter_map, cons_option}
 use Rattle.std.proofs.lemmas.List.{append-nil}
 use Rattle.std.proofs.Math.Seq.{take-length}
 use Rattle.flow_traffic.specs.Traffic.{Traffic}
-use Rattle.flow_regulations.specs.declared.notice.Told.{Told}
 use Rattle.flow_core.specs.declared.change.Change.{Change}
 use Rattle.flow_core.specs.declared.row.Row.{Row}
 use Rattle.flow_core.specs.Changes.{rows_in, change_at}
-use Rattle.flow_core.proofs.ChangedRows.{if-told, if-each, if-more, if-all}
+use Rattle.flow_core.proofs.ChangedRows.{if-told, if-more, if-all}
 use Rattle.flow_core.proofs.change.note_changes.Goals as goal
 use Rattle.flow_core.proofs.change.note_changes.Goals.{in-Some, in_default}
 

@@ -1,4 +1,3 @@
-use Rattle.std.proofs.Common.{◌≡◌}
 use Rattle.flow_core.proofs.ChangedRows.{if-row}
 use Rattle.flow_core.proofs.change.row_before.Goals as goal
 

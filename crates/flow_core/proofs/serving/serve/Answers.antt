@@ -2,7 +2,7 @@ use Rattle.std.proofs.Common.{◌≡◌, ◌∙◌, refl, sym}
 use Rattle.flow_intake.specs.NextFrame.{filing_kept}
 use Rattle.flow_core.specs.declared.serving.ServeFault.TheVariants as serve
 use Rattle.flow_core.specs.History.{state_of}
-use Rattle.flow_core.proofs.Serves.{Serving-start, Serving-one, Served-output, Served-state, Serving-kept, Served-within, Answered-here, Answered-none, Answered-not, Answered-start, Stopped-answered, Stopped-part, Starved-read, Overrun-read, err_is, in_both}
+use Rattle.flow_core.proofs.Serves.{Serving-start, Serving-one, Served-output, Served-state, Serving-kept, Served-within, Answered-here, Answered-none, Answered-not, Answered-start, Stopped-answered, Stopped-part, Starved-read, Overrun-read, err_is, in_both, of-read, of-much}
 use Rattle.flow_core.proofs.serving.serve.Goals as goal
 
 memory-not-write : serve.OutOfMemory ≡ serve.Write → ⊥
@@ -49,13 +49,13 @@ pub returns-in-Err-cut_frame-clause-starved : goal.returns-in-Err-cut_frame-clau
 returns-in-Err-cut_frame-clause-starved g c = λ e.
     let read : c.why_no_frame.result ≡ serve.Read = cc in
     Starved-read (state_of c.args.core.now) (state_of c.frames.core) (g.W.Write.contents c.args.writer.now.device) (g.W.Write.contents c.hand_on.new.writer.device) c.frames.pieces (g.R.Read.remaining c.args.reader.now.device) (g.R.Read.remaining c.frames.reader.device)
-    (Serving-kept (state_of c.args.core.now) (state_of c.frames.core) (g.W.Write.contents c.args.writer.now.device) (g.W.Write.contents c.frames.writer.device) (g.W.Write.contents c.hand_on.new.writer.device) c.frames.pieces (g.R.Read.remaining c.args.reader.now.device) (g.R.Read.remaining c.frames.reader.device) c.frames.invariant.serving c.hand_on.ensures.keeps) (g.R.Read.remaining c.cut_frame.new.reader.device) c.in-Err-cut_frame.ensures.going (c.in-Err-cut_frame.ensures.read (err_is (c.why_no_frame.ensures.read read)))
+    (Serving-kept (state_of c.args.core.now) (state_of c.frames.core) (g.W.Write.contents c.args.writer.now.device) (g.W.Write.contents c.frames.writer.device) (g.W.Write.contents c.hand_on.new.writer.device) c.frames.pieces (g.R.Read.remaining c.args.reader.now.device) (g.R.Read.remaining c.frames.reader.device) c.frames.invariant.serving c.hand_on.ensures.keeps) (g.R.Read.remaining c.cut_frame.new.reader.device) c.in-Err-cut_frame.ensures.going (c.in-Err-cut_frame.ensures.read (err_is (of-read c.in-Err-cut_frame.fault (sym c.why_no_frame.ensures ∙ read))))
 
 pub returns-in-Err-cut_frame-clause-much : goal.returns-in-Err-cut_frame-clause-much
 returns-in-Err-cut_frame-clause-much g c = λ e.
     let much : c.why_no_frame.result ≡ serve.TooMuch = cc in
     Overrun-read (state_of c.args.core.now) (state_of c.frames.core) (g.W.Write.contents c.args.writer.now.device) (g.W.Write.contents c.hand_on.new.writer.device) c.frames.pieces (g.R.Read.remaining c.args.reader.now.device) (g.R.Read.remaining c.frames.reader.device)
-    (Serving-kept (state_of c.args.core.now) (state_of c.frames.core) (g.W.Write.contents c.args.writer.now.device) (g.W.Write.contents c.frames.writer.device) (g.W.Write.contents c.hand_on.new.writer.device) c.frames.pieces (g.R.Read.remaining c.args.reader.now.device) (g.R.Read.remaining c.frames.reader.device) c.frames.invariant.serving c.hand_on.ensures.keeps) (g.R.Read.remaining c.cut_frame.new.reader.device) (c.in-Err-cut_frame.ensures.much (err_is (c.why_no_frame.ensures.much much)))
+    (Serving-kept (state_of c.args.core.now) (state_of c.frames.core) (g.W.Write.contents c.args.writer.now.device) (g.W.Write.contents c.frames.writer.device) (g.W.Write.contents c.hand_on.new.writer.device) c.frames.pieces (g.R.Read.remaining c.args.reader.now.device) (g.R.Read.remaining c.frames.reader.device) c.frames.invariant.serving c.hand_on.ensures.keeps) (g.R.Read.remaining c.cut_frame.new.reader.device) (c.in-Err-cut_frame.ensures.much (err_is (of-much c.in-Err-cut_frame.fault (sym c.why_no_frame.ensures ∙ much))))
 
 pub returns-then-not-found-clause-served : goal.returns-then-not-found-clause-served
 returns-then-not-found-clause-served g c =
@@ -96,6 +96,6 @@ frames-preserved g c = record {
   serving = Serving-one (state_of c.args.core.now) (state_of c.frames.core) (g.W.Write.contents c.args.writer.now.device) (g.W.Write.contents c.hand_on.new.writer.device) c.frames.pieces (g.R.Read.remaining c.args.reader.now.device) (g.R.Read.remaining c.frames.reader.device)
       (Serving-kept (state_of c.args.core.now) (state_of c.frames.core) (g.W.Write.contents c.args.writer.now.device) (g.W.Write.contents c.frames.writer.device) (g.W.Write.contents c.hand_on.new.writer.device) c.frames.pieces (g.R.Read.remaining c.args.reader.now.device) (g.R.Read.remaining c.frames.reader.device) c.frames.invariant.serving c.hand_on.ensures.keeps) c.cut_frame.new.pieces (g.R.Read.remaining c.cut_frame.new.reader.device) (filing_kept c.cut_frame.new.kept) (rw c.if-not-found.false at c.in-Ok-cut_frame.ensures.cuts)
       (state_of c.answer_frame.new.core) (g.W.Write.contents c.answer_frame.new.writer.device) c.in_default-answer_frame.ensures.ok;
-  reader_calm = c.in-Ok-cut_frame.ensures.calm ∙ c.frames.invariant.reader_calm;
-  writer_calm = c.in_default-answer_frame.ensures.calm ∙ (c.in_default-hand_on.ensures.calm ∙ c.frames.invariant.writer_calm);
+  reader_calm = c.in-Ok-cut_frame.ensures.failures ∙ c.frames.invariant.reader_calm;
+  writer_calm = c.in_default-answer_frame.ensures.failures ∙ (c.in_default-hand_on.ensures.failures ∙ c.frames.invariant.writer_calm);
 }
