@@ -6,8 +6,9 @@ use Rattle.std.proofs.KnownBytes.{Appends-nil, Consumes-nil, Keeps-refl}
 use mathlib.Core.List.{IsPrefix}
 use Rattle.flow_plans.specs.Settings.{Settings}
 use Rattle.flow_intake.specs.Frames.{frames}
-use Rattle.flow_intake.specs.Writes.{AppendsFront}
-use Rattle.flow_intake.proofs.Written.{Appends-both, AppendsFront-both}
+use Rattle.flow_intake.specs.Writes.{AppendsFront, Writes}
+use Rattle.flow_intake.specs.declared.counted.Counted.{Counted}
+use Rattle.flow_intake.proofs.Written.{Appends-both, AppendsFront-both, Writes-then}
 use Rattle.fpl_message.specs.Filings.{FilingText}
 use Rattle.flow_core.specs.State.{State, Input, Record}
 use Rattle.flow_core.specs.Steps.{run}
@@ -22,7 +23,7 @@ use Rattle.flow_runs.proofs.Readings.{ToldFirst-none, ToldEnded-none, ToldFront-
 use Rattle.flow_runs.specs.Filing.{texts, HasFiled}
 use Rattle.flow_runs.specs.declared.fault.RunFault.{RunFault}
 use Rattle.flow_runs.specs.declared.fault.RunFault.TheVariants as fault
-use Rattle.flow_runs.specs.ManyRuns.{answers, answered, ended, ended_before_replay, end_lines, end_before_replay, answers_and_end, RanMany, RanOn, OverrunAfter, HoldsBeyond, HoldsSome}
+use Rattle.flow_runs.specs.ManyRuns.{answers, answered, ended, ended_before_replay, end_lines, end_before_replay, answers_and_end, WritesWithReplay, RanMany, RanOn, OverrunAfter, HoldsBeyond, HoldsSome}
 use Rattle.flow_runs.specs.ManyRuns.{HaveFiled, FiledAll, AnsweredUntil, EndedByMemory, EndedBy, EndedBehind, EndedOnBy}
 
 drop-length : {X : Type 0} (xs ys : List X) → drop (length xs) (xs ++ ys) ≡ ys
@@ -111,21 +112,19 @@ RanMany-all setup read feeders journal None feeds count begun mid written core s
 RanMany-all setup read feeders journal (Some bytes) feeds count begun mid written core stop r h f none start a = RanMany-made setup read feeders journal (frames bytes) feeds count begun mid written core stop r h f start none a
 
 -- the answers were written, and then what stands after them, or how far that was
-pub answered-rest : {T : Type 0} (r : Result T RunFault) (stop : Option RunFault) (s : State) (read count : ℕ) (journal : Bool) (begun mid written : Option (List ℕ)) → stop ≡ None → Appends begun mid (answers s (drop read s.journal))
-    → IfErr r (λ e. (e ≡ fault.Write) ⊎ (e ≡ fault.OutOfMemory))
-    → (IsErrOf r fault.Write → AppendsFront mid written (end_lines s (count - (length s.journal - read)) journal))
-    → (IsErrOf r fault.OutOfMemory → Appends mid written (end_before_replay s (count - (length s.journal - read)) journal))
-    → IfErr r (λ e. AnsweredUntil e stop s read count journal begun written)
-answered-rest (Ok x) stop s read count journal begun mid written none told kinds write memory = tt
-answered-rest {T} (Err e) stop s read count journal begun mid written none told (inl is) write memory =
-    let failed : RunFault → Result T RunFault = λ z. Err z in
-    subst (λ (k : RunFault). AnsweredUntil k stop s read count journal begun written) (sym is)
-    (AppendsFront-both begun mid written (answers s (drop read s.journal)) (end_lines s (count - (length s.journal - read)) journal) (answers_and_end s read count journal) told (write (ap failed is)) refl)
-answered-rest {T} (Err e) stop s read count journal begun mid written none told (inr is) write memory =
-    let failed : RunFault → Result T RunFault = λ z. Err z in
-    let before : List ℕ = end_before_replay s (count - (length s.journal - read)) journal in
-    subst (λ (k : RunFault). AnsweredUntil k stop s read count journal begun written) (sym is)
-    (inr (none, Appends-both begun mid written (answers s (drop read s.journal)) before (answers s (drop read s.journal) ++ before) told (memory (ap failed is)) refl))
+pub answered-rest : {D E : Type 0} {contents : D → Option (List ℕ)} {x : Unit {0}} {old mid : Counted D} (r : Result (Unit {0}) RunFault) (new : Counted D) (stop : Option RunFault) (s : State) (read count : ℕ) (journal : Bool) → stop ≡ None
+    → Writes {E = E} contents (Ok x) old mid (answers s (drop read s.journal)) → WritesWithReplay contents r mid new (end_before_replay s (count - (length s.journal - read)) journal)
+    → IfErr r (λ e. AnsweredUntil e stop s read count journal (contents old.device) (contents new.device))
+answered-rest (Ok x) new stop s read count journal none told rest = tt
+answered-rest (Err fault.Write) new stop s read count journal none told rest = (Writes-then (Err fault.Write) (answers_and_end s read count journal) told rest refl).err
+answered-rest (Err fault.OutOfMemory) new stop s read count journal none told rest =
+    inr (none, (Writes-then (Ok (tt {0})) (answers s (drop read s.journal) ++ end_before_replay s (count - (length s.journal - read)) journal) told rest refl).ok)
+answered-rest (Err fault.Read) new stop s read count journal none told rest = rest
+answered-rest (Err fault.TooMuch) new stop s read count journal none told rest = rest
+answered-rest (Err fault.NoReader) new stop s read count journal none told rest = rest
+answered-rest (Err fault.NotStarted) new stop s read count journal none told rest = absurd rest
+answered-rest (Err fault.BadJournal) new stop s read count journal none told rest = rest
+answered-rest (Err fault.BadFeeders) new stop s read count journal none told rest = rest
 
 -- ---- where a run ended with a fault
 

@@ -1,12 +1,13 @@
 -- The run of a program with many feeders.
-use Rattle.std.specs.Prelude.{◌≡◌, ◌⊎◌, ℕ, zero, suc, ◌-◌, ◌<◌, Bool, true, false, List, [], ◌++◌, length, drop, codes, Option, Some, None, IfSome}
+use Rattle.std.specs.Prelude.{◌≡◌, ◌⊎◌, ℕ, zero, suc, ◌-◌, ◌<◌, Bool, true, false, List, [], ◌++◌, length, drop, codes, Option, Some, None, Result, Ok, Err, IfSome}
 use Rattle.std.specs.List.{All, flat_map}
 use Rattle.std.specs.Io.KnownBytes.{Appends, Keeps}
 use mathlib.Core.List.{IsPrefix}
 use Rattle.flow_plans.specs.Settings.{Settings}
 use Rattle.flow_intake.specs.Frames.{frames}
 use Rattle.flow_intake.specs.Cutting.{Overrun}
-use Rattle.flow_intake.specs.Writes.{AppendsFront}
+use Rattle.flow_intake.specs.Writes.{AppendsFront, Writes}
+use Rattle.flow_intake.specs.declared.counted.Counted.{Counted}
 use Rattle.flow_core.specs.State.{State, Input, Record}
 use Rattle.flow_core.specs.Steps.{run}
 use Rattle.flow_core.specs.CoreView.{inputs}
@@ -36,13 +37,26 @@ abbrev pub asked_journal : Bool → State → List ℕ
 asked_journal false s = []
 asked_journal true s = journal_text s.setup (inputs s.journal)
 
--- after the last answer: a line for each filing that has no entry, the journal text where it is asked for, and that a replay comes to the same
-abbrev pub end_lines : State → ℕ → Bool → List ℕ
-end_lines s left journal = full_lines left ++ (asked_journal journal s ++ codes "REPLAY OK\n")
-
--- that without its last line
+-- after the last answer: a line for each filing that has no entry, and the journal text where it is asked for
 abbrev pub end_before_replay : State → ℕ → Bool → List ℕ
 end_before_replay s left journal = full_lines left ++ asked_journal journal s
+
+-- and that a replay comes to the same
+abbrev pub end_lines : State → ℕ → Bool → List ℕ
+end_lines s left journal = end_before_replay s left journal ++ codes "REPLAY OK\n"
+
+-- What a call leaves that writes this text, and behind it that a replay comes to the same. Where memory was refused to the replay its
+-- line alone is missing, and no call of the device failed.
+abbrev pub WritesWithReplay : {D : Type 0} → (D → Option (List ℕ)) → Result (Unit {0}) RunFault → Counted D → Counted D → List ℕ → Type 0
+WritesWithReplay contents (Ok x) old new text = Writes {E = RunFault} contents (Ok x) old new (text ++ codes "REPLAY OK\n")
+WritesWithReplay contents (Err fault.Write) old new text = Writes {T = Unit {0}} contents (Err fault.Write) old new (text ++ codes "REPLAY OK\n")
+WritesWithReplay contents (Err fault.OutOfMemory) old new text = Writes {E = RunFault} contents (Ok (tt {0})) old new text
+WritesWithReplay contents (Err fault.Read) old new text = ⊥
+WritesWithReplay contents (Err fault.TooMuch) old new text = ⊥
+WritesWithReplay contents (Err fault.NoReader) old new text = ⊥
+WritesWithReplay contents (Err fault.NotStarted) old new text = ⊥
+WritesWithReplay contents (Err fault.BadJournal) old new text = ⊥
+WritesWithReplay contents (Err fault.BadFeeders) old new text = ⊥
 
 -- the answers to the entries behind so many, and what stands after them, where so many filings were dealt
 abbrev pub answers_and_end : State → ℕ → ℕ → Bool → List ℕ

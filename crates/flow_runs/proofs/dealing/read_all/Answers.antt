@@ -47,7 +47,7 @@ frames-preserved g c =
       wide = c.take_frame.ensures.wide ∙ c.frames.invariant.wide;
       few = omega (arith, nearer, c.in_default-take_frame.ensures.count, c.frames.invariant.few);
       within = c.in-Ok-cut_frame.ensures.within found;
-      reader_calm = c.in-Ok-cut_frame.ensures.calm ∙ c.frames.invariant.reader_calm;
+      reader_calm = c.in-Ok-cut_frame.ensures.failures ∙ c.frames.invariant.reader_calm;
       writer_calm = c.in_default-take_frame.ensures.calm ∙ c.frames.invariant.writer_calm;
     }
 

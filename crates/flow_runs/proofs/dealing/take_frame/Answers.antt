@@ -8,7 +8,7 @@ returns-in_default-clause-next g c =
     let none : c.args.kept.now ≡ None = rw c.in_default.is at c.bytes.ensures in
     OnOk-map c.write_out.result
     (λ a. ReadsNext-long c.args.kept.now (map (λ f. f.texts.items) c.args.dealt.now.feeds.items) c.args.dealt.now.count (g.W.Write.contents c.args.writer.now.device) (g.W.Write.contents c.write_out.new.writer.device) none a)
-    c.write_out.ensures.ok
+    c.write_out.ensures.writes.ok
 
 pub returns-in-Ok-deal-clause-next : goal.returns-in-Ok-deal-clause-next
 returns-in-Ok-deal-clause-next g c =
@@ -18,4 +18,4 @@ returns-in-Ok-deal-clause-next g c =
 pub returns-in_default-clause-left : goal.returns-in_default-clause-left
 returns-in_default-clause-left g c =
     let none : c.args.kept.now ≡ None = rw c.in_default.is at c.bytes.ensures in
-    left-result c.write_out.result c.args.kept.now (g.W.Write.contents c.args.writer.now.device) (g.W.Write.contents c.write_out.new.writer.device) none c.write_out.ensures.kind c.write_out.ensures.err
+    left-result c.write_out.result c.args.kept.now (g.W.Write.contents c.args.writer.now.device) (g.W.Write.contents c.write_out.new.writer.device) none c.write_out.ensures.kind c.write_out.ensures.writes.err

@@ -18,10 +18,9 @@ returns-in_err-write_answers-clause-left g c =
     let rest : List ℕ = end_lines s (c.args.count - (length s.journal - c.args.read)) c.args.journal in
     rw p.1
     (subst (λ (k : RunFault). AnsweredUntil k c.args.filed.now.stop s c.args.read c.args.count c.args.journal old new) (sym (p.2 ∙ c.in_err-write_answers.ensures.kind))
-    (AppendsFront-more old new told rest (answers_and_end s c.args.read c.args.count c.args.journal) c.in_err-write_answers.ensures.err refl))
+    (AppendsFront-more old new told rest (answers_and_end s c.args.read c.args.count c.args.journal) c.in_err-write_answers.ensures.writes.err refl))
 
 pub returns-in-None-clause-left : goal.returns-in-None-clause-left
 returns-in-None-clause-left g c =
-    answered-rest c.write_rest.result c.args.filed.now.stop (state_of c.args.filed.now.core) c.args.read c.args.count c.args.journal
-    (g.W.Write.contents c.args.writer.now.device) (g.W.Write.contents c.write_answers.new.writer.device) (g.W.Write.contents c.write_rest.new.writer.device)
-    c.in-None.is c.in_ok-write_answers.ensures.ok c.write_rest.ensures.kinds c.write_rest.ensures.write c.write_rest.ensures.memory
+    answered-rest c.write_rest.result c.write_rest.new.writer c.args.filed.now.stop (state_of c.args.filed.now.core) c.args.read c.args.count c.args.journal
+    c.in-None.is c.in_ok-write_answers.ensures.writes c.write_rest.ensures
