@@ -1,7 +1,7 @@
 -- What the feeders of a closed desk have filed, feeder by feeder.
-use Rattle.std.proofs.Common.{◌≡◌, ◌≢◌, ◌⊎◌, ℕ, zero, suc, ◌+◌, ◌<◌, ◌≤◌, ◌==◌, true, List, [], ◌∷◌, ◌++◌, length, map, Option, None, Some, slice_get, refl, sym, ap, subst, ◌∙◌, inl, inr, arith, length-append}
-use Rattle.std.specs.List.{All, list_any}
-use Rattle.std.proofs.lemmas.List.{append_cancel_left, append-nil, get_or-append_right, length-map}
+use Rattle.std.proofs.Common.{◌≡◌, ℕ, zero, suc, ◌+◌, ◌<◌, ◌==◌, true, List, [], ◌∷◌, ◌++◌, length, Option, None, Some, slice_get, refl, sym, ap, subst, ◌∙◌, inl, inr, arith, length-append}
+use Rattle.std.specs.List.{All}
+use Rattle.std.proofs.lemmas.List.{append_cancel_left, append-nil, get_or-append_right}
 use Rattle.std.proofs.lemmas.List.Folds.{list_any_at}
 use Rattle.std.proofs.lemmas.Bool.Decides.{nat_tests}
 use Rattle.std.proofs.lemmas.Option.{slice_get_within, slice_get-get_or, get_or_from_slice_get}
@@ -14,7 +14,7 @@ use Rattle.flow_core.specs.declared.desk.StepFault.TheVariants as step
 use Rattle.flow_core.specs.State.{Record}
 use Rattle.flow_core.specs.History.{History, state_of}
 use Rattle.flow_desk.specs.declared.feeders.End.{End}
-use Rattle.flow_desk.specs.declared.feeders.End.TheVariants.{Finished, Stopped}
+use Rattle.flow_desk.specs.declared.feeders.End.TheVariants.{Stopped}
 use Rattle.flow_desk.specs.Desks.{AreOpened, IsMissing, has_pass}
 use Rattle.flow_desk.specs.Feeds.{EndsAs, HasRun, HaveRun}
 use Rattle.flow_desk.specs.Histories.{own, after}

@@ -1,9 +1,7 @@
 -- What a run with many feeders has come to, from its parts.
-use Rattle.std.proofs.Common.{◌≡◌, ◌≢◌, ◌⊎◌, inl, inr, ℕ, zero, suc, ◌+◌, ◌-◌, ◌≤◌, ◌<◌, Bool, List, [], ◌∷◌, ◌++◌, length, take, drop, refl, ap, sym, ◌∙◌, subst, arith, Option, Some, None, IfSome, Result, Ok, Err, OnOk, IfErr, IsErrOf, length-append, slice_get}
-use Rattle.std.specs.Io.KnownBytes.{Appends, Keeps}
-use Rattle.std.specs.List.{All}
-use Rattle.std.proofs.KnownBytes.{Appends-nil, Consumes-nil, Keeps-refl}
-use mathlib.Core.List.{IsPrefix}
+use Rattle.std.proofs.Common.{◌≡◌, ◌≢◌, ◌⊎◌, inl, inr, ℕ, ◌-◌, Bool, List, [], ◌∷◌, ◌++◌, length, drop, refl, ap, sym, ◌∙◌, subst, arith, Option, Some, None, IfSome, Result, Ok, Err, OnOk, IfErr, IsErrOf, length-append}
+use Rattle.std.specs.Io.KnownBytes.{Appends}
+use Rattle.std.proofs.KnownBytes.{Keeps-refl}
 use Rattle.flow_plans.specs.Settings.{Settings}
 use Rattle.flow_intake.specs.Frames.{frames}
 use Rattle.flow_intake.specs.Writes.{AppendsFront, Writes}
@@ -16,11 +14,11 @@ use Rattle.flow_core.specs.Journal.{HoldsJournal}
 use Rattle.flow_intake.specs.Cutting.{Overrun}
 use Rattle.flow_desk.specs.Blanks.{first_beyond}
 use Rattle.flow_core.specs.History.{History, state_of}
-use Rattle.flow_desk.specs.Histories.{own, after}
+use Rattle.flow_desk.specs.Histories.{after}
 use Rattle.flow_runs.specs.Dealing.{dealt}
-use Rattle.flow_runs.specs.Reading.{filings, long_lines, HasRead, ToldFirst, ToldEnded, ToldFront, ToldUntil}
+use Rattle.flow_runs.specs.Reading.{filings, long_lines, HasRead, ToldUntil}
 use Rattle.flow_runs.proofs.Readings.{ToldFirst-none, ToldEnded-none, ToldFront-none}
-use Rattle.flow_runs.specs.Filing.{texts, HasFiled}
+use Rattle.flow_runs.specs.Filing.{HasFiled}
 use Rattle.flow_runs.specs.declared.fault.RunFault.{RunFault}
 use Rattle.flow_runs.specs.declared.fault.RunFault.TheVariants as fault
 use Rattle.flow_runs.specs.ManyRuns.{answers, answered, ended, ended_before_replay, end_lines, end_before_replay, answers_and_end, WritesWithReplay, RanMany, RanOn, OverrunAfter, HoldsBeyond, HoldsSome}

@@ -1,4 +1,4 @@
-use Rattle.std.proofs.Common.{◌≡◌, ◌<◌, ◌%◌, ℕ, length, ◌∙◌, arith}
+use Rattle.std.proofs.Common.{◌≡◌, ◌<◌, ◌%◌, length, ◌∙◌, arith}
 use Rattle.flow_runs.proofs.Dealings.{AreDealt-next, turn-of}
 use Rattle.flow_runs.proofs.dealing.deal.Goals as goal
 

@@ -1,4 +1,4 @@
-use Rattle.std.proofs.Common.{◌≡◌, ℕ, [], List, map, arith, ◌∙◌, ap, length}
+use Rattle.std.proofs.Common.{◌≡◌, ℕ, [], List, map, arith, ◌∙◌, ap}
 use Rattle.std.proofs.Math.ListN.{replicate}
 use Rattle.fpl_message.specs.Filings.{FilingText}
 use Rattle.flow_runs.proofs.Dealings.{AreDealt-none}

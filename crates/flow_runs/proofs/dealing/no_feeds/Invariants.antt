@@ -1,4 +1,4 @@
-use Rattle.std.proofs.Common.{◌≡◌, ◌≤◌, [], length, map, vec_len, vec_capacity, List}
+use Rattle.std.proofs.Common.{◌≡◌, ◌≤◌, [], map, vec_len, vec_capacity, List}
 use Rattle.std.proofs.Math.ListN.{replicate}
 use Rattle.fpl_message.specs.Filings.{FilingText}
 use Rattle.flow_runs.proofs.dealing.no_feeds.Given as goal

@@ -1,11 +1,9 @@
-use Rattle.std.proofs.Common.{◌≡◌, ◌≤◌, ◌<◌, ℕ, List, map, length, arith, ◌∙◌, ap, refl, sym, subst, true, false, IsTrue}
+use Rattle.std.proofs.Common.{◌≡◌, ◌<◌, map, arith, ◌∙◌, ap, refl, true}
 use Rattle.std.proofs.lemmas.Result.{err_from_is_err_and}
 use Rattle.flow_intake.specs.Reader.{Ahead}
 use Rattle.flow_intake.specs.NextFrame.{filing_kept}
 use Rattle.flow_core.proofs.Serves.{err_is}
-use Rattle.flow_runs.specs.declared.fault.RunFault.{RunFault}
 use Rattle.flow_runs.specs.declared.fault.RunFault.TheVariants as fault
-use Rattle.flow_runs.specs.Reading.{ToldUntil}
 use Rattle.flow_runs.proofs.Dealings.{wide-feeds}
 use Rattle.flow_runs.proofs.Readings.{Reading-start, Reading-one, HasRead-end, Overrun-read, ToldFirst-none, ToldFirst-came, ToldEnded-read, told-no_frame, told-part, told-memory}
 use Rattle.flow_runs.proofs.dealing.read_all.Goals as goal

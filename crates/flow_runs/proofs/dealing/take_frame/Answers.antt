@@ -1,4 +1,4 @@
-use Rattle.std.proofs.Common.{◌≡◌, ◌++◌, ◌∷◌, [], ℕ, List, map, length, sym, ◌∙◌, ap, Option, None, Some}
+use Rattle.std.proofs.Common.{◌≡◌, map, None}
 use Rattle.flow_core.proofs.JournalTexts.{OnOk-map}
 use Rattle.flow_runs.proofs.Readings.{ReadsNext-long, ReadsNext-whole, left-result}
 use Rattle.flow_runs.proofs.dealing.take_frame.Goals as goal

@@ -1,8 +1,7 @@
-use Rattle.std.proofs.Common.{◌≡◌, ◌+◌, ◌≤◌, List, [], ◌++◌, Option, None, length, map, vec_len, vec_capacity, rules, ap, sym, subst, ◌∙◌, arith}
+use Rattle.std.proofs.Common.{◌≡◌, ◌+◌, ◌≤◌, List, [], ◌++◌, None, map, vec_len, vec_capacity, ap, sym, subst, ◌∙◌, arith}
 use Rattle.std.specs.List.{All}
 use Rattle.std.proofs.lemmas.List.{length-map}
 use Rattle.fpl_message.specs.Filings.{FilingText}
-use Rattle.flow_core.specs.declared.receipt.Receipt.{Receipt}
 use Rattle.flow_core.specs.History.{state_of}
 use Rattle.flow_desk.specs.declared.feeders.Done.{Done}
 use Rattle.flow_desk.specs.declared.feeders.End.{End}

@@ -1,4 +1,4 @@
-use Rattle.std.proofs.Common.{◌≡◌, ◌-◌, ◌∙◌, List, ℕ, length, drop, refl, sym, subst}
+use Rattle.std.proofs.Common.{◌-◌, ◌∙◌, List, ℕ, length, drop, refl, sym, subst}
 use Rattle.std.proofs.lemmas.Result.{err_from_is_err_and}
 use Rattle.flow_core.specs.State.{State}
 use Rattle.flow_core.specs.History.{state_of}

@@ -1,4 +1,4 @@
-use Rattle.std.proofs.Common.{◌≡◌, ℕ, List, map, sym, subst, ◌∙◌, ap, refl}
+use Rattle.std.proofs.Common.{ℕ, List, map, sym, subst, ◌∙◌}
 use Rattle.std.proofs.lemmas.Result.{err_from_is_err_and}
 use Rattle.fpl_message.specs.Filings.{FilingText}
 use Rattle.flow_plans.specs.Settings.{Settings}

@@ -1,4 +1,4 @@
-use Rattle.std.proofs.Common.{◌≡◌, Err, [], ap}
+use Rattle.std.proofs.Common.{Err, [], ap}
 use Rattle.flow_runs.proofs.Sizes.{sized}
 use Rattle.flow_runs.proofs.Ran.{ended-first, ended-at, no-reader, if_err_map}
 use Rattle.flow_runs.proofs.run.run_many.Goals as goal
