@@ -207,11 +207,12 @@ impl<A: Allocator + Copy> Regulations<A> {
         self.rows.clear();
     }
 
-    /// Takes the regulation that was opened last out again.
+    /// Takes the regulation that was opened last out again, where there is one.
     pub fn take_last(&mut self)
         ensures limit { self.new.max_plans ≡ self.old.max_plans }
         ensures lists { (before : List Listed) (l : Listed) → self.old.lists ≡ before ++ l ∷ []
             → self.new.lists ≡ before }
+        ensures none { self.old.lists ≡ [] → self.new.lists ≡ [] }
     {
         let _last = self.regulations.pop();
     }
