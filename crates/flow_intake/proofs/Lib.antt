@@ -11,4 +11,5 @@ pub mod Takes
 pub mod Runs
 pub mod Ranges
 pub mod Written
+pub mod FirstBytes
 pub mod Waits

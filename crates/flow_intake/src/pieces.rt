@@ -13,8 +13,7 @@ ghost use Rattle.flow_intake.specs.Source.{failures_after};
 use crate::counted::Counted;
 use crate::fault::IntakeFault;
 use crate::kept::Kept;
-use fpl_text::find_either;
-use memchr::memrchr2;
+use memchr::{memchr2, memrchr2};
 use std::alloc::{AllocError, Allocator, Global};
 use std::io::Read;
 use std::marker::Model;
@@ -49,8 +48,8 @@ pub(crate) fn stop_in(bytes: &[u8], until: Until) -> Option<usize>
 {
     match until {
         Until::Text => text_in(bytes),
-        Until::Bracket => find_either(b'(', b')', bytes),
-        Until::OrderEnd => find_either(b'\n', b'(', bytes),
+        Until::Bracket => memchr2(b'(', b')', bytes),
+        Until::OrderEnd => memchr2(b'\n', b'(', bytes),
     }
 }
 

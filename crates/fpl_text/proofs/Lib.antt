@@ -3,7 +3,6 @@ pub mod DaysLemmas
 pub mod FieldLawsProofs
 pub mod FieldPartsProofs
 pub mod PathLemmas
-pub mod SearchLemmas
 pub mod PlacesLemmas
 pub mod TextLemmas
 pub mod SqueezingLemmas

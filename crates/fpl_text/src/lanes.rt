@@ -3,7 +3,7 @@
 ghost use Rattle.std.specs.Prelude.{◌≡◌, ◌≤◌, ◌<◌, ◌+◌, ◌↔◌, ◌==◌, ◌&&◌, ◌||◌, if◌then◌else◌, nat_le, not, ℕ, Bool};
 ghost use Rattle.std.specs.Prelude.{true, false, length, slice_index, take, drop, count_by};
 ghost use Rattle.std.specs.Int.{bit_at};
-ghost use Rattle.fpl_text.specs.Bytes.{is_border, is_common, is_either, is_letter, is_letter_or_digit, is_path_byte};
+ghost use Rattle.fpl_text.specs.Bytes.{is_border, is_common, is_letter, is_letter_or_digit, is_path_byte};
 ghost use Rattle.fpl_text.specs.Lanes.{HasLanes, HasFlags, behind, is_kept};
 
 use std::simd::prelude::*;
@@ -119,14 +119,6 @@ pub(crate) fn other_lanes(v: u8x16, byte: u8) -> u8x16
 {
     v.simd_eq(u8x16::splat(byte))
         .select(u8x16::splat(0), u8x16::splat(255))
-}
-
-/// Which lanes hold neither of two bytes.
-#[inline(always)]
-pub(crate) fn lanes_of_neither(v: u8x16, one: u8, other: u8) -> u8x16
-    ensures { HasFlags result (λ k. not (is_either one other (slice_index v k))) }
-{
-    both(other_lanes(v, one), other_lanes(v, other))
 }
 
 /// Which lanes hold a common byte.
