@@ -7,7 +7,7 @@ use Rattle.flow_plans.specs.Settings.{Settings}
 use Rattle.flow_core.specs.declared.receipt.Receipt.{Receipt}
 use Rattle.flow_core.specs.State.{Record}
 use Rattle.flow_desk.specs.Histories.{own}
-use Rattle.flow_desk.specs.Passes.{PassView, Filed, SawOthers, entry}
+use Rattle.flow_desk.specs.Passes.{PassView, Filed, SawMore, entry}
 use Rattle.flow_desk.specs.Feeds.{Ran}
 use Rattle.flow_desk.proofs.Fronts.{prefix_self, prefix_trans, prefix_snoc}
 use Rattle.flow_desk.proofs.Owning.{own-snoc}
@@ -49,13 +49,14 @@ ran-more setup p q q' feed rs t left r f h =
     }
 
 -- the pass saw more, but none of its own
-pub ran-same : (p q q' : PassView) (feed : List FilingText) (rs : List Receipt) (left : List FilingText) → SawOthers q q' → Ran p feed q rs left → Ran p feed q' rs left
-ran-same p q q' feed rs left s h = record {
+pub ran-same : (p q q' : PassView) (feed : List FilingText) (rs : List Receipt) (left : List FilingText)
+    → SawMore q q' → own q'.feeder q'.seen ≡ own q.feeder q.seen → Ran p feed q rs left → Ran p feed q' rs left
+ran-same p q q' feed rs left more none h = record {
   entries = h.entries;
-  later = prefix_trans p.seen q.seen q'.seen h.later s.more.later;
-  feeder = s.more.feeder ∙ h.feeder;
-  counted = s.more.receipts ∙ h.counted;
-  own_are = s.none_own ∙ h.own_are;
+  later = prefix_trans p.seen q.seen q'.seen h.later more.later;
+  feeder = more.feeder ∙ h.feeder;
+  counted = more.receipts ∙ h.counted;
+  own_are = none ∙ h.own_are;
   texts = h.texts;
   answers = h.answers;
 }

@@ -1,5 +1,5 @@
 -- What contracts see of the board, and of an operation on it.
-use Rattle.std.specs.Prelude.{◌≡◌, ℕ, ◌-◌, ◌==◌, if◌then◌else◌, List, length, slice_get, Option, None}
+use Rattle.std.specs.Prelude.{◌≡◌, ℕ, ◌-◌, ◌==◌, if◌then◌else◌, List, ◌∷◌, length, slice_get, Option, None, Some}
 use Rattle.std.specs.Option.{option_flatten}
 use Rattle.logbook.specs.Pages.{Book}
 use Rattle.flow_plans.specs.Settings.{Settings}
@@ -28,6 +28,11 @@ pub record Turn : Type 0 where
   pub front : FrontView
   pub number : ℕ
   pub changes : List Change
+
+-- changes, of which the first may stand by itself
+abbrev pub with_first : Option Change → List Change → List Change
+with_first None cs = cs
+with_first (Some c) cs = c ∷ cs
 
 -- what it makes of a board
 abbrev pub absorbed : Shown → Turn → Shown

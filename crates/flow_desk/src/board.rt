@@ -2,11 +2,12 @@
 ghost use Rattle.std.specs.Prelude.{◌≡◌, length, IfOk};
 ghost use Rattle.flow_core.specs.History.{state_of};
 ghost use Rattle.flow_core.specs.Changes.{rows_at};
-ghost use Rattle.flow_core.specs.Boards.{padded, put_from, put_all};
+ghost use Rattle.flow_core.specs.Boards.{padded};
 ghost use Rattle.flow_desk.specs.Boards.{shown_row};
 
+use crate::changed_rows::ChangedRows;
 use crate::history::Front;
-use flow_core::{Change, Core, Row};
+use flow_core::{Core, Row};
 use flow_plans::Setup;
 use left_right::Absorb;
 use std::alloc::{AllocError, Allocator, Global};
@@ -17,7 +18,7 @@ use std::marker::Model;
 pub struct Operation<A: Allocator + Copy = Global> {
     front: Front,
     number: u32,
-    changes: Vec<Change, A>,
+    changes: ChangedRows<A>,
 }
 
 impl<A: Allocator + Copy> Model for Operation<A> {
@@ -25,13 +26,13 @@ impl<A: Allocator + Copy> Model for Operation<A> {
 
     ghost Value = { Turn };
 
-    ghost view = { λ o. record { front = o.front; number = o.number; changes = o.changes.items } };
+    ghost view = { λ o. record { front = o.front; number = o.number; changes = o.changes } };
 }
 
 impl<A: Allocator + Copy> Operation<A> {
     /// The entry of this number with the history that ends with it.
-    pub fn new(front: Front, number: u32, changes: Vec<Change, A>) -> Self
-        ensures { result ≡ record { front = front; number = number; changes = changes.items } }
+    pub fn new(front: Front, number: u32, changes: ChangedRows<A>) -> Self
+        ensures { result ≡ record { front = front; number = number; changes = changes } }
     {
         Operation {
             front,
@@ -127,25 +128,6 @@ impl<A: Allocator + Copy> Board<A> {
     }
 }
 
-/// Puts a changed row. A row of a plan that can't be is left out.
-fn put_row(rows: &mut [Option<Row>], change: &Change)
-    ensures { rows.new ≡ put_from 1 rows.old change.now }
-{
-    let at = (change.plan as usize).saturating_sub(1);
-    if at < rows.len() {
-        rows[at] = Some(change.row);
-    }
-}
-
-/// Puts the changed rows.
-fn put_rows(rows: &mut [Option<Row>], changes: &[Change])
-    ensures { rows.new ≡ put_all rows.old changes.now }
-{
-    for change in changes {
-        put_row(rows, change);
-    }
-}
-
 impl<A: Allocator + Copy> Absorb<Operation<A>> for Board<A> {
     ghost use Rattle.flow_desk.specs.Boards.{absorbed};
 
@@ -162,7 +144,7 @@ impl<A: Allocator + Copy> Absorb<Operation<A>> for Board<A> {
         operation: &Operation<A>,
         _other: &Board<A>,
     ) -> Result<(), AllocError> {
-        put_rows(self.rows.as_mut_slice(), operation.changes.as_slice());
+        operation.changes.put(self.rows.as_mut_slice());
         self.count = operation.number;
         self.front = operation.front.again();
         Ok(())

@@ -24,6 +24,7 @@
 
 mod blank;
 mod board;
+mod changed_rows;
 mod desk;
 mod feeders;
 mod history;

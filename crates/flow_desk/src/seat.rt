@@ -1,11 +1,12 @@
 //! A reader and the writer of the board, each as contracts see it.
-ghost use Rattle.std.specs.Prelude.{◌≡◌, ◌<◌, ◌^◌, true, length, IfOk, IfErr, MatchResult};
+ghost use Rattle.std.specs.Prelude.{◌≡◌, ◌<◌, ◌^◌, ◌++◌, ◌∷◌, [], true, drop, length, IfOk, IfErr};
 ghost use mathlib.Core.List.{IsPrefix};
 ghost use Rattle.flow_core.specs.History.{state_of};
 ghost use Rattle.flow_core.specs.Boards.{padded, put_all};
 ghost use Rattle.flow_desk.specs.Histories.{row_at, rows_after};
 
 use crate::board::{Board, Operation};
+use crate::changed_rows::ChangedRows;
 use crate::history::Front;
 use crate::rule::{Published, Sees, Tells, View};
 use flow_core::{Core, Row};
@@ -157,7 +158,7 @@ impl<R: Wait + Drop, A: Allocator + Copy> Publisher<R, A> {
     {
         let first = Board::new(alloc, front, core)?;
         let second = Board::new(alloc, front, core)?;
-        let idle = Operation::new(front.again(), core.entries(), Vec::new(alloc));
+        let idle = Operation::new(front.again(), core.entries(), ChangedRows::none(alloc));
         let mut writer = Writer::new(alloc, first, second, readers)?;
         let appended = writer.append(idle).is_ok();
         let publisher = Publisher { writer, rt };
@@ -200,30 +201,28 @@ impl<R: Wait + Drop, A: Allocator + Copy> Publisher<R, A> {
         ensures { (result.knows ≡ true) × (result.book ≡ self.book) × (result.setup ≡ self.setup)
             × (result.entries ≡ operation.front.entries) }
     {
-        let mut waiting = (self, operation);
-        for _ in wait.forever() {
-            match waiting.0.try_publish(waiting.1) {
-                Ok(publisher) => return publisher,
-                Err(refused) => waiting = refused,
-            }
-        }
-        unreachable!()
-    }
-
-    fn try_publish(self, operation: Operation<A>) -> Result<Self, (Self, Operation<A>)>
-        requires book { operation.front.book ≡ self.book }
-        requires later { IsPrefix self.entries operation.front.entries }
-        requires number { operation.number ≡ length operation.front.entries }
-        requires rows { put_all (padded self.setup.max_plans (rows_after self.setup self.entries)) operation.changes
-            ≡ padded self.setup.max_plans (rows_after self.setup operation.front.entries) }
-        ensures { MatchResult result (λ p. (p.knows ≡ true) × (p.book ≡ self.book) × (p.setup ≡ self.setup)
-            × (p.entries ≡ operation.front.entries)) (λ e. (e.0 ≡ self) × (e.1 ≡ operation)) }
-    {
         let Publisher { mut writer, rt } = self;
-        if let Err(operation) = writer.append(operation) {
-            return Err((Publisher { writer, rt }, operation));
-        }
+        append(wait, &mut writer, operation);
         let (writer, _published) = writer.publish_as::<Sees, R>(&rt);
-        Ok(Publisher { writer, rt })
+        Publisher { writer, rt }
     }
+}
+
+/// Puts an operation behind those that are pending. Where memory is refused it waits until it is given.
+fn append<A: Allocator + Copy, W: Wait>(
+    wait: &W,
+    writer: &mut Writer<Board<A>, Operation<A>, View, Published, A>,
+    mut operation: Operation<A>,
+)
+    ensures desk { writer.new.desk ≡ writer.old.desk }
+    ensures pending { drop writer.new.behind writer.new.log.items
+        ≡ drop writer.old.behind writer.old.log.items ++ operation ∷ [] }
+{
+    for _ in wait.forever() {
+        match writer.append(operation) {
+            Ok(()) => return,
+            Err(refused) => operation = refused,
+        }
+    }
+    unreachable!()
 }

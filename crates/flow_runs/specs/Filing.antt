@@ -6,12 +6,31 @@ use Rattle.fpl_message.specs.Filings.{FilingText}
 use Rattle.flow_plans.specs.Settings.{Settings}
 use Rattle.flow_core.specs.State.{Record}
 use Rattle.flow_core.specs.History.{History, state_of}
+use Rattle.flow_core.specs.declared.receipt.Receipt.{Receipt}
+use Rattle.flow_desk.specs.declared.feeders.End.{End}
+use Rattle.flow_desk.specs.Feeds.{Ran, HasRun, HaveRun}
 use Rattle.flow_desk.specs.Histories.{own, after}
+use Rattle.flow_desk.specs.Passes.{PassView}
 use Rattle.flow_runs.specs.declared.fault.RunFault.{RunFault}
 
 -- the texts of entries
 abbrev pub texts : List Record → List FilingText
 texts es = map (λ (e : Record). e.input.text) es
+
+-- from p to q a feed was filed up to what is left
+pub record FiledTo (p : PassView) (feed : List FilingText) (q : PassView) (left : List FilingText) : Type 0 where
+  pub receipts : List Receipt
+  pub ran : Ran p feed q receipts left
+
+-- and ended so
+pub record RanFeed (setup : Settings) (p : PassView) (feed : List FilingText) (q : PassView) (left : List FilingText) (end : End) : Type 0 where
+  pub receipts : List Receipt
+  pub run : HasRun setup p feed q receipts left end
+
+-- and so was each of these, feed by feed
+pub record RanFeeds (setup : Settings) (ps : List PassView) (feeds : List (List FilingText)) (qs : List PassView) (left : List (List FilingText)) (ends : List End) : Type 0 where
+  pub receipts : List (List Receipt)
+  pub run : HaveRun setup ps feeds qs receipts left ends
 
 -- a desk was closed: behind the entries read stand those of the feeders alone, all in one history of the desk of one thread. Of its feed
 -- each feeder has filed a front; where none ended with a fault and the journal isn't full, all of it

@@ -7,21 +7,13 @@ ghost use Rattle.flow_runs.specs.Ends.{EndsWell, IsStop};
 ghost use Rattle.flow_runs.specs.Filing.{HasFiled};
 
 use crate::fault::RunFault;
+use crate::feeding::{Feed, file_texts};
 use flow_core::{Core, StepFault};
-use flow_desk::{Blank, Desk, Done, End, Gate, Name, Pass, run_feeders};
-use fpl_message::Filing;
+use flow_desk::{Blank, Desk, End, Name, Pass};
+use fpl_message::FiledText;
 use std::alloc::{Allocator, Global};
 use std::sync::Wait;
 use std::thread::Threads;
-
-/// A gate that does nothing.
-struct OpenGate;
-
-impl Gate for OpenGate {
-    fn before(&self, _feeder: u8, _i: usize) {}
-
-    fn after(&self, _feeder: u8, _i: usize) {}
-}
 
 /// The core of a desk at which feeders have filed, and the fault that a feed ended with, if one did.
 #[derive(Drop)]
@@ -50,38 +42,38 @@ fn stop_with(stop: Option<RunFault>, end: End) -> Option<RunFault>
 }
 
 /// The fault that a feed ended with, if one did: want of memory before a feed that was never begun.
-fn stop_among<N: Name, A: Allocator + Copy>(dones: &[Done<N, A>]) -> Option<RunFault>
-    ensures none { IfNone result (All (λ d. EndsWell d.end) dones.now) }
+fn stop_among<N: Name, A: Allocator + Copy>(feeds: &[Feed<N, A>]) -> Option<RunFault>
+    ensures none { IfNone result (All (λ f. EndsWell f.end) feeds.now) }
     ensures kinds { IsStop result }
     ensures memory { result ≢ Some RunFault.OutOfMemory
-        → All (λ d. d.end ≢ End.Stopped StepFault.OutOfMemory) dones.now }
+        → All (λ f. f.end ≢ End.Stopped StepFault.OutOfMemory) feeds.now }
 {
     let mut stop = None;
-    for done in dones {
-        stop = stop_with(stop, done.end);
+    for feed in feeds {
+        stop = stop_with(stop, feed.end);
     }
     stop
 }
 
 /// Takes the passes out, in their order.
 fn take_passes<N: Name, A: Allocator + Copy>(
-    dones: &mut Vec<Done<N, A>, A>,
+    feeds: &mut Vec<Feed<N, A>, A>,
     passes: &mut Vec<Pass<N, A>, A>,
 )
-    requires { vec_len passes.old + length dones.old.items ≤ vec_capacity passes.old }
-    ensures passes { passes.new.items ≡ passes.old.items ++ map (λ d. d.pass) dones.old.items }
-    ensures len { vec_len passes.new ≡ vec_len passes.old + length dones.old.items }
+    requires { vec_len passes.old + length feeds.old.items ≤ vec_capacity passes.old }
+    ensures passes { passes.new.items ≡ passes.old.items ++ map (λ f. f.pass) feeds.old.items }
+    ensures len { vec_len passes.new ≡ vec_len passes.old + length feeds.old.items }
     ensures room { vec_capacity passes.new ≡ vec_capacity passes.old }
 {
-    let Some(done) = dones.pop() else {
+    let Some(feed) = feeds.pop() else {
         return;
     };
-    take_passes(dones, passes);
-    passes.push_reserved(done.pass);
+    take_passes(feeds, passes);
+    passes.push_reserved(feed.pass);
 }
 
-/// Opens the desk, runs its feeders over their feeds, and closes it. Where memory is refused before any feed is begun
-/// nothing was filed.
+/// Opens the desk, has its feeders file what was dealt to them, and closes it. Where memory is refused before any feed
+/// is begun nothing was filed.
 pub(crate) fn file_all<
     N: Name + Send + Sync,
     Q: Wait + Drop + Send,
@@ -93,28 +85,28 @@ pub(crate) fn file_all<
     wait: &P,
     alloc: A,
     blank: Blank<Q, A>,
-    feeds: Vec<Vec<Filing<A>, A>, A>,
+    texts: Vec<Vec<FiledText<A>, A>, A>,
 ) -> Result<Filed<A>, RunFault>
     requires named { (blank.book ≡ N.book) × (blank.setup ≡ N.setup) × (blank.feeders ≡ N.feeders) }
     requires some { 0 < N.feeders }
-    requires each { length feeds.items ≡ N.feeders }
+    requires each { length texts.items ≡ N.feeders }
     ensures filed { IfOk result (λ f. HasFiled N.setup blank.entries N.feeders
-        (map (λ v. v.items) feeds.items) f.core f.stop) }
+        (map (λ v. v.items) texts.items) f.core f.stop) }
     ensures stops { IfOk result (λ f. IsStop f.stop) }
     ensures fault { IfErr result (λ e. e ≡ RunFault.OutOfMemory) }
 {
     let mut back = Vec::new(alloc);
-    if back.reserve(feeds.len()).is_err() {
+    if back.reserve(texts.len()).is_err() {
         return Err(RunFault::OutOfMemory);
     }
     let Ok((desk, passes)) = Desk::<N, Q, A>::open(alloc, blank) else {
         return Err(RunFault::OutOfMemory);
     };
-    let Ok(mut dones) = run_feeders(rt, wait, alloc, &desk, passes, feeds, &OpenGate) else {
+    let Ok(mut feeds) = file_texts(rt, wait, alloc, &desk, passes, texts) else {
         return Err(RunFault::OutOfMemory);
     };
-    let stop = stop_among(dones.as_slice());
-    take_passes(&mut dones, &mut back);
+    let stop = stop_among(feeds.as_slice());
+    take_passes(&mut feeds, &mut back);
     match desk.close(wait, back) {
         Ok(core) => Ok(Filed { core, stop }),
         Err(_) => unreachable!(),

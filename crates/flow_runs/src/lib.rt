@@ -5,8 +5,8 @@
 mod answers;
 mod dealing;
 mod fault;
+mod feeding;
 mod filing;
-mod reading;
 mod run;
 
 pub use fault::RunFault;

@@ -87,6 +87,14 @@ impl<A: Allocator + Copy> Filing<A> {
         }
     }
 
+    /// Its text, without what it says.
+    pub fn into_text(self) -> FiledText<A>
+        ensures { result ≡ self }
+    {
+        let Filing { text, .. } = self;
+        text
+    }
+
     /// A filing of no bytes, and no memory.
     fn empty(alloc: A, edition: Edition) -> Self
         ensures { result ≡ record { edition = edition; bytes = [] } }

@@ -15,4 +15,4 @@ returns-in-Err-clause-ran g c p texts ran =
     let f = c.args.feed.now in
     let r = c.in-Err.ensures.refused in
     let back : c.push_front_reserved.new.self.items ≡ f.left.items = c.push_front_reserved.ensures.items ∙ (ap (λ (t : FilingText). t ∷ c.pop_front.new.self.items) r.1 ∙ sym c.in-Some.ensures.items) in
-    rw back (ran-same p f.pass c.file.new.pass texts f.receipts.items f.left.items r.0 ran)
+    rw back (ran-same p f.pass c.file.new.pass texts f.receipts.items f.left.items r.0.more r.0.none_own ran)

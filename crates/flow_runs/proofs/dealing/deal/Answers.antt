@@ -8,5 +8,5 @@ returns-clause-ok g c feeders fs a counted =
     let count = c.args.dealt.now.count in
     let len : c.len.result ≡ length c.args.dealt.now.feeds.items = c.len.ensures ∙ c.args.dealt.now.feeds.ok.0 in
     let within : c.args.dealt.now.count % c.len.result < length c.args.dealt.now.feeds.items = omega (arith, len, c.requires.some) in
-    AreDealt-next (λ f. f.texts.items) feeders fs c.args.text feeds.items (count % c.len.result) c.index_mut.result.now (record c.index_mut.result.now { texts = c.push_back.new.self })
-    a (turn-of (λ f. f.texts.items) feeders fs feeds.items count c.len.result a counted len) within c.index_mut.ensures.value c.in_ok-push_back.ensures.items
+    AreDealt-next (λ v. v.items) feeders fs c.args.text feeds.items (count % c.len.result) c.index_mut.result.now c.push.new.self
+    a (turn-of (λ v. v.items) feeders fs feeds.items count c.len.result a counted len) within c.index_mut.ensures.value c.in_ok-push.ensures.items

@@ -13,9 +13,9 @@ frames-init g c =
     let taken : c.in-Ok.pieces.taken ≡ 0 = ap (λ (a : Ahead). a.taken) c.in-Ok.ensures in
     record {
       agrees = rw c.in-Ok.ensures (λ e. absurd (cc));
-      reading = Reading-start c.args.feeders (map (λ f. f.texts.items) c.in_ok-dealt.dealt.feeds.items) c.in_ok-dealt.dealt.count (g.W.Write.contents c.args.writer.now.device) c.in-Ok.pieces (g.R.Read.remaining c.args.reader.now.device)
+      reading = Reading-start c.args.feeders (map (λ v. v.items) c.in_ok-dealt.dealt.feeds.items) c.in_ok-dealt.dealt.count (g.W.Write.contents c.args.writer.now.device) c.in-Ok.pieces (g.R.Read.remaining c.args.reader.now.device)
           c.in_ok-dealt.ensures.none c.in_ok-dealt.ensures.count c.in-Ok.ensures;
-      wide = wide-feeds (λ f. f.texts.items) c.args.feeders _ c.in_ok-dealt.dealt.feeds.items c.in_ok-dealt.ensures.none;
+      wide = wide-feeds (λ v. v.items) c.args.feeders _ c.in_ok-dealt.dealt.feeds.items c.in_ok-dealt.ensures.none;
       few = omega (arith, c.in_ok-dealt.ensures.count, taken);
       within = omega (arith, taken);
       reader_calm = refl;
@@ -25,12 +25,12 @@ frames-init g c =
 pub returns-in-Err-clause-much : goal.returns-in-Err-clause-much
 returns-in-Err-clause-much g c = λ e.
     let much : c.why_no_frame.result ≡ fault.TooMuch = cc in
-    Overrun-read c.args.feeders (map (λ f. f.texts.items) c.frames.dealt.feeds.items) c.frames.dealt.count (g.W.Write.contents c.args.writer.now.device) (g.W.Write.contents c.frames.writer.device) c.frames.pieces (g.R.Read.remaining c.args.reader.now.device) (g.R.Read.remaining c.frames.reader.device)
+    Overrun-read c.args.feeders (map (λ v. v.items) c.frames.dealt.feeds.items) c.frames.dealt.count (g.W.Write.contents c.args.writer.now.device) (g.W.Write.contents c.frames.writer.device) c.frames.pieces (g.R.Read.remaining c.args.reader.now.device) (g.R.Read.remaining c.frames.reader.device)
     c.frames.invariant.reading (g.R.Read.remaining c.cut_frame.new.reader.device) (c.in-Err.ensures.much (err_is (c.why_no_frame.ensures.much much)))
 
 pub returns-then-not-found-clause-has : goal.returns-then-not-found-clause-has
 returns-then-not-found-clause-has g c =
-    HasRead-end c.args.feeders (map (λ f. f.texts.items) c.frames.dealt.feeds.items) c.frames.dealt.count (g.W.Write.contents c.args.writer.now.device) (g.W.Write.contents c.frames.writer.device) c.frames.pieces (g.R.Read.remaining c.args.reader.now.device) (g.R.Read.remaining c.frames.reader.device)
+    HasRead-end c.args.feeders (map (λ v. v.items) c.frames.dealt.feeds.items) c.frames.dealt.count (g.W.Write.contents c.args.writer.now.device) (g.W.Write.contents c.frames.writer.device) c.frames.pieces (g.R.Read.remaining c.args.reader.now.device) (g.R.Read.remaining c.frames.reader.device)
     c.frames.invariant.reading c.cut_frame.new.pieces (g.R.Read.remaining c.cut_frame.new.reader.device) (rw c.if-not-found.true at c.in-Ok-cut_frame.ensures.cuts) c.in-Ok-cut_frame.ensures.agrees
 
 pub frames-preserved : goal.frames-preserved
@@ -39,9 +39,9 @@ frames-preserved g c =
     let nearer : c.frames.pieces.taken < c.cut_frame.new.pieces.taken = c.in-Ok-cut_frame.ensures.nearer found in
     record {
       agrees = c.in-Ok-cut_frame.ensures.agrees;
-      reading = Reading-one c.args.feeders (map (λ f. f.texts.items) c.frames.dealt.feeds.items) c.frames.dealt.count (g.W.Write.contents c.args.writer.now.device) (g.W.Write.contents c.frames.writer.device) c.frames.pieces (g.R.Read.remaining c.args.reader.now.device) (g.R.Read.remaining c.frames.reader.device)
+      reading = Reading-one c.args.feeders (map (λ v. v.items) c.frames.dealt.feeds.items) c.frames.dealt.count (g.W.Write.contents c.args.writer.now.device) (g.W.Write.contents c.frames.writer.device) c.frames.pieces (g.R.Read.remaining c.args.reader.now.device) (g.R.Read.remaining c.frames.reader.device)
           c.frames.invariant.reading c.cut_frame.new.pieces (g.R.Read.remaining c.cut_frame.new.reader.device) (filing_kept c.cut_frame.new.kept) (rw c.if-not-found.false at c.in-Ok-cut_frame.ensures.cuts)
-          (map (λ f. f.texts.items) c.take_frame.new.dealt.feeds.items) c.take_frame.new.dealt.count (g.W.Write.contents c.take_frame.new.writer.device) c.in_default-take_frame.ensures.next;
+          (map (λ v. v.items) c.take_frame.new.dealt.feeds.items) c.take_frame.new.dealt.count (g.W.Write.contents c.take_frame.new.writer.device) c.in_default-take_frame.ensures.next;
       wide = c.take_frame.ensures.wide ∙ c.frames.invariant.wide;
       few = omega (arith, nearer, c.in_default-take_frame.ensures.count, c.frames.invariant.few);
       within = c.in-Ok-cut_frame.ensures.within found;
@@ -62,7 +62,7 @@ returns-in_default-new-clause-told g c = ToldFirst-none (g.W.Write.contents c.ar
 
 pub returns-in-Err-clause-told : goal.returns-in-Err-clause-told
 returns-in-Err-clause-told g c =
-    let feeds = map (λ f. f.texts.items) c.frames.dealt.feeds.items in
+    let feeds = map (λ v. v.items) c.frames.dealt.feeds.items in
     let begun = g.W.Write.contents c.args.writer.now.device in
     let written = g.W.Write.contents c.frames.writer.device in
     let input = g.R.Read.remaining c.args.reader.now.device in
@@ -75,6 +75,6 @@ returns-in-Err-clause-told g c =
 
 pub returns-in-Err-take_frame-clause-told : goal.returns-in-Err-take_frame-clause-told
 returns-in-Err-take_frame-clause-told g c =
-    told-part c.args.feeders (map (λ f. f.texts.items) c.frames.dealt.feeds.items) c.frames.dealt.count (g.W.Write.contents c.args.writer.now.device) (g.W.Write.contents c.frames.writer.device) c.frames.pieces (g.R.Read.remaining c.args.reader.now.device) (g.R.Read.remaining c.frames.reader.device)
+    told-part c.args.feeders (map (λ v. v.items) c.frames.dealt.feeds.items) c.frames.dealt.count (g.W.Write.contents c.args.writer.now.device) (g.W.Write.contents c.frames.writer.device) c.frames.pieces (g.R.Read.remaining c.args.reader.now.device) (g.R.Read.remaining c.frames.reader.device)
     c.frames.invariant.reading c.cut_frame.new.pieces (g.R.Read.remaining c.cut_frame.new.reader.device) (filing_kept c.cut_frame.new.kept) (rw c.if-not-found.false at c.in-Ok-cut_frame.ensures.cuts)
     c.in-Err-take_frame.fault (g.W.Write.contents c.take_frame.new.writer.device) c.in-Err-take_frame.ensures.left

@@ -7,12 +7,12 @@ pub returns-in_default-clause-next : goal.returns-in_default-clause-next
 returns-in_default-clause-next g c =
     let none : c.args.kept.now ≡ None = rw c.in_default.is at c.bytes.ensures in
     OnOk-map c.write_out.result
-    (λ a. ReadsNext-long c.args.kept.now (map (λ f. f.texts.items) c.args.dealt.now.feeds.items) c.args.dealt.now.count (g.W.Write.contents c.args.writer.now.device) (g.W.Write.contents c.write_out.new.writer.device) none a)
+    (λ a. ReadsNext-long c.args.kept.now (map (λ v. v.items) c.args.dealt.now.feeds.items) c.args.dealt.now.count (g.W.Write.contents c.args.writer.now.device) (g.W.Write.contents c.write_out.new.writer.device) none a)
     c.write_out.ensures.writes.ok
 
 pub returns-in-Ok-deal-clause-next : goal.returns-in-Ok-deal-clause-next
 returns-in-Ok-deal-clause-next g c =
-    ReadsNext-whole c.args.kept.now c.in-Some.bytes.now c.in-Ok.text (map (λ f. f.texts.items) c.args.dealt.now.feeds.items) (map (λ f. f.texts.items) c.deal.new.dealt.feeds.items) c.args.dealt.now.count c.deal.new.dealt.count (g.W.Write.contents c.args.writer.now.device)
+    ReadsNext-whole c.args.kept.now c.in-Some.bytes.now c.in-Ok.text (map (λ v. v.items) c.args.dealt.now.feeds.items) (map (λ v. v.items) c.deal.new.dealt.feeds.items) c.args.dealt.now.count c.deal.new.dealt.count (g.W.Write.contents c.args.writer.now.device)
     c.in-Some.ensures.0 c.in-Ok.ensures.value c.in-Ok-deal.ensures.ok c.in-Ok-deal.ensures.count
 
 pub returns-in_default-clause-left : goal.returns-in_default-clause-left

@@ -5,9 +5,9 @@ use Rattle.flow_runs.specs.declared.fault.RunFault.TheVariants.{OutOfMemory}
 use Rattle.flow_runs.specs.Ends.{EndsWell, IsStop}
 use Rattle.flow_runs.proofs.filing.stop_among.Given as goal
 
-abbrev pub invariant-loop-done : goal.invariant-loop-done
-invariant-loop-done g l = record {
-  well : (i : ℕ) (d : _) → i < l.done-index → l.stop ≡ None → EndsWell (slice_index_or l.dones i d).end;
-  memory : (i : ℕ) (d : _) → i < l.done-index → l.stop ≢ Some OutOfMemory → (slice_index_or l.dones i d).end ≢ Stopped step.OutOfMemory;
+abbrev pub invariant-loop-feed : goal.invariant-loop-feed
+invariant-loop-feed g l = record {
+  well : (i : ℕ) (d : _) → i < l.feed-index → l.stop ≡ None → EndsWell (slice_index_or l.feeds i d).end;
+  memory : (i : ℕ) (d : _) → i < l.feed-index → l.stop ≢ Some OutOfMemory → (slice_index_or l.feeds i d).end ≢ Stopped step.OutOfMemory;
   kinds : IsStop l.stop;
 }

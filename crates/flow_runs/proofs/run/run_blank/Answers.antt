@@ -1,13 +1,12 @@
-use Rattle.std.proofs.Common.{ℕ, List, map, sym, subst, ◌∙◌}
+use Rattle.std.proofs.Common.{ℕ, map, sym, subst, ◌∙◌}
 use Rattle.std.proofs.lemmas.Result.{err_from_is_err_and}
-use Rattle.fpl_message.specs.Filings.{FilingText}
 use Rattle.flow_plans.specs.Settings.{Settings}
 use Rattle.flow_intake.proofs.Results.{err_again}
 use Rattle.flow_core.proofs.JournalTexts.{OnOk-map}
 use Rattle.flow_runs.specs.Filing.{HasFiled}
 use Rattle.flow_runs.specs.Reading.{ToldUntil}
 use Rattle.flow_runs.specs.declared.fault.RunFault.{RunFault}
-use Rattle.flow_runs.proofs.Ran.{RanMany-all, on_ok, on_ok_two, if_err_map, ended-told, ended-all, ended-filed, memory-others}
+use Rattle.flow_runs.proofs.Ran.{RanMany-all, on_ok, on_ok_two, if_err_map, ended-told, ended-all, ended-filed}
 use Rattle.flow_runs.proofs.run.run_blank.Goals as goal
 
 pub returns-in_err-feeds-clause-much : goal.returns-in_err-feeds-clause-much
@@ -31,11 +30,11 @@ returns-clause-others g c = if_err_map c.answer_all.result (λ e k. (k.2, k.3, k
 
 pub returns-clause-ran : goal.returns-clause-ran
 returns-clause-ran g c =
-    let filed = subst (λ (q : Settings). HasFiled q c.args.blank.entries c.args.feeders (map (λ f. f.texts.items) c.in_ok-feeds.field-0.feeds.items) c.in_ok-filed.filed.core c.in_ok-filed.filed.stop) (sym c.requires.named.1)
-    (subst (λ (n : ℕ). HasFiled g.N.Name.setup c.args.blank.entries n (map (λ f. f.texts.items) c.in_ok-feeds.field-0.feeds.items) c.in_ok-filed.filed.core c.in_ok-filed.filed.stop) (sym c.requires.feeders.0)
-    (subst (λ (q : List (List FilingText)). HasFiled g.N.Name.setup c.args.blank.entries g.N.Name.feeders q c.in_ok-filed.filed.core c.in_ok-filed.filed.stop) c.in_ok-filings.ensures.same c.in_ok-filed.ensures.filed)) in
+    let filed = subst (λ (q : Settings). HasFiled q c.args.blank.entries c.args.feeders (map (λ v. v.items) c.in_ok-feeds.field-0.feeds.items) c.in_ok-filed.filed.core c.in_ok-filed.filed.stop) (sym c.requires.named.1)
+    (subst (λ (n : ℕ). HasFiled g.N.Name.setup c.args.blank.entries n (map (λ v. v.items) c.in_ok-feeds.field-0.feeds.items) c.in_ok-filed.filed.core c.in_ok-filed.filed.stop) (sym c.requires.feeders.0)
+    c.in_ok-filed.ensures.filed) in
     on_ok_two c.answer_all.result
-    (λ a none. RanMany-all c.args.blank.setup c.args.blank.entries c.args.feeders c.args.journal (g.R.Read.remaining c.args.reader.now.device) (map (λ f. f.texts.items) c.in_ok-feeds.field-0.feeds.items) c.in_ok-feeds.field-0.count
+    (λ a none. RanMany-all c.args.blank.setup c.args.blank.entries c.args.feeders c.args.journal (g.R.Read.remaining c.args.reader.now.device) (map (λ v. v.items) c.in_ok-feeds.field-0.feeds.items) c.in_ok-feeds.field-0.count
     (g.W.Write.contents c.args.writer.now.device) (g.W.Write.contents c.read_all.new.writer.device) (g.W.Write.contents c.answer_all.new.writer.device) c.in_ok-filed.filed.core c.in_ok-filed.filed.stop c.args.read
     c.in_ok-feeds.ensures.has filed none c.requires.read a)
     c.answer_all.ensures.ok c.answer_all.ensures.whole
@@ -50,32 +49,20 @@ returns-in_err-feeds-clause-left g c =
     rw p.1
     (ended-told c.args.blank.setup c.args.blank.entries c.args.feeders c.args.journal p.0 begun written input rest (subst (λ (k : RunFault). ToldUntil k begun written input rest) (sym p.2) c.in_err-feeds.ensures.told))
 
-pub returns-in_err-filings-clause-others : goal.returns-in_err-filings-clause-others
-returns-in_err-filings-clause-others g c =
-    let p = err_from_is_err_and c.from_residual-in_err-filings.result c.from_residual-in_err-filings.ensures.1 in
-    rw p.1 (memory-others p.0 (p.2 ∙ c.in_err-filings.ensures.fault))
-
-pub returns-in_err-filings-clause-left : goal.returns-in_err-filings-clause-left
-returns-in_err-filings-clause-left g c =
-    let p = err_from_is_err_and c.from_residual-in_err-filings.result c.from_residual-in_err-filings.ensures.1 in
-    rw p.1
-    (ended-all c.args.blank.setup c.args.blank.entries c.args.feeders c.args.journal p.0 (map (λ f. f.texts.items) c.in_ok-feeds.field-0.feeds.items) c.in_ok-feeds.field-0.count
-    (g.W.Write.contents c.args.writer.now.device) (g.W.Write.contents c.read_all.new.writer.device) (g.R.Read.remaining c.args.reader.now.device) (g.R.Read.remaining c.read_all.new.reader.device) (p.2 ∙ c.in_err-filings.ensures.fault) c.in_ok-feeds.ensures.has)
-
 pub returns-in_err-filed-clause-left : goal.returns-in_err-filed-clause-left
 returns-in_err-filed-clause-left g c =
     let p = err_from_is_err_and c.from_residual-in_err-filed.result c.from_residual-in_err-filed.ensures.1 in
     rw p.1
-    (ended-all c.args.blank.setup c.args.blank.entries c.args.feeders c.args.journal p.0 (map (λ f. f.texts.items) c.in_ok-feeds.field-0.feeds.items) c.in_ok-feeds.field-0.count
+    (ended-all c.args.blank.setup c.args.blank.entries c.args.feeders c.args.journal p.0 (map (λ v. v.items) c.in_ok-feeds.field-0.feeds.items) c.in_ok-feeds.field-0.count
     (g.W.Write.contents c.args.writer.now.device) (g.W.Write.contents c.read_all.new.writer.device) (g.R.Read.remaining c.args.reader.now.device) (g.R.Read.remaining c.read_all.new.reader.device) (p.2 ∙ c.in_err-filed.ensures.fault) c.in_ok-feeds.ensures.has)
 
 pub returns-clause-left : goal.returns-clause-left
 returns-clause-left g c =
-    let filed = subst (λ (q : Settings). HasFiled q c.args.blank.entries c.args.feeders (map (λ f. f.texts.items) c.in_ok-feeds.field-0.feeds.items) c.in_ok-filed.filed.core c.in_ok-filed.filed.stop) (sym c.requires.named.1)
-    (subst (λ (n : ℕ). HasFiled g.N.Name.setup c.args.blank.entries n (map (λ f. f.texts.items) c.in_ok-feeds.field-0.feeds.items) c.in_ok-filed.filed.core c.in_ok-filed.filed.stop) (sym c.requires.feeders.0)
-    (subst (λ (q : List (List FilingText)). HasFiled g.N.Name.setup c.args.blank.entries g.N.Name.feeders q c.in_ok-filed.filed.core c.in_ok-filed.filed.stop) c.in_ok-filings.ensures.same c.in_ok-filed.ensures.filed)) in
+    let filed = subst (λ (q : Settings). HasFiled q c.args.blank.entries c.args.feeders (map (λ v. v.items) c.in_ok-feeds.field-0.feeds.items) c.in_ok-filed.filed.core c.in_ok-filed.filed.stop) (sym c.requires.named.1)
+    (subst (λ (n : ℕ). HasFiled g.N.Name.setup c.args.blank.entries n (map (λ v. v.items) c.in_ok-feeds.field-0.feeds.items) c.in_ok-filed.filed.core c.in_ok-filed.filed.stop) (sym c.requires.feeders.0)
+    c.in_ok-filed.ensures.filed) in
     if_err_map c.answer_all.result
-    (λ e a. ended-filed c.args.blank.setup c.args.blank.entries c.args.feeders c.args.journal e (g.R.Read.remaining c.args.reader.now.device) (g.R.Read.remaining c.read_all.new.reader.device) (map (λ f. f.texts.items) c.in_ok-feeds.field-0.feeds.items) c.in_ok-feeds.field-0.count
+    (λ e a. ended-filed c.args.blank.setup c.args.blank.entries c.args.feeders c.args.journal e (g.R.Read.remaining c.args.reader.now.device) (g.R.Read.remaining c.read_all.new.reader.device) (map (λ v. v.items) c.in_ok-feeds.field-0.feeds.items) c.in_ok-feeds.field-0.count
     (g.W.Write.contents c.args.writer.now.device) (g.W.Write.contents c.read_all.new.writer.device) (g.W.Write.contents c.answer_all.new.writer.device) c.in_ok-filed.filed.core c.in_ok-filed.filed.stop c.args.read
     c.in_ok-feeds.ensures.has filed c.requires.read a)
     c.answer_all.ensures.left

@@ -1,0 +1,27 @@
+-- Feeds that were filed, whatever their receipts are.
+use Rattle.std.proofs.Common.{◌≡◌, ℕ, suc, ◌<◌, List, [], ◌∷◌, ◌++◌, length, map, slice_index_or, arith}
+use Rattle.fpl_message.specs.Filings.{FilingText}
+use Rattle.flow_plans.specs.Settings.{Settings}
+use Rattle.flow_desk.specs.declared.feeders.End.{End}
+use Rattle.flow_desk.specs.Passes.{PassView}
+use Rattle.flow_runs.specs.Filing.{RanFeed, RanFeeds}
+
+-- what holds feed by feed holds of all
+feeds-ran : {X : Type 0} (s : Settings) (pass : X → PassView) (left : X → List FilingText) (end : X → End) (olds news : List X) → length news ≡ length olds
+    → ((i : ℕ) (d : X) → i < length olds → RanFeed s (pass (slice_index_or olds i d)) (left (slice_index_or olds i d)) (pass (slice_index_or news i d)) (left (slice_index_or news i d)) (end (slice_index_or news i d)))
+    → RanFeeds s (map pass olds) (map left olds) (map pass news) (map left news) (map end news)
+feeds-ran s pass left end [] [] same each = record { receipts = []; run = tt }
+feeds-ran s pass left end [] (y ∷ ys) same each = absurd (omega (arith, same))
+feeds-ran s pass left end (x ∷ xs) [] same each = absurd (omega (arith, same))
+feeds-ran s pass left end (x ∷ xs) (y ∷ ys) same each =
+    let first = each 0 x (omega arith) in
+    let rest = feeds-ran s pass left end xs ys (omega (arith, same)) (λ i d lt. each (suc i) d (omega (arith, lt))) in
+    record { receipts = first.receipts ∷ rest.receipts; run = (first.run, rest.run) }
+
+-- feeds that were made of these passes and texts, where there was none
+pub texts-ran : {X : Type 0} (s : Settings) (pass : X → PassView) (left : X → List FilingText) (end : X → End) (none olds news : List X) (ps : List PassView) (fs : List (List FilingText))
+    → none ≡ [] → map pass olds ≡ map pass none ++ ps → map left olds ≡ map left none ++ fs → length news ≡ length olds
+    → ((i : ℕ) (d : X) → i < length olds → RanFeed s (pass (slice_index_or olds i d)) (left (slice_index_or olds i d)) (pass (slice_index_or news i d)) (left (slice_index_or news i d)) (end (slice_index_or news i d)))
+    → RanFeeds s ps fs (map pass news) (map left news) (map end news)
+texts-ran s pass left end [] olds news ps fs empty are_ps are_fs same each = rw (← are_ps, ← are_fs) (feeds-ran s pass left end olds news same each)
+texts-ran s pass left end (x ∷ xs) olds news ps fs empty are_ps are_fs same each = absurd (cc empty)
