@@ -24,7 +24,7 @@ use Rattle.flow_desk.proofs.Fronts.{prefix_trans, prefix_length}
 use Rattle.flow_desk.proofs.Owning.{own-append}
 use Rattle.flow_runs.specs.declared.fault.RunFault.{RunFault}
 use Rattle.flow_runs.specs.Ends.{EndsWell}
-use Rattle.flow_runs.specs.Filing.{texts, HasFiled}
+use Rattle.flow_runs.specs.Filing.{texts, HasFiled, RanFeeds}
 
 -- how one feed of many has run, by which pass, and what is true of that pass and of its end
 record RunAt (s : Settings) (Q : PassView → Type 0) (E : End → Type 0) (ps : List PassView) (qs : List PassView) (k : ℕ) (feed : List FilingText) : Type 0 where
@@ -168,3 +168,19 @@ none-missing s n read ps fs qs rs ls es wide opened ran missing =
     let there : ((get_or qs k r.q).feeder == k) ≡ true = ap (λ (v : PassView). v.feeder == k) (get_or_from_slice_get qs k r.q r.q r.at_q) ∙ its in
     let has : has_pass qs k ≡ true = list_any_at (λ (v : PassView). v.feeder == k) qs k r.q (slice_get_within qs k r.q r.at_q) there in
     absurd (cc (missing.2, has))
+
+-- ---- whatever the receipts of the feeds are
+
+pub many-ran : (s : Settings) (ps : List PassView) (fs : List (List FilingText)) (qs : List PassView) (ls : List (List FilingText)) (es : List End) → RanFeeds s ps fs qs ls es → length qs ≡ length ps
+many-ran s ps fs qs ls es r = as-many s ps fs qs r.receipts ls es r.run
+
+pub none-missing-ran : (s : Settings) (n : ℕ) (read : List Record) (ps : List PassView) (fs : List (List FilingText)) (qs : List PassView) (ls : List (List FilingText)) (es : List End)
+    → length fs ≡ n → AreOpened n read ps → RanFeeds s ps fs qs ls es → IsMissing n qs → ⊥
+none-missing-ran s n read ps fs qs ls es wide opened r missing = none-missing s n read ps fs qs r.receipts ls es wide opened r.run missing
+
+pub closed-ran : (s : Settings) (n : ℕ) (read : List Record) (ps : List PassView) (fs : List (List FilingText)) (qs qs' : List PassView) (ls : List (List FilingText)) (es : List End) (core : History) (stop : Option RunFault)
+    → 0 < n → length fs ≡ n → AreOpened n read ps → RanFeeds s ps fs qs ls es → (stop ≡ None → All EndsWell es) → qs' ≡ qs
+    → core.setup ≡ s → state_of core ≡ after s (state_of core).journal → All (λ (e : Record). e.input.feeder < n) (state_of core).journal → All (Agrees (state_of core).journal) qs'
+    → HasFiled s read n fs core stop
+closed-ran s n read ps fs qs qs' ls es core stop some wide opened r well same setup one_thread below agree =
+    closed s n read ps fs qs r.receipts ls es core stop some wide opened r.run well setup one_thread below (subst (λ (v : List PassView). All (Agrees (state_of core).journal) v) same agree)
