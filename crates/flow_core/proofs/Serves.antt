@@ -1,5 +1,6 @@
 -- Answering frames, one after the other.
 use Rattle.std.proofs.Common.{◌≡◌, ◌≤◌, ℕ, ◌⊎◌, inl, inr, Bool, true, false, cond, List, [], ◌∷◌, ◌++◌, length, arith, refl, sym, ap, ◌∙◌, subst, Option, Some, None, append_assoc, ltb, leb, codes, IfSome, Result, Err, IsErrOf}
+use Rattle.std.proofs.lemmas.Bool.{le-leb}
 use Rattle.std.proofs.lemmas.List.{append-nil}
 use Rattle.std.specs.Io.KnownBytes.{Appends, Keeps}
 use Rattle.std.proofs.KnownBytes.{Appends-nil, Appends-trans, Consumes-nil}
@@ -71,6 +72,10 @@ module _ (s : State) (frame : List ℕ) where
       by : (b : Bool) → Some text ≡ (cond b (Some (second frame)) None) → cond b (cond (ltb (length s.journal) s.setup.max_entries) (answer_text (step s (as_input frame)) (length s.journal)) (codes "- NO 91 JournalFull\n")) (codes "- NO 90 TooLong\n") ≡ codes "- NO 91 JournalFull\n"
       by true e = rw r refl
       by false e = absurd (cc)
+
+-- the filing of a frame that isn't too long
+pub filing-fits : (frame : List ℕ) → length frame ≤ 2000 → filing_of frame ≡ Some (second frame)
+filing-fits frame h = rw (le-leb (length frame) 2000 h) refl
 
 -- ---- lists of frames
 

@@ -3,7 +3,7 @@ use Rattle.std.specs.Prelude.{◌≡◌, ◌≤◌, ℕ, List, ◌++◌, length,
 use Rattle.std.specs.Io.KnownBytes.{Appends, Consumes}
 use Rattle.fpl_message.specs.Filings.{FilingText}
 use Rattle.flow_intake.specs.Frames.{frames, ended_frames}
-use Rattle.flow_intake.specs.Reader.{Ahead}
+use Rattle.flow_intake.specs.Reader.{Ahead, Agrees}
 use Rattle.flow_intake.specs.NextFrame.{filing_of}
 use Rattle.flow_intake.specs.Cutting.{Cutting}
 use Rattle.flow_intake.specs.Writes.{AppendsFront}
@@ -89,3 +89,15 @@ pub record Serving (first now : State) (begun written : Option (List ℕ)) (ahea
   pub cutting : Cutting done ahead input rest
   pub state : now ≡ after first done
   pub appended : Appends begun written (output first done)
+
+-- serving that has come so far here has come on there, and what is left of the input is the same
+abbrev pub ComesOn : State → State → Option (List ℕ) → Option (List ℕ) → Ahead → Ahead → Type 0
+ComesOn old new before now ahead left = (first : State) (begun input rest : Option (List ℕ)) → Agrees ahead rest → Serving first old begun before ahead input rest → Serving first new begun now left input rest
+
+-- or it has stopped there
+abbrev pub StopsOn : State → State → Option (List ℕ) → Option (List ℕ) → Ahead → Type 0
+StopsOn old new before now ahead = (first : State) (begun input rest : Option (List ℕ)) → Agrees ahead rest → Serving first old begun before ahead input rest → Stopped first new begun now input rest
+
+-- but not since the writer failed
+abbrev pub IsAnsweredOn : State → State → Option (List ℕ) → Option (List ℕ) → Ahead → Type 0
+IsAnsweredOn old new before now ahead = (first : State) (begun input rest : Option (List ℕ)) → Agrees ahead rest → Serving first old begun before ahead input rest → Answered first new begun now input rest

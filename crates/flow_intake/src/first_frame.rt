@@ -7,11 +7,11 @@ use crate::pieces::{Until, stop_in, text_in};
 
 /// Where the first frame of some bytes stands in them.
 #[derive(Clone, Copy)]
-pub(crate) struct Span {
+pub struct Span {
     /// Behind the blanks.
-    pub(crate) begin: usize,
+    pub begin: usize,
     /// Behind the frame.
-    pub(crate) end: usize,
+    pub end: usize,
 }
 
 /// How long a frame is with which these bytes begin, if they show its end.

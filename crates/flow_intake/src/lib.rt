@@ -21,6 +21,7 @@ mod pieces;
 
 pub use counted::{Counted, WriteFault, write_bytes};
 pub use fault::IntakeFault;
+pub use first_frame::Span;
 pub use intake::{Frame, Intake, cut_frame};
 pub use kept::Kept;
 pub use pieces::{MAX_INPUT, Pieces};

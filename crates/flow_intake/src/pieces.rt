@@ -9,10 +9,16 @@ ghost use Rattle.flow_intake.specs.Reader.{Agrees, BeginsWithStop, CameTooMuch, 
 ghost use Rattle.flow_intake.specs.Reader.{TookRun};
 ghost use Rattle.flow_intake.specs.Until.{stops_at};
 ghost use Rattle.flow_intake.specs.Source.{failures_after};
+ghost use Rattle.flow_intake.specs.FirstFrame.{Shows};
+ghost use Rattle.flow_intake.specs.NextFrame.{GaveFirst, filing_of};
+ghost use Rattle.fpl_message.specs.declared.filed_text.TheConstants.{MAX_BYTES};
+ghost use Rattle.std.specs.Prelude.{IfSome, List, Option, slice_range, ℕ};
 
 use crate::counted::Counted;
 use crate::fault::IntakeFault;
+use crate::first_frame::{Span, first_frame};
 use crate::kept::Kept;
+use fpl_message::MAX_BYTES;
 use memchr::{memchr2, memrchr2};
 use std::alloc::{AllocError, Allocator, Global};
 use std::io::Read;
@@ -149,6 +155,39 @@ impl<A: Allocator> Pieces<A> {
         ensures { result.now ≡ self.now.unread }
     {
         &self.piece[self.at..self.end]
+    }
+
+    /// Where the first frame of the input stands, where the bytes that were read show its end, and it isn't too long: it
+    /// can be answered as it lies there, and nobody waits for it.
+    pub fn whole_frame(&self) -> Option<Span>
+        ensures shows { IfSome result (λ span. Shows self.now.unread span.begin span.end) }
+        ensures short { IfSome result (λ span. span.end - span.begin ≤ MAX_BYTES) }
+    {
+        let span = first_frame(self.unread())?;
+        if span.end - span.begin > MAX_BYTES {
+            return None;
+        }
+        Some(span)
+    }
+
+    /// The bytes of the frame that stands there.
+    pub fn frame(&self, span: Span) -> &[u8]
+        requires { Shows self.now.unread span.begin span.end }
+        ensures { result.now ≡ slice_range self.now.unread span.begin span.end }
+    {
+        &self.unread()[span.begin..span.end]
+    }
+
+    /// Takes the frame that stands there.
+    pub fn pass(&mut self, span: Span)
+        requires { Shows self.old.unread span.begin span.end }
+        ensures gave { (rest : Option (List ℕ)) → Agrees self.old rest
+            → GaveFirst (filing_of (slice_range self.old.unread span.begin span.end)) self.old self.new rest rest }
+        ensures agrees { (rest : Option (List ℕ)) → Agrees self.old rest → Agrees self.new rest }
+        ensures nearer { self.old.taken < self.new.taken }
+        ensures within { self.new.taken ≤ MAX_INPUT }
+    {
+        self.skip(span.end);
     }
 
     /// The next byte, if one was read.

@@ -90,12 +90,28 @@ returns-in-Err-answer_frame-clause-fault g c = in_both c.in-Err-answer_frame.ens
     (λ m. Stopped-answered (state_of c.args.core.now) (state_of c.answer_frame.new.core) (g.W.Write.contents c.args.writer.now.device) (g.W.Write.contents c.answer_frame.new.writer.device) (g.R.Read.remaining c.args.reader.now.device) (g.R.Read.remaining c.cut_frame.new.reader.device)
     (answered-not g c (λ w. absurd (memory-not-write (sym m ∙ w)))))
 
+answered-ahead : goal.returns-in-Err-answer_ahead-clause-answered
+answered-ahead g c = λ no. c.in-Err-answer_ahead.ensures.answered no (state_of c.args.core.now) (g.W.Write.contents c.args.writer.now.device) (g.R.Read.remaining c.args.reader.now.device) (g.R.Read.remaining c.cut_frame.new.reader.device) c.in-Ok-cut_frame.ensures.agrees
+    (Serving-one (state_of c.args.core.now) (state_of c.frames.core) (g.W.Write.contents c.args.writer.now.device) (g.W.Write.contents c.hand_on.new.writer.device) c.frames.pieces (g.R.Read.remaining c.args.reader.now.device) (g.R.Read.remaining c.frames.reader.device)
+    (Serving-kept (state_of c.args.core.now) (state_of c.frames.core) (g.W.Write.contents c.args.writer.now.device) (g.W.Write.contents c.frames.writer.device) (g.W.Write.contents c.hand_on.new.writer.device) c.frames.pieces (g.R.Read.remaining c.args.reader.now.device) (g.R.Read.remaining c.frames.reader.device) c.frames.invariant.serving c.hand_on.ensures.keeps) c.cut_frame.new.pieces (g.R.Read.remaining c.cut_frame.new.reader.device) (filing_kept c.cut_frame.new.kept) (rw c.if-not-found.false at c.in-Ok-cut_frame.ensures.cuts)
+    (state_of c.answer_frame.new.core) (g.W.Write.contents c.answer_frame.new.writer.device) c.in_default-answer_frame.ensures.ok)
+
+pub returns-in-Err-answer_ahead-clause-answered : goal.returns-in-Err-answer_ahead-clause-answered
+returns-in-Err-answer_ahead-clause-answered = answered-ahead
+
+pub returns-in-Err-answer_ahead-clause-fault : goal.returns-in-Err-answer_ahead-clause-fault
+returns-in-Err-answer_ahead-clause-fault g c = c.in-Err-answer_ahead.ensures.fault (state_of c.args.core.now) (g.W.Write.contents c.args.writer.now.device) (g.R.Read.remaining c.args.reader.now.device) (g.R.Read.remaining c.cut_frame.new.reader.device) c.in-Ok-cut_frame.ensures.agrees
+    (Serving-one (state_of c.args.core.now) (state_of c.frames.core) (g.W.Write.contents c.args.writer.now.device) (g.W.Write.contents c.hand_on.new.writer.device) c.frames.pieces (g.R.Read.remaining c.args.reader.now.device) (g.R.Read.remaining c.frames.reader.device)
+    (Serving-kept (state_of c.args.core.now) (state_of c.frames.core) (g.W.Write.contents c.args.writer.now.device) (g.W.Write.contents c.frames.writer.device) (g.W.Write.contents c.hand_on.new.writer.device) c.frames.pieces (g.R.Read.remaining c.args.reader.now.device) (g.R.Read.remaining c.frames.reader.device) c.frames.invariant.serving c.hand_on.ensures.keeps) c.cut_frame.new.pieces (g.R.Read.remaining c.cut_frame.new.reader.device) (filing_kept c.cut_frame.new.kept) (rw c.if-not-found.false at c.in-Ok-cut_frame.ensures.cuts)
+    (state_of c.answer_frame.new.core) (g.W.Write.contents c.answer_frame.new.writer.device) c.in_default-answer_frame.ensures.ok)
+
 pub frames-preserved : goal.frames-preserved
 frames-preserved g c = record {
-  agrees = c.in-Ok-cut_frame.ensures.agrees;
-  serving = Serving-one (state_of c.args.core.now) (state_of c.frames.core) (g.W.Write.contents c.args.writer.now.device) (g.W.Write.contents c.hand_on.new.writer.device) c.frames.pieces (g.R.Read.remaining c.args.reader.now.device) (g.R.Read.remaining c.frames.reader.device)
+  agrees = c.in_default-answer_ahead.ensures.agrees (g.R.Read.remaining c.cut_frame.new.reader.device) c.in-Ok-cut_frame.ensures.agrees;
+  serving = c.in_default-answer_ahead.ensures.serving (state_of c.args.core.now) (g.W.Write.contents c.args.writer.now.device) (g.R.Read.remaining c.args.reader.now.device) (g.R.Read.remaining c.cut_frame.new.reader.device) c.in-Ok-cut_frame.ensures.agrees
+      (Serving-one (state_of c.args.core.now) (state_of c.frames.core) (g.W.Write.contents c.args.writer.now.device) (g.W.Write.contents c.hand_on.new.writer.device) c.frames.pieces (g.R.Read.remaining c.args.reader.now.device) (g.R.Read.remaining c.frames.reader.device)
       (Serving-kept (state_of c.args.core.now) (state_of c.frames.core) (g.W.Write.contents c.args.writer.now.device) (g.W.Write.contents c.frames.writer.device) (g.W.Write.contents c.hand_on.new.writer.device) c.frames.pieces (g.R.Read.remaining c.args.reader.now.device) (g.R.Read.remaining c.frames.reader.device) c.frames.invariant.serving c.hand_on.ensures.keeps) c.cut_frame.new.pieces (g.R.Read.remaining c.cut_frame.new.reader.device) (filing_kept c.cut_frame.new.kept) (rw c.if-not-found.false at c.in-Ok-cut_frame.ensures.cuts)
-      (state_of c.answer_frame.new.core) (g.W.Write.contents c.answer_frame.new.writer.device) c.in_default-answer_frame.ensures.ok;
+      (state_of c.answer_frame.new.core) (g.W.Write.contents c.answer_frame.new.writer.device) c.in_default-answer_frame.ensures.ok);
   reader_calm = c.in-Ok-cut_frame.ensures.failures ∙ c.frames.invariant.reader_calm;
-  writer_calm = c.in_default-answer_frame.ensures.failures ∙ (c.in_default-hand_on.ensures.failures ∙ c.frames.invariant.writer_calm);
+  writer_calm = c.in_default-answer_ahead.ensures.failures ∙ (c.in_default-answer_frame.ensures.failures ∙ (c.in_default-hand_on.ensures.failures ∙ c.frames.invariant.writer_calm));
 }
