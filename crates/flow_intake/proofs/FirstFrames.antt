@@ -1,8 +1,10 @@
 -- The first frame of bytes that show its end.
-use Rattle.std.proofs.Common.{◌≡◌, ℕ, ◌+◌, ◌-◌, ◌<◌, zero, suc, Bool, true, List, [], ◌∷◌, ◌++◌, length, refl, sym, ap, subst, ◌∙◌, arith, take, drop, get_or, Option, Some, unwrap_or, position}
-use Rattle.std.proofs.lemmas.Bool.{ne_eqb}
-use Rattle.std.proofs.lemmas.List.{take-append-drop, take_rest, drop-drop, length-drop}
-use Rattle.flow_intake.specs.Frames.{until, since, closed, order_cut, cut, first_cut, is_text, is_bracket, ends_order}
+use Rattle.std.proofs.Common.{◌≡◌, ℕ, ◌+◌, ◌-◌, ◌<◌, ◌≤◌, zero, suc, Bool, true, false, not, cond, ltb, None, List, [], ◌∷◌, ◌++◌, length, refl, sym, ap, subst, ◌∙◌, arith, take, drop, get_or, Option, Some, unwrap_or, position}
+use Rattle.std.proofs.lemmas.Bool.{ne_eqb, ltb-false, false≢true}
+use Rattle.std.proofs.lemmas.List.{take-append-drop, take_rest, drop-drop, length-drop, length-take}
+use Rattle.std.specs.List.{position_or_len}
+use Rattle.std.specs.Prelude.{IfSome}
+use Rattle.flow_intake.specs.Frames.{Cut, until, since, closed, order_cut, cut, first_cut, is_text, is_bracket, ends_order}
 use Rattle.flow_intake.specs.FirstFrame.{EndsAt, Shows}
 use Rattle.flow_intake.proofs.Runs.{since-run, until-run, none-before-found, stop-behind-found}
 use Rattle.flow_intake.proofs.Waits.{text-at, position-within, drop-at}
@@ -87,3 +89,47 @@ shown bytes begin len text here =
       within = omega (arith, ends.within, within, length-drop begin bytes);
       is = ap cut (text-at bytes begin text) ∙ ends.is ∙ rw (n, drop-drop len begin bytes) refl;
     }
+
+-- ---- where the bytes don't show the end of a frame
+
+since-past : (stops : ℕ → Bool) (bytes : List ℕ) → length bytes ≤ position_or_len stops bytes → since stops bytes ≡ []
+since-past stops [] h = refl
+since-past stops (b ∷ bs) h = by (stops b) h (λ l. since-past stops bs l)
+  where
+    by : (t : Bool) → length (b ∷ bs) ≤ cond (not t) (1 + position_or_len stops bs) 0 → (length bs ≤ position_or_len stops bs → since stops bs ≡ []) → cond t (b ∷ bs) (since stops bs) ≡ []
+    by true l behind = absurd (omega (arith, l))
+    by false l behind = behind (omega (arith, l))
+
+since-none : (stops : ℕ → Bool) (bytes : List ℕ) → position stops bytes ≡ None → since stops bytes ≡ []
+since-none stops bytes none = by (ltb (position_or_len stops bytes) (length bytes)) refl none
+  where
+    by : (t : Bool) → ltb (position_or_len stops bytes) (length bytes) ≡ t → cond t (Some (position_or_len stops bytes)) None ≡ None → since stops bytes ≡ []
+    by true l e = absurd (cc)
+    by false l e = since-past stops bytes (ltb-false (position_or_len stops bytes) (length bytes) l)
+
+pub none-in : (bytes : List ℕ) → position is_text bytes ≡ None → IfSome (first_cut bytes) (λ c. c.ended ≡ false)
+unfolding first_cut
+none-in bytes none = rw (since-none is_text bytes none) tt
+
+pub message-going : (bytes : List ℕ) → get_or bytes 0 0 ≡ 40 → position is_bracket (take (length bytes - 1) (drop 1 bytes)) ≡ None → IfSome (cut bytes) (λ c. c.ended ≡ false)
+message-going [] is none = tt
+message-going (b ∷ bs) is none =
+    let nothing : since is_bracket bs ≡ [] = since-none is_bracket bs (rw (take_rest (b ∷ bs) 1) at none) in
+    subst (λ (x : ℕ). IfSome (cut (x ∷ bs)) (λ c. c.ended ≡ false)) (sym is) (rw nothing refl)
+
+pub order-going : (bytes : List ℕ) → (get_or bytes 0 0 ≡ 40 → ⊥) → position ends_order (take (length bytes - 1) (drop 1 bytes)) ≡ None → IfSome (cut bytes) (λ c. c.ended ≡ false)
+order-going [] other none = tt
+order-going (b ∷ bs) other none = rw (ne_eqb b 40 other, since-none ends_order bs (rw (take_rest (b ∷ bs) 1) at none)) refl
+
+pub going-past : (bytes : List ℕ) (begin : ℕ) → position is_text bytes ≡ Some begin → IfSome (cut (take (length bytes - begin) (drop begin bytes))) (λ c. c.ended ≡ false) → IfSome (first_cut bytes) (λ c. c.ended ≡ false)
+unfolding first_cut
+going-past bytes begin text here = rw (text-at bytes begin text) (rw (take_rest bytes begin) at here)
+
+-- and where the frame is too long
+pub going-or-long : (found : Option Cut) → IfSome found (λ c. c.ended ≡ false) → IfSome found (λ c. c.ended ≡ true → 2000 < length c.frame)
+going-or-long None h = tt
+going-or-long (Some c) h = λ e. absurd (false≢true (sym h ∙ e))
+
+pub long-shown : (bytes : List ℕ) (begin end : ℕ) → Shows bytes begin end → 2000 < end - begin → IfSome (first_cut bytes) (λ c. c.ended ≡ true → 2000 < length c.frame)
+long-shown bytes begin end shows long =
+    rw shows.is (λ _. omega (arith, long, shows.within, length-take (end - begin) (drop begin bytes), length-drop begin bytes))

@@ -1,7 +1,8 @@
 //! The first frame of some bytes, where they show its end: most frames stand whole in the piece that was read last, and
 //! are taken at once.
-ghost use Rattle.std.specs.Prelude.{◌≡◌, IfSome};
+ghost use Rattle.std.specs.Prelude.{◌≡◌, IfNone, IfSome, false};
 ghost use Rattle.flow_intake.specs.FirstFrame.{EndsAt, Shows};
+ghost use Rattle.flow_intake.specs.Frames.{cut, first_cut};
 
 use crate::pieces::{Until, stop_in, text_in};
 
@@ -16,7 +17,8 @@ pub struct Span {
 
 /// How long a frame is with which these bytes begin, if they show its end.
 fn frame_len(bytes: &[u8]) -> Option<usize>
-    ensures { IfSome result (λ len. EndsAt bytes.now len) }
+    ensures shows { IfSome result (λ len. EndsAt bytes.now len) }
+    ensures none { IfNone result (IfSome (cut bytes.now) (λ c. c.ended ≡ false)) }
 {
     if bytes.is_empty() {
         return None;
@@ -37,7 +39,8 @@ fn frame_len(bytes: &[u8]) -> Option<usize>
 
 /// Where the first frame of some bytes stands, if they show its end.
 pub(crate) fn first_frame(bytes: &[u8]) -> Option<Span>
-    ensures { IfSome result (λ span. Shows bytes.now span.begin span.end) }
+    ensures shows { IfSome result (λ span. Shows bytes.now span.begin span.end) }
+    ensures none { IfNone result (IfSome (first_cut bytes.now) (λ c. c.ended ≡ false)) }
 {
     let begin = text_in(bytes)?;
     let len = frame_len(&bytes[begin..])?;

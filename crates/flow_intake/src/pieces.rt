@@ -12,7 +12,7 @@ ghost use Rattle.flow_intake.specs.Source.{failures_after};
 ghost use Rattle.flow_intake.specs.FirstFrame.{Shows};
 ghost use Rattle.flow_intake.specs.NextFrame.{GaveFirst, filing_of};
 ghost use Rattle.fpl_message.specs.declared.filed_text.TheConstants.{MAX_BYTES};
-ghost use Rattle.std.specs.Prelude.{IfSome, List, Option, slice_range, ℕ};
+ghost use Rattle.std.specs.Prelude.{IfNone, IfSome, List, Option, slice_range, ℕ};
 
 use crate::counted::Counted;
 use crate::fault::IntakeFault;
@@ -162,6 +162,8 @@ impl<A: Allocator> Pieces<A> {
     pub fn whole_frame(&self) -> Option<Span>
         ensures shows { IfSome result (λ span. Shows self.now.unread span.begin span.end) }
         ensures short { IfSome result (λ span. span.end - span.begin ≤ MAX_BYTES) }
+        ensures none { IfNone result (IfSome (first_cut self.now.unread)
+            (λ c. c.ended ≡ true → MAX_BYTES < length c.frame)) }
     {
         let span = first_frame(self.unread())?;
         if span.end - span.begin > MAX_BYTES {

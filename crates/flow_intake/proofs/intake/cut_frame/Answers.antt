@@ -8,7 +8,7 @@ use Rattle.flow_intake.proofs.intake.cut_frame.Goals as goal
 
 pub returns-in-Some-clause-cuts : goal.returns-in-Some-clause-cuts
 returns-in-Some-clause-cuts g c =
-    let shows = rw c.unread.ensures at c.in-Some.ensures in
+    let shows = rw c.unread.ensures at c.in-Some.ensures.shows in
     GaveFirst-shown c.args.pieces.now c.skip.new.self (g.R.Read.remaining c.args.reader.now.device) c.in-Some.span.begin c.in-Some.span.end c.set.new.self c.requires shows c.skip.ensures.unread c.skip.ensures.taken
     (c.set.ensures ∙ ap (λ (bs : List ℕ). kept_of (slice_range bs c.in-Some.span.begin c.in-Some.span.end)) c.unread-in-Some.ensures)
 
