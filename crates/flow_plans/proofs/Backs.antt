@@ -22,10 +22,6 @@ filed-again s ps k p h e filed =
     let f : p.state ≡ state.Filed = rw there at filed in
     ap (λ (t : PlanState). record p { state = t }) (sym f)
 
--- a plan that was replaced and is put back
-pub with_plan-back : (ps : List Plan) (k : ℕ) (p q : Plan) → p ≡ get_or ps k p → slice_set (slice_set ps k q) k p ≡ ps
-with_plan-back ps k p q e = set-set ps k q p ∙ ap (λ r. slice_set ps k r) e ∙ set-get_or ps k p
-
 -- a plan that was changed, and is changed back
 back-there : (back change : Plan → Plan) (n : ℕ) (ps : List Plan) (p : Plan) → n - 1 < length ps → p ≡ get_or ps (n - 1) p → back (change p) ≡ p → changed_at back n (changed_at change n ps) ≡ ps
 unfolding changed_at

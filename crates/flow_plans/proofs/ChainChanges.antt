@@ -3,11 +3,11 @@ use Rattle.std.proofs.Common.{◌≡◌, ℕ, zero, suc, ◌-◌, ◌<◌, ◌�
 use Rattle.std.specs.Map.{lookup}
 use Rattle.flow_plans.specs.declared.chains.FlightName.{FlightName}
 use Rattle.flow_plans.specs.declared.plan.PlanState.TheVariants as state
-use Rattle.flow_plans.specs.Plans.{Plan, is_held, plan_at, with_plan, with_state}
+use Rattle.flow_plans.specs.Plans.{Plan, Amendment, is_held, plan_at, with_plan, changed_at, with_state, with_amendment}
 use Rattle.flow_plans.specs.Changes.{others}
 use Rattle.flow_plans.specs.Chains.{Chained, newest, same_flight, IsUpdated, flight_of_key, is_held_there, AreLinks, IsNewest, AreChained, IsApart, LeaveOut, TakeIn}
 use Rattle.flow_plans.proofs.ChainMoves.{head-newest, head-within, others-length, leave-absent, leave-past, leave-newest, leave-later, join-newest, join-later, join-apart, join-below}
-use Rattle.flow_plans.proofs.Keepings.{set-there, plan-stood, changed-length, others-set, chained-forgot}
+use Rattle.flow_plans.proofs.Keepings.{set-there, plan-stood, changed-length, changed-is, others-set, chained-forgot}
 
 -- there is a plan of each number
 pub there-is : (ps : List Plan) (i : ℕ) (R : Type 0) → i < length ps → ((p : Plan) → slice_get ps i ≡ Some p → p ≡ get_or ps i p → R) → R
@@ -125,8 +125,9 @@ module _ (ps qs : List Plan) (n : ℕ) (q : Plan) (some : 0 < n) (most : n ≤ l
   exchanged-in left joined name held own are taken =
       taken qs are (rw (changed, set-there ps (n - 1) q (omega (arith, some, most))) (held, sym own))
 
-pub exchanged-held : (ps qs : List Plan) (n : ℕ) (p : Plan) → 0 < n → n ≤ length ps → length qs ≡ length ps → with_plan qs n p ≡ ps
-    → IfSome (plan_at ps n) (λ r. is_held r.state ≡ true) → is_held p.state ≡ true
-exchanged-held ps qs n p some most count back held =
-    let there : slice_get ps (n - 1) ≡ Some p = rw back at (set-there qs (n - 1) p (omega (arith, some, most, count))) in
-    rw there at held
+-- an amended plan is held if it was
+pub amended-held : (a : Amendment) (ps qs : List Plan) (n : ℕ) → 0 < n → n ≤ length ps → qs ≡ changed_at (with_amendment a) n ps
+    → IfSome (plan_at ps n) (λ p. is_held p.state ≡ true) → IfSome (plan_at qs n) (λ p. is_held p.state ≡ true)
+amended-held a ps qs n some most changed held =
+    there-is ps (n - 1) (IfSome (plan_at qs n) (λ p. is_held p.state ≡ true)) (omega (arith, some, most)) (λ p there stood.
+    rw (changed, changed-is (with_amendment a) n ps p there, set-there ps (n - 1) (with_amendment a p) (omega (arith, some, most))) (rw there at held))

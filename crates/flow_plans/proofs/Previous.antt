@@ -26,7 +26,7 @@ set-elsewhere (q ∷ ps) zero (suc i) p ne = refl
 set-elsewhere (q ∷ ps) (suc j) zero p ne = refl
 set-elsewhere (q ∷ ps) (suc j) (suc i) p ne = set-elsewhere ps j i p (λ e. ne (ap suc e))
 
-pub with-elsewhere : (ps : List Plan) (m n : ℕ) (p : Plan) → 0 < m → 0 < n → (n ≡ m → ⊥) → plan_at (with_plan ps m p) n ≡ plan_at ps n
+with-elsewhere : (ps : List Plan) (m n : ℕ) (p : Plan) → 0 < m → 0 < n → (n ≡ m → ⊥) → plan_at (with_plan ps m p) n ≡ plan_at ps n
 with-elsewhere ps m n p a b ne = set-elsewhere ps (m - 1) (n - 1) p (λ e. ne (omega (arith, a, b, e)))
 
 pub changed-elsewhere : (f : Plan → Plan) (ps : List Plan) (m n : ℕ) → 0 < m → 0 < n → (n ≡ m → ⊥) → plan_at (changed_at f m ps) n ≡ plan_at ps n

@@ -1,5 +1,5 @@
 -- Flight plans as the desk holds them.
-use Rattle.std.specs.Prelude.{ℕ, ◌-◌, Bool, true, false, ◌&&◌, ◌==◌, if◌then◌else◌, List, slice_get, slice_set, Option, Some, None}
+use Rattle.std.specs.Prelude.{ℕ, ◌-◌, Bool, true, false, ◌&&◌, ◌==◌, if◌then◌else◌, List, slice_get, slice_set, Option, Some, None, unwrap_or}
 use Rattle.std.specs.Option.{option_map, option_map_or, option_and_then}
 use Rattle.std.specs.Str.{bytes_eq}
 use Rattle.fpl_text.specs.declared.craft.FlightRules.{FlightRules}
@@ -29,6 +29,16 @@ pub record Plan : Type 0 where
   -- whether field 18 exempts the flight from slots
   pub exempt : Bool
   pub texts : Texts
+
+-- what a plan has but for its state, as a message amends it or as it was before; without texts the plan keeps its own
+pub record Amendment : Type 0 where
+  pub key : Key
+  pub off_block : ℕ
+  pub elapsed : ℕ
+  pub alternates : List (List ℕ)
+  pub rules : FlightRules
+  pub exempt : Bool
+  pub texts : Option Texts
 
 -- a plan that was filed and not cancelled
 abbrev pub is_held : PlanState → Bool
@@ -101,3 +111,15 @@ with_state s plan = record plan { state = s }
 
 abbrev pub with_off_block : ℕ → Plan → Plan
 with_off_block moment plan = record plan { off_block = moment }
+
+abbrev pub with_amendment : Amendment → Plan → Plan
+with_amendment a plan = record {
+  key = a.key;
+  state = plan.state;
+  off_block = a.off_block;
+  elapsed = a.elapsed;
+  alternates = a.alternates;
+  rules = a.rules;
+  exempt = a.exempt;
+  texts = unwrap_or a.texts plan.texts;
+}

@@ -4,7 +4,7 @@ use Rattle.flow_plans.specs.declared.undo.LastChange as last_change
 use Rattle.flow_plans.specs.declared.undo.LastChange.TheVariants as change
 use Rattle.flow_plans.specs.declared.plan.PlanState.TheVariants as state
 use Rattle.flow_plans.specs.Chains.{Chained, flight_of_key, AreChained, HasRoomFor}
-use Rattle.flow_plans.specs.Plans.{Plan, is_held, plan_at, changed_at, with_plan, with_state, with_off_block}
+use Rattle.flow_plans.specs.Plans.{Plan, is_held, plan_at, changed_at, with_state, with_off_block, with_amendment}
 use Rattle.flow_plans.specs.declared.setup.TheConstants.{MAX_PLANS, MAX_TAXI}
 use Rattle.flow_plans.specs.Times.{off_blocks_end}
 
@@ -14,16 +14,16 @@ undone plans change.Nothing = None
 undone plans change.Filed = Some (take (length plans - 1) plans)
 undone plans (change.Delayed number moment) = Some (changed_at (with_off_block moment) number plans)
 undone plans (change.Ended number) = Some (changed_at (with_state state.Filed) number plans)
-undone plans (change.Amended number plan) = Some (with_plan plans number plan.value)
+undone plans (change.Amended number former) = Some (changed_at (with_amendment former) number plans)
 
--- the change is one of these plans; an amended plan is held, and was
+-- the change is one of these plans; an amended plan is held
 abbrev pub IsOf : {A : Type 0} → last_change.LastChange A → List Plan → Type 0
 IsOf change.Nothing plans = Unit {0}
 IsOf change.Filed plans = 0 < length plans
 IsOf (change.Delayed number moment) plans = (0 < number) × (number ≤ length plans) × (moment < off_blocks_end)
 IsOf (change.Ended number) plans = (0 < number) × (number ≤ length plans)
-IsOf (change.Amended number plan) plans =
-    (0 < number) × (number ≤ length plans) × (is_held plan.value.state ≡ true) × IfSome (plan_at plans number) (λ p. is_held p.state ≡ true)
+IsOf (change.Amended number former) plans =
+    (0 < number) × (number ≤ length plans) × IfSome (plan_at plans number) (λ p. is_held p.state ≡ true)
 
 -- the chains can have the plan again that the change took out, with no more memory
 abbrev pub CanReturn : {A : Type 0} → Chained → last_change.LastChange A → List Plan → Type 0
@@ -31,7 +31,7 @@ CanReturn chains change.Nothing plans = Unit {0}
 CanReturn chains change.Filed plans = Unit {0}
 CanReturn chains (change.Delayed number moment) plans = Unit {0}
 CanReturn chains (change.Ended number) plans = IfSome (plan_at plans number) (λ p. HasRoomFor chains (flight_of_key p.key))
-CanReturn chains (change.Amended number plan) plans = HasRoomFor chains (flight_of_key plan.value.key)
+CanReturn chains (change.Amended number former) plans = HasRoomFor chains (flight_of_key former.key)
 
 -- what a store keeps to
 abbrev pub IsKept : {A : Type 0} → ℕ → ℕ → List Plan → Chained → last_change.LastChange A → Type 0

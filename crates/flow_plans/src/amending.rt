@@ -2,7 +2,7 @@
 ghost use Rattle.std.specs.Prelude.{◌≡◌, ◌≤◌, ◌<◌, Ok, true, IfOk, IfErr, IfSome, length, option_copied, ◌+◌, ◌-◌};
 ghost use Rattle.std.specs.Prelude.{Err, Some, None, OnOk, OnErr};
 ghost use Rattle.flow_plans.specs.Settings.{IsDeskTime};
-ghost use Rattle.flow_plans.specs.Plans.{is_held, plan_at, with_plan};
+ghost use Rattle.flow_plans.specs.Plans.{is_held, plan_at, changed_at, with_amendment};
 ghost use Rattle.flow_plans.specs.Chains.{AreChained, flight_of_key, HasRoomFor, StayChained};
 ghost use Rattle.flow_plans.specs.Changes.{moved_to, amended, Answers, IsRefusal};
 ghost use Rattle.flow_plans.specs.Matching.{matching};
@@ -12,7 +12,7 @@ ghost use Rattle.flow_plans.specs.declared.setup.TheConstants.{MAX_PLANS};
 use crate::chains::{Chains, FlightName};
 use crate::fault::PlanFault;
 use crate::matching::{matching, others_hold_key};
-use crate::plan::Plan;
+use crate::plan::{Amendment, Plan};
 use crate::plan_list::PlanList;
 use crate::times::delayed_to;
 use fpl_message::Chg;
@@ -32,8 +32,8 @@ fn moved_to(now: Minute, held: Minute, departure: Option<&Departure>) -> Result<
     }
 }
 
-/// The number of the plan that a message is about, and the plan with all its amendments made, after the name of its
-/// flight, or why it is refused.
+/// The number of the plan that a message is about, the name that its flight then has, and all that the message amends,
+/// or why it is refused.
 #[tactic(auto, unfolding(crate::specs::Changes::amended))]
 fn amended<A: Allocator + Copy>(
     alloc: A,
@@ -41,16 +41,15 @@ fn amended<A: Allocator + Copy>(
     chains: &Chains<A>,
     message: &Chg<A>,
     now: Minute,
-) -> Result<(u32, FlightName, Box<Plan<A>, A>), PlanFault>
+) -> Result<(u32, FlightName, Amendment<A>), PlanFault>
     requires now { IsDeskTime now }
     requires few { length plans.now ≤ MAX_PLANS }
     requires chained { AreChained chains.now plans.now }
     ensures ok { IfOk result (λ r. amended now plans.now message.now
-        ≡ Ok (record { plans = with_plan plans.now r.0 r.2.value; number = r.0 })) }
+        ≡ Ok (record { plans = changed_at (with_amendment r.2) r.0 plans.now; number = r.0 })) }
     ensures within { IfOk result (λ r. (0 < r.0) × (r.0 ≤ length plans.now)) }
-    ensures named { IfOk result (λ r. r.1 ≡ flight_of_key r.2.value.key) }
-    ensures held { IfOk result (λ r. (is_held r.2.value.state ≡ true)
-        × IfSome (plan_at plans.now r.0) (λ p. is_held p.state ≡ true)) }
+    ensures named { IfOk result (λ r. r.1 ≡ flight_of_key r.2.key) }
+    ensures held { IfOk result (λ r. IfSome (plan_at plans.now r.0) (λ p. is_held p.state ≡ true)) }
     ensures refused { IfErr result (λ e. IsRefusal e (amended now plans.now message.now)) }
 {
     let number = matching(plans, chains, message.parts())?;
@@ -64,13 +63,13 @@ fn amended<A: Allocator + Copy>(
     if others_hold_key(plans, chains, number, &name, &key) {
         return Err(PlanFault::AlreadyHeld);
     }
-    match plan.amended(alloc, message, key, off_block) {
-        Ok(plan) => Ok((number, name, plan)),
+    match plan.amendment(alloc, message, key, off_block) {
+        Ok(amendment) => Ok((number, name, amendment)),
         Err(_) => Err(PlanFault::OutOfMemory),
     }
 }
 
-/// Amends the plan that a message is about, and answers its number and what it was.
+/// Amends the plan that a message is about, and answers its number and what it had before.
 #[tactic(auto, unfolding(crate::specs::Changes::amended))]
 pub(crate) fn amend_plan<A: Allocator + Copy>(
     alloc: A,
@@ -78,56 +77,54 @@ pub(crate) fn amend_plan<A: Allocator + Copy>(
     chains: &mut Chains<A>,
     message: &Chg<A>,
     now: Minute,
-) -> Result<(u32, Box<Plan<A>, A>), PlanFault>
+) -> Result<(u32, Amendment<A>), PlanFault>
     requires now { IsDeskTime now }
     requires few { length plans.old ≤ MAX_PLANS }
     requires chained { AreChained chains.old plans.old }
     ensures ok { IfOk result (λ r. amended now plans.old message.now
         ≡ Ok (record { plans = plans.new; number = r.0 })) }
     ensures within { IfOk result (λ r. (0 < r.0) × (r.0 ≤ length plans.new)) }
-    ensures back { IfOk result (λ r. with_plan plans.new r.0 r.1.value ≡ plans.old) }
+    ensures back { IfOk result (λ r. changed_at (with_amendment r.1) r.0 plans.new ≡ plans.old) }
     ensures refused { IfErr result (λ e. IsRefusal e (amended now plans.old message.now)) }
     ensures count { length plans.new ≡ length plans.old }
     ensures err { OnErr result (plans.new ≡ plans.old) }
     ensures chained { AreChained chains.new plans.new }
-    ensures held { IfOk result (λ r. (is_held r.1.value.state ≡ true)
-        × IfSome (plan_at plans.new r.0) (λ p. is_held p.state ≡ true)) }
+    ensures held { IfOk result (λ r. IfSome (plan_at plans.new r.0) (λ p. is_held p.state ≡ true)) }
     ensures room { OnOk result (0 < chains.new.room) }
     ensures kept { OnErr result (StayChained chains.old chains.new) }
 {
-    let (number, name, mut plan) = amended(alloc, plans.as_slice(), chains, message, now)?;
+    let (number, name, mut amendment) = amended(alloc, plans.as_slice(), chains, message, now)?;
     // For the name of its flight now, and for the one that it had, should that be taken back.
     let Ok(()) = chains.reserve(2) else {
         return Err(PlanFault::OutOfMemory);
     };
-    exchange(plans, chains, number, name, &mut plan);
-    Ok((number, plan))
+    exchange(plans, chains, number, name, &mut amendment);
+    Ok((number, amendment))
 }
 
-/// Exchanges a plan, whose flight has this name, with the one of that number, and puts it into the chain of its flight,
-/// which has room for it. It takes no memory.
+/// Amends the plan of this number, whose flight then has that name, and puts it into the chain of its flight, which has
+/// room for it. The amendment then has what the plan had before. It takes no memory.
 pub(crate) fn exchange<A: Allocator + Copy>(
     plans: &mut PlanList<A>,
     chains: &mut Chains<A>,
     number: u32,
     name: FlightName,
-    plan: &mut Plan<A>,
+    amendment: &mut Amendment<A>,
 )
     requires number { (0 < number) × (number ≤ length plans.old) }
-    requires held { (is_held plan.old.state ≡ true)
-        × IfSome (plan_at plans.old number) (λ p. is_held p.state ≡ true) }
-    requires named { name ≡ flight_of_key plan.old.key }
-    requires room { HasRoomFor chains.old (flight_of_key plan.old.key) }
+    requires held { IfSome (plan_at plans.old number) (λ p. is_held p.state ≡ true) }
+    requires named { name ≡ flight_of_key amendment.old.key }
+    requires room { HasRoomFor chains.old (flight_of_key amendment.old.key) }
     requires chained { AreChained chains.old plans.old }
-    ensures changed { plans.new ≡ with_plan plans.old number plan.old }
-    ensures back { with_plan plans.new number plan.new ≡ plans.old }
+    ensures changed { plans.new ≡ changed_at (with_amendment amendment.old) number plans.old }
+    ensures back { changed_at (with_amendment amendment.new) number plans.new ≡ plans.old }
     ensures count { length plans.new ≡ length plans.old }
-    ensures held { is_held plan.new.state ≡ true }
+    ensures held { IfSome (plan_at plans.new number) (λ p. is_held p.state ≡ true) }
     ensures chained { AreChained chains.new plans.new }
     ensures room { chains.old.room ≤ chains.new.room + 1 }
 {
     let before = FlightName::of_key(plans.as_slice()[(number - 1) as usize].key());
-    plans.exchange(number, plan);
+    plans.exchange(number, amendment);
     if name == before {
         return;
     }

@@ -7,7 +7,7 @@ ghost use Rattle.flow_plans.specs.Near.{row_of, word_at, HasBitsOf};
 ghost use Rattle.flow_plans.specs.Outlines.{may_be_subject};
 ghost use Rattle.fpl_items.specs.Places.{may_have};
 ghost use Rattle.flow_plans.specs.Plans.{is_held, is_filed, same_key, is_held_as, text_of, status_of};
-ghost use Rattle.flow_plans.specs.Plans.{with_state, with_off_block};
+ghost use Rattle.flow_plans.specs.Plans.{with_state, with_off_block, with_amendment};
 ghost use Rattle.flow_plans.specs.Matching.{agrees, is_candidate, is_gone};
 ghost use Rattle.flow_plans.specs.Changes.{plan_of, key_of, changes_key, key_after, amended_plan};
 ghost use Rattle.std.specs.Option.{option_map_or};
@@ -17,12 +17,13 @@ ghost use Rattle.flow_plans.specs.Times.{off_blocks_end};
 
 use crate::amended_values::{alternates_after, elapsed_after, exempt_after, rules_after};
 use crate::near::words_of_ends;
-use crate::texts::Texts;
+use crate::texts::{Texts, exchange_texts};
 use fpl_items::Other18;
 use fpl_message::{Chg, Fpl, Parts, Spot};
 use fpl_text::{Alternates, Day, ELAPSED_LIMIT, FlightRules, Minute, Text};
 use std::alloc::{AllocError, Allocator, Global};
 use std::marker::Model;
+use std::mem;
 
 /// Where a plan stands.
 #[derive(Clone, Copy, Debug, PartialEq, Eq)]
@@ -172,6 +173,59 @@ impl<A: Allocator + Copy> Model for Plan<A> {
     ghost invariant = { λ p. (p.off_block < off_blocks_end) × (p.elapsed < ELAPSED_LIMIT) };
 }
 
+/// What a message amends of a plan, or what that plan had before: all but its state. It stands beside the plan in few
+/// bytes, since most messages amend no text.
+#[derive(Drop)]
+pub(crate) struct Amendment<A: Allocator + Copy = Global> {
+    alternates: Alternates,
+    key: Key,
+    off_block: Minute,
+    /// The total elapsed time, in minutes.
+    elapsed: u16,
+    rules: FlightRules,
+    exempt: bool,
+    /// None where the plan keeps its texts.
+    texts: Option<Box<Texts<A>, A>>,
+}
+
+impl<A: Allocator + Copy> Model for Amendment<A> {
+    ghost use Rattle.std.specs.Prelude.{◌<◌};
+    ghost use Rattle.std.specs.Option.{option_map};
+    ghost use Rattle.flow_plans.specs.Plans.{Amendment as Amends};
+    ghost use Rattle.flow_plans.specs.Times.{off_blocks_end};
+    ghost use Rattle.fpl_text.specs.declared.time.TheConstants.{ELAPSED_LIMIT};
+
+    ghost Value = { Amends };
+
+    ghost view = { λ a. record {
+      key = a.key;
+      off_block = a.off_block;
+      elapsed = a.elapsed;
+      alternates = a.alternates;
+      rules = a.rules;
+      exempt = a.exempt;
+      texts = option_map (λ t. t.value) a.texts;
+    } };
+
+    ghost invariant = { λ a. (a.off_block < off_blocks_end) × (a.elapsed < ELAPSED_LIMIT) };
+}
+
+impl<A: Allocator + Copy> Amendment<A> {
+    /// The key that it gives a plan.
+    pub(crate) fn key(&self) -> &Key
+        ensures { result.now ≡ self.now.key }
+    {
+        &self.key
+    }
+
+    /// The off-block moment that it gives a plan.
+    pub(crate) fn off_block(&self) -> Minute
+        ensures { result ≡ self.now.off_block }
+    {
+        self.off_block
+    }
+}
+
 impl<A: Allocator + Copy> Plan<A> {
     /// The plan that a flight plan message files, with this off-block moment. Refused where memory is.
     #[tactic(auto, unfolding(crate::specs::Changes::plan_of))]
@@ -200,33 +254,45 @@ impl<A: Allocator + Copy> Plan<A> {
         })
     }
 
-    /// The plan with the amendments of a message made, with that key and that off-block moment. Refused as a new plan
-    /// is. It stands in memory of its own: a plan is large to hand on.
+    /// What a message amends of the plan, with that key and that off-block moment. It takes memory for texts alone,
+    /// where the message amends one, and is refused where memory is.
     #[tactic(auto, unfolding(crate::specs::Changes::amended_plan))]
-    pub(crate) fn amended(
+    pub(crate) fn amendment(
         &self,
         alloc: A,
         message: &Chg<A>,
         key: Key,
         off_block: Minute,
-    ) -> Result<Box<Self, A>, AllocError>
+    ) -> Result<Amendment<A>, AllocError>
         requires key { key ≡ key_after self.now.key message.now }
         requires off_block { off_block < off_blocks_end }
-        ensures { IfOk result (λ p. p.value ≡ amended_plan off_block message.now self.now) }
+        ensures { IfOk result (λ a. with_amendment a self.now ≡ amended_plan off_block message.now self.now) }
     {
         let elapsed = elapsed_after(self.elapsed_time(), message.destination());
         let texts = self.texts.amended(alloc, message)?;
-        let plan = Plan {
+        Ok(Amendment {
             key,
-            state: self.state,
             off_block,
             elapsed: elapsed as u16,
             alternates: alternates_after(&self.alternates, message.destination()),
             rules: rules_after(self.rules, message.rules()),
             exempt: exempt_after(self.exempt, message.other()),
             texts,
-        };
-        Ok(Box::new(alloc, plan)?)
+        })
+    }
+
+    /// Makes an amendment, which then has what the plan had before.
+    pub(crate) fn exchange(&mut self, amendment: &mut Amendment<A>)
+        ensures changed { self.new ≡ with_amendment amendment.old self.old }
+        ensures back { with_amendment amendment.new self.new ≡ self.old }
+    {
+        mem::swap(&mut self.alternates, &mut amendment.alternates);
+        mem::swap(&mut self.key, &mut amendment.key);
+        mem::swap(&mut self.off_block, &mut amendment.off_block);
+        mem::swap(&mut self.elapsed, &mut amendment.elapsed);
+        mem::swap(&mut self.rules, &mut amendment.rules);
+        mem::swap(&mut self.exempt, &mut amendment.exempt);
+        exchange_texts(&mut self.texts, &mut amendment.texts);
     }
 
     /// Whether this is a held plan with that key.

@@ -6,19 +6,18 @@ ghost use Rattle.std.specs.Prelude.{◌≡◌, ◌+◌, ◌≤◌, ◌<◌, ◌-
 ghost use Rattle.std.specs.Prelude.{OnErr, IfSome};
 ghost use Rattle.flow_plans.specs.Chains.{AreChained, StayChained};
 ghost use Rattle.flow_plans.specs.Entries.{subject};
-ghost use Rattle.flow_plans.specs.Plans.{is_held, plan_at, filed_off_block, with_plan, changed_at, with_state};
-ghost use Rattle.flow_plans.specs.Plans.{with_off_block};
+ghost use Rattle.flow_plans.specs.Plans.{is_held, plan_at, filed_off_block, changed_at, with_state};
+ghost use Rattle.flow_plans.specs.Plans.{with_off_block, with_amendment};
 ghost use Rattle.flow_plans.specs.declared.setup.TheConstants.{MAX_PLANS};
 ghost use Rattle.flow_plans.specs.Times.{off_blocks_end};
 
 use crate::chains::Chains;
 use crate::outline::Outline;
-use crate::plan::{Plan, PlanState};
+use crate::plan::{Amendment, Plan, PlanState};
 use fpl_message::Spot;
 use fpl_text::Minute;
 use std::alloc::{AllocError, Allocator, Global};
 use std::marker::Model;
-use std::mem;
 
 /// Plans by number, from 1, and their outlines. Contracts see the plans.
 #[derive(Drop)]
@@ -173,15 +172,16 @@ impl<A: Allocator + Copy> PlanList<A> {
         self.outlines[place] = Outline::of(plan);
     }
 
-    /// Exchanges a plan with the one of that number.
-    pub(crate) fn exchange(&mut self, number: u32, plan: &mut Plan<A>)
+    /// Amends the plan of this number. The amendment then has what that plan had before.
+    pub(crate) fn exchange(&mut self, number: u32, amendment: &mut Amendment<A>)
         requires { (0 < number) × (number ≤ length self.old) }
-        ensures changed { self.new ≡ with_plan self.old number plan.old }
-        ensures back { with_plan self.new number plan.new ≡ self.old }
+        ensures changed { self.new ≡ changed_at (with_amendment amendment.old) number self.old }
+        ensures back { changed_at (with_amendment amendment.new) number self.new ≡ self.old }
         ensures count { length self.new ≡ length self.old }
     {
         let place = (number - 1) as usize;
+        let plan = &mut self.plans[place];
+        plan.exchange(amendment);
         self.outlines[place] = Outline::of(plan);
-        mem::swap(&mut self.plans[place], plan);
     }
 }

@@ -235,14 +235,14 @@ impl<A: Allocator + Copy> PlanStore<A> {
         ensures limit { self.new.max_plans ≡ self.old.max_plans }
         ensures taxi { self.new.taxi ≡ self.old.taxi }
     {
-        let (number, plan) = amend_plan(
+        let (number, former) = amend_plan(
             self.alloc,
             &mut self.plans,
             &mut self.chains,
             message,
             now,
         )?;
-        self.last = LastChange::Amended { number, plan };
+        self.last = LastChange::Amended { number, former };
         Ok(number)
     }
 

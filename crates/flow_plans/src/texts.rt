@@ -1,6 +1,7 @@
 //! The field texts that a plan holds.
 ghost use Rattle.std.specs.Prelude.{◌≡◌, ◌≤◌, ◌<◌, ◌+◌, ◌++◌, true, length, List, ℕ, option_copied, MatchOption, IfOk};
-ghost use Rattle.std.specs.Prelude.{IfSome, IsSome};
+ghost use Rattle.std.specs.Prelude.{IfSome, IsSome, unwrap_or};
+ghost use Rattle.std.specs.Option.{option_map};
 ghost use Rattle.fpl_text.specs.Words.{words_of};
 ghost use Rattle.fpl_items.specs.Items.{items_of, elapsed_to};
 ghost use Rattle.fpl_items.specs.Estimates.{AreEstimatesOf};
@@ -16,6 +17,7 @@ use fpl_items::{Estimates, Other18};
 use fpl_message::Chg;
 use std::alloc::{AllocError, Allocator, Global};
 use std::marker::Model;
+use std::mem;
 
 /// The squeezed texts of fields 8, 9, 10, 15 and 18, one after the other in one piece of memory.
 #[derive(Drop)]
@@ -86,6 +88,19 @@ fn estimates_after<'a, A: Allocator + Copy>(
     }
 }
 
+/// Exchanges the texts of a plan with others, where there are any.
+pub(crate) fn exchange_texts<A: Allocator + Copy>(
+    held: &mut Texts<A>,
+    others: &mut Option<Box<Texts<A>, A>>,
+)
+    ensures changed { held.new ≡ unwrap_or (option_map (λ t. t.value) others.old) held.old }
+    ensures back { unwrap_or (option_map (λ t. t.value) others.new) held.new ≡ held.old }
+{
+    if let Some(texts) = others {
+        mem::swap(held, &mut **texts);
+    }
+}
+
 impl<A: Allocator + Copy> Texts<A> {
     /// A copy of these texts, and of the estimates of field 18.
     pub(crate) fn new(
@@ -130,29 +145,20 @@ impl<A: Allocator + Copy> Texts<A> {
         })
     }
 
-    /// A copy of all of it, in one piece.
-    fn copied(&self, alloc: A) -> Result<Self, AllocError>
-        ensures { IfOk result (λ t. t ≡ self.now) }
-    {
-        Ok(Texts {
-            estimates: self.estimates.copied(alloc)?,
-            bytes: Vec::from_slice(alloc, &self.bytes)?,
-            end8: self.end8,
-            end9: self.end9,
-            end10: self.end10,
-            end15: self.end15,
-        })
-    }
-
-    /// A copy, with each text that a message amends in place of the one held. Where it amends none, it is of one piece.
+    /// Texts in which each that a message amends stands in place of the one held. None where it amends none.
     #[tactic(auto, unfolding(crate::specs::Changes::texts_after))]
-    pub(crate) fn amended(&self, alloc: A, message: &Chg<A>) -> Result<Self, AllocError>
-        ensures { IfOk result (λ t. t ≡ texts_after self.now message.now) }
+    pub(crate) fn amended(
+        &self,
+        alloc: A,
+        message: &Chg<A>,
+    ) -> Result<Option<Box<Self, A>>, AllocError>
+        ensures { IfOk result (λ texts. unwrap_or (option_map (λ t. t.value) texts) self.now
+            ≡ texts_after self.now message.now) }
     {
         if keeps_texts(message) {
-            return self.copied(alloc);
+            return Ok(None);
         }
-        Texts::new(
+        let texts = Texts::new(
             alloc,
             text_after(self.field8(), message.field8()),
             text_after(self.field9(), message.field9()),
@@ -160,7 +166,8 @@ impl<A: Allocator + Copy> Texts<A> {
             text_after(self.field15(), message.field15()),
             text_after(self.field18(), message.field18()),
             estimates_after(self.estimates(), message.other()),
-        )
+        )?;
+        Ok(Some(Box::new(alloc, texts)?))
     }
 
     pub(crate) fn field8(&self) -> &[u8]

@@ -7,7 +7,7 @@ ghost use Rattle.flow_plans.specs.declared.setup.TheConstants.{MAX_PLANS};
 
 use crate::amending::exchange;
 use crate::chains::{Chains, FlightName};
-use crate::plan::{Plan, PlanState, Status};
+use crate::plan::{Amendment, Plan, PlanState, Status};
 use crate::plan_list::PlanList;
 use fpl_text::Minute;
 use std::alloc::{Allocator, Global};
@@ -23,8 +23,8 @@ pub(crate) enum LastChange<A: Allocator + Copy = Global> {
     Delayed { number: u32, off_block: Minute },
     /// The plan of this number was filed, and is now cancelled or has departed.
     Ended { number: u32 },
-    /// This was the plan of that number.
-    Amended { number: u32, plan: Box<Plan<A>, A> },
+    /// The plan of this number had this before.
+    Amended { number: u32, former: Amendment<A> },
 }
 
 /// Undoes the last change of these plans. It takes no memory.
@@ -55,9 +55,9 @@ pub(crate) fn undo<A: Allocator + Copy>(
         LastChange::Ended { number } => {
             file_again(plans, chains, number);
         }
-        LastChange::Amended { number, mut plan } => {
-            let name = FlightName::of_key(plan.key());
-            exchange(plans, chains, number, name, &mut plan);
+        LastChange::Amended { number, mut former } => {
+            let name = FlightName::of_key(former.key());
+            exchange(plans, chains, number, name, &mut former);
         }
     }
 }
@@ -117,8 +117,11 @@ pub(crate) fn previous<A: Allocator + Copy>(
         }),
         LastChange::Amended {
             number: amended,
-            plan,
-        } if number == *amended => Some(plan.status()),
+            former,
+        } if number == *amended => Some(Status {
+            state: plans[place].state(),
+            off_block: former.off_block(),
+        }),
         _ => status_at(plans, number),
     }
 }
