@@ -1,9 +1,10 @@
 -- What taking a plan out of its chain, or putting it into one, means for all plans of which these are the chains.
-use Rattle.std.proofs.Common.{◌≡◌, ℕ, zero, suc, ◌-◌, ◌<◌, ◌≤◌, Bool, true, List, [], ◌∷◌, length, Some, Option, IfSome, unwrap_or, slice_get, slice_set, slice_index, get_or, refl, sym, ap, subst, arith}
+use Rattle.std.proofs.Common.{◌≡◌, ℕ, zero, suc, ◌-◌, ◌<◌, ◌≤◌, Bool, true, List, [], ◌∷◌, length, Some, Option, IfSome, unwrap_or, slice_get, slice_set, slice_index, get_or, refl, sym, ap, subst, ◌∙◌, arith}
 use Rattle.std.specs.Map.{lookup}
 use Rattle.flow_plans.specs.declared.chains.FlightName.{FlightName}
+use Rattle.flow_plans.specs.declared.plan.PlanState.{PlanState}
 use Rattle.flow_plans.specs.declared.plan.PlanState.TheVariants as state
-use Rattle.flow_plans.specs.Plans.{Plan, Amendment, is_held, plan_at, with_plan, changed_at, with_state, with_amendment}
+use Rattle.flow_plans.specs.Plans.{Plan, is_held, plan_at, with_plan, changed_at, with_state}
 use Rattle.flow_plans.specs.Changes.{others}
 use Rattle.flow_plans.specs.Chains.{Chained, newest, same_flight, IsUpdated, flight_of_key, is_held_there, AreLinks, IsNewest, AreChained, IsApart, LeaveOut, TakeIn}
 use Rattle.flow_plans.proofs.ChainMoves.{head-newest, head-within, others-length, leave-absent, leave-past, leave-newest, leave-later, join-newest, join-later, join-apart, join-below}
@@ -125,9 +126,20 @@ module _ (ps qs : List Plan) (n : ℕ) (q : Plan) (some : 0 < n) (most : n ≤ l
   exchanged-in left joined name held own are taken =
       taken qs are (rw (changed, set-there ps (n - 1) q (omega (arith, some, most))) (held, sym own))
 
--- an amended plan is held if it was
-pub amended-held : (a : Amendment) (ps qs : List Plan) (n : ℕ) → 0 < n → n ≤ length ps → qs ≡ changed_at (with_amendment a) n ps
-    → IfSome (plan_at ps n) (λ p. is_held p.state ≡ true) → IfSome (plan_at qs n) (λ p. is_held p.state ≡ true)
-amended-held a ps qs n some most changed held =
-    there-is ps (n - 1) (IfSome (plan_at qs n) (λ p. is_held p.state ≡ true)) (omega (arith, some, most)) (λ p there stood.
-    rw (changed, changed-is (with_amendment a) n ps p there, set-there ps (n - 1) (with_amendment a p) (omega (arith, some, most))) (rw there at held))
+-- a plan that was changed, and keeps its state
+module _ (f : Plan → Plan) (keeps : (p : Plan) → (f p).state ≡ p.state) (ps : List Plan) (n : ℕ) (some : 0 < n) (most : n ≤ length ps)
+    (held : IfSome (plan_at ps n) (λ p. is_held p.state ≡ true)) where
+  own : (p : Plan) → plan_at ps n ≡ Some p → is_held (f p).state ≡ true
+  own p there = ap (λ (s : PlanState). is_held s) (keeps p) ∙ (rw there at held)
+
+  pub changed-stands : (qs : List Plan) → qs ≡ changed_at f n ps → IfSome (plan_at qs n) (λ p. is_held p.state ≡ true)
+  changed-stands qs changed =
+      there-is ps (n - 1) (IfSome (plan_at qs n) (λ p. is_held p.state ≡ true)) (omega (arith, some, most)) (λ p there stood.
+      rw (changed, changed-is f n ps p there, set-there ps (n - 1) (f p) (omega (arith, some, most))) (own p there))
+
+  pub changed-chained : (later : Chained) (name : FlightName)
+      → ((p : Plan) → is_held p.state ≡ true → flight_of_key p.key ≡ name → AreChained later (with_plan ps n p))
+      → ((p : Plan) → plan_at ps n ≡ Some p → flight_of_key (f p).key ≡ name) → AreChained later (changed_at f n ps)
+  changed-chained later name chained named =
+      there-is ps (n - 1) (AreChained later (changed_at f n ps)) (omega (arith, some, most)) (λ p there stood.
+      rw (changed-is f n ps p there) (chained (f p) (own p there) (named p there)))

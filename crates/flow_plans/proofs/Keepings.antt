@@ -47,7 +47,7 @@ set-held ps i p q there held flight name k = by (cases_eq k i) where
   by (inl e) = subst (λ j. is_held_there name (slice_set ps i q) j ≡ is_held_there name ps j) (sym e) here
   by (inr ne) = passes_at-set-other (is_held_under name) ps i k q ne
 
-chained-set : (chains : Chained) (ps : List Plan) (i : ℕ) (p q : Plan) → slice_get ps i ≡ Some p → is_held q.state ≡ is_held p.state → flight_of_key q.key ≡ flight_of_key p.key
+pub chained-set : (chains : Chained) (ps : List Plan) (i : ℕ) (p q : Plan) → slice_get ps i ≡ Some p → is_held q.state ≡ is_held p.state → flight_of_key q.key ≡ flight_of_key p.key
     → AreChained chains ps → AreChained chains (slice_set ps i q)
 chained-set chains ps i p q there held flight are = chained-same chains ps (slice_set ps i q) (length-set ps i q) (set-held ps i p q there held flight) are
 

@@ -1,7 +1,8 @@
 -- Flight plans as the desk holds them.
-use Rattle.std.specs.Prelude.{ℕ, ◌-◌, Bool, true, false, ◌&&◌, ◌==◌, if◌then◌else◌, List, slice_get, slice_set, Option, Some, None, unwrap_or}
+use Rattle.std.specs.Prelude.{ℕ, ◌-◌, Bool, true, false, ◌&&◌, ◌==◌, if◌then◌else◌, List, slice_get, slice_set, Option, Some, None, unwrap_or, box_value}
 use Rattle.std.specs.Option.{option_map, option_map_or, option_and_then}
 use Rattle.std.specs.Str.{bytes_eq}
+use Rattle.std.specs.declared.boxed.Box.{Box}
 use Rattle.fpl_text.specs.declared.craft.FlightRules.{FlightRules}
 use Rattle.fpl_text.specs.declared.craft.FlightRules.TheVariants as rules
 use Rattle.flow_plans.specs.declared.plan.Key.{Key}
@@ -30,8 +31,8 @@ pub record Plan : Type 0 where
   pub exempt : Bool
   pub texts : Texts
 
--- what a plan has but for its state, as a message amends it or as it was before; without texts the plan keeps its own
-pub record Amendment : Type 0 where
+-- what a plan had before an amendment, but for its state; without texts it kept its own
+pub record Former : Type 0 where
   pub key : Key
   pub off_block : ℕ
   pub elapsed : ℕ
@@ -39,6 +40,10 @@ pub record Amendment : Type 0 where
   pub rules : FlightRules
   pub exempt : Bool
   pub texts : Option Texts
+
+-- these texts, or the held ones where there are none
+abbrev pub texts_or : {A : Type 0} → Option (Box Texts A) → Texts → Texts
+texts_or texts held = unwrap_or (option_map box_value texts) held
 
 -- a plan that was filed and not cancelled
 abbrev pub is_held : PlanState → Bool
@@ -112,14 +117,14 @@ with_state s plan = record plan { state = s }
 abbrev pub with_off_block : ℕ → Plan → Plan
 with_off_block moment plan = record plan { off_block = moment }
 
-abbrev pub with_amendment : Amendment → Plan → Plan
-with_amendment a plan = record {
-  key = a.key;
+abbrev pub with_former : Former → Plan → Plan
+with_former former plan = record {
+  key = former.key;
   state = plan.state;
-  off_block = a.off_block;
-  elapsed = a.elapsed;
-  alternates = a.alternates;
-  rules = a.rules;
-  exempt = a.exempt;
-  texts = unwrap_or a.texts plan.texts;
+  off_block = former.off_block;
+  elapsed = former.elapsed;
+  alternates = former.alternates;
+  rules = former.rules;
+  exempt = former.exempt;
+  texts = unwrap_or former.texts plan.texts;
 }

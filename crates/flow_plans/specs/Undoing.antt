@@ -4,7 +4,7 @@ use Rattle.flow_plans.specs.declared.undo.LastChange as last_change
 use Rattle.flow_plans.specs.declared.undo.LastChange.TheVariants as change
 use Rattle.flow_plans.specs.declared.plan.PlanState.TheVariants as state
 use Rattle.flow_plans.specs.Chains.{Chained, flight_of_key, AreChained, HasRoomFor}
-use Rattle.flow_plans.specs.Plans.{Plan, is_held, plan_at, changed_at, with_state, with_off_block, with_amendment}
+use Rattle.flow_plans.specs.Plans.{Plan, is_held, plan_at, changed_at, with_state, with_off_block, with_former}
 use Rattle.flow_plans.specs.declared.setup.TheConstants.{MAX_PLANS, MAX_TAXI}
 use Rattle.flow_plans.specs.Times.{off_blocks_end}
 
@@ -14,7 +14,7 @@ undone plans change.Nothing = None
 undone plans change.Filed = Some (take (length plans - 1) plans)
 undone plans (change.Delayed number moment) = Some (changed_at (with_off_block moment) number plans)
 undone plans (change.Ended number) = Some (changed_at (with_state state.Filed) number plans)
-undone plans (change.Amended number former) = Some (changed_at (with_amendment former) number plans)
+undone plans (change.Amended number former) = Some (changed_at (with_former former) number plans)
 
 -- the change is one of these plans; an amended plan is held
 abbrev pub IsOf : {A : Type 0} → last_change.LastChange A → List Plan → Type 0

@@ -2,9 +2,10 @@
 ghost use Rattle.std.specs.Prelude.{◌≡◌, ◌≤◌, ◌<◌, Ok, true, IfOk, IfErr, IfSome, length, option_copied, ◌+◌, ◌-◌};
 ghost use Rattle.std.specs.Prelude.{Err, Some, None, OnOk, OnErr};
 ghost use Rattle.flow_plans.specs.Settings.{IsDeskTime};
-ghost use Rattle.flow_plans.specs.Plans.{is_held, plan_at, changed_at, with_amendment};
+ghost use Rattle.flow_plans.specs.Plans.{Plan as Held, is_held, plan_at, with_plan, changed_at, with_former};
 ghost use Rattle.flow_plans.specs.Chains.{AreChained, flight_of_key, HasRoomFor, StayChained};
-ghost use Rattle.flow_plans.specs.Changes.{moved_to, amended, Answers, IsRefusal};
+ghost use Rattle.flow_plans.specs.Changes.{moved_to, key_after, amended_plan, amended, Answers, IsRefusal};
+ghost use Rattle.flow_plans.specs.Changes.{IsJustRefusal};
 ghost use Rattle.flow_plans.specs.Matching.{matching};
 ghost use Rattle.flow_plans.specs.Times.{delayed_to, off_blocks_end};
 ghost use Rattle.flow_plans.specs.declared.setup.TheConstants.{MAX_PLANS};
@@ -12,7 +13,7 @@ ghost use Rattle.flow_plans.specs.declared.setup.TheConstants.{MAX_PLANS};
 use crate::chains::{Chains, FlightName};
 use crate::fault::PlanFault;
 use crate::matching::{matching, others_hold_key};
-use crate::plan::{Amendment, Plan};
+use crate::plan::{Former, Plan};
 use crate::plan_list::PlanList;
 use crate::times::delayed_to;
 use fpl_message::Chg;
@@ -32,25 +33,25 @@ fn moved_to(now: Minute, held: Minute, departure: Option<&Departure>) -> Result<
     }
 }
 
-/// The number of the plan that a message is about, the name that its flight then has, and all that the message amends,
-/// or why it is refused.
+/// The number of the plan that a message is about, and the name of its flight and the off-block moment with all its
+/// amendments made, or why it is refused.
 #[tactic(auto, unfolding(crate::specs::Changes::amended))]
-fn amended<A: Allocator + Copy>(
-    alloc: A,
+fn checked<A: Allocator + Copy>(
     plans: &[Plan<A>],
     chains: &Chains<A>,
     message: &Chg<A>,
     now: Minute,
-) -> Result<(u32, FlightName, Amendment<A>), PlanFault>
+) -> Result<(u32, FlightName, Minute), PlanFault>
     requires now { IsDeskTime now }
     requires few { length plans.now ≤ MAX_PLANS }
     requires chained { AreChained chains.now plans.now }
     ensures ok { IfOk result (λ r. amended now plans.now message.now
-        ≡ Ok (record { plans = changed_at (with_amendment r.2) r.0 plans.now; number = r.0 })) }
-    ensures within { IfOk result (λ r. (0 < r.0) × (r.0 ≤ length plans.now)) }
-    ensures named { IfOk result (λ r. r.1 ≡ flight_of_key r.2.key) }
+        ≡ Ok (record { plans = changed_at (amended_plan r.2 message.now) r.0 plans.now; number = r.0 })) }
+    ensures within { IfOk result (λ r. (0 < r.0) × (r.0 ≤ length plans.now) × (r.2 < off_blocks_end)) }
     ensures held { IfOk result (λ r. IfSome (plan_at plans.now r.0) (λ p. is_held p.state ≡ true)) }
-    ensures refused { IfErr result (λ e. IsRefusal e (amended now plans.now message.now)) }
+    ensures named { IfOk result (λ r. IfSome (plan_at plans.now r.0)
+        (λ p. flight_of_key (key_after p.key message.now) ≡ r.1)) }
+    ensures refused { IfErr result (λ e. IsJustRefusal e (amended now plans.now message.now)) }
 {
     let number = matching(plans, chains, message.parts())?;
     let plan = &plans[(number - 1) as usize];
@@ -63,10 +64,7 @@ fn amended<A: Allocator + Copy>(
     if others_hold_key(plans, chains, number, &name, &key) {
         return Err(PlanFault::AlreadyHeld);
     }
-    match plan.amendment(alloc, message, key, off_block) {
-        Ok(amendment) => Ok((number, name, amendment)),
-        Err(_) => Err(PlanFault::OutOfMemory),
-    }
+    Ok((number, name, off_block))
 }
 
 /// Amends the plan that a message is about, and answers its number and what it had before.
@@ -77,14 +75,14 @@ pub(crate) fn amend_plan<A: Allocator + Copy>(
     chains: &mut Chains<A>,
     message: &Chg<A>,
     now: Minute,
-) -> Result<(u32, Amendment<A>), PlanFault>
+) -> Result<(u32, Former<A>), PlanFault>
     requires now { IsDeskTime now }
     requires few { length plans.old ≤ MAX_PLANS }
     requires chained { AreChained chains.old plans.old }
     ensures ok { IfOk result (λ r. amended now plans.old message.now
         ≡ Ok (record { plans = plans.new; number = r.0 })) }
     ensures within { IfOk result (λ r. (0 < r.0) × (r.0 ≤ length plans.new)) }
-    ensures back { IfOk result (λ r. changed_at (with_amendment r.1) r.0 plans.new ≡ plans.old) }
+    ensures back { IfOk result (λ r. changed_at (with_former r.1) r.0 plans.new ≡ plans.old) }
     ensures refused { IfErr result (λ e. IsRefusal e (amended now plans.old message.now)) }
     ensures count { length plans.new ≡ length plans.old }
     ensures err { OnErr result (plans.new ≡ plans.old) }
@@ -93,38 +91,35 @@ pub(crate) fn amend_plan<A: Allocator + Copy>(
     ensures room { OnOk result (0 < chains.new.room) }
     ensures kept { OnErr result (StayChained chains.old chains.new) }
 {
-    let (number, name, mut amendment) = amended(alloc, plans.as_slice(), chains, message, now)?;
+    let (number, name, off_block) = checked(plans.as_slice(), chains, message, now)?;
+    let Ok(texts) = plans.as_slice()[(number - 1) as usize].amended_texts(alloc, message) else {
+        return Err(PlanFault::OutOfMemory);
+    };
     // For the name of its flight now, and for the one that it had, should that be taken back.
     let Ok(()) = chains.reserve(2) else {
         return Err(PlanFault::OutOfMemory);
     };
-    exchange(plans, chains, number, name, &mut amendment);
-    Ok((number, amendment))
+    change_chain(plans.as_slice(), chains, number, name);
+    Ok((number, plans.amend(number, message, off_block, texts)))
 }
 
-/// Amends the plan of this number, whose flight then has that name, and puts it into the chain of its flight, which has
-/// room for it. The amendment then has what the plan had before. It takes no memory.
-pub(crate) fn exchange<A: Allocator + Copy>(
-    plans: &mut PlanList<A>,
+/// Takes the plan of this number out of the chain of its flight, and puts it into that of the flight with this name,
+/// which has room for it. It takes no memory.
+pub(crate) fn change_chain<A: Allocator + Copy>(
+    plans: &[Plan<A>],
     chains: &mut Chains<A>,
     number: u32,
     name: FlightName,
-    amendment: &mut Amendment<A>,
 )
-    requires number { (0 < number) × (number ≤ length plans.old) }
-    requires held { IfSome (plan_at plans.old number) (λ p. is_held p.state ≡ true) }
-    requires named { name ≡ flight_of_key amendment.old.key }
-    requires room { HasRoomFor chains.old (flight_of_key amendment.old.key) }
-    requires chained { AreChained chains.old plans.old }
-    ensures changed { plans.new ≡ changed_at (with_amendment amendment.old) number plans.old }
-    ensures back { changed_at (with_amendment amendment.new) number plans.new ≡ plans.old }
-    ensures count { length plans.new ≡ length plans.old }
-    ensures held { IfSome (plan_at plans.new number) (λ p. is_held p.state ≡ true) }
-    ensures chained { AreChained chains.new plans.new }
+    requires number { (0 < number) × (number ≤ length plans.now) }
+    requires held { IfSome (plan_at plans.now number) (λ p. is_held p.state ≡ true) }
+    requires room { HasRoomFor chains.old name }
+    requires chained { AreChained chains.old plans.now }
+    ensures chained { (p : Held) → is_held p.state ≡ true → flight_of_key p.key ≡ name
+        → AreChained chains.new (with_plan plans.now number p) }
     ensures room { chains.old.room ≤ chains.new.room + 1 }
 {
-    let before = FlightName::of_key(plans.as_slice()[(number - 1) as usize].key());
-    plans.exchange(number, amendment);
+    let before = FlightName::of_key(plans[(number - 1) as usize].key());
     if name == before {
         return;
     }

@@ -7,9 +7,9 @@ ghost use Rattle.flow_plans.specs.Near.{row_of, word_at, HasBitsOf};
 ghost use Rattle.flow_plans.specs.Outlines.{may_be_subject};
 ghost use Rattle.fpl_items.specs.Places.{may_have};
 ghost use Rattle.flow_plans.specs.Plans.{is_held, is_filed, same_key, is_held_as, text_of, status_of};
-ghost use Rattle.flow_plans.specs.Plans.{with_state, with_off_block, with_amendment};
+ghost use Rattle.flow_plans.specs.Plans.{with_state, with_off_block, with_former, texts_or};
 ghost use Rattle.flow_plans.specs.Matching.{agrees, is_candidate, is_gone};
-ghost use Rattle.flow_plans.specs.Changes.{plan_of, key_of, changes_key, key_after, amended_plan};
+ghost use Rattle.flow_plans.specs.Changes.{plan_of, key_of, changes_key, key_after, texts_after, amended_plan};
 ghost use Rattle.std.specs.Option.{option_map_or};
 ghost use Rattle.std.specs.Str.{bytes_eq};
 ghost use Rattle.flow_plans.specs.declared.setup.TheConstants.{MAX_TAXI};
@@ -173,10 +173,9 @@ impl<A: Allocator + Copy> Model for Plan<A> {
     ghost invariant = { λ p. (p.off_block < off_blocks_end) × (p.elapsed < ELAPSED_LIMIT) };
 }
 
-/// What a message amends of a plan, or what that plan had before: all but its state. It stands beside the plan in few
-/// bytes, since most messages amend no text.
+/// What a plan had before an amendment, but for its state. It takes few bytes, since most messages amend no text.
 #[derive(Drop)]
-pub(crate) struct Amendment<A: Allocator + Copy = Global> {
+pub(crate) struct Former<A: Allocator + Copy = Global> {
     alternates: Alternates,
     key: Key,
     off_block: Minute,
@@ -184,18 +183,18 @@ pub(crate) struct Amendment<A: Allocator + Copy = Global> {
     elapsed: u16,
     rules: FlightRules,
     exempt: bool,
-    /// None where the plan keeps its texts.
+    /// None where the plan kept its texts.
     texts: Option<Box<Texts<A>, A>>,
 }
 
-impl<A: Allocator + Copy> Model for Amendment<A> {
+impl<A: Allocator + Copy> Model for Former<A> {
     ghost use Rattle.std.specs.Prelude.{◌<◌};
     ghost use Rattle.std.specs.Option.{option_map};
-    ghost use Rattle.flow_plans.specs.Plans.{Amendment as Amends};
+    ghost use Rattle.flow_plans.specs.Plans.{Former as Had};
     ghost use Rattle.flow_plans.specs.Times.{off_blocks_end};
     ghost use Rattle.fpl_text.specs.declared.time.TheConstants.{ELAPSED_LIMIT};
 
-    ghost Value = { Amends };
+    ghost Value = { Had };
 
     ghost view = { λ a. record {
       key = a.key;
@@ -210,15 +209,15 @@ impl<A: Allocator + Copy> Model for Amendment<A> {
     ghost invariant = { λ a. (a.off_block < off_blocks_end) × (a.elapsed < ELAPSED_LIMIT) };
 }
 
-impl<A: Allocator + Copy> Amendment<A> {
-    /// The key that it gives a plan.
+impl<A: Allocator + Copy> Former<A> {
+    /// The key that the plan had.
     pub(crate) fn key(&self) -> &Key
         ensures { result.now ≡ self.now.key }
     {
         &self.key
     }
 
-    /// The off-block moment that it gives a plan.
+    /// The off-block moment that the plan had.
     pub(crate) fn off_block(&self) -> Minute
         ensures { result ≡ self.now.off_block }
     {
@@ -254,45 +253,59 @@ impl<A: Allocator + Copy> Plan<A> {
         })
     }
 
-    /// What a message amends of the plan, with that key and that off-block moment. It takes memory for texts alone,
-    /// where the message amends one, and is refused where memory is.
-    #[tactic(auto, unfolding(crate::specs::Changes::amended_plan))]
-    pub(crate) fn amendment(
+    /// The texts that the plan has after a message. None where it keeps its own. Refused where memory is.
+    pub(crate) fn amended_texts(
         &self,
         alloc: A,
         message: &Chg<A>,
-        key: Key,
-        off_block: Minute,
-    ) -> Result<Amendment<A>, AllocError>
-        requires key { key ≡ key_after self.now.key message.now }
-        requires off_block { off_block < off_blocks_end }
-        ensures { IfOk result (λ a. with_amendment a self.now ≡ amended_plan off_block message.now self.now) }
+    ) -> Result<Option<Box<Texts<A>, A>>, AllocError>
+        ensures { IfOk result (λ texts. texts_or texts self.now.texts ≡ texts_after self.now.texts message.now) }
     {
-        let elapsed = elapsed_after(self.elapsed_time(), message.destination());
-        let texts = self.texts.amended(alloc, message)?;
-        Ok(Amendment {
-            key,
-            off_block,
-            elapsed: elapsed as u16,
-            alternates: alternates_after(&self.alternates, message.destination()),
-            rules: rules_after(self.rules, message.rules()),
-            exempt: exempt_after(self.exempt, message.other()),
-            texts,
-        })
+        self.texts.amended(alloc, message)
     }
 
-    /// Makes an amendment, which then has what the plan had before.
-    pub(crate) fn exchange(&mut self, amendment: &mut Amendment<A>)
-        ensures changed { self.new ≡ with_amendment amendment.old self.old }
-        ensures back { with_amendment amendment.new self.new ≡ self.old }
+    /// Makes the amendments of a message, with that off-block moment and its texts, and answers what the plan had
+    /// before.
+    #[tactic(auto, unfolding(crate::specs::Changes::amended_plan))]
+    pub(crate) fn amend(
+        &mut self,
+        message: &Chg<A>,
+        off_block: Minute,
+        mut texts: Option<Box<Texts<A>, A>>,
+    ) -> Former<A>
+        requires off_block { off_block < off_blocks_end }
+        requires texts { texts_or texts self.old.texts ≡ texts_after self.old.texts message.now }
+        ensures changed { self.new ≡ amended_plan off_block message.now self.old }
+        ensures back { with_former result self.new ≡ self.old }
     {
-        mem::swap(&mut self.alternates, &mut amendment.alternates);
-        mem::swap(&mut self.key, &mut amendment.key);
-        mem::swap(&mut self.off_block, &mut amendment.off_block);
-        mem::swap(&mut self.elapsed, &mut amendment.elapsed);
-        mem::swap(&mut self.rules, &mut amendment.rules);
-        mem::swap(&mut self.exempt, &mut amendment.exempt);
-        exchange_texts(&mut self.texts, &mut amendment.texts);
+        let key = self.key.amended(message);
+        let elapsed = elapsed_after(self.elapsed_time(), message.destination()) as u16;
+        let alternates = alternates_after(&self.alternates, message.destination());
+        let rules = rules_after(self.rules, message.rules());
+        let exempt = exempt_after(self.exempt, message.other());
+        exchange_texts(&mut self.texts, &mut texts);
+        Former {
+            alternates: mem::replace(&mut self.alternates, alternates),
+            key: mem::replace(&mut self.key, key),
+            off_block: mem::replace(&mut self.off_block, off_block),
+            elapsed: mem::replace(&mut self.elapsed, elapsed),
+            rules: mem::replace(&mut self.rules, rules),
+            exempt: mem::replace(&mut self.exempt, exempt),
+            texts,
+        }
+    }
+
+    /// Gives the plan back what it had before an amendment.
+    pub(crate) fn restore(&mut self, mut former: Former<A>)
+        ensures { self.new ≡ with_former former self.old }
+    {
+        exchange_texts(&mut self.texts, &mut former.texts);
+        self.alternates = former.alternates;
+        self.key = former.key;
+        self.off_block = former.off_block;
+        self.elapsed = former.elapsed;
+        self.rules = former.rules;
+        self.exempt = former.exempt;
     }
 
     /// Whether this is a held plan with that key.

@@ -7,14 +7,16 @@ ghost use Rattle.std.specs.Prelude.{OnErr, IfSome};
 ghost use Rattle.flow_plans.specs.Chains.{AreChained, StayChained};
 ghost use Rattle.flow_plans.specs.Entries.{subject};
 ghost use Rattle.flow_plans.specs.Plans.{is_held, plan_at, filed_off_block, changed_at, with_state};
-ghost use Rattle.flow_plans.specs.Plans.{with_off_block, with_amendment};
+ghost use Rattle.flow_plans.specs.Plans.{with_off_block, with_former, texts_or};
+ghost use Rattle.flow_plans.specs.Changes.{amended_plan, texts_after};
 ghost use Rattle.flow_plans.specs.declared.setup.TheConstants.{MAX_PLANS};
 ghost use Rattle.flow_plans.specs.Times.{off_blocks_end};
 
 use crate::chains::Chains;
 use crate::outline::Outline;
-use crate::plan::{Amendment, Plan, PlanState};
-use fpl_message::Spot;
+use crate::plan::{Former, Plan, PlanState};
+use crate::texts::Texts;
+use fpl_message::{Chg, Spot};
 use fpl_text::Minute;
 use std::alloc::{AllocError, Allocator, Global};
 use std::marker::Model;
@@ -172,16 +174,40 @@ impl<A: Allocator + Copy> PlanList<A> {
         self.outlines[place] = Outline::of(plan);
     }
 
-    /// Amends the plan of this number. The amendment then has what that plan had before.
-    pub(crate) fn exchange(&mut self, number: u32, amendment: &mut Amendment<A>)
-        requires { (0 < number) × (number ≤ length self.old) }
-        ensures changed { self.new ≡ changed_at (with_amendment amendment.old) number self.old }
-        ensures back { changed_at (with_amendment amendment.new) number self.new ≡ self.old }
+    /// Makes the amendments of a message to the plan of this number, with that off-block moment and its texts, and
+    /// answers what the plan had before.
+    #[tactic(auto, unfolding(crate::specs::Plans::changed_at))]
+    pub(crate) fn amend(
+        &mut self,
+        number: u32,
+        message: &Chg<A>,
+        off_block: Minute,
+        texts: Option<Box<Texts<A>, A>>,
+    ) -> Former<A>
+        requires number { (0 < number) × (number ≤ length self.old) }
+        requires off_block { off_block < off_blocks_end }
+        requires texts { IfSome (plan_at self.old number)
+            (λ plan. texts_or texts plan.texts ≡ texts_after plan.texts message.now) }
+        ensures changed { self.new ≡ changed_at (amended_plan off_block message.now) number self.old }
+        ensures back { changed_at (with_former result) number self.new ≡ self.old }
         ensures count { length self.new ≡ length self.old }
     {
         let place = (number - 1) as usize;
         let plan = &mut self.plans[place];
-        plan.exchange(amendment);
+        let former = plan.amend(message, off_block, texts);
+        self.outlines[place] = Outline::of(plan);
+        former
+    }
+
+    /// Gives the plan of this number back what it had before an amendment.
+    #[tactic(auto, unfolding(crate::specs::Plans::changed_at))]
+    pub(crate) fn restore(&mut self, number: u32, former: Former<A>)
+        requires { (0 < number) × (number ≤ length self.old) }
+        ensures { self.new ≡ changed_at (with_former former) number self.old }
+    {
+        let place = (number - 1) as usize;
+        let plan = &mut self.plans[place];
+        plan.restore(former);
         self.outlines[place] = Outline::of(plan);
     }
 }

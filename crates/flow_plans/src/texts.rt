@@ -1,12 +1,11 @@
 //! The field texts that a plan holds.
 ghost use Rattle.std.specs.Prelude.{◌≡◌, ◌≤◌, ◌<◌, ◌+◌, ◌++◌, true, length, List, ℕ, option_copied, MatchOption, IfOk};
-ghost use Rattle.std.specs.Prelude.{IfSome, IsSome, unwrap_or};
-ghost use Rattle.std.specs.Option.{option_map};
+ghost use Rattle.std.specs.Prelude.{IfSome, IsSome};
 ghost use Rattle.fpl_text.specs.Words.{words_of};
 ghost use Rattle.fpl_items.specs.Items.{items_of, elapsed_to};
 ghost use Rattle.fpl_items.specs.Estimates.{AreEstimatesOf};
 ghost use Rattle.flow_plans.specs.Changes.{texts_after};
-ghost use Rattle.flow_plans.specs.Plans.{Texts as Held};
+ghost use Rattle.flow_plans.specs.Plans.{Texts as Held, texts_or};
 ghost use Rattle.flow_plans.specs.Near.{word_at, HasBitsOf};
 ghost use Rattle.fpl_items.specs.Places.{bit_of, may_have};
 ghost use Rattle.fpl_text.specs.declared.time.TheConstants.{ELAPSED_LIMIT};
@@ -93,8 +92,8 @@ pub(crate) fn exchange_texts<A: Allocator + Copy>(
     held: &mut Texts<A>,
     others: &mut Option<Box<Texts<A>, A>>,
 )
-    ensures changed { held.new ≡ unwrap_or (option_map (λ t. t.value) others.old) held.old }
-    ensures back { unwrap_or (option_map (λ t. t.value) others.new) held.new ≡ held.old }
+    ensures changed { held.new ≡ texts_or others.old held.old }
+    ensures back { texts_or others.new held.new ≡ held.old }
 {
     if let Some(texts) = others {
         mem::swap(held, &mut **texts);
@@ -146,18 +145,25 @@ impl<A: Allocator + Copy> Texts<A> {
     }
 
     /// Texts in which each that a message amends stands in place of the one held. None where it amends none.
-    #[tactic(auto, unfolding(crate::specs::Changes::texts_after))]
     pub(crate) fn amended(
         &self,
         alloc: A,
         message: &Chg<A>,
     ) -> Result<Option<Box<Self, A>>, AllocError>
-        ensures { IfOk result (λ texts. unwrap_or (option_map (λ t. t.value) texts) self.now
-            ≡ texts_after self.now message.now) }
+        ensures { IfOk result (λ texts. texts_or texts self.now ≡ texts_after self.now message.now) }
     {
         if keeps_texts(message) {
             return Ok(None);
         }
+        Ok(Some(self.rewritten(alloc, message)?))
+    }
+
+    /// The same where the message amends some. Most amend none, and go past the locals of this.
+    #[inline(never)]
+    #[tactic(auto, unfolding(crate::specs::Changes::texts_after))]
+    fn rewritten(&self, alloc: A, message: &Chg<A>) -> Result<Box<Self, A>, AllocError>
+        ensures { IfOk result (λ texts. texts.value ≡ texts_after self.now message.now) }
+    {
         let texts = Texts::new(
             alloc,
             text_after(self.field8(), message.field8()),
@@ -167,7 +173,7 @@ impl<A: Allocator + Copy> Texts<A> {
             text_after(self.field18(), message.field18()),
             estimates_after(self.estimates(), message.other()),
         )?;
-        Ok(Some(Box::new(alloc, texts)?))
+        Ok(Box::new(alloc, texts)?)
     }
 
     pub(crate) fn field8(&self) -> &[u8]

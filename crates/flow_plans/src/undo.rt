@@ -5,9 +5,9 @@ ghost use Rattle.flow_plans.specs.Chains.{flight_of_key, AreChained, HasRoomFor}
 ghost use Rattle.flow_plans.specs.Plans.{is_held, plan_at, status_at, changed_at, with_state};
 ghost use Rattle.flow_plans.specs.declared.setup.TheConstants.{MAX_PLANS};
 
-use crate::amending::exchange;
+use crate::amending::change_chain;
 use crate::chains::{Chains, FlightName};
-use crate::plan::{Amendment, Plan, PlanState, Status};
+use crate::plan::{Former, Plan, PlanState, Status};
 use crate::plan_list::PlanList;
 use fpl_text::Minute;
 use std::alloc::{Allocator, Global};
@@ -24,7 +24,7 @@ pub(crate) enum LastChange<A: Allocator + Copy = Global> {
     /// The plan of this number was filed, and is now cancelled or has departed.
     Ended { number: u32 },
     /// The plan of this number had this before.
-    Amended { number: u32, former: Amendment<A> },
+    Amended { number: u32, former: Former<A> },
 }
 
 /// Undoes the last change of these plans. It takes no memory.
@@ -55,9 +55,10 @@ pub(crate) fn undo<A: Allocator + Copy>(
         LastChange::Ended { number } => {
             file_again(plans, chains, number);
         }
-        LastChange::Amended { number, mut former } => {
+        LastChange::Amended { number, former } => {
             let name = FlightName::of_key(former.key());
-            exchange(plans, chains, number, name, &mut former);
+            change_chain(plans.as_slice(), chains, number, name);
+            plans.restore(number, former);
         }
     }
 }

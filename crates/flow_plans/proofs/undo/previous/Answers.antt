@@ -2,7 +2,7 @@ use Rattle.std.proofs.Common.{◌≡◌, ◌∙◌, ◌-◌, ◌<◌, ℕ, List,
 use Rattle.std.specs.Option.{option_map}
 use Rattle.std.proofs.lemmas.Option.{slice_get-get_or}
 use Rattle.flow_plans.specs.declared.plan.PlanState.TheVariants as state
-use Rattle.flow_plans.specs.Plans.{Plan, plan_at, status_of, with_state, with_off_block, with_amendment}
+use Rattle.flow_plans.specs.Plans.{Plan, plan_at, status_of, with_state, with_off_block, with_former}
 use Rattle.flow_plans.proofs.Previous.{first-there, changed-elsewhere, changed-own}
 use Rattle.flow_plans.proofs.undo.previous.Goals.{in_default-via-in-Filed+else-place-plans, in_default-via-in-Delayed+else-number-delayed, in_default-via-in-Ended+else-number-ended, in_default-via-in-Amended+else-number-amended}
 use Rattle.flow_plans.proofs.undo.previous.Goals as goal
@@ -38,7 +38,7 @@ returns-in-Amended g c =
     let inside : n - 1 < length ps = omega (arith, within.0, within.1) in
     let at : plan_at ps n ≡ Some p = slice_get-get_or ps (n - 1) p inside ∙ ap Some (sym c.index-plans-place-in-Amended.is) in
     rw (c.in-Amended.is, sym c.if-number-amended.true, c.state-in-Amended.ensures, c.off_block-in-Amended.ensures)
-    (ap (option_map status_of) (sym (changed-own (with_amendment c.in-Amended.former) ps n p inside at)))
+    (ap (option_map status_of) (sym (changed-own (with_former c.in-Amended.former) ps n p inside at)))
 
 pub returns-in_default : goal.returns-in_default
 returns-in_default g c =
@@ -58,5 +58,5 @@ returns-in_default g c =
       | in_default-via-in-Amended+else-number-amended w ↦
           let within = rw w.in-Amended.is at c.requires.within in
           rw w.in-Amended.is
-          (c.status_at.ensures ∙ ap (option_map status_of) (sym (changed-elsewhere (with_amendment w.in-Amended.former) ps w.in-Amended.amended c.args.number within.0 c.requires.some w.if-number-amended.false)))
+          (c.status_at.ensures ∙ ap (option_map status_of) (sym (changed-elsewhere (with_former w.in-Amended.former) ps w.in-Amended.amended c.args.number within.0 c.requires.some w.if-number-amended.false)))
     ]
