@@ -3,6 +3,7 @@ pub mod Backs
 pub mod Filings
 pub mod FlightNumbers
 pub mod LastNumbers
+pub mod Letters
 pub mod ChainLemmas
 pub mod Walks
 pub mod Keepings

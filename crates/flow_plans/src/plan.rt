@@ -17,6 +17,7 @@ ghost use Rattle.flow_plans.specs.Times.{off_blocks_end};
 
 use crate::amended_values::{alternates_after, elapsed_after, exempt_after, rules_after};
 use crate::near::words_of_ends;
+use crate::places::letters_of;
 use crate::texts::{Texts, exchange_texts};
 use fpl_items::Other18;
 use fpl_message::{Chg, Fpl, Parts, Spot};
@@ -123,14 +124,22 @@ fn day_of<A: Allocator + Copy>(amended: Option<&Other18<A>>) -> Option<Day>
     }
 }
 
-/// Whether an aerodrome is that place. Most that are not differ in the fourth letter.
+/// Whether an aerodrome is that place. Places of four letters, as nearly all are, are compared as one number.
 #[inline(always)]
 fn is_place(aerodrome: &[u8], place: &[u8]) -> bool
     ensures { result ≡ bytes_eq aerodrome.now place.now }
 {
-    if aerodrome.len() == 4 && place.len() == 4 && aerodrome[3] != place[3] {
-        return false;
+    if aerodrome.len() == 4 && place.len() == 4 {
+        return letters_of(aerodrome) == letters_of(place);
     }
+    is_same(aerodrome, place)
+}
+
+/// Whether both are the same bytes.
+#[inline(never)]
+fn is_same(aerodrome: &[u8], place: &[u8]) -> bool
+    ensures { result ≡ bytes_eq aerodrome.now place.now }
+{
     aerodrome == place
 }
 
@@ -463,11 +472,18 @@ impl<A: Allocator + Copy> Plan<A> {
                     None
                 }
             }
-            Spot::Via(place) => {
-                let minutes = self.elapsed(place.as_bytes())?;
-                self.take_off(taxi).plus(minutes)
-            }
+            Spot::Via(place) => self.entry_on_way(taxi, place),
         }
+    }
+
+    /// The moment of entry at a place of the way.
+    #[tactic(auto, unfolding(crate::specs::Entries::entry_at))]
+    fn entry_on_way(&self, taxi: u32, place: &Text<11>) -> Option<Minute>
+        requires { taxi ≤ MAX_TAXI }
+        ensures { result ≡ entry_at taxi (Spot.Via place.now) self.now }
+    {
+        let minutes = self.elapsed(place.as_bytes())?;
+        self.take_off(taxi).plus(minutes)
     }
 
     /// The entry at the place of a regulation that applies to the flight.
@@ -493,7 +509,7 @@ impl<A: Allocator + Copy> Plan<A> {
         if moment < start || end <= moment {
             return None;
         }
-        if self.key.dep.as_bytes() == b"AFIL".as_slice() {
+        if is_place(self.key.dep.as_bytes(), b"AFIL") {
             return None;
         }
         Some(moment)
