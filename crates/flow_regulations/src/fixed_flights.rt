@@ -17,6 +17,9 @@ pub(crate) fn note_fixed<A: Allocator + Copy>(
     ensures all { OnOk result ((n : ℕ) → IsSome (fixed_slot list.now.lineup n) → Contains flights.new.items n) }
 {
     flights.clear();
+    if list.keeps_none() {
+        return Ok(());
+    }
     let last = list.max_plans();
     let mut number = list.next_held(1);
     while number <= last {

@@ -32,4 +32,5 @@ pub mod Steps
 pub mod TakenBack
 pub mod Tied
 pub mod Undone
+pub mod Unfixed
 pub mod UndoneAll

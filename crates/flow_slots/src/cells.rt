@@ -1,12 +1,12 @@
 //! The row of slots as its callers see it: what stands in each slot, and how often slots were written.
 ghost use Rattle.std.specs.Prelude.{◌≡◌, ◌+◌, ◌-◌, ◌^◌, ◌<◌, ◌≤◌, ◌++◌, true, ◌↔◌, IfOk, IsTrue};
-ghost use Rattle.std.specs.Prelude.{None, Some, drop, length, replicate, take};
+ghost use Rattle.std.specs.Prelude.{None, Some, [], drop, length, replicate, take};
 ghost use Rattle.flow_slots.specs.CellRow.{CellRow, written};
 ghost use Rattle.flow_slots.specs.Changed.{gained};
 ghost use Rattle.flow_slots.specs.MadeRow.{counted};
 ghost use Rattle.flow_slots.specs.PackedCell.{IsStored};
 ghost use Rattle.flow_slots.specs.Period.{first_slot};
-ghost use Rattle.flow_slots.specs.Row.{cell_at, flight_at, place_at, EntriesWithin, IsTied};
+ghost use Rattle.flow_slots.specs.Row.{cell_at, fixed_of, flight_at, place_at, EntriesWithin, IsTied};
 ghost use Rattle.flow_slots.specs.Walk.{close, displace, has_empty, AllFollow};
 ghost use Rattle.flow_slots.specs.declared.cell.Cell.TheVariants.{Empty, Waiting};
 
@@ -91,6 +91,13 @@ impl<A: Allocator + Copy> Cells<A> {
         ensures kept { IsStored self.now.start result }
     {
         self.made.cell(k)
+    }
+
+    /// Whether no flight keeps a slot.
+    pub(crate) fn keeps_none(&self) -> bool
+        ensures { IsTrue result ↔ (fixed_of 0 self.now.row ≡ []) }
+    {
+        self.made.keeps_none()
     }
 
     /// Takes `flight` in from slot `from` on: it gets the first slot that is empty or held by a later flight, which

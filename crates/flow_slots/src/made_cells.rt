@@ -1,12 +1,12 @@
 //! The cells of a row, made as they are needed.
-ghost use Rattle.std.specs.Prelude.{◌≡◌, ◌+◌, ◌-◌, ◌<◌, ◌≤◌, ◌++◌, ◌^◌, IfOk, true, drop};
+ghost use Rattle.std.specs.Prelude.{◌≡◌, ◌+◌, ◌-◌, ◌<◌, ◌≤◌, ◌++◌, ◌^◌, ◌↔◌, IfOk, IsTrue, true, drop, []};
 ghost use Rattle.std.specs.Prelude.{None, Some, length, min, replicate, slice_set, take, vec_capacity};
 ghost use Rattle.flow_slots.specs.CellRow.{one_more};
 ghost use Rattle.flow_slots.specs.Changed.{gained};
 ghost use Rattle.flow_slots.specs.MadeRow.{MadeRow, EndsEmpty, counted};
 ghost use Rattle.flow_slots.specs.PackedCell.{IsStored};
 ghost use Rattle.flow_slots.specs.Period.{first_slot};
-ghost use Rattle.flow_slots.specs.Row.{cell_at, flight_at, place_at, EntriesWithin, IsTied};
+ghost use Rattle.flow_slots.specs.Row.{cell_at, fixed_of, flight_at, place_at, EntriesWithin, IsTied};
 ghost use Rattle.flow_slots.specs.Walk.{close, displace, has_empty, AllFollow};
 ghost use Rattle.flow_slots.specs.declared.cell.Cell.TheVariants.{Empty, Waiting};
 
@@ -14,7 +14,7 @@ use crate::cell::{Cell, Planned};
 use crate::chains::{displace, first_later, vacate};
 use crate::first_slots::FirstSlots;
 use crate::held_slot::HeldSlot;
-use crate::packed_cell::{PackedCell, PackedFlight};
+use crate::packed_cell::{PackedCell, PackedFlight, are_unfixed};
 use std::alloc::{AllocError, Allocator};
 use std::marker::Model;
 
@@ -106,6 +106,13 @@ impl<A: Allocator + Copy> MadeCells<A> {
         } else {
             Cell::Empty
         }
+    }
+
+    /// Whether no flight keeps a slot.
+    pub(crate) fn keeps_none(&self) -> bool
+        ensures { IsTrue result ↔ (fixed_of 0 self.now.row ≡ []) }
+    {
+        are_unfixed(&self.row)
     }
 
     /// Makes the cells up to slot `k`, and an empty one at their end where the row has room.

@@ -3,6 +3,7 @@
 //! It has the minutes of an entry from a start, which the row keeps once: that of its period. A period has at most
 //! 1,440 minutes, and 17 bits are there for them; 15 bits are there for a flight's number, which is at most 20,000.
 ghost use Rattle.std.specs.Prelude.{◌≡◌, ◌+◌, ◌*◌, ◌/◌, ◌%◌, ◌^◌, ◌<◌, ◌≤◌, ◌↔◌, false, IfNone, IfSome, IsTrue};
+ghost use Rattle.std.specs.List.{All};
 ghost use Rattle.flow_slots.specs.PackedCell.{IsStored, flight_from, from_start};
 ghost use Rattle.flow_slots.specs.Row.{IsFixedCell};
 ghost use Rattle.flow_slots.specs.Walk.{waits, waits_before};
@@ -221,4 +222,15 @@ impl PackedCell {
             Cell::Fixed(flight) => self.word = word_of(NO_ENTRY, flight),
         }
     }
+}
+
+/// Whether no flight keeps one of these slots. It looks at all of them, so that several are looked at at once.
+pub(crate) fn are_unfixed(cells: &[PackedCell]) -> bool
+    ensures { IsTrue result ↔ All (λ cell. IsFixedCell cell → ⊥) cells.now }
+{
+    let mut kept = false;
+    for cell in cells {
+        kept |= cell.is_fixed();
+    }
+    !kept
 }

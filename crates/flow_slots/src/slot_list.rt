@@ -230,6 +230,13 @@ impl<A: Allocator + Copy> SlotList<A> {
         }
     }
 
+    /// Whether no flight keeps a slot.
+    pub fn keeps_none(&self) -> bool
+        ensures { IsTrue result ↔ (self.now.lineup.fixed ≡ []) }
+    {
+        self.row.cells.keeps_none()
+    }
+
     /// Whether a flight keeps its slot. No flight keeps two slots, and none that keeps one waits.
     #[inline(always)]
     pub fn is_fixed(&self, flight: u32) -> bool
