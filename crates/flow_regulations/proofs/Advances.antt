@@ -38,6 +38,19 @@ advancing-start done taxi now plans l none = record {
   };
 }
 
+-- of any flights, where none that waits is due
+pub advancing-none : (done : ℕ → Bool) (taxi now : ℕ) (plans : List Plan) (l : Listed) → NoneDue now plans l → IsAdvancing done taxi now plans l l
+advancing-none done taxi now plans l none = record {
+  capacity = refl;
+  advanced = λ max listed stay. record {
+    regulation = refl;
+    listed = listed;
+    stay = stay;
+    waiting = all-map (λ w. is_due_flight now plans w.flight ≡ false) (λ w. done w.flight ≡ true → is_due_flight now plans w.flight ≡ false) l.lineup.waiting (λ w h q. h) none;
+    undue = λ earlier h. h;
+  };
+}
+
 -- one more flight
 abbrev pub OneMore : ℕ → (ℕ → Bool) → (ℕ → Bool) → Type 0
 OneMore n done more = (f : ℕ) → more f ≡ (done f || eqb n f)

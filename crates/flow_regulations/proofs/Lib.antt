@@ -34,5 +34,6 @@ pub mod Stays
 pub mod Steps
 pub mod Subjects
 pub mod Turns
+pub mod Undue
 pub mod Waiting
 pub mod Walks

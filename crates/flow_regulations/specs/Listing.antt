@@ -5,6 +5,7 @@ use Rattle.std.specs.Option.{option_map_or, is_some}
 use Rattle.std.specs.Str.{bytes_eq}
 use Rattle.fpl_message.specs.declared.order.Spot.{Spot}
 use Rattle.flow_plans.specs.Plans.{Plan, plan_at}
+use Rattle.flow_slots.specs.declared.cell.Planned.{Planned}
 use Rattle.flow_slots.specs.Period.{Period, IsRegular}
 use Rattle.flow_slots.specs.Assignment.{Placed, is_in}
 use Rattle.flow_slots.specs.Lineup.{Lineup, IsLineup, held_slot, fixed_slot, with_waiting, without_flight}
@@ -141,9 +142,13 @@ pub record AreFrozen (taxi max flight : ℕ) (before : List Plan) (lists new : L
 abbrev pub AllStay : ℕ → ℕ → List Plan → Listed → Type 0
 AllStay taxi now plans l = AllByRecursion (λ a. (0 < a.flight) × (stays taxi now plans (regulation_of l) a ≡ true)) l.lineup.fixed
 
+-- none of these flights is due
+abbrev pub AreUndue : ℕ → List Plan → List Planned → Type 0
+AreUndue now plans flights = AllByRecursion (λ w. is_due_flight now plans w.flight ≡ false) flights
+
 -- no waiting flight is due
 abbrev pub NoneDue : ℕ → List Plan → Listed → Type 0
-NoneDue now plans l = AllByRecursion (λ w. is_due_flight now plans w.flight ≡ false) l.lineup.waiting
+NoneDue now plans l = AreUndue now plans l.lineup.waiting
 
 -- on the way to the settled regulation: of these flights, those that are due are fixed
 pub record IsAdvanced (done : ℕ → Bool) (taxi max now : ℕ) (plans : List Plan) (l m : Listed) : Type 0 where

@@ -1,10 +1,10 @@
 //! When a flight is due: its slot is issued two hours before its off-block moment, and kept from then on (ATFCM Users
 //! Manual, slot issue).
 ghost use Rattle.std.specs.Prelude.{◌≡◌, ◌<◌, ◌+◌, Some};
-ghost use Rattle.flow_plans.specs.Plans.{Plan as Held, plan_at, is_filed};
+ghost use Rattle.flow_plans.specs.Plans.{Plan as Held, plan_at};
 ghost use Rattle.flow_regulations.specs.Settling.{is_due};
 
-use flow_plans::{Plan, PlanState, PlanStore};
+use flow_plans::PlanStore;
 use fpl_text::Minute;
 use std::alloc::Allocator;
 
@@ -20,19 +20,13 @@ pub fn due_until(now: Minute) -> u32
 }
 
 /// Whether the flight of this number is due: filed, and at most two hours before its off-block moment.
+#[inline(always)]
 pub(crate) fn is_due<A: Allocator + Copy>(plans: &PlanStore<A>, number: u32, now: Minute) -> bool
     requires { 0 < number }
     ensures { (p : Held) → plan_at plans.now.plans number ≡ Some p → result ≡ is_due now p }
 {
-    match plans.plan(number) {
-        Some(plan) => is_filed(plan) && plan.off_block().minutes() <= due_until(now),
+    match plans.filed_off_block(number) {
+        Some(off_block) => off_block.minutes() <= due_until(now),
         None => false,
     }
-}
-
-/// Whether a plan is filed, and neither departed nor cancelled.
-fn is_filed<A: Allocator + Copy>(plan: &Plan<A>) -> bool
-    ensures { result ≡ is_filed plan.now.state }
-{
-    matches!(plan.state(), PlanState::Filed)
 }

@@ -1,6 +1,6 @@
 //! The open regulations.
 ghost use Rattle.std.specs.Prelude.{◌≡◌, ◌<◌, ◌≤◌, ◌+◌, ◌-◌, ◌++◌, ℕ, List, [], false, true, ◌∷◌, None, Some, IfSome};
-ghost use Rattle.std.specs.Prelude.{IfNone, IsTrue, ◌↔◌, MatchOption, OnOk, OnErr, length, map, replicate};
+ghost use Rattle.std.specs.Prelude.{IfNone, IfOk, IsTrue, ◌↔◌, MatchOption, OnOk, OnErr, length, map, replicate};
 ghost use Rattle.std.specs.Prelude.{vec_capacity};
 ghost use Rattle.std.specs.List.{All, AllByRecursion, insert, list_any};
 ghost use Rattle.std.specs.List.Sorted.{IsNonDecreasing, IsStrictlyIncreasing};
@@ -10,7 +10,7 @@ ghost use Rattle.flow_regulations.specs.Advice.{advice};
 ghost use Rattle.flow_regulations.specs.Awaiting.{HaveBecomeDue};
 ghost use Rattle.flow_regulations.specs.Listing.{Listed, Walked, without_in, IsLookedAgain, IsListed, AreSettledBut};
 ghost use Rattle.flow_regulations.specs.Listing.{AreSameBut, AreRenewed, IsFixedWaiting, AreFrozen, IsSettled};
-ghost use Rattle.flow_regulations.specs.Listing.{IsAdvancing, is_below, is_among, with_fixed_waiting, AreDue};
+ghost use Rattle.flow_regulations.specs.Listing.{IsAdvancing, is_below, is_among, with_fixed_waiting, AreDue, AreUndue, NoneDue};
 ghost use Rattle.flow_regulations.specs.Listing.{HoldNewlyDue, HaveCapacity, names_in, IsReleased, IsOpened, opened};
 ghost use Rattle.flow_regulations.specs.Listing.{is_named, without_named, lineup_named, keeps_slot_in, IsNamedAt};
 ghost use Rattle.flow_regulations.specs.Listing.{MayReopen, pairs_in, regulation_of};
@@ -24,6 +24,7 @@ ghost use Rattle.flow_plans.specs.declared.setup.TheConstants.{MAX_PLANS};
 
 use crate::advice::advice_of;
 use crate::closed::Closed;
+use crate::due::is_due;
 use crate::entry_asked::EntryAsked;
 use crate::fixed_flights::note_fixed;
 use crate::in_order::put_in_order;
@@ -135,8 +136,9 @@ impl<A: Allocator + Copy> Regulations<A> {
         self.regulations.reserve(1)?;
         make_room(&mut self.words, alloc, self.max_plans)?;
         make_room(&mut self.rows, alloc, LAST_ROW)?;
-        let_all_in(&mut regulation, plans, &mut self.coming, &mut self.targets)?;
-        settle(&mut regulation, plans, now);
+        let (coming, targets) = (&mut self.coming, &mut self.targets);
+        let due = let_all_in(&mut regulation, plans, now, coming, targets)?;
+        settle(&mut regulation, plans, now, due);
         open_last(&mut self.words, &self.regulations, &regulation);
         open_last_row(&mut self.rows, &self.regulations, &regulation);
         self.regulations.push_reserved(regulation);
@@ -520,39 +522,44 @@ fn release_in<A: Allocator + Copy>(
 }
 
 /// Lets the flights that a new regulation applies to wait in it: they are noted in memory that is kept, put in order,
-/// and taken in at once. Refused where memory is.
+/// and taken in at once. Answers whether one of them is due. Refused where memory is.
 fn let_all_in<A: Allocator + Copy>(
     regulation: &mut Regulation<A>,
     plans: &PlanStore<A>,
+    now: Minute,
     coming: &mut Vec<Planned, A>,
     targets: &mut Vec<u32, A>,
-) -> Result<(), AllocError>
+) -> Result<bool, AllocError>
     requires room { length plans.now.plans ≤ regulation.old.lineup.capacity }
     requires empty { regulation.old ≡ opened plans.now.taxi [] regulation.old }
-    ensures { OnOk result (regulation.new ≡ opened plans.now.taxi plans.now.plans regulation.old) }
+    ensures opened { OnOk result (regulation.new ≡ opened plans.now.taxi plans.now.plans regulation.old) }
+    ensures due { IfOk result (λ due. due ≡ false → NoneDue now plans.now.plans regulation.new) }
 {
     coming.clear();
     coming.reserve(plans.count() as usize)?;
     targets.clear();
     targets.reserve(plans.count() as usize)?;
-    note_coming(regulation, plans, coming);
+    let due = note_coming(regulation, plans, now, coming);
     let (start, _end) = regulation.list().shape().period();
     put_in_order(coming, start, targets);
     regulation.fill(coming);
-    Ok(())
+    Ok(due)
 }
 
-/// Notes the flights that a regulation applies to, by number.
+/// Notes the flights that a regulation applies to, by number, and answers whether one of them is due.
 fn note_coming<A: Allocator + Copy>(
     regulation: &Regulation<A>,
     plans: &PlanStore<A>,
+    now: Minute,
     coming: &mut Vec<Planned, A>,
-)
+) -> bool
     requires none { coming.old.items ≡ [] }
     requires room { length plans.now.plans ≤ vec_capacity coming.old }
-    ensures { coming.new.items ≡ coming_from 1 plans.now.taxi (regulation_of regulation.now) plans.now.plans }
+    ensures coming { coming.new.items ≡ coming_from 1 plans.now.taxi (regulation_of regulation.now) plans.now.plans }
+    ensures due { result ≡ false → AreUndue now plans.now.plans coming.new.items }
 {
     let count = plans.count();
+    let mut due = false;
     let mut number = regulation.next_coming(plans, 1);
     while number <= count {
         if let Some(entry) = regulation.subject(plans, number) {
@@ -561,16 +568,27 @@ fn note_coming<A: Allocator + Copy>(
                 entry,
                 flight: number,
             });
+            due |= is_due(plans, number, now);
         }
         number = regulation.next_coming(plans, number + 1);
     }
+    due
 }
 
-/// Fixes the flights that are due, where they wait.
-fn settle<A: Allocator + Copy>(regulation: &mut Regulation<A>, plans: &PlanStore<A>, now: Minute)
+/// Fixes the flights that are due, where they wait. It looks at none where the caller knows that none is due.
+fn settle<A: Allocator + Copy>(
+    regulation: &mut Regulation<A>,
+    plans: &PlanStore<A>,
+    now: Minute,
+    due: bool,
+)
+    requires { due ≡ false → NoneDue now plans.now.plans regulation.old }
     ensures { IsAdvancing
         (is_below (length plans.now.plans + 1)) plans.now.taxi now plans.now.plans regulation.old regulation.new }
 {
+    if !due {
+        return;
+    }
     let count = plans.count();
     let mut number = regulation.next_held(1);
     while number <= count {

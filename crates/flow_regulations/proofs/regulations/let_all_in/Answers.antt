@@ -10,6 +10,7 @@ use Rattle.flow_regulations.specs.Regulations.{Regulation, coming_from, waiting_
 use Rattle.flow_regulations.specs.Listing.{Listed, regulation_of, with_lineup}
 use Rattle.flow_regulations.proofs.Coming.{sorted-waiting, may-fill}
 use Rattle.flow_regulations.proofs.Openings.{coming-few}
+use Rattle.flow_regulations.proofs.Undue.{undue-opened}
 use Rattle.flow_regulations.proofs.regulations.let_all_in.Goals as goal
 
 -- what a vector holds whose items were put in order are the waiting flights
@@ -22,7 +23,7 @@ in-order taxi n r plans noted row read few is all moved up e =
 pub put_in_order-requires : goal.put_in_order-requires
 put_in_order-requires g c =
     let few = coming-few 1 c.args.plans.now.taxi (regulation_of c.args.regulation.now) c.args.plans.now.plans in
-    let noted = ap length c.note_coming.ensures in
+    let noted = ap length c.note_coming-due.ensures.coming in
     let all = ap length c.deref_mut.ensures.value in
     omega (arith, few, noted, all, c.in_ok-reserve-2.ensures.ok, c.count-2.ensures.count)
 
@@ -32,23 +33,27 @@ fill-requires g c =
     let taxi = c.args.plans.now.taxi in
     let l : Listed = c.args.regulation.now in
     let r : Regulation = regulation_of l in
-    let noted : List Planned = c.note_coming.new.coming.items in
+    let noted : List Planned = c.note_coming-due.new.coming.items in
     let row : List Planned = c.put_in_order.new.flights in
     let moved : IsPermutation noted row = subst (λ xs. IsPermutation xs row) c.deref_mut.ensures.value c.put_in_order.ensures.permutation in
-    let waiting = in-order taxi c.note_coming.new.coming.len r plans noted row c.deref.result.now (omega (arith, c.count.ensures.count, c.count.ensures.bound)) c.note_coming.ensures (omega (arith, c.note_coming.new.coming.ok.0)) moved c.put_in_order.ensures.order c.deref.ensures.value in
+    let waiting = in-order taxi c.note_coming-due.new.coming.len r plans noted row c.deref.result.now (omega (arith, c.count.ensures.count, c.count.ensures.bound)) c.note_coming-due.ensures.coming (omega (arith, c.note_coming-due.new.coming.ok.0)) moved c.put_in_order.ensures.order c.deref.ensures.value in
     let none : l.lineup.waiting ≡ [] = ap (λ v. v.lineup.waiting) c.requires.empty in
     let unfixed : l.lineup.fixed ≡ [] = ap (λ v. v.lineup.fixed) c.requires.empty in
     let M : List Planned → Type 0 = λ ws. MayFill ws l.lineup in
     subst M (sym waiting) (may-fill taxi r plans l.lineup none unfixed (search rules) c.requires.room)
 
-pub returns : goal.returns
-returns g c =
+pub returns-clause-opened : goal.returns-clause-opened
+returns-clause-opened g c =
     let plans : List Plan = c.args.plans.now.plans in
     let taxi = c.args.plans.now.taxi in
     let l : Listed = c.args.regulation.now in
     let r : Regulation = regulation_of l in
-    let noted : List Planned = c.note_coming.new.coming.items in
+    let noted : List Planned = c.note_coming-due.new.coming.items in
     let row : List Planned = c.put_in_order.new.flights in
     let moved : IsPermutation noted row = subst (λ xs. IsPermutation xs row) c.deref_mut.ensures.value c.put_in_order.ensures.permutation in
-    let waiting = in-order taxi c.note_coming.new.coming.len r plans noted row c.deref.result.now (omega (arith, c.count.ensures.count, c.count.ensures.bound)) c.note_coming.ensures (omega (arith, c.note_coming.new.coming.ok.0)) moved c.put_in_order.ensures.order c.deref.ensures.value in
+    let waiting = in-order taxi c.note_coming-due.new.coming.len r plans noted row c.deref.result.now (omega (arith, c.count.ensures.count, c.count.ensures.bound)) c.note_coming-due.ensures.coming (omega (arith, c.note_coming-due.new.coming.ok.0)) moved c.put_in_order.ensures.order c.deref.ensures.value in
     c.fill.ensures ∙ ap (λ ws. with_lineup (with_all_waiting ws l.lineup) l) waiting
+
+pub returns-clause-due : goal.returns-clause-due
+returns-clause-due g c = λ undue.
+    undue-opened c.args.plans.now.taxi c.args.now c.args.plans.now.plans c.args.regulation.now c.fill.new.self c.note_coming-due.new.coming.items c.note_coming-due.ensures.coming (returns-clause-opened g c) (c.note_coming-due.ensures.due undue)

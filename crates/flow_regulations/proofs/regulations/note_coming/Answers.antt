@@ -1,8 +1,9 @@
-use Rattle.std.proofs.Common.{◌≡◌, ℕ, ◌+◌, ◌-◌, ◌≤◌, ◌++◌, List, [], ◌∷◌, length, take, sym, ap, ◌∙◌, arith}
+use Rattle.std.proofs.Common.{◌≡◌, ℕ, ◌+◌, ◌-◌, ◌≤◌, ◌++◌, List, [], ◌∷◌, length, take, sym, ap, subst, ◌∙◌, refl, arith}
 use Rattle.std.proofs.lemmas.List.{append-nil, length-take-le}
 use Rattle.flow_regulations.specs.Regulations.{Regulation, entering}
 use Rattle.flow_slots.specs.declared.cell.Planned.{Planned}
-use Rattle.flow_regulations.specs.Listing.{regulation_of}
+use Rattle.flow_regulations.specs.Listing.{regulation_of, AreUndue}
+use Rattle.flow_regulations.proofs.Undue.{undue-on}
 use Rattle.flow_regulations.proofs.Looked.{plan-there}
 use Rattle.flow_regulations.proofs.Openings.{coming-past, coming-on, coming-few}
 use Rattle.flow_regulations.proofs.regulations.note_coming.Goals as goal
@@ -18,6 +19,7 @@ loop-number-init g c =
       some = omega (arith, next.ensures.from);
       noted = c.requires.none ∙ sym (coming-past c.args.plans.now.taxi k 0 k r c.args.plans.now.plans start (λ n p low high at. next.ensures.passed n p (omega (arith, low)) (omega (arith, high, next.ensures.from)) at));
       room = c.requires.room;
+      undue = λ _. subst (AreUndue c.args.now c.args.plans.now.plans) (sym c.requires.none) tt;
     }
 
 pub push_reserved-requires : goal.push_reserved-requires
@@ -52,6 +54,7 @@ loop-number-preserved g c =
                 (w.push_reserved.ensures.items ∙ (ap (λ e. coming ++ (let x : Planned = record { entry = e; flight = n } in x) ∷ []) w.minutes-entry.ensures.value ∙ ap (λ o. coming ++ entering o n []) (sym w.in-Some.is)))
                 next.ensures.passed;
             room = omega (arith, inv.room, w.push_reserved.ensures.capacity);
+            undue = undue-on c.args.now n plans p.0 c.loop-number.due w.is_due-due.result c.match-subject.due coming w.push_reserved.new.self.items (record { entry = w.minutes-entry.result; flight = n }) p.1 (w.is_due-due.ensures p.0 p.1) w.due-is inv.undue refl w.push_reserved.ensures.items;
           })
       | in_default w ↦
           rw w.coming-is (record {
@@ -60,5 +63,6 @@ loop-number-preserved g c =
                 (sym (append-nil coming) ∙ ap (λ o. coming ++ entering o n []) (sym w.in_default.is))
                 next.ensures.passed;
             room = inv.room;
+            undue = λ q. inv.undue (sym w.due-is ∙ q);
           })
     ]

@@ -1,7 +1,7 @@
 use Rattle.std.proofs.Common.{ℕ, ◌+◌, ◌≤◌, length, arith}
 use Rattle.std.proofs.lemmas.Bool.{le-ltb}
 use Rattle.flow_regulations.specs.Listing.{Listed, is_below}
-use Rattle.flow_regulations.proofs.Advances.{advancing-start, advancing-due, advancing-out, advancing-fewer, below-more}
+use Rattle.flow_regulations.proofs.Advances.{advancing-start, advancing-due, advancing-out, advancing-fewer, advancing-none, below-more}
 use Rattle.flow_regulations.proofs.regulations.settle.Goals as goal
 
 pub loop-number-init : goal.loop-number-init
@@ -29,6 +29,11 @@ loop-number-preserved g c =
       some = omega (arith, next.ensures.from);
       advancing = advancing-out (n + 1) next.result taxi c.args.now plans o x next.ensures.passed one;
     }
+
+pub returns-then-not-due : goal.returns-then-not-due
+returns-then-not-due g c =
+    let plans = c.args.plans.now.plans in
+    advancing-none (is_below (length plans + 1)) c.args.plans.now.taxi c.args.now plans c.args.regulation.now (c.requires c.if-not-due.true)
 
 pub returns : goal.returns
 returns g c =

@@ -18,7 +18,7 @@ returns-clause-opened g c =
     let x : Listed = c.settle.new.regulation in
     let o : Listed = c.let_all_in.new.regulation in
     let empty : o ≡ opened taxi plans (with_no_flights c.args.id c.args.spot c.args.shape c.args.self.now.max_plans) =
-    c.in_ok-let_all_in.ensures ∙ (ap (λ v. opened taxi plans v) c.in_ok-regulation.ensures.empty ∙ ap (λ m. opened taxi plans (with_no_flights c.args.id c.args.spot c.args.shape m)) max) in
+    c.in_ok-due.ensures.opened ∙ (ap (λ v. opened taxi plans v) c.in_ok-regulation.ensures.empty ∙ ap (λ m. opened taxi plans (with_no_flights c.args.id c.args.spot c.args.shape m)) max) in
     let all = opened-settled taxi c.args.self.now.max_plans c.args.now plans c.args.id c.args.spot c.args.shape o x empty (record { capacity = c.settle.ensures.capacity; advanced = c.settle.ensures.advanced }) in
     (x, c.push_reserved.ensures.items ∙ ap (λ xs. xs ++ x ∷ []) (c.in_ok-reserve.ensures.items ∙ ap (λ v. v.lists) c.self.view_is), all.0, all.1, all.2)
 
@@ -50,7 +50,7 @@ invariant_of-self-2 g c =
     let plans = c.args.plans.now.plans in
     let x : Listed = c.settle.new.regulation in
     let o : Listed = c.let_all_in.new.regulation in
-    let empty : o ≡ opened taxi plans (with_no_flights c.args.id c.args.spot c.args.shape s.max_plans) = c.in_ok-let_all_in.ensures ∙ ap (λ v. opened taxi plans v) c.in_ok-regulation.ensures.empty in
+    let empty : o ≡ opened taxi plans (with_no_flights c.args.id c.args.spot c.args.shape s.max_plans) = c.in_ok-due.ensures.opened ∙ ap (λ v. opened taxi plans v) c.in_ok-regulation.ensures.empty in
     let all = opened-settled taxi s.max_plans c.args.now plans c.args.id c.args.spot c.args.shape o x empty (record { capacity = c.settle.ensures.capacity; advanced = c.settle.ensures.advanced }) in
     let name : x.id ≡ c.args.id = ap (λ r. r.id) all.0 ∙ settled-name taxi c.args.now plans (record { id = c.args.id; spot = c.args.spot; period = c.args.shape; fixed = [] }) in
     let capacity : x.lineup.capacity ≡ s.max_plans = c.settle.ensures.capacity ∙ ap (λ v. v.lineup.capacity) empty in
@@ -95,8 +95,8 @@ invariant_of-self-in_err-make_room-2 g c =
     let Z : List Listed → Type 0 = λ ls. AreInRows c.make_room-2.new.words.items 0 ls in
     (c.self.invariant.0, c.self.invariant.1, subst H (sym is) c.self.invariant.2, subst A (sym is) c.self.invariant.3, subst M (sym is) marked, subst Z (sym is) rows)
 
-pub invariant_of-self-in_err-let_all_in : goal.invariant_of-self-in_err-let_all_in
-invariant_of-self-in_err-let_all_in g c =
+pub invariant_of-self-in_err-due : goal.invariant_of-self-in_err-due
+invariant_of-self-in_err-due g c =
     let s = c.self.inside in
     let H : List Listed → Type 0 = HaveCapacity s.max_plans in
     let A : List Listed → Type 0 = λ ls. AreApart (names_in ls) in
