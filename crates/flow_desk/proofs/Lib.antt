@@ -9,4 +9,5 @@ pub mod Slotting
 pub mod Resuming
 pub mod Faults
 pub mod Running
+pub mod Turns
 pub mod Gathering

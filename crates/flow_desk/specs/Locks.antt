@@ -1,5 +1,5 @@
 -- What is true of what lies under the lock, and of the core that it ends with.
-use Rattle.std.specs.Prelude.{◌≡◌, ℕ, ◌<◌, ◌≤◌, true, List, length, slice_index, Option, MatchOption}
+use Rattle.std.specs.Prelude.{◌≡◌, ℕ, ◌<◌, ◌≤◌, true, List, length, slice_index}
 use mathlib.Core.List.{IsPrefix}
 use Rattle.std.specs.List.{All}
 use Rattle.logbook.specs.Pages.{Book}
@@ -19,7 +19,7 @@ pub record Counts (feeders : ℕ) (es : List Record) (counts : List ℕ) : Type 
   pub below : All (λ e. e.input.feeder < feeders) es
 
 -- whenever the lock is free the core is the desk of one thread over its journal, which is the history and what is published
-pub record IsLocked (book : Book) (setup : Settings) (feeders : ℕ) (core : History) (head : Book) (front : FrontView) (counts : List ℕ) (publisher : Option WriterView) : Type 0 where
+pub record IsLocked (book : Book) (setup : Settings) (feeders : ℕ) (core : History) (head : Book) (front : FrontView) (counts : List ℕ) (publisher : WriterView) : Type 0 where
   pub setup_is : core.setup ≡ setup
   pub one_thread : state_of core ≡ after setup (state_of core).journal
   pub head_is : head ≡ book
@@ -27,7 +27,7 @@ pub record IsLocked (book : Book) (setup : Settings) (feeders : ℕ) (core : His
   pub entries_are : front.entries ≡ (state_of core).journal
   pub counted : Counts feeders (state_of core).journal counts
   pub few : feeders ≤ MAX_FEEDERS
-  pub published : MatchOption publisher ⊥ (λ p. (p.knows ≡ true) × (p.book ≡ book) × (p.setup ≡ setup) × (p.entries ≡ (state_of core).journal))
+  pub published : (publisher.knows ≡ true) × (publisher.book ≡ book) × (publisher.setup ≡ setup) × (publisher.entries ≡ (state_of core).journal)
 
 -- the history begins with what the pass has seen, which has all of its feeder's entries; they are as many as its receipts
 pub record Agrees (es : List Record) (p : PassView) : Type 0 where

@@ -54,3 +54,25 @@ pub record Filed (setup : Settings) (p : PassView) (text : FilingText) (r : Rece
   pub seen : q.seen ≡ before ++ entry p.feeder text r ∷ []
   pub feeder : q.feeder ≡ p.feeder
   pub receipts : q.receipts ≡ p.receipts + 1
+
+-- the pass p as it is when it has seen all of this history, and has a receipt for each entry of its feeder
+abbrev pub shown : PassView → List Record → PassView
+shown p es = record p { receipts = length (own p.feeder es); seen = es }
+
+-- filed where p had seen the whole history: nobody else's entry came between
+pub record FiledNext (setup : Settings) (p : PassView) (text : FilingText) (r : Receipt) (q : PassView) : Type 0 where
+  pub filed : Filed setup p text r q
+  pub at_once : filed.before ≡ p.seen
+
+-- from p to q these texts were filed one after the other, with nobody else's entry between
+abbrev pub FiledInTurn : Settings → PassView → List FilingText → PassView → Type 0
+FiledInTurn s p [] q = q ≡ p
+FiledInTurn s p (t ∷ ts) q = (r : Receipt) × (m : PassView) × FiledNext s p t r m × FiledInTurn s m ts q
+
+-- the pass p saw what others had filed. Then a front of these texts was filed so, and the others are left
+pub record FiledFront (setup : Settings) (p : PassView) (texts : List FilingText) (q : PassView) (left : List FilingText) : Type 0 where
+  pub saw : PassView
+  pub others : SawOthers p saw
+  pub front : List FilingText
+  pub texts_are : front ++ left ≡ texts
+  pub filed : FiledInTurn setup saw front q

@@ -9,6 +9,7 @@ use crate::board::{Board, Operation};
 use crate::changed_rows::ChangedRows;
 use crate::history::Front;
 use crate::rule::{Published, Sees, Tells, View};
+use core::mem::replace_with;
 use flow_core::{Core, Row};
 use left_right::Absorb;
 use left_right::reader::Reader;
@@ -192,19 +193,17 @@ impl<R: Wait + Drop, A: Allocator + Copy> Publisher<R, A> {
     }
 
     /// Publishes one more entry. It waits for readers, and where memory is refused, until it is given.
-    pub fn publish<W: Wait>(self, wait: &W, operation: Operation<A>) -> Self
-        requires book { operation.front.book ≡ self.book }
-        requires later { IsPrefix self.entries operation.front.entries }
+    pub fn publish<W: Wait>(&mut self, wait: &W, operation: Operation<A>)
+        requires book { operation.front.book ≡ self.old.book }
+        requires later { IsPrefix self.old.entries operation.front.entries }
         requires number { operation.number ≡ length operation.front.entries }
-        requires rows { put_all (padded self.setup.max_plans (rows_after self.setup self.entries)) operation.changes
-            ≡ padded self.setup.max_plans (rows_after self.setup operation.front.entries) }
-        ensures { (result.knows ≡ true) × (result.book ≡ self.book) × (result.setup ≡ self.setup)
-            × (result.entries ≡ operation.front.entries) }
+        requires rows { put_all (padded self.old.setup.max_plans (rows_after self.old.setup self.old.entries))
+            operation.changes ≡ padded self.old.setup.max_plans (rows_after self.old.setup operation.front.entries) }
+        ensures { (self.new.knows ≡ true) × (self.new.book ≡ self.old.book) × (self.new.setup ≡ self.old.setup)
+            × (self.new.entries ≡ operation.front.entries) }
     {
-        let Publisher { mut writer, rt } = self;
-        append(wait, &mut writer, operation);
-        let (writer, _published) = writer.publish_as::<Sees, R>(&rt);
-        Publisher { writer, rt }
+        append(wait, &mut self.writer, operation);
+        let _published = replace_with(&mut self.writer, &self.rt, Writer::publish_as::<Sees, R>);
     }
 }
 
