@@ -14,6 +14,7 @@ ghost use Rattle.fpl_items.specs.Items.{items_of, field_fault, items_or_fault, e
 ghost use Rattle.fpl_items.specs.Items.{day_of_items, Say, SaysAfter};
 ghost use Rattle.fpl_items.specs.Routes.{Gives};
 ghost use Rattle.fpl_text.specs.declared.time.TheConstants.{ELAPSED_LIMIT};
+ghost use Rattle.std.specs.Str.{bytes_eq};
 
 use crate::estimate::Estimate;
 use crate::estimates::Estimates;
@@ -165,6 +166,17 @@ fn has_word(mut words: ItemWords<'_>, word: &[u8]) -> bool
     words.any(|other| other == word)
 }
 
+/// Whether an item has this name. Most that have another differ in the first letter.
+#[inline(always)]
+fn is_name(name: &[u8], known: &[u8]) -> bool
+    ensures { result ≡ bytes_eq name.now known.now }
+{
+    if name.len() == 3 && known.len() == 3 && name[0] != known[0] {
+        return false;
+    }
+    name == known
+}
+
 /// What items say of a flight: its day, where a DOF stood, and whether it is exempt.
 #[derive(Clone, Copy)]
 struct Effects {
@@ -189,7 +201,7 @@ impl Effects {
             → PastTheEighth estimates.old (noted_of_item item.now)) }
     {
         let name = item.name();
-        if name == b"DOF".as_slice() {
+        if is_name(name, b"DOF") {
             if self.day.is_some() {
                 return Err(ItemFault::DuplicateItem);
             }
@@ -201,11 +213,11 @@ impl Effects {
                 exempt: self.exempt,
             });
         }
-        if name == b"EET".as_slice() {
+        if is_name(name, b"EET") {
             note_words(estimates, item.words())?;
             return Ok(self);
         }
-        let exempts = name == b"STS".as_slice() && has_word(item.words(), b"ATFMX");
+        let exempts = is_name(name, b"STS") && has_word(item.words(), b"ATFMX");
         Ok(Effects {
             day: self.day,
             exempt: self.exempt || exempts,
