@@ -62,7 +62,7 @@ impl HeldSlot {
 
     /// Whether it is no slot.
     #[inline(always)]
-    fn is_none(self) -> bool
+    pub(crate) fn is_none(self) -> bool
         ensures { IsTrue result ↔ (self ≡ None) }
     {
         self.after == 0

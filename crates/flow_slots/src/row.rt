@@ -65,6 +65,9 @@ impl<A: Allocator + Copy> Row<A> {
         if from as usize >= self.places.len() {
             return from;
         }
+        if !self.places[from as usize].is_none() {
+            return from;
+        }
         first_held(&self.places, from as usize) as u32
     }
 
