@@ -5,11 +5,7 @@ use Rattle.std.proofs.lemmas.Bool.{eqb-true, eq-eqb}
 use Rattle.std.proofs.lemmas.Bool.Decides.{same_from_decides}
 use Rattle.std.proofs.lemmas.List.{ext_get_or}
 use lib.Pointwise.{bytes_decides}
-use Rattle.flow_plans.specs.Places.{letters_of}
-
--- each is a byte
-abbrev pub AreBytes : List ℕ → Type 0
-AreBytes bytes = (i : ℕ) → get_or bytes i 0 ≤ 255
+use Rattle.flow_plans.specs.Places.{letters_of, AreBytes}
 
 -- the first four as one number
 abbrev number_at : List ℕ → ℕ

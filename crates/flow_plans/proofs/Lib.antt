@@ -4,6 +4,7 @@ pub mod Filings
 pub mod FlightNumbers
 pub mod LastNumbers
 pub mod Letters
+pub mod Departures
 pub mod ChainLemmas
 pub mod Walks
 pub mod Keepings

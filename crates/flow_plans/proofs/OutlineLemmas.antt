@@ -12,9 +12,10 @@ use Rattle.fpl_message.specs.declared.order.Spot.TheVariants.{Dep, Arr, Via}
 use Rattle.flow_plans.specs.declared.outline.Outline.{Outline}
 use Rattle.flow_plans.specs.Plans.{Plan, is_filed, is_visual, plan_at, filed_moment, filed_off_block}
 use Rattle.fpl_items.specs.Places.{may_have}
-use Rattle.flow_plans.specs.Places.{letters_of}
+use Rattle.flow_plans.specs.Places.{letters_of, AreBytes}
 use Rattle.flow_plans.specs.Entries.{take_off, elapsed_at, entry_at, in_period, subject}
 use Rattle.flow_plans.specs.Outlines.{may_be_subject, may_come, may_fly, outlined_moment, IsOutlineOf, AreOutlines}
+use Rattle.flow_plans.proofs.Departures.{departs-all, departs-none}
 use Rattle.flow_plans.proofs.NearLemmas.{some-first, some-if, some-then, subject-enters}
 
 -- regulations apply to no flight but of such a plan
@@ -29,12 +30,19 @@ subject-may-be taxi start end spot p h =
       but-third true false c d e = absurd (false≢true e)
       but-third false b c d e = absurd (false≢true e)
 
--- any outline comes where the flight of a plan does to which no regulation applies
-pub outline-of-none : (o : Outline) (p : Plan) → o.is_filed ≡ is_filed p.state → o.off_block ≡ p.off_block → may_be_subject p ≡ false → IsOutlineOf o p
-outline-of-none o p is off_block never = record {
+no-entry : (o : Option ℕ) (b : Bool) → b ≡ false → (IsSome o → b ≡ true) → o ≡ None
+no-entry None b f h = refl
+no-entry (Some m) b f h = absurd (false≢true (sym f ∙ h refl))
+
+-- any outline without a departure comes where the flight of a plan does to which no regulation applies
+pub outline-of-none : (o : Outline) (p : Plan) → o.is_filed ≡ is_filed p.state → o.off_block ≡ p.off_block → o.dep ≡ 0 → may_be_subject p ≡ false → IsOutlineOf o p
+outline-of-none o p is off_block dep never = record {
   is_filed = is;
   off_block = off_block;
   comes = λ taxi start end spot h. absurd (false≢true (sym never ∙ subject-may-be taxi start end spot p h));
+  departs = λ taxi start end place told.
+      no-entry (subject taxi (Dep place) start end p) (may_be_subject p) never (subject-may-be taxi start end (Dep place) p)
+      ∙ sym (departs-none o taxi start end place dep told);
 }
 
 -- when a flight enters a place in a period
@@ -108,11 +116,13 @@ outline-comes o p dep dest way taxi start end (Via place) h =
 
 -- with the off-block moment and the longest time it comes when its flight does
 pub outline-of-all : (o : Outline) (p : Plan) → o.is_filed ≡ is_filed p.state → o.off_block ≡ p.off_block → o.dep ≡ letters_of p.key.dep → o.dest ≡ letters_of p.key.dest
+    → may_be_subject p ≡ true → length p.key.dep ≤ 4 → AreBytes p.key.dep
     → ((place : List ℕ) → IsSome (elapsed_at place p) → may_have o.way place ≡ true)
     → p.elapsed ≤ o.longest → ((place : List ℕ) → IfSome (elapsed_at place p) (λ minutes. minutes ≤ o.longest)) → IsOutlineOf o p
-outline-of-all o p is off_block dep dest way arrival minutes = record {
+outline-of-all o p is off_block dep dest may most bytes way arrival minutes = record {
   is_filed = is;
   off_block = off_block;
+  departs = departs-all o p may off_block dep most bytes;
   comes = λ taxi start end spot h.
       (let at = subject-in taxi start end spot p h in
       let between : Between (o.off_block + taxi) o.longest at.moment = rw off_block (enters-between taxi o.longest at.moment spot p arrival minutes at.enters) in
@@ -148,10 +158,6 @@ outlines-set [] (q ∷ ps) i o p h r = absurd h
 outlines-set (n ∷ os) [] i o p h r = absurd h
 outlines-set (n ∷ os) (q ∷ ps) zero o p h r = (r, h.1)
 outlines-set (n ∷ os) (q ∷ ps) (suc i) o p h r = (h.0, outlines-set os ps i o p h.1 r)
-
-no-entry : (o : Option ℕ) (b : Bool) → b ≡ false → (IsSome o → b ≡ true) → o ≡ None
-no-entry None b f h = refl
-no-entry (Some m) b f h = absurd (false≢true (sym f ∙ h refl))
 
 -- where the outline at a place doesn't come in a period, no regulation applies to the flight
 pub outline-never : (os : List Outline) (ps : List Plan) (i : ℕ) (o : Outline) (taxi start end : ℕ) (spot : Spot) → AreOutlines os ps → slice_get os i ≡ Some o → (may_come spot o && may_fly taxi start end o) ≡ false

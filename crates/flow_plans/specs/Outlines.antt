@@ -1,14 +1,14 @@
 -- Where and when a regulation may apply to a flight, in few bytes. An outline may seem to come to a place to which its flight
 -- doesn't come then, never the other way round. Whether the plan is filed, and its off-block moment, it says just as they are.
-use Rattle.std.specs.Prelude.{◌≡◌, ℕ, ◌+◌, Bool, true, not, ◌&&◌, ◌==◌, nat_le, nat_lt, if◌then◌else◌, List, Option, Some, None, IsSome}
+use Rattle.std.specs.Prelude.{◌≡◌, ℕ, ◌+◌, Bool, true, not, ◌&&◌, ◌==◌, nat_le, nat_lt, if◌then◌else◌, List, Option, Some, None, IsSome, codes}
 use Rattle.std.specs.List.{AllZip}
 use Rattle.fpl_message.specs.declared.order.Spot.{Spot}
 use Rattle.fpl_message.specs.declared.order.Spot.TheVariants.{Dep, Arr, Via}
 use Rattle.flow_plans.specs.declared.outline.Outline.{Outline}
 use Rattle.flow_plans.specs.Plans.{Plan, is_filed, is_visual}
-use Rattle.flow_plans.specs.Entries.{subject}
+use Rattle.flow_plans.specs.Entries.{subject, in_period}
 use Rattle.fpl_items.specs.Places.{may_have}
-use Rattle.flow_plans.specs.Places.{letters_of}
+use Rattle.flow_plans.specs.Places.{letters_of, IsTold}
 
 -- whether regulations may apply to the flight of a plan, wherever they are
 abbrev pub may_be_subject : Plan → Bool
@@ -29,11 +29,21 @@ may_fly taxi start end outline =
 abbrev pub outlined_moment : Outline → Option ℕ
 outlined_moment outline = if outline.is_filed then Some outline.off_block else None
 
--- wherever and whenever a regulation applies to the flight of the plan, the outline may come there then
+-- the entry of its flight at a departure of these letters, where a regulation of that place and period applies to it: to none that
+-- departs in the air
+unfoldable pub departure : ℕ → ℕ → ℕ → ℕ → Outline → Option ℕ
+departure taxi letters start end outline =
+    if outline.dep == letters && not (letters == letters_of (codes "AFIL"))
+    then in_period start end (Some (outline.off_block + taxi))
+    else None
+
+-- wherever and whenever a regulation applies to the flight of the plan, the outline may come there then; at a departure of four
+-- letters it says just where one does
 pub record IsOutlineOf (outline : Outline) (plan : Plan) : Type 0 where
   pub is_filed : outline.is_filed ≡ is_filed plan.state
   pub off_block : outline.off_block ≡ plan.off_block
   pub comes : (taxi start end : ℕ) (spot : Spot) → IsSome (subject taxi spot start end plan) → (may_come spot outline && may_fly taxi start end outline) ≡ true
+  pub departs : (taxi start end : ℕ) (place : List ℕ) → IsTold place → subject taxi (Dep place) start end plan ≡ departure taxi (letters_of place) start end outline
 
 -- as many outlines as plans, each of the plan at its place
 abbrev pub AreOutlines : List Outline → List Plan → Type 0

@@ -1,8 +1,18 @@
 -- Places as numbers, by their first letters.
-use Rattle.std.specs.Prelude.{ℕ, ◌+◌, ◌*◌, nat_lt, if◌then◌else◌, List, length, slice_index}
+use Rattle.std.specs.Prelude.{ℕ, ◌+◌, ◌*◌, ◌<◌, ◌≤◌, nat_lt, if◌then◌else◌, List, length, slice_index}
 
 -- the first four letters of a place as one number, 0 of a shorter one
 unfoldable pub letters_of : List ℕ → ℕ
 letters_of place =
     if nat_lt (length place) 4 then 0
     else 16_777_216 * slice_index place 0 + 65_536 * slice_index place 1 + 256 * slice_index place 2 + slice_index place 3
+
+-- each of these is a byte
+abbrev pub AreBytes : List ℕ → Type 0
+AreBytes bytes = (i : ℕ) → slice_index bytes i ≤ 255
+
+-- a place that its letters tell from all others: it has four, and is not a place of four zeros
+pub record IsTold (place : List ℕ) : Type 0 where
+  pub most : length place ≤ 4
+  pub bytes : AreBytes place
+  pub some : 0 < letters_of place

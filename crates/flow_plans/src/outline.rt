@@ -1,9 +1,10 @@
 //! Where and when a regulation may apply to a flight, and whether its plan is filed, in few bytes.
 //!
 //! Most flights never come to the place of a regulation, or not while it lasts. Their outlines say so without a look at
-//! their plans.
-ghost use Rattle.std.specs.Prelude.{◌≡◌};
-ghost use Rattle.flow_plans.specs.Outlines.{may_come, may_fly, outlined_moment, IsOutlineOf};
+//! their plans. When a flight enters a regulated departure its outline tells, too.
+ghost use Rattle.std.specs.Prelude.{◌≡◌, ◌≤◌};
+ghost use Rattle.flow_plans.specs.Outlines.{may_come, may_fly, outlined_moment, departure, IsOutlineOf};
+ghost use Rattle.flow_plans.specs.declared.setup.TheConstants.{MAX_TAXI};
 
 use crate::places::letters_of;
 use crate::plan::Plan;
@@ -69,6 +70,30 @@ impl Outline {
             Spot::Arr(place) => self.dest == letters_of(place.as_bytes()),
             Spot::Via(place) => may_have(self.way, place.as_bytes()),
         }
+    }
+
+    /// The entry of the flight at its departure of these letters, where a regulation of that place and period applies
+    /// to it. None applies to a flight that departs in the air.
+    #[inline(always)]
+    #[tactic(auto, unfolding(crate::specs::Outlines::departure))]
+    pub(crate) fn departure(
+        &self,
+        taxi: u32,
+        letters: u32,
+        start: Minute,
+        end: Minute,
+    ) -> Option<Minute>
+        requires { taxi ≤ MAX_TAXI }
+        ensures { result ≡ departure taxi letters start end self.now }
+    {
+        if self.dep != letters || letters == letters_of(b"AFIL") {
+            return None;
+        }
+        let take_off = self.off_block.minutes() + taxi;
+        if take_off < start.minutes() || end.minutes() <= take_off {
+            return None;
+        }
+        Some(Minute::from_minutes(take_off))
     }
 
     /// The off-block moment, where the plan is filed.

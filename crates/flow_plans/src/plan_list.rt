@@ -9,11 +9,12 @@ ghost use Rattle.flow_plans.specs.Entries.{subject};
 ghost use Rattle.flow_plans.specs.Plans.{is_held, plan_at, filed_off_block, changed_at, with_state};
 ghost use Rattle.flow_plans.specs.Plans.{with_off_block, with_former, texts_or};
 ghost use Rattle.flow_plans.specs.Changes.{amended_plan, texts_after};
-ghost use Rattle.flow_plans.specs.declared.setup.TheConstants.{MAX_PLANS};
+ghost use Rattle.flow_plans.specs.declared.setup.TheConstants.{MAX_PLANS, MAX_TAXI};
 ghost use Rattle.flow_plans.specs.Times.{off_blocks_end};
 
 use crate::chains::Chains;
 use crate::outline::Outline;
+use crate::places::letters_of;
 use crate::plan::{Former, Plan, PlanState};
 use crate::texts::Texts;
 use fpl_message::{Chg, Spot};
@@ -97,8 +98,34 @@ impl<A: Allocator + Copy> PlanList<A> {
         outline.may_come(spot) && outline.may_fly(taxi, start, end)
     }
 
+    /// The entry of the plan of this number, where a regulation of that place and period applies to its flight. That at
+    /// a departure of four letters its outline tells.
+    #[inline(always)]
+    pub(crate) fn subject(
+        &self,
+        number: u32,
+        taxi: u32,
+        spot: &Spot,
+        start: Minute,
+        end: Minute,
+    ) -> Option<Minute>
+        requires number { (0 < number) × (number ≤ length self.now) }
+        requires taxi { taxi ≤ MAX_TAXI }
+        ensures { IfSome (plan_at self.now number) (λ plan. result ≡ subject taxi spot.now start end plan) }
+    {
+        let index = (number - 1) as usize;
+        if let Spot::Dep(place) = spot {
+            let letters = letters_of(place.as_bytes());
+            if letters != 0 {
+                return self.outlines[index].departure(taxi, letters, start, end);
+            }
+        }
+        self.plans[index].subject(taxi, spot, start, end)
+    }
+
     /// The first number from this one on of a plan whose flight may come to a place in a period, or one more than there
     /// are. To the flights of the plans before it no regulation of that place and period applies.
+    #[inline(always)]
     pub(crate) fn next_coming(
         &self,
         from: u32,

@@ -316,12 +316,13 @@ impl<A: Allocator + Copy> PlanStore<A> {
         ensures { IfSome (plan_at self.now.plans number)
             (λ plan. result ≡ subject self.now.taxi spot.now start end plan) }
     {
-        self.plans.as_slice()[(number - 1) as usize].subject(self.taxi, spot, start, end)
+        self.plans.subject(number, self.taxi, spot, start, end)
     }
 
     /// The first number from this one on of a plan to whose flight a regulation of that place and period may apply;
     /// where there is none, the first number that no plan has, or `from` where that is later. To the flights of the
     /// plans before it none applies. It reads 24 bytes a plan.
+    #[inline(always)]
     pub fn next_coming(&self, from: u32, spot: &Spot, start: Minute, end: Minute) -> u32
         requires { 0 < from }
         ensures from { from ≤ result }
