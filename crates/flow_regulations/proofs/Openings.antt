@@ -7,7 +7,7 @@ use Rattle.std.proofs.lemmas.Option.{get_or_from_slice_get}
 use Rattle.flow_plans.specs.Plans.{Plan, plan_at}
 use Rattle.flow_slots.specs.declared.cell.Planned.{Planned}
 use Rattle.flow_slots.specs.Period.{Period}
-use Rattle.flow_regulations.specs.Regulations.{Regulation, subject_to, entering, coming_from}
+use Rattle.flow_regulations.specs.Regulations.{Regulation, subject_to, AppliesToNone, entering, coming_from}
 use Rattle.flow_regulations.specs.Listing.{Listed, regulation_of, opened, with_no_flights, IsListedIn, IsSettledIn, IsAdvanced, IsAdvancing, is_below}
 use Rattle.flow_regulations.specs.Settling.{settled}
 use Rattle.fpl_message.specs.declared.order.Spot.{Spot}
@@ -54,14 +54,23 @@ coming-past taxi (suc k) i j r plans e none =
         let all : length plans ≤ i = ltb-false i (length plans) q in
         ap (coming_from 1 taxi r) (take_all j plans (omega (arith, e, all)) ∙ sym (take_all i plans all))
 
--- a turn of the noting: the flight of plan `n`, where the regulation applies to it, and those up to the next one that may come
-pub coming-on : (taxi i n next : ℕ) (r : Regulation) (plans : List Plan) (p : Plan) (o : Option ℕ) (noted now : List Planned) → n ≡ i + 1 → n ≤ length plans → n + 1 ≤ next → plan_at plans n ≡ Some p → o ≡ subject_to taxi r p → noted ≡ coming_from 1 taxi r (take i plans) → now ≡ noted ++ entering o n []
-    → ((m : ℕ) (q : Plan) → n + 1 ≤ m → m < next → plan_at plans m ≡ Some q → subject_to taxi r q ≡ None) → now ≡ coming_from 1 taxi r (take (next - 1) plans)
-coming-on taxi i n next r plans p o noted now e within after at is so_far made passed =
-    let more : next - 1 ≡ i + 1 + (next - 1 - n) = omega (arith, e, after) in
-    let past = coming-past taxi (next - 1 - n) (i + 1) (next - 1) r plans more (λ m q low high. passed m q (omega (arith, e, low)) (omega (arith, high, after))) in
-    let step = coming-step taxi i n r plans p e (omega (arith, e, within)) at in
-    made ∙ (ap (λ v. v ++ entering o n []) so_far ∙ (ap (λ s. coming_from 1 taxi r (take i plans) ++ entering s n []) is ∙ sym (past ∙ step)))
+-- a turn of the noting: the flight of plan `n`, where the regulation applies to it, and none before it
+pub coming-on : (taxi from n : ℕ) (r : Regulation) (plans : List Plan) (p : Plan) (o : Option ℕ) (noted now : List Planned) → 0 < from → from ≤ n → n ≤ length plans → plan_at plans n ≡ Some p → o ≡ subject_to taxi r p → AppliesToNone from n taxi r plans
+    → noted ≡ coming_from 1 taxi r (take (from - 1) plans) → now ≡ noted ++ entering o n [] → now ≡ coming_from 1 taxi r (take (n + 1 - 1) plans)
+coming-on taxi from n r plans p o noted now some on within at is none so_far made =
+    let more : n - 1 ≡ from - 1 + (n - from) = omega (arith, some, on) in
+    let past = coming-past taxi (n - from) (from - 1) (n - 1) r plans more (λ m q low high. none m q (omega (arith, low, some)) (omega (arith, high, some, on))) in
+    let last : n ≡ n - 1 + 1 = omega (arith, some, on) in
+    let step = coming-step taxi (n - 1) n r plans p last (omega (arith, some, on, within)) at in
+    let end : n - 1 + 1 ≡ n + 1 - 1 = omega (arith, some, on) in
+    made ∙ (ap (λ v. v ++ entering o n []) (so_far ∙ sym past) ∙ (ap (λ s. coming_from 1 taxi r (take (n - 1) plans) ++ entering s n []) is ∙ (sym step ∙ ap (λ m. coming_from 1 taxi r (take m plans)) end)))
+
+-- the regulation applies to no flight of the plans that are left
+pub coming-rest : (taxi from : ℕ) (r : Regulation) (plans : List Plan) (noted : List Planned) → 0 < from → from ≤ length plans + 1 → AppliesToNone from (length plans + 1) taxi r plans → noted ≡ coming_from 1 taxi r (take (from - 1) plans) → noted ≡ coming_from 1 taxi r plans
+coming-rest taxi from r plans noted some within none so_far =
+    let more : length plans ≡ from - 1 + (length plans + 1 - from) = omega (arith, some, within) in
+    let past = coming-past taxi (length plans + 1 - from) (from - 1) (length plans) r plans more (λ m q low high. none m q (omega (arith, low, some)) (omega (arith, high))) in
+    so_far ∙ (sym past ∙ ap (coming_from 1 taxi r) (take_all (length plans) plans (omega arith)))
 
 -- no more flights than plans
 pub coming-few : (k taxi : ℕ) (r : Regulation) (ps : List Plan) → length (coming_from k taxi r ps) ≤ length ps

@@ -1,8 +1,8 @@
 -- Regulations, and the flights that wait in them (ATFCM Users Manual, slot allocation).
-use Rattle.std.specs.Prelude.{ℕ, ◌+◌, Bool, ◌==◌, if◌then◌else◌, List, [], ◌∷◌, Option, Some, None}
+use Rattle.std.specs.Prelude.{◌≡◌, ℕ, ◌+◌, ◌<◌, ◌≤◌, Bool, ◌==◌, if◌then◌else◌, List, [], ◌∷◌, Option, Some, None}
 use Rattle.std.specs.List.{list_any}
 use Rattle.fpl_message.specs.declared.order.Spot.{Spot}
-use Rattle.flow_plans.specs.Plans.{Plan}
+use Rattle.flow_plans.specs.Plans.{Plan, plan_at}
 use Rattle.flow_plans.specs.Entries.{subject}
 use Rattle.flow_slots.specs.declared.cell.Planned.{Planned}
 use Rattle.flow_slots.specs.Period.{Period}
@@ -20,6 +20,11 @@ pub record Regulation : Type 0 where
 -- the entry of a flight that the regulation applies to
 abbrev pub subject_to : ℕ → Regulation → Plan → Option ℕ
 subject_to taxi r plan = subject taxi r.spot r.period.start r.period.end plan
+
+-- the regulation applies to the flight of no plan from one number to before another
+abbrev pub AppliesToNone : ℕ → ℕ → ℕ → Regulation → List Plan → Type 0
+AppliesToNone from to taxi r plans =
+    (n : ℕ) (p : Plan) → from ≤ n → n < to → plan_at plans n ≡ Some p → subject_to taxi r p ≡ None
 
 abbrev pub has_flight : ℕ → List Placed → Bool
 has_flight flight placed = list_any (λ a. a.flight == flight) placed

@@ -1,6 +1,6 @@
 //! An open regulation.
 ghost use Rattle.std.specs.Prelude.{◌≡◌, ◌<◌, ◌≤◌, ℕ, List, None, Some, true, false, IfSome, IsSome, IfOk, OnOk};
-ghost use Rattle.std.specs.Prelude.{IsTrue, ◌↔◌, length};
+ghost use Rattle.std.specs.Prelude.{IfNone, IsTrue, ◌+◌, ◌↔◌, length};
 ghost use Rattle.flow_plans.specs.Plans.{Plan as Held, plan_at, is_departed};
 ghost use Rattle.flow_plans.specs.Entries.{subject};
 ghost use Rattle.flow_plans.specs.Near.{row_of};
@@ -10,7 +10,7 @@ ghost use Rattle.flow_slots.specs.Period.{IsWithin, IsRegular};
 ghost use Rattle.flow_regulations.specs.Asked.{IsAsked};
 ghost use Rattle.flow_regulations.specs.Places.{IsPlaceOf, MayStand, stood};
 ghost use Rattle.flow_regulations.specs.Marks.{IsOut, IsInOrder};
-ghost use Rattle.flow_regulations.specs.Regulations.{subject_to};
+ghost use Rattle.flow_regulations.specs.Regulations.{subject_to, AppliesToNone};
 ghost use Rattle.flow_regulations.specs.Settling.{is_due, pairs_of};
 ghost use Rattle.flow_regulations.specs.Listing.{Listed, regulation_of, with_lineup, without_in, released_in};
 ghost use Rattle.flow_regulations.specs.Listing.{keeps_slot, placed, with_no_flights, is_named, fixed_waiting};
@@ -21,7 +21,7 @@ ghost use Rattle.flow_plans.specs.declared.setup.TheConstants.{MAX_PLANS};
 ghost use Rattle.flow_slots.specs.Period.{most_slots};
 
 use crate::due::is_due;
-use crate::entry_asked::{EntryAsked, entry_of};
+use crate::entry_asked::EntryAsked;
 use crate::places::Place;
 use flow_plans::{PlanState, PlanStore, row_of};
 use flow_slots::{Planned, Shape, SlotList};
@@ -115,16 +115,25 @@ impl<A: Allocator + Copy> Regulation<A> {
         self.list.next_held(from)
     }
 
-    /// The first number from this one on of a plan to whose flight the regulation may apply, or one more than there
-    /// are. To the flights of the plans before it the regulation doesn't apply.
-    pub(crate) fn next_coming(&self, plans: &PlanStore<A>, from: u32) -> u32
+    /// The first number from this one on of a plan to whose flight the regulation may apply. To the flights of the
+    /// plans before it the regulation doesn't apply, and to none from there on where it is None.
+    #[inline(always)]
+    pub(crate) fn next_coming(&self, plans: &PlanStore<A>, from: u32) -> Option<u32>
         requires { 0 < from }
-        ensures from { from ≤ result }
-        ensures passed { (n : ℕ) (p : Held) → from ≤ n → n < result → plan_at plans.now.plans n ≡ Some p
-            → subject_to plans.now.taxi (regulation_of self.now) p ≡ None }
+        ensures from { IfSome result (λ number. (from ≤ number) × (number ≤ length plans.now.plans)) }
+        ensures passed { IfSome result (λ number. AppliesToNone from number plans.now.taxi
+            (regulation_of self.now) plans.now.plans) }
+        ensures most { IfSome result (λ number. number ≤ MAX_PLANS) }
+        ensures none { IfNone result (AppliesToNone from (length plans.now.plans + 1) plans.now.taxi
+            (regulation_of self.now) plans.now.plans) }
     {
         let (start, end) = self.list.shape().period();
-        plans.next_coming(from, &self.spot, start, end)
+        let number = plans.next_coming(from, &self.spot, start, end);
+        if number <= plans.count() {
+            Some(number)
+        } else {
+            None
+        }
     }
 
     /// Takes flights into the slot list, in which there are none yet.
@@ -143,7 +152,8 @@ impl<A: Allocator + Copy> Regulation<A> {
         ensures { (p : Held) → plan_at plans.now.plans number ≡ Some p
             → result ≡ subject_to plans.now.taxi (regulation_of self.now) p }
     {
-        self.subject_from(&entry_of(plans, number, &self.spot))
+        let (start, end) = self.list.shape().period();
+        plans.subject(number, &self.spot, start, end)
     }
 
     /// This entry at its place, where it lies in the period.

@@ -10,7 +10,8 @@ ghost use Rattle.flow_regulations.specs.Advice.{advice};
 ghost use Rattle.flow_regulations.specs.Awaiting.{HaveBecomeDue};
 ghost use Rattle.flow_regulations.specs.Listing.{Listed, Walked, without_in, IsLookedAgain, IsListed, AreSettledBut};
 ghost use Rattle.flow_regulations.specs.Listing.{AreSameBut, AreRenewed, IsFixedWaiting, AreFrozen, IsSettled};
-ghost use Rattle.flow_regulations.specs.Listing.{IsAdvancing, is_below, is_among, with_fixed_waiting, AreDue, AreUndue, NoneDue};
+ghost use Rattle.flow_regulations.specs.Listing.{IsAdvancing, is_below, is_among, with_fixed_waiting, AreDue};
+ghost use Rattle.flow_regulations.specs.Listing.{AreUndue, NoneDue};
 ghost use Rattle.flow_regulations.specs.Listing.{HoldNewlyDue, HaveCapacity, names_in, IsReleased, IsOpened, opened};
 ghost use Rattle.flow_regulations.specs.Listing.{is_named, without_named, lineup_named, keeps_slot_in, IsNamedAt};
 ghost use Rattle.flow_regulations.specs.Listing.{MayReopen, pairs_in, regulation_of};
@@ -558,10 +559,9 @@ fn note_coming<A: Allocator + Copy>(
     ensures coming { coming.new.items ≡ coming_from 1 plans.now.taxi (regulation_of regulation.now) plans.now.plans }
     ensures due { result ≡ false → AreUndue now plans.now.plans coming.new.items }
 {
-    let count = plans.count();
     let mut due = false;
-    let mut number = regulation.next_coming(plans, 1);
-    while number <= count {
+    let mut from = 1;
+    while let Some(number) = regulation.next_coming(plans, from) {
         if let Some(entry) = regulation.subject(plans, number) {
             let entry = entry.minutes();
             coming.push_reserved(Planned {
@@ -570,7 +570,7 @@ fn note_coming<A: Allocator + Copy>(
             });
             due |= is_due(plans, number, now);
         }
-        number = regulation.next_coming(plans, number + 1);
+        from = number + 1;
     }
     due
 }
