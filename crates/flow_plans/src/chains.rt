@@ -1,6 +1,6 @@
 //! Finding plans by identification, departure and destination, without a walk over all plans.
 ghost use Rattle.std.specs.Prelude.{◌≡◌, ◌≤◌, ◌<◌, ◌+◌, ◌-◌, ◌++◌, ◌∷◌, [], ℕ, Bool, true, false, None, OnOk};
-ghost use Rattle.std.specs.Prelude.{OnErr, length, max, take, slice_index};
+ghost use Rattle.std.specs.Prelude.{OnErr, length, max, take, slice_index, fold, ◌*◌};
 ghost use Rattle.std.specs.Map.{lookup};
 ghost use Rattle.indexmap.specs.IndexMap.{spare};
 ghost use Rattle.flow_plans.specs.Plans.{is_held};
@@ -52,13 +52,26 @@ impl FlightName {
     }
 }
 
-/// At most seven bytes as one number to the base 256.
+/// At most seven bytes as one number to the base 256. The first four are taken at once.
 #[inline(always)]
 fn number_of(bytes: &[u8]) -> u64
     requires { length bytes.now ≤ 7 }
     ensures { result ≡ base_256 bytes.now }
 {
-    let mut number = 0;
+    if bytes.len() < 4 {
+        return number_with(0, bytes);
+    }
+    number_with(u64::from(letters_of(bytes)), &bytes[4..])
+}
+
+/// A number of at most four bytes to the base 256, with at most three bytes more.
+#[inline(always)]
+fn number_with(front: u64, bytes: &[u8]) -> u64
+    requires front { front < 4_294_967_296 }
+    requires short { length bytes.now ≤ 3 }
+    ensures { result ≡ fold (λ number byte. 256 * number + byte) front bytes.now }
+{
+    let mut number = front;
     for byte in bytes {
         number = 256 * number + u64::from(*byte);
     }
