@@ -2,20 +2,22 @@
 ghost use Rattle.std.specs.Prelude.{◌≡◌, ◌≤◌, ◌<◌, Ok, true, IfOk, IfErr, IfSome, length, option_copied, ◌+◌, ◌-◌};
 ghost use Rattle.std.specs.Prelude.{Err, Some, None, OnOk, OnErr};
 ghost use Rattle.flow_plans.specs.Settings.{IsDeskTime};
-ghost use Rattle.flow_plans.specs.Plans.{Plan as Held, is_held, plan_at, with_plan, changed_at, with_former};
+ghost use Rattle.flow_plans.specs.Plans.{Plan as Held, is_held, plan_at, with_plan, changed_at};
 ghost use Rattle.flow_plans.specs.Chains.{AreChained, flight_of_key, HasRoomFor, StayChained};
 ghost use Rattle.flow_plans.specs.Changes.{moved_to, key_after, amended_plan, amended, Answers, IsRefusal};
 ghost use Rattle.flow_plans.specs.Changes.{IsJustRefusal};
 ghost use Rattle.flow_plans.specs.Matching.{matching};
+ghost use Rattle.flow_plans.specs.Undoing.{undone, IsOf, CanReturn};
 ghost use Rattle.flow_plans.specs.Times.{delayed_to, off_blocks_end};
 ghost use Rattle.flow_plans.specs.declared.setup.TheConstants.{MAX_PLANS};
 
 use crate::chains::{Chains, FlightName};
 use crate::fault::PlanFault;
 use crate::matching::{matching, others_hold_key};
-use crate::plan::{Former, Plan};
+use crate::plan::Plan;
 use crate::plan_list::PlanList;
 use crate::times::delayed_to;
+use crate::undo::LastChange;
 use fpl_message::Chg;
 use fpl_text::{Departure, Minute};
 use std::alloc::Allocator;
@@ -67,28 +69,30 @@ fn checked<A: Allocator + Copy>(
     Ok((number, name, off_block))
 }
 
-/// Amends the plan that a message is about, and answers its number and what it had before.
+/// Amends the plan that a message is about, and answers its number. The last change is then what undoes that.
 #[tactic(auto, unfolding(crate::specs::Changes::amended))]
 pub(crate) fn amend_plan<A: Allocator + Copy>(
     alloc: A,
     plans: &mut PlanList<A>,
     chains: &mut Chains<A>,
+    last: &mut LastChange<A>,
     message: &Chg<A>,
     now: Minute,
-) -> Result<(u32, Former<A>), PlanFault>
+) -> Result<u32, PlanFault>
     requires now { IsDeskTime now }
     requires few { length plans.old ≤ MAX_PLANS }
     requires chained { AreChained chains.old plans.old }
-    ensures ok { IfOk result (λ r. amended now plans.old message.now
-        ≡ Ok (record { plans = plans.new; number = r.0 })) }
-    ensures within { IfOk result (λ r. (0 < r.0) × (r.0 ≤ length plans.new)) }
-    ensures back { IfOk result (λ r. changed_at (with_former r.1) r.0 plans.new ≡ plans.old) }
+    ensures ok { IfOk result (λ n. amended now plans.old message.now
+        ≡ Ok (record { plans = plans.new; number = n })) }
+    ensures within { IfOk result (λ n. (0 < n) × (n ≤ length plans.new)) }
+    ensures before { OnOk result (undone plans.new last.new ≡ Some plans.old) }
+    ensures change { OnOk result (IsOf last.new plans.new) }
+    ensures room { OnOk result (CanReturn chains.new last.new plans.new) }
     ensures refused { IfErr result (λ e. IsRefusal e (amended now plans.old message.now)) }
     ensures count { length plans.new ≡ length plans.old }
     ensures err { OnErr result (plans.new ≡ plans.old) }
+    ensures last { OnErr result (last.new ≡ last.old) }
     ensures chained { AreChained chains.new plans.new }
-    ensures held { IfOk result (λ r. IfSome (plan_at plans.new r.0) (λ p. is_held p.state ≡ true)) }
-    ensures room { OnOk result (0 < chains.new.room) }
     ensures kept { OnErr result (StayChained chains.old chains.new) }
 {
     let (number, name, off_block) = checked(plans.as_slice(), chains, message, now)?;
@@ -100,7 +104,9 @@ pub(crate) fn amend_plan<A: Allocator + Copy>(
         return Err(PlanFault::OutOfMemory);
     };
     change_chain(plans.as_slice(), chains, number, name);
-    Ok((number, plans.amend(number, message, off_block, texts)))
+    let former = plans.amend(number, message, off_block, texts);
+    *last = LastChange::Amended { number, former };
+    Ok(number)
 }
 
 /// Takes the plan of this number out of the chain of its flight, and puts it into that of the flight with this name,

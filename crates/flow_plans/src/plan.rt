@@ -96,19 +96,25 @@ impl Key {
         }
     }
 
+    /// The destination after a message, which may amend it.
+    fn dest_after<A: Allocator + Copy>(&self, message: &Chg<A>) -> Text<4>
+        ensures { result ≡ option_map_or (λ destination. destination.place) message.now.destination self.now.dest }
+    {
+        match message.destination() {
+            Some(destination) => destination.place,
+            None => self.dest,
+        }
+    }
+
     /// The key after a message, which may amend the destination.
     #[tactic(auto, unfolding(crate::specs::Changes::key_after))]
     pub(crate) fn amended<A: Allocator + Copy>(&self, message: &Chg<A>) -> Key
         ensures { result ≡ key_after self.now message.now }
     {
-        let dest = match message.destination() {
-            Some(destination) => destination.place,
-            None => self.dest,
-        };
         Key {
             ident: self.ident,
             dep: self.dep,
-            dest,
+            dest: self.dest_after(message),
             day: self.day,
         }
     }
@@ -275,7 +281,7 @@ impl<A: Allocator + Copy> Plan<A> {
 
     /// Makes the amendments of a message, with that off-block moment and its texts, and answers what the plan had
     /// before.
-    #[tactic(auto, unfolding(crate::specs::Changes::amended_plan))]
+    #[tactic(auto, unfolding(crate::specs::Changes::amended_plan, crate::specs::Changes::key_after))]
     pub(crate) fn amend(
         &mut self,
         message: &Chg<A>,
@@ -287,7 +293,7 @@ impl<A: Allocator + Copy> Plan<A> {
         ensures changed { self.new ≡ amended_plan off_block message.now self.old }
         ensures back { with_former result self.new ≡ self.old }
     {
-        let key = self.key.amended(message);
+        let dest = self.key.dest_after(message);
         let elapsed = elapsed_after(self.elapsed_time(), message.destination()) as u16;
         let alternates = alternates_after(&self.alternates, message.destination());
         let rules = rules_after(self.rules, message.rules());
@@ -295,7 +301,12 @@ impl<A: Allocator + Copy> Plan<A> {
         exchange_texts(&mut self.texts, &mut texts);
         Former {
             alternates: mem::replace(&mut self.alternates, alternates),
-            key: mem::replace(&mut self.key, key),
+            key: Key {
+                ident: self.key.ident,
+                dep: self.key.dep,
+                dest: mem::replace(&mut self.key.dest, dest),
+                day: self.key.day,
+            },
             off_block: mem::replace(&mut self.off_block, off_block),
             elapsed: mem::replace(&mut self.elapsed, elapsed),
             rules: mem::replace(&mut self.rules, rules),

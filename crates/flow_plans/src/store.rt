@@ -235,15 +235,14 @@ impl<A: Allocator + Copy> PlanStore<A> {
         ensures limit { self.new.max_plans ≡ self.old.max_plans }
         ensures taxi { self.new.taxi ≡ self.old.taxi }
     {
-        let (number, former) = amend_plan(
+        amend_plan(
             self.alloc,
             &mut self.plans,
             &mut self.chains,
+            &mut self.last,
             message,
             now,
-        )?;
-        self.last = LastChange::Amended { number, former };
-        Ok(number)
+        )
     }
 
     /// Whether the last change can be taken back: from an accepted change until the next one or until it is taken back.

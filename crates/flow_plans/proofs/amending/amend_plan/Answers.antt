@@ -1,4 +1,4 @@
-use Rattle.std.proofs.Common.{◌≡◌, Some, ap, ◌∙◌}
+use Rattle.std.proofs.Common.{◌≡◌, Some, ap, ◌∙◌, arith}
 use Rattle.flow_plans.specs.declared.plan.Key.{Key}
 use Rattle.flow_plans.specs.Plans.{plan_at}
 use Rattle.flow_plans.specs.Chains.{flight_of_key}
@@ -12,8 +12,8 @@ pub change_chain-requires-clause-chained : goal.change_chain-requires-clause-cha
 change_chain-requires-clause-chained g c =
     rw c.as_slice-3.ensures (chained-stay c.args.chains.now c.reserve.new.self c.args.plans.now c.in-Ok-reserve.ensures.kept c.requires.chained)
 
-pub amend-requires-clause-texts : goal.amend-requires-clause-texts
-amend-requires-clause-texts g c =
+pub amend-former-requires-clause-texts : goal.amend-former-requires-clause-texts
+amend-former-requires-clause-texts g c =
     let n = c.in_ok-number.number in
     let p = c.index-as_slice-number.result in
     let within = rw c.as_slice.ensures at c.in_ok-number.ensures.within in
@@ -26,16 +26,19 @@ returns-clause-chained g c =
     let moment = c.in_ok-number.off_block in
     let within = rw c.as_slice.ensures at c.in_ok-number.ensures.within in
     let named = rw c.as_slice.ensures at c.in_ok-number.ensures.named in
-    rw c.amend.ensures.changed
+    rw c.amend-former.ensures.changed
     (changed-chained (amended_plan moment m) (amended-state moment m) c.args.plans.now c.in_ok-number.number within.0 within.1
     (rw c.as_slice.ensures at c.in_ok-number.ensures.held) c.change_chain.new.chains c.in_ok-number.name
     (rw c.as_slice-3.ensures at c.change_chain.ensures.chained)
     (λ p there. ap (λ (k : Key). flight_of_key k) (amended-key moment m p) ∙ (rw there at named)))
 
-pub returns-clause-held : goal.returns-clause-held
-returns-clause-held g c =
+pub returns-clause-change : goal.returns-clause-change
+returns-clause-change g c =
     let m = c.args.message.now in
     let moment = c.in_ok-number.off_block in
-    let within = rw c.as_slice.ensures at c.in_ok-number.ensures.within in
-    changed-stands (amended_plan moment m) (amended-state moment m) c.args.plans.now c.in_ok-number.number within.0 within.1
-    (rw c.as_slice.ensures at c.in_ok-number.ensures.held) c.amend.new.self c.amend.ensures.changed
+    let within = rw c.as_slice.ensures at c.in_ok-number.ensures.within in (
+      within.0,
+      omega (arith, within.1, c.amend-former.ensures.count),
+      changed-stands (amended_plan moment m) (amended-state moment m) c.args.plans.now c.in_ok-number.number within.0 within.1
+          (rw c.as_slice.ensures at c.in_ok-number.ensures.held) c.amend-former.new.self c.amend-former.ensures.changed,
+    )
