@@ -8,4 +8,4 @@ unfolding base_256
 returns-then-bytes-lt4 c = c.number_with.ensures
 
 pub returns : goal.returns
-returns c = rw (c.from.ensures, c.letters_of.ensures) at c.number_with-2.ensures ∙ number-front c.args.bytes.now (omega (arith, c.if-bytes-lt4.false))
+returns c = rw (c.from.ensures, c.letters_of.ensures.letters) at c.number_with-2.ensures ∙ number-front c.args.bytes.now (omega (arith, c.if-bytes-lt4.false))
