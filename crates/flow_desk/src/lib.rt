@@ -8,6 +8,7 @@
 //! - *each answered filing is one step of one history*: `filed` of `Desk::file`, a `Filed`: its `before` is the history
 //!   until then, and its `step` the step of the one-thread desk. The histories of all passes are beginnings of one, the
 //!   journal of the core that `Desk::close` gives (`passes`).
+//!   `Desk::file_all` takes in several at once: each is a `Filed`, and nobody else's entry comes between (`filed`).
 //! - *that begins with all its caller had seen*: `later` of that `Filed`. What a pass has seen is carried from call to
 //!   call, and `Desk::look` and `Desk::slots` add to it (`seen`).
 //! - *it appends one journal entry and answers that entry's outcome*: `step` and `seen` of that `Filed`; after a

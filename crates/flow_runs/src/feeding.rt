@@ -1,6 +1,7 @@
 //! Feeders at their desk: each files the texts that were dealt to it, in a thread of its own.
-ghost use Rattle.std.specs.Prelude.{◌≡◌, ◌≤◌, ◌<◌, ◌+◌, ◌++◌, ℕ, length, map, vec_len, vec_capacity, slice_index_or};
-ghost use Rattle.std.specs.Prelude.{IsTrue, IsFalse, IfOk};
+ghost use Rattle.std.specs.Prelude.{◌≡◌, ◌≢◌, ◌≤◌, ◌<◌, ◌+◌, ◌++◌, ℕ, [], length, map, vec_len, vec_capacity};
+ghost use Rattle.std.specs.Prelude.{slice_index_or, IsTrue, IsFalse, IfOk, OnOk, OnErr};
+ghost use Rattle.std.specs.VecDeque.{deque_len, deque_capacity};
 ghost use Rattle.flow_desk.specs.Feeds.{EndsAs};
 ghost use Rattle.flow_runs.specs.Filing.{FiledTo, RanFeed, RanFeeds};
 
@@ -21,42 +22,92 @@ pub(crate) struct Feed<N: Name, A: Allocator + Copy = Global> {
     pub end: End,
 }
 
-/// Reads the next text of a feed in this room, and files it. False where it was refused or nothing is left.
+/// So many texts a feeder reads before it takes the lock and files them. Each time the lock goes to another feeder it
+/// goes to another processor, and the core's memory with it: with 16 filings a lock this is no longer what most time
+/// goes into. With more of them a little would still be gained, and what the texts say takes more memory meanwhile.
+const AT_ONCE: usize = 16;
+
+/// Reads texts from the front of a feed in this room, as many as are filed at once, or all that are left. Where memory
+/// is refused those that were read before are ready, and the text that wasn't read is the first that is left.
+fn read_ahead<A: Allocator + Copy>(
+    alloc: A,
+    room: &mut Vec<u8, A>,
+    left: &mut VecDeque<FiledText<A>, A>,
+    ready: &mut VecDeque<Filing<A>, A>,
+) -> Result<(), AllocError>
+    requires some { left.old.items ≢ [] }
+    requires none { ready.old.items ≡ [] }
+    ensures order { ready.new.items ++ left.new.items ≡ left.old.items }
+    ensures goes { OnOk result (length left.new.items < length left.old.items) }
+    ensures refused { OnErr result (left.new.items ≢ []) }
+    ensures room { deque_len ready.new + deque_len left.new ≤ deque_capacity left.new }
+{
+    ready.reserve(AT_ONCE)?;
+    while ready.len() < AT_ONCE {
+        let Some(text) = left.pop_front() else {
+            return Ok(());
+        };
+        match Filing::of_text(alloc, room, text) {
+            Ok(filing) => ready.push_back_reserved(filing),
+            Err((AllocError, text)) => {
+                left.push_front_reserved(text);
+                return Err(AllocError);
+            }
+        }
+    }
+    Ok(())
+}
+
+/// Puts what wasn't filed back in front of what is left, in its order.
+fn put_back<A: Allocator + Copy>(
+    ready: &mut VecDeque<Filing<A>, A>,
+    left: &mut VecDeque<FiledText<A>, A>,
+)
+    requires { deque_len ready.old + deque_len left.old ≤ deque_capacity left.old }
+    ensures order { left.new.items ≡ ready.old.items ++ left.old.items }
+    ensures none { ready.new.items ≡ [] }
+{
+    while let Some(filing) = ready.pop_back() {
+        left.push_front_reserved(filing.into_text());
+    }
+}
+
+/// Reads the next texts of a feed, and files them while it holds the lock once. False where one was refused or nothing
+/// is left.
 ///
-/// A text is read just before it is filed: of all texts of a feed one at a time takes the memory of what it says, and
-/// the others wait for the lock the less, the longer each reads.
+/// A text is read just before it is filed: of all texts of a feed only these take the memory of what they say, and the
+/// others wait for the lock the less, the longer each reads. Where memory is refused for reading, what was read before is
+/// filed all the same: a text is left only where it or one before it was refused.
 fn file_next<N: Name, Q: Wait + Drop, P: Wait, A: Allocator + Copy>(
     wait: &P,
     alloc: A,
     desk: &Desk<N, Q, A>,
     room: &mut Vec<u8, A>,
+    ready: &mut VecDeque<Filing<A>, A>,
     feed: &mut Feed<N, A>,
 ) -> bool
+    requires none { ready.old.items ≡ [] }
+    ensures none { ready.new.items ≡ [] }
     ensures ran { (p : _) (texts : _) → FiledTo p texts feed.old.pass feed.old.left.items
         → FiledTo p texts feed.new.pass feed.new.left.items }
     ensures ends { IsFalse result → (rs : _) → EndsAs N.setup feed.new.end feed.new.pass rs feed.new.left.items }
-    ensures goes { IsTrue result → length feed.new.left.items + 1 ≡ length feed.old.left.items }
+    ensures goes { IsTrue result → length feed.new.left.items < length feed.old.left.items }
 {
-    let Some(text) = feed.left.pop_front() else {
+    if feed.left.is_empty() {
         feed.end = End::Finished;
         return false;
-    };
-    let filing = match Filing::of_text(alloc, room, text) {
-        Ok(filing) => filing,
-        Err((AllocError, text)) => {
-            feed.left.push_front_reserved(text);
-            feed.end = End::Stopped(StepFault::OutOfMemory);
-            return false;
-        }
-    };
-    match desk.file(wait, alloc, &mut feed.pass, filing) {
-        Ok(_receipt) => true,
-        Err((fault, filing)) => {
-            feed.left.push_front_reserved(filing.into_text());
-            feed.end = End::Stopped(fault);
-            false
-        }
     }
+    let read = read_ahead(alloc, room, &mut feed.left, ready);
+    if let Err(fault) = desk.file_all(wait, alloc, &mut feed.pass, ready) {
+        put_back(ready, &mut feed.left);
+        feed.end = End::Stopped(fault);
+        return false;
+    }
+    if read.is_err() {
+        feed.end = End::Stopped(StepFault::OutOfMemory);
+        return false;
+    }
+    true
 }
 
 /// Files a feed until it ends.
@@ -69,7 +120,8 @@ fn run_feed<N: Name, Q: Wait + Drop, P: Wait, A: Allocator + Copy>(
     ensures { RanFeed N.setup feed.old.pass feed.old.left.items feed.new.pass feed.new.left.items feed.new.end }
 {
     let mut room = Vec::new(alloc);
-    while file_next(wait, alloc, desk, &mut room, feed) {}
+    let mut ready = VecDeque::new(alloc);
+    while file_next(wait, alloc, desk, &mut room, &mut ready, feed) {}
 }
 
 /// Runs all feeds at the same time, each in a thread of its own where one can be made.

@@ -1,16 +1,24 @@
-use Rattle.std.proofs.Common.{List, [], ◌∷◌, ◌++◌, subst}
+use Rattle.std.proofs.Common.{List, ◌++◌, sym, ap}
 use Rattle.fpl_message.specs.Filings.{FilingText}
-use Rattle.flow_desk.specs.Feeds.{Ran}
-use Rattle.flow_desk.specs.Passes.{Filed}
-use Rattle.flow_desk.proofs.Running.{ran-more}
+use Rattle.flow_runs.proofs.FeedsRun.{filed-front, some-left}
 use Rattle.flow_runs.proofs.feeding.file_next.Goals as goal
 
-pub returns-in-Ok-file-clause-ran : goal.returns-in-Ok-file-clause-ran
-returns-in-Ok-file-clause-ran g c p texts h =
-    let f = c.args.feed.now in
-    let text : FilingText = c.in-Some.text in
-    let rest : List FilingText = c.pop_front.new.self.items in
-    let r = c.in-Ok-file._receipt in
-    let more : Ran p texts f.pass h.receipts (text ∷ rest) = subst (λ (ls : List FilingText). Ran p texts f.pass h.receipts ls) c.in-Some.ensures.items h.ran in
-    let filed : Filed g.N.Name.setup f.pass text r c.file.new.pass = subst (λ (t : FilingText). Filed g.N.Name.setup f.pass t r c.file.new.pass) c.in-Ok.ensures.value c.in-Ok-file.ensures.filed in
-    record { receipts = h.receipts ++ r ∷ []; ran = ran-more g.N.Name.setup p f.pass c.file.new.pass texts h.receipts text rest r filed more }
+pub returns-in-Err-clause-ran : goal.returns-in-Err-clause-ran
+returns-in-Err-clause-ran g c p texts h =
+    filed-front g.N.Name.setup p c.args.feed.now.pass c.file_all.new.pass texts c.read_ahead-read.new.ready.items c.file_all.new.filings.items c.read_ahead-read.new.left.items c.args.feed.now.left.items c.put_back.new.left.items
+    c.file_all.ensures.filed c.read_ahead-read.ensures.order c.put_back.ensures.order h
+
+pub returns-in-Err-clause-ends : goal.returns-in-Err-clause-ends
+returns-in-Err-clause-ends g c refused rs = (some-left c.file_all.new.filings.items c.read_ahead-read.new.left.items c.put_back.new.left.items c.in-Err.ensures.left c.put_back.ensures.order, c.in-Err.ensures.full)
+
+pub returns-then-is_err-clause-ran : goal.returns-then-is_err-clause-ran
+returns-then-is_err-clause-ran g c p texts h =
+    let rest : List FilingText = c.read_ahead-read.new.left.items in
+    filed-front g.N.Name.setup p c.args.feed.now.pass c.file_all.new.pass texts c.read_ahead-read.new.ready.items c.file_all.new.filings.items rest c.args.feed.now.left.items rest
+    c.file_all.ensures.filed c.read_ahead-read.ensures.order (sym (ap (λ (ls : List FilingText). ls ++ rest) c.in_default.ensures.all)) h
+
+pub returns-clause-ran : goal.returns-clause-ran
+returns-clause-ran g c p texts h =
+    let rest : List FilingText = c.read_ahead-read.new.left.items in
+    filed-front g.N.Name.setup p c.args.feed.now.pass c.file_all.new.pass texts c.read_ahead-read.new.ready.items c.file_all.new.filings.items rest c.args.feed.now.left.items rest
+    c.file_all.ensures.filed c.read_ahead-read.ensures.order (sym (ap (λ (ls : List FilingText). ls ++ rest) c.in_default.ensures.all)) h
