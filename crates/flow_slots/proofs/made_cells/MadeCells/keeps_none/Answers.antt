@@ -1,4 +1,4 @@
-use Rattle.std.proofs.Common.{◌≡◌, sym, ap, ◌∙◌}
+use Rattle.std.proofs.Common.{sym, ap, ◌∙◌}
 use Rattle.flow_slots.specs.Row.{fixed_of}
 use Rattle.flow_slots.proofs.Started.{started}
 use Rattle.flow_slots.proofs.Unfixed.{started-unfixed}
