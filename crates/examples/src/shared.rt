@@ -1,13 +1,14 @@
 //! A desk that many feeders share, with flow_desk alone.
-ghost use Rattle.std.specs.Prelude.{◌≡◌, Some, IfSome};
+ghost use Rattle.std.specs.Prelude.{◌≡◌, Some, IfSome, IsTrue};
 ghost use Rattle.flow_core.specs.declared.receipt.Receipt.{Receipt as Given};
 ghost use Rattle.flow_desk.specs.Histories.{row_at};
-ghost use Rattle.flow_desk.specs.Passes.{PassView, Filed, SawMore};
+ghost use Rattle.flow_desk.specs.Passes.{PassView, Filed, FiledInTurn, SawMore, SawOthers};
 
 use flow_core::Row;
 use flow_desk::{Desk, Name, Pass};
 use fpl_message::Filing;
 use std::alloc::Allocator;
+use std::collections::VecDeque;
 use std::sync::Wait;
 
 /// Files a text for a feeder, and looks at the plan of this number then. Other feeders may have filed between the two:
@@ -36,4 +37,20 @@ pub fn row_after<N: Name, Q: Wait + Drop, W: Wait, A: Allocator + Copy>(
         Ok(row) => row,
         Err(_) => None,
     }
+}
+
+/// Files what a feeder has ready, in order and with no other feeder's entry between. False where some of it wasn't
+/// filed: it is left then, and the first of it was refused.
+pub fn file_ready<N: Name, Q: Wait + Drop, W: Wait, A: Allocator + Copy>(
+    wait: &W,
+    alloc: A,
+    desk: &Desk<N, Q, A>,
+    pass: &mut Pass<N, A>,
+    ready: &mut VecDeque<Filing<A>, A>,
+) -> bool
+    ensures { IsTrue result → (saw : PassView) × SawOthers pass.old saw
+        × FiledInTurn N.setup saw ready.old.items pass.new }
+{
+    // `file_all` takes the lock once for all of them, and promises of each what `file` does.
+    desk.file_all(wait, alloc, pass, ready).is_ok()
 }
