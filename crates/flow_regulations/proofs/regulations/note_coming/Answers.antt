@@ -1,4 +1,4 @@
-use Rattle.std.proofs.Common.{◌≡◌, ℕ, ◌+◌, ◌-◌, ◌≤◌, ◌++◌, List, [], ◌∷◌, length, take, sym, ap, subst, ◌∙◌, refl, arith}
+use Rattle.std.proofs.Common.{◌≡◌, ℕ, ◌-◌, ◌++◌, List, [], ◌∷◌, length, take, sym, ap, subst, ◌∙◌, refl, arith}
 use Rattle.std.proofs.lemmas.List.{append-nil, length-take-le}
 use Rattle.flow_regulations.specs.Regulations.{Regulation, entering}
 use Rattle.flow_slots.specs.declared.cell.Planned.{Planned}
