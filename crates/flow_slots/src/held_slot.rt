@@ -90,6 +90,7 @@ fn are_none(slots: &[HeldSlot]) -> bool
 }
 
 /// The first place from this one on where there is a slot, or the first after all.
+#[inline(never)]
 pub(crate) fn first_held(slots: &[HeldSlot], from: usize) -> usize
     requires { from ≤ length slots.now }
     ensures from { from ≤ result }

@@ -54,6 +54,7 @@ impl<A: Allocator + Copy> Row<A> {
 
     /// The first number from this one on of a flight that stands in a slot. Where no later one does, the first number
     /// after all, or `from` where that is later.
+    #[inline(always)]
     pub(crate) fn next_placed(&self, from: u32) -> u32
         requires { vec_len self.now.places < 2 ^ 32 }
         ensures from { from ≤ result }

@@ -135,6 +135,7 @@ impl<A: Allocator + Copy> SlotList<A> {
 
     /// The first number from this one on of a flight that is held. Where no later one is, the first number after
     /// `max_plans`, or `from` where that is later.
+    #[inline(always)]
     pub fn next_held(&self, from: u32) -> u32
         ensures from { from ≤ result }
         ensures passed { (f : ℕ) → from ≤ f → f < result → held_slot self.now.lineup f ≡ None }
