@@ -6,10 +6,11 @@ use Rattle.std.proofs.lemmas.Bool.{false≢true, eq-eqb, eqb-true, cases_lt, lt-
 use Rattle.std.proofs.lemmas.Bool.Decides.{same_from_decides}
 use Rattle.std.proofs.lemmas.Option.{slice_get-get_or}
 use lib.Pointwise.{bytes_decides}
-use Rattle.fpl_message.specs.declared.order.Spot.TheVariants.{Dep}
+use Rattle.fpl_message.specs.declared.order.Spot.{Spot}
+use Rattle.fpl_message.specs.declared.order.Spot.TheVariants.{Dep, Arr, Via}
 use Rattle.flow_plans.specs.declared.outline.Outline.{Outline}
 use Rattle.flow_plans.specs.Plans.{Plan, is_filed, is_visual, plan_at}
-use Rattle.flow_plans.specs.Places.{letters_of, AreBytes, IsTold}
+use Rattle.flow_plans.specs.Places.{letters_of, AreBytes, IsTold, IsDepartureOf}
 use Rattle.flow_plans.specs.Entries.{entry_at, in_period, subject}
 use Rattle.flow_plans.specs.Outlines.{may_be_subject, departure, IsOutlineOf, AreOutlines}
 use Rattle.flow_plans.proofs.Letters.{letters-same, letters-tell}
@@ -99,8 +100,15 @@ of-some None P Q f h = h
 of-some (Some p) P Q f h = f p h
 
 -- what the outline of the plan of a number says of the entry at its departure
-pub outline-departs : (number len : ℕ) (os : List Outline) (ps all : List Plan) (o : Outline) (taxi start end : ℕ) (place : List ℕ) (entry : Option ℕ) → number - 1 < len → len ≡ length os → AreOutlines os ps → ps ≡ all
+outline-departs : (number len : ℕ) (os : List Outline) (ps all : List Plan) (o : Outline) (taxi start end : ℕ) (place : List ℕ) (entry : Option ℕ) → number - 1 < len → len ≡ length os → AreOutlines os ps → ps ≡ all
     → o ≡ get_or os (number - 1) o → IsTold place → entry ≡ departure taxi (letters_of place) start end o → IfSome (plan_at all number) (λ p. entry ≡ subject taxi (Dep place) start end p)
 outline-departs number len os ps all o taxi start end place entry inside l h same is told e =
     let at : slice_get os (number - 1) ≡ Some o = slice_get-get_or os (number - 1) o (omega (arith, l, inside)) ∙ ap (λ x. Some x) (sym is) in
     rw (← same) (of-some (slice_get ps (number - 1)) (IsOutlineOf o) (λ p. entry ≡ subject taxi (Dep place) start end p) (λ p r. e ∙ sym (r.departs taxi start end place told)) (outline-at os ps (number - 1) o h at))
+
+pub outline-enters : (number len : ℕ) (os : List Outline) (ps all : List Plan) (o : Outline) (taxi start end letters : ℕ) (entry : Option ℕ) → number - 1 < len → len ≡ length os → AreOutlines os ps → ps ≡ all → o ≡ get_or os (number - 1) o
+    → entry ≡ departure taxi letters start end o → (spot : Spot) → IsDepartureOf letters spot → IfSome (plan_at all number) (λ p. entry ≡ subject taxi spot start end p)
+outline-enters number len os ps all o taxi start end letters entry inside l h same is e (Dep place) told =
+    outline-departs number len os ps all o taxi start end place entry inside l h same is told.0 (e ∙ ap (λ n. departure taxi n start end o) told.1)
+outline-enters number len os ps all o taxi start end letters entry inside l h same is e (Arr place) told = absurd told
+outline-enters number len os ps all o taxi start end letters entry inside l h same is e (Via place) told = absurd told

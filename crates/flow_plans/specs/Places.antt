@@ -1,5 +1,7 @@
 -- Places as numbers, by their first letters.
-use Rattle.std.specs.Prelude.{ℕ, ◌+◌, ◌*◌, ◌<◌, ◌≤◌, nat_lt, if◌then◌else◌, List, length, slice_index}
+use Rattle.fpl_message.specs.declared.order.Spot.{Spot}
+use Rattle.fpl_message.specs.declared.order.Spot.TheVariants.{Dep, Arr, Via}
+use Rattle.std.specs.Prelude.{◌≡◌, ℕ, ◌+◌, ◌*◌, ◌<◌, ◌≤◌, nat_lt, if◌then◌else◌, List, length, slice_index}
 
 -- the first four letters of a place as one number, 0 of a shorter one
 unfoldable pub letters_of : List ℕ → ℕ
@@ -16,3 +18,9 @@ pub record IsTold (place : List ℕ) : Type 0 where
   pub most : length place ≤ 4
   pub bytes : AreBytes place
   pub some : 0 < letters_of place
+
+-- a departure that these letters tell
+abbrev pub IsDepartureOf : ℕ → Spot → Type 0
+IsDepartureOf letters (Dep place) = IsTold place × (letters ≡ letters_of place)
+IsDepartureOf letters (Arr place) = ⊥
+IsDepartureOf letters (Via place) = ⊥

@@ -6,6 +6,8 @@ ghost use Rattle.std.specs.Prelude.{◌≡◌, ◌+◌, ◌≤◌, ◌<◌, ◌-
 ghost use Rattle.std.specs.Prelude.{OnErr, IfSome};
 ghost use Rattle.flow_plans.specs.Chains.{AreChained, StayChained};
 ghost use Rattle.flow_plans.specs.Entries.{subject};
+ghost use Rattle.fpl_message.specs.declared.order.Spot.{Spot};
+ghost use Rattle.flow_plans.specs.Places.{IsDepartureOf};
 ghost use Rattle.flow_plans.specs.Plans.{is_held, plan_at, filed_off_block, changed_at, with_state};
 ghost use Rattle.flow_plans.specs.Plans.{with_off_block, with_former, texts_or};
 ghost use Rattle.flow_plans.specs.Changes.{amended_plan, texts_after};
@@ -98,6 +100,25 @@ impl<A: Allocator + Copy> PlanList<A> {
         outline.may_come(spot) && outline.may_fly(taxi, start, end)
     }
 
+    /// The entry of the plan of this number at its departure, where a regulation of a place of these letters and that
+    /// period applies to its flight.
+    #[inline(always)]
+    pub(crate) fn departure(
+        &self,
+        number: u32,
+        taxi: u32,
+        letters: u32,
+        start: Minute,
+        end: Minute,
+    ) -> Option<Minute>
+        requires number { (0 < number) × (number ≤ length self.now) }
+        requires taxi { taxi ≤ MAX_TAXI }
+        ensures { (spot : Spot) → IsDepartureOf letters spot
+            → IfSome (plan_at self.now number) (λ plan. result ≡ subject taxi spot start end plan) }
+    {
+        self.outlines[(number - 1) as usize].departure(taxi, letters, start, end)
+    }
+
     /// The entry of the plan of this number, where a regulation of that place and period applies to its flight. That at
     /// a departure of four letters its outline tells.
     #[inline(always)]
@@ -113,14 +134,13 @@ impl<A: Allocator + Copy> PlanList<A> {
         requires taxi { taxi ≤ MAX_TAXI }
         ensures { IfSome (plan_at self.now number) (λ plan. result ≡ subject taxi spot.now start end plan) }
     {
-        let index = (number - 1) as usize;
         if let Spot::Dep(place) = spot {
             let letters = letters_of(place.as_bytes());
             if letters != 0 {
-                return self.outlines[index].departure(taxi, letters, start, end);
+                return self.departure(number, taxi, letters, start, end);
             }
         }
-        self.plans[index].subject(taxi, spot, start, end)
+        self.plans[(number - 1) as usize].subject(taxi, spot, start, end)
     }
 
     /// The first number from this one on of a plan whose flight may come to a place in a period, or one more than there

@@ -6,6 +6,7 @@ ghost use Rattle.flow_plans.specs.Settings.{IsDeskTime};
 ghost use Rattle.flow_plans.specs.Entries.{take_off, entry_at, subject};
 ghost use Rattle.flow_plans.specs.Undoing.{undone};
 ghost use Rattle.flow_plans.specs.Chains.{flight_of_key, AreChained, HasRoomFor};
+ghost use Rattle.flow_plans.specs.Places.{IsDepartureOf};
 ghost use Rattle.flow_plans.specs.Plans.{plan_at, filed_off_block, status_at};
 ghost use Rattle.flow_plans.specs.Plans.{changed_at, with_state, with_off_block};
 ghost use Rattle.fpl_message.specs.declared.order.Spot.{Spot};
@@ -316,6 +317,18 @@ impl<A: Allocator + Copy> PlanStore<A> {
             (λ plan. result ≡ subject self.now.taxi spot.now start end plan) }
     {
         self.plans.subject(number, self.taxi, spot, start, end)
+    }
+
+    /// The entry of the plan of this number at its departure, where a regulation of that period and of a place of these
+    /// letters, as `letters_of` gives them, applies to it. It reads its outline alone.
+    #[inline(always)]
+    pub fn departure(&self, number: u32, letters: u32, start: Minute, end: Minute) -> Option<Minute>
+        requires some { 0 < number }
+        requires within { number ≤ length self.now.plans }
+        ensures { (spot : Spot) → IsDepartureOf letters spot
+            → IfSome (plan_at self.now.plans number) (λ plan. result ≡ subject self.now.taxi spot start end plan) }
+    {
+        self.plans.departure(number, self.taxi, letters, start, end)
     }
 
     /// The first number from this one on of a plan to whose flight a regulation of that place and period may apply;
