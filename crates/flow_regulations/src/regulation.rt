@@ -4,6 +4,7 @@ ghost use Rattle.std.specs.Prelude.{IfNone, IsTrue, ◌+◌, ◌↔◌, length};
 ghost use Rattle.flow_plans.specs.Plans.{Plan as Held, plan_at, is_departed};
 ghost use Rattle.flow_plans.specs.Entries.{subject};
 ghost use Rattle.flow_plans.specs.Near.{row_of};
+ghost use Rattle.flow_plans.specs.Places.{IsDepartureOf};
 ghost use Rattle.flow_slots.specs.Lineup.{held_slot, fixed_slot, without_flight, waiting_entry, len_of};
 ghost use Rattle.flow_slots.specs.Lineup.{with_all_waiting, MayFill, IsLineup};
 ghost use Rattle.flow_slots.specs.Period.{IsWithin, IsRegular};
@@ -23,7 +24,7 @@ ghost use Rattle.flow_slots.specs.Period.{most_slots};
 use crate::due::is_due;
 use crate::entry_asked::EntryAsked;
 use crate::places::Place;
-use flow_plans::{PlanState, PlanStore, row_of};
+use flow_plans::{PlanState, PlanStore, letters_of, row_of};
 use flow_slots::{Planned, Shape, SlotList};
 use fpl_message::Spot;
 use fpl_text::{Minute, Text};
@@ -107,12 +108,24 @@ impl<A: Allocator + Copy> Regulation<A> {
 
     /// The first number from this one on of a flight that it holds, or one past the last, after which it holds none.
     /// The flights before it aren't held.
+    #[inline(always)]
     pub(crate) fn next_held(&self, from: u32) -> u32
         ensures from { from ≤ result }
         ensures passed { (f : ℕ) → from ≤ f → f < result → IsOut f self.now }
         ensures stops { result ≤ self.now.lineup.capacity → IsSome (held_slot self.now.lineup result) }
     {
         self.list.next_held(from)
+    }
+
+    /// The letters of its place, where that is a departure of four letters.
+    pub(crate) fn departure(&self) -> Option<u32>
+        ensures { IfSome result (λ letters. IsDepartureOf letters self.now.spot) }
+    {
+        let Spot::Dep(place) = &self.spot else {
+            return None;
+        };
+        let letters = letters_of(place.as_bytes());
+        if letters != 0 { Some(letters) } else { None }
     }
 
     /// The first number from this one on of a plan to whose flight the regulation may apply. To the flights of the

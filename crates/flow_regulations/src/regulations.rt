@@ -4,6 +4,7 @@ ghost use Rattle.std.specs.Prelude.{IfNone, IfOk, IsTrue, ◌↔◌, MatchOption
 ghost use Rattle.std.specs.Prelude.{vec_capacity};
 ghost use Rattle.std.specs.List.{All, AllByRecursion, insert, list_any};
 ghost use Rattle.std.specs.List.Sorted.{IsNonDecreasing, IsStrictlyIncreasing};
+ghost use Rattle.flow_plans.specs.Places.{IsDepartureOf};
 ghost use Rattle.flow_plans.specs.Plans.{Plan, plan_at};
 ghost use Rattle.flow_slots.specs.Assignment.{is_in};
 ghost use Rattle.flow_regulations.specs.Advice.{advice};
@@ -538,8 +539,7 @@ fn let_all_in<A: Allocator + Copy>(
 {
     coming.clear();
     coming.reserve(plans.count() as usize)?;
-    targets.clear();
-    targets.reserve(plans.count() as usize)?;
+    targets.reserve((plans.count() as usize).saturating_sub(targets.len()))?;
     let due = note_coming(regulation, plans, now, coming);
     let (start, _end) = regulation.list().shape().period();
     put_in_order(coming, start, targets);
@@ -549,6 +549,24 @@ fn let_all_in<A: Allocator + Copy>(
 
 /// Notes the flights that a regulation applies to, by number, and answers whether one of them is due.
 fn note_coming<A: Allocator + Copy>(
+    regulation: &Regulation<A>,
+    plans: &PlanStore<A>,
+    now: Minute,
+    coming: &mut Vec<Planned, A>,
+) -> bool
+    requires none { coming.old.items ≡ [] }
+    requires room { length plans.now.plans ≤ vec_capacity coming.old }
+    ensures coming { coming.new.items ≡ coming_from 1 plans.now.taxi (regulation_of regulation.now) plans.now.plans }
+    ensures due { result ≡ false → AreUndue now plans.now.plans coming.new.items }
+{
+    match regulation.departure() {
+        Some(letters) => note_departing(regulation, plans, letters, now, coming),
+        None => note_entering(regulation, plans, now, coming),
+    }
+}
+
+/// Notes them wherever the regulation's place is. Their plans tell.
+fn note_entering<A: Allocator + Copy>(
     regulation: &Regulation<A>,
     plans: &PlanStore<A>,
     now: Minute,
@@ -571,6 +589,38 @@ fn note_coming<A: Allocator + Copy>(
             due |= is_due(plans, number, now);
         }
         from = number + 1;
+    }
+    due
+}
+
+/// Notes them where the regulation's place is a departure of these letters. The outlines of the plans tell them.
+fn note_departing<A: Allocator + Copy>(
+    regulation: &Regulation<A>,
+    plans: &PlanStore<A>,
+    letters: u32,
+    now: Minute,
+    coming: &mut Vec<Planned, A>,
+) -> bool
+    requires departure { IsDepartureOf letters regulation.now.spot }
+    requires none { coming.old.items ≡ [] }
+    requires room { length plans.now.plans ≤ vec_capacity coming.old }
+    ensures coming { coming.new.items ≡ coming_from 1 plans.now.taxi (regulation_of regulation.now) plans.now.plans }
+    ensures due { result ≡ false → AreUndue now plans.now.plans coming.new.items }
+{
+    let (start, end) = regulation.list().shape().period();
+    let count = plans.count();
+    let mut due = false;
+    let mut number = 1;
+    while number <= count {
+        if let Some(entry) = plans.departure(number, letters, start, end) {
+            let entry = entry.minutes();
+            coming.push_reserved(Planned {
+                entry,
+                flight: number,
+            });
+            due |= is_due(plans, number, now);
+        }
+        number += 1;
     }
     due
 }

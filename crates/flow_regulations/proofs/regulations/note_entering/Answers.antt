@@ -6,8 +6,8 @@ use Rattle.flow_regulations.specs.Listing.{regulation_of, AreUndue}
 use Rattle.flow_regulations.proofs.Undue.{undue-on}
 use Rattle.flow_regulations.proofs.Looked.{plan-there}
 use Rattle.flow_regulations.proofs.Openings.{coming-on, coming-rest, coming-few}
-use Rattle.flow_regulations.proofs.regulations.note_coming.Goals as goal
-use Rattle.flow_regulations.proofs.regulations.note_coming.Goals.{in-Some-subject, in_default-subject}
+use Rattle.flow_regulations.proofs.regulations.note_entering.Goals as goal
+use Rattle.flow_regulations.proofs.regulations.note_entering.Goals.{in-Some-subject, in_default-subject}
 
 pub loop-number-init : goal.loop-number-init
 loop-number-init g c = record {

@@ -1,7 +1,7 @@
 use Rattle.std.proofs.Common.{◌≡◌, false, ◌<◌, ◌≤◌, ◌+◌, ◌-◌, length, take, vec_capacity}
 use Rattle.flow_regulations.specs.Listing.{regulation_of, AreUndue}
 use Rattle.flow_regulations.specs.Regulations.{coming_from}
-use Rattle.flow_regulations.proofs.regulations.note_coming.Given as goal
+use Rattle.flow_regulations.proofs.regulations.note_entering.Given as goal
 
 abbrev pub invariant-loop-number : goal.invariant-loop-number
 invariant-loop-number g l = record {
