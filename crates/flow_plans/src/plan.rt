@@ -488,6 +488,7 @@ impl<A: Allocator + Copy> Plan<A> {
     }
 
     /// The moment of entry at a place of the way.
+    #[inline(always)]
     #[tactic(auto, unfolding(crate::specs::Entries::entry_at))]
     fn entry_on_way(&self, taxi: u32, place: &Text<11>) -> Option<Minute>
         requires { taxi ≤ MAX_TAXI }
