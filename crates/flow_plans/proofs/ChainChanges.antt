@@ -1,12 +1,13 @@
 -- What taking a plan out of its chain, or putting it into one, means for all plans of which these are the chains.
-use Rattle.std.proofs.Common.{◌≡◌, ℕ, zero, suc, ◌-◌, ◌<◌, ◌≤◌, Bool, true, List, [], ◌∷◌, length, Some, Option, IfSome, unwrap_or, slice_get, slice_set, slice_index, get_or, refl, sym, ap, subst, ◌∙◌, arith}
+use Rattle.std.proofs.Common.{◌≡◌, ℕ, zero, suc, ◌-◌, ◌<◌, ◌≤◌, Bool, true, false, List, [], ◌∷◌, length, Some, Option, IfSome, unwrap_or, slice_get, slice_set, slice_index, get_or, cond, refl, sym, ap, subst, ◌∙◌, arith}
 use Rattle.std.specs.Map.{lookup}
 use Rattle.flow_plans.specs.declared.chains.FlightName.{FlightName}
 use Rattle.flow_plans.specs.declared.plan.PlanState.{PlanState}
 use Rattle.flow_plans.specs.declared.plan.PlanState.TheVariants as state
 use Rattle.flow_plans.specs.Plans.{Plan, is_held, plan_at, with_plan, changed_at, with_state}
 use Rattle.flow_plans.specs.Changes.{others}
-use Rattle.flow_plans.specs.Chains.{Chained, newest, same_flight, IsUpdated, flight_of_key, is_held_there, AreLinks, IsNewest, AreChained, IsApart, LeaveOut, TakeIn}
+use Rattle.flow_plans.specs.Chains.{Chained, newest, same_flight, IsUpdated, IsForgotten, flight_of_key, is_held_there, AreLinks, IsNewest, AreChained, IsApart, LeaveOut, TakeIn}
+use Rattle.flow_plans.proofs.ChainLemmas.{same_flight-flip}
 use Rattle.flow_plans.proofs.ChainMoves.{head-newest, head-within, others-length, leave-absent, leave-past, leave-newest, leave-later, join-newest, join-later, join-apart, join-below}
 use Rattle.flow_plans.proofs.Keepings.{set-there, plan-stood, changed-length, changed-is, others-set, chained-forgot}
 
@@ -62,6 +63,24 @@ pub out-stay : (chains left later : Chained) (name : FlightName) (n : ℕ) → (
     → later.older ≡ left.older → LeaveOut chains left name n → LeaveOut chains later name n
 out-stay chains left later name n heads older gone ps are named =
     chained-forgot left later (others n ps) (λ q. ap (λ (o : Option ℕ). unwrap_or o 0) (heads q)) older (gone ps are named)
+
+-- the newest plan of its chain, which is the oldest, too, is taken out, and its flight forgotten
+pub out-forgotten : (chains : Chained) (name : FlightName) (n : ℕ) (heads : List (FlightName × ℕ)) (room : ℕ) → 0 < n → n ≤ length chains.older
+    → newest chains.heads name ≡ n → slice_index chains.older (n - 1) ≡ 0 → IsForgotten chains.heads heads name
+    → LeaveOut chains (record { heads = heads; older = chains.older; room = room }) name n
+out-forgotten chains name n heads room some inside first last gone ps are named =
+    chained-forgot (record { heads = (name, 0) ∷ heads; older = chains.older; room = room }) (record { heads = heads; older = chains.older; room = room }) (others n ps)
+    (λ q. zeroed q (same_flight q name) refl) refl
+    (out-newest chains name n some inside ((name, 0) ∷ heads) room first (λ q. lowered q (same_flight q name) refl) ps are named)
+  where
+    lowered : (q : FlightName) (b : Bool) → same_flight q name ≡ b
+        → lookup (same_flight q) ((name, 0) ∷ heads) ≡ cond (same_flight name q) (Some (slice_index chains.older (n - 1))) (lookup (same_flight q) chains.heads)
+    lowered q true e = rw (e, same_flight-flip q name true e, last) refl
+    lowered q false e = rw (e, gone q, same_flight-flip q name false e) refl
+
+    zeroed : (q : FlightName) (b : Bool) → same_flight q name ≡ b → newest heads q ≡ newest ((name, 0) ∷ heads) q
+    zeroed q true e = rw (e, gone q, same_flight-flip q name true e) refl
+    zeroed q false e = rw e refl
 
 module _ (chains : Chained) (n : ℕ) (apart : IsApart chains n) where
   pub apart-within : n - 1 < length chains.older

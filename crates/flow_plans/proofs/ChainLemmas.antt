@@ -6,7 +6,7 @@ use Rattle.std.proofs.lemmas.Bool.Decides.{Decides-eqb}
 use Rattle.std.proofs.lemmas.List.{get_or-set_same, get_or-set_other}
 use Rattle.flow_plans.specs.declared.chains.FlightName.{FlightName}
 use Rattle.flow_plans.specs.Plans.{Plan, is_held}
-use Rattle.flow_plans.specs.Chains.{Chained, newest, IsUpdated, same_flight, flight_of_key, is_held_under, is_held_there, newest_held, AreChained}
+use Rattle.flow_plans.specs.Chains.{Chained, newest, IsUpdated, IsForgotten, same_flight, flight_of_key, is_held_under, is_held_there, newest_held, AreChained}
 use Rattle.flow_plans.proofs.LastNumbers.{last-le, last-passes, last-above, last-same, last-lower, last-low, last-skipped, last-stays, last-high, last-new}
 use Rattle.flow_plans.proofs.Matches.{passes_at-within}
 
@@ -26,6 +26,15 @@ same_flight-same a b h =
 
 pub same_flight-refl : (a : FlightName) → same_flight a a ≡ true
 same_flight-refl a = rw ((Decides-eqb a.ident a.ident).1 refl, (Decides-eqb a.ends a.ends).1 refl) refl
+
+pub same_flight-flip : (a b : FlightName) (r : Bool) → same_flight a b ≡ r → same_flight b a ≡ r
+same_flight-flip a b true h = subst (λ (c : FlightName). same_flight c a ≡ true) (same_flight-same a b h) (same_flight-refl a)
+same_flight-flip a b false h = by (same_flight b a) refl where
+  by : (r : Bool) → same_flight b a ≡ r → same_flight b a ≡ false
+  by true e =
+      let t : same_flight a b ≡ true = subst (λ (c : FlightName). same_flight c b ≡ true) (same_flight-same b a e) (same_flight-refl b) in
+      absurd (cc)
+  by false e = e
 
 -- a plan is held under one name
 pub held-name : (ps : List Plan) (k : ℕ) (p : Plan) (name : FlightName) → slice_get ps k ≡ Some p → is_held_there name ps k ≡ true → name ≡ flight_of_key p.key
@@ -312,3 +321,8 @@ forgotten-newest heads later own none updates q = ap (λ o. unwrap_or o 0) (upda
   by : (b : Bool) → same_flight own q ≡ b → unwrap_or (cond b None (lookup (same_flight q) heads)) 0 ≡ newest heads q
   by true e = sym (subst (λ (n : FlightName). newest heads n ≡ 0) (same_flight-same own q e) none)
   by false e = refl
+
+pub forgotten-others : (heads later : List (FlightName × ℕ)) (own : FlightName) → IsForgotten heads later own
+    → (q : FlightName) → same_flight own q ≡ false → lookup (same_flight q) later ≡ None → lookup (same_flight q) heads ≡ None
+forgotten-others heads later own gone q other none =
+    ap (λ (b : Bool). cond b None (lookup (same_flight q) heads)) (sym other) ∙ sym (gone q) ∙ none

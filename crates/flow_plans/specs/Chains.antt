@@ -61,6 +61,11 @@ abbrev pub IsUpdated : List (FlightName × ℕ) → List (FlightName × ℕ) →
 IsUpdated heads later name number =
     (q : FlightName) → lookup (same_flight q) later ≡ cond (same_flight name q) (Some number) (lookup (same_flight q) heads)
 
+-- one flight is in the map no more, the others stayed
+abbrev pub IsForgotten : List (FlightName × ℕ) → List (FlightName × ℕ) → FlightName → Type 0
+IsForgotten heads later name =
+    (q : FlightName) → lookup (same_flight q) later ≡ cond (same_flight name q) None (lookup (same_flight q) heads)
+
 -- from each plan the chain goes on to one before it, or ends
 abbrev pub GoDown : List ℕ → Type 0
 GoDown older = (place : ℕ) → slice_index older place ≤ place

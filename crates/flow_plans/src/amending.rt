@@ -129,9 +129,6 @@ pub(crate) fn change_chain<A: Allocator + Copy>(
     if name == before {
         return;
     }
-    let left = chains.leave(&before, number);
+    chains.withdraw(&before, number);
     chains.join(name, number);
-    if left == 0 {
-        chains.forget(&before);
-    }
 }

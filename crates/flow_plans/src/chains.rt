@@ -5,7 +5,7 @@ ghost use Rattle.std.specs.Map.{lookup};
 ghost use Rattle.indexmap.specs.IndexMap.{spare};
 ghost use Rattle.flow_plans.specs.Plans.{is_held};
 ghost use Rattle.flow_plans.specs.Chains.{base_256, flight_named, flight_of_key, flight_of_parts, same_flight, newest};
-ghost use Rattle.flow_plans.specs.Chains.{GoDown, AreLinks, IsNewest, AreChained, HasRoomFor, IsUpdated, KeepNames};
+ghost use Rattle.flow_plans.specs.Chains.{GoDown, AreLinks, IsNewest, AreChained, HasRoomFor, IsUpdated, IsForgotten, KeepNames};
 ghost use Rattle.flow_plans.specs.Chains.{StayChained, IsApart, LeaveOut, TakeIn};
 ghost use Rattle.flow_plans.specs.declared.setup.TheConstants.{MAX_PLANS};
 
@@ -174,6 +174,24 @@ impl<A: Allocator + Copy> Chains<A> {
         newest
     }
 
+    /// Takes the plan of this number, whose flight has this name, out of its chain, and forgets the flight where no
+    /// other plan is held under that name. It takes no memory.
+    pub(crate) fn withdraw(&mut self, name: &FlightName, number: u32)
+        requires number { (0 < number) × (number ≤ length self.old.older) }
+        requires within { newest self.old.heads name.now ≤ length self.old.older }
+        ensures out { LeaveOut self.old self.new name.now number }
+        ensures others { (q : FlightName) → same_flight name.now q ≡ false
+            → lookup (same_flight q) self.new.heads ≡ None → lookup (same_flight q) self.old.heads ≡ None }
+        ensures room { self.old.room ≤ self.new.room }
+    {
+        if self.older[(number - 1) as usize] == 0 {
+            if forget_alone(&mut self.heads, name, number) {
+                return;
+            }
+        }
+        self.leave(name, number);
+    }
+
     /// Puts the plan of this number into the chain of its flight, which has this name, and for which there is room.
     pub(crate) fn join(&mut self, name: FlightName, number: u32)
         requires apart { IsApart self.old number }
@@ -243,6 +261,23 @@ fn lower_newest<A: Allocator + Copy>(
         *newest = next;
     }
     before
+}
+
+/// Forgets a flight whose newest plan has this number, and answers whether it has.
+fn forget_alone<A: Allocator + Copy>(heads: &mut Heads<A>, name: &FlightName, number: u32) -> bool
+    ensures newest { result ≡ true → newest heads.old.entries name.now ≡ number }
+    ensures gone { result ≡ true → IsForgotten heads.old.entries heads.new.entries name.now }
+    ensures stays { result ≡ false → heads.new ≡ heads.old }
+    ensures room { spare heads.old ≤ spare heads.new }
+{
+    let Some((place, _, newest)) = heads.get_full(name) else {
+        return false;
+    };
+    if *newest != number {
+        return false;
+    }
+    heads.swap_remove_index(place);
+    true
 }
 
 /// Makes this number that of the newest plan of a flight, for which there is room in the map, unless a newer one has
