@@ -313,15 +313,7 @@ updated-names heads later own n updates q none = by (same_flight own q) (sym (up
   by true e = absurd (cc)
   by false e = e
 
--- a flight that is forgotten had no plan
-pub forgotten-newest : (heads later : List (FlightName × ℕ)) (own : FlightName) → newest heads own ≡ 0
-    → ((q : FlightName) → lookup (same_flight q) later ≡ cond (same_flight own q) None (lookup (same_flight q) heads))
-    → (q : FlightName) → newest later q ≡ newest heads q
-forgotten-newest heads later own none updates q = ap (λ o. unwrap_or o 0) (updates q) ∙ by (same_flight own q) refl where
-  by : (b : Bool) → same_flight own q ≡ b → unwrap_or (cond b None (lookup (same_flight q) heads)) 0 ≡ newest heads q
-  by true e = sym (subst (λ (n : FlightName). newest heads n ≡ 0) (same_flight-same own q e) none)
-  by false e = refl
-
+-- no other flight is forgotten
 pub forgotten-others : (heads later : List (FlightName × ℕ)) (own : FlightName) → IsForgotten heads later own
     → (q : FlightName) → same_flight own q ≡ false → lookup (same_flight q) later ≡ None → lookup (same_flight q) heads ≡ None
 forgotten-others heads later own gone q other none =

@@ -221,21 +221,8 @@ impl<A: Allocator + Copy> Chains<A> {
         ensures chained { AreChained self.new (take (length plans.now - 1) plans.now) }
     {
         let name = FlightName::of_key(plans[plans.len() - 1].key());
-        let left = self.leave(&name, plans.len() as u32);
+        self.withdraw(&name, plans.len() as u32);
         self.older.pop();
-        if left == 0 {
-            self.forget(&name);
-        }
-    }
-
-    /// Forgets a flight under whose name no plan is held.
-    pub(crate) fn forget(&mut self, name: &FlightName)
-        requires { newest self.old.heads name.now ≡ 0 }
-        ensures heads { (q : FlightName) → newest self.new.heads q ≡ newest self.old.heads q }
-        ensures older { self.new.older ≡ self.old.older }
-        ensures room { self.old.room ≤ self.new.room }
-    {
-        self.heads.swap_remove(name);
     }
 }
 

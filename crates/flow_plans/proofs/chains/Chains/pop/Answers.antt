@@ -7,42 +7,21 @@ use Rattle.flow_plans.proofs.Keepings.{plan-stood}
 use Rattle.flow_plans.proofs.ChainMoves.{head-within, down-take, others-length, popped}
 use Rattle.flow_plans.proofs.chains.Chains.pop.Goals as goal
 
-pub leave-left-requires-clause-within : goal.leave-left-requires-clause-within
-leave-left-requires-clause-within g c =
+pub withdraw-requires-clause-within : goal.withdraw-requires-clause-within
+withdraw-requires-clause-within g c =
     omega (arith, head-within c.args.self.now c.args.plans.now c.of_key-name.result c.requires.chained, c.requires.chained.count)
 
 pub invariant_of-self : goal.invariant_of-self
 invariant_of-self g c = rw c.pop.ensures.rest (down-take c.self.inside.older.items _ c.self.invariant)
 
-pub invariant_of-self-else-left-eq0 : goal.invariant_of-self-else-left-eq0
-invariant_of-self-else-left-eq0 g c = rw c.pop.ensures.rest (down-take c.self.inside.older.items _ c.self.invariant)
-
-pub returns-then-left-eq0 : goal.returns-then-left-eq0
-returns-then-left-eq0 g c =
+pub returns : goal.returns
+returns g c =
     let plans = c.args.plans.now in
     let p = c.index-plans-plans.result in
-    let left : Chained = c.leave-left.new.self in
+    let left : Chained = c.withdraw.new.self in
     let name : c.of_key-name.result ≡ flight_of_key p.key = c.of_key-name.ensures ∙ ap (λ k. flight_of_key k) c.key.ensures in
     let are : AreChained left (others (length plans) plans) =
-    c.leave-left.ensures.out plans c.requires.chained (rw (plan-stood plans (length plans) p c.requires.some (omega arith) c.index-plans-plans.is) (sym name)) in
-    let older : c.self.inside.older.items ≡ left.older = ap (λ (v : Chained). v.older) c.self.view_is in
-    let heads : c.self.inside.heads.entries ≡ left.heads = ap (λ (v : Chained). v.heads) c.self.view_is in
-    let long : length left.older ≡ length plans = are.count ∙ others-length plans (length plans) p c.requires.some (omega arith) c.index-plans-plans.is in
-    let items : c.forget.new.self.older ≡ take (length plans - 1) left.older =
-    c.forget.ensures.older ∙ c.pop.ensures.rest ∙ ap (λ (n : ℕ). take (n - 1) c.self.inside.older.items) (c.self.inside.older.ok.0 ∙ ap (λ (xs : List ℕ). length xs) older ∙ long)
-    ∙ ap (λ (xs : List ℕ). take (length plans - 1) xs) older in
-    let stay : (q : FlightName) → newest c.forget.new.self.heads q ≡ newest left.heads q = λ q. c.forget.ensures.heads q ∙ ap (λ es. newest es q) heads in
-    let made = popped left plans p c.requires.some c.index-plans-plans.is are c.forget.new.self.heads c.forget.new.self.room stay in
-    record { chained = rw (← items) at made }
-
-pub returns-else-left-eq0 : goal.returns-else-left-eq0
-returns-else-left-eq0 g c =
-    let plans = c.args.plans.now in
-    let p = c.index-plans-plans.result in
-    let left : Chained = c.leave-left.new.self in
-    let name : c.of_key-name.result ≡ flight_of_key p.key = c.of_key-name.ensures ∙ ap (λ k. flight_of_key k) c.key.ensures in
-    let are : AreChained left (others (length plans) plans) =
-    c.leave-left.ensures.out plans c.requires.chained (rw (plan-stood plans (length plans) p c.requires.some (omega arith) c.index-plans-plans.is) (sym name)) in
+    c.withdraw.ensures.out plans c.requires.chained (rw (plan-stood plans (length plans) p c.requires.some (omega arith) c.index-plans-plans.is) (sym name)) in
     let older : c.self.inside.older.items ≡ left.older = ap (λ (v : Chained). v.older) c.self.view_is in
     let heads : c.self.inside.heads.entries ≡ left.heads = ap (λ (v : Chained). v.heads) c.self.view_is in
     let long : length left.older ≡ length plans = are.count ∙ others-length plans (length plans) p c.requires.some (omega arith) c.index-plans-plans.is in
