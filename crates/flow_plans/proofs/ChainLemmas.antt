@@ -296,15 +296,6 @@ updated-stays heads later own n first updates q = updated-newest heads later own
   by true e = sym first ∙ ap (λ (r : FlightName). newest heads r) (same_flight-same own q e)
   by false e = refl
 
-pub updated-others : (heads later : List (FlightName × ℕ)) (own : FlightName) (n : ℕ) → IsUpdated heads later own n
-    → (q : FlightName) → same_flight own q ≡ false → newest later q ≡ newest heads q
-updated-others heads later own n updates q other =
-    updated-newest heads later own n updates q ∙ ap (λ (b : Bool). if b then n else newest heads q) other
-
-pub updated-own : (heads later : List (FlightName × ℕ)) (own : FlightName) (n : ℕ) → IsUpdated heads later own n → newest later own ≡ n
-updated-own heads later own n updates =
-    updated-newest heads later own n updates own ∙ ap (λ (b : Bool). if b then n else newest heads own) (same_flight-refl own)
-
 -- no flight is forgotten by it
 pub updated-names : (heads later : List (FlightName × ℕ)) (own : FlightName) (n : ℕ) → IsUpdated heads later own n
     → (q : FlightName) → lookup (same_flight q) later ≡ None → lookup (same_flight q) heads ≡ None

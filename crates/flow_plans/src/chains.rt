@@ -150,28 +150,22 @@ impl<A: Allocator + Copy> Chains<A> {
         Ok(())
     }
 
-    /// Takes the plan of this number, whose flight has this name, out of its chain, and answers the newest number
-    /// that is left there. It takes no memory.
-    pub(crate) fn leave(&mut self, name: &FlightName, number: u32) -> u32
+    /// Takes the plan of this number, whose flight has this name, out of its chain. It takes no memory.
+    pub(crate) fn leave(&mut self, name: &FlightName, number: u32)
         requires number { (0 < number) × (number ≤ length self.old.older) }
         requires within { newest self.old.heads name.now ≤ length self.old.older }
-        ensures left { result ≡ newest self.new.heads name.now }
         ensures out { LeaveOut self.old self.new name.now number }
         ensures kept { KeepNames self.old self.new }
     {
         let next = self.older[(number - 1) as usize];
         let newest = lower_newest(&mut self.heads, name, number, next);
-        if newest < number {
-            return newest;
-        }
-        if newest == number {
-            return next;
+        if newest <= number {
+            return;
         }
         let later = later_than(&self.older, newest, number);
         if self.older[later] == number {
             self.older[later] = next;
         }
-        newest
     }
 
     /// Takes the plan of this number, whose flight has this name, out of its chain, and forgets the flight where no
@@ -198,8 +192,6 @@ impl<A: Allocator + Copy> Chains<A> {
         requires room { HasRoomFor self.old name }
         ensures taken { TakeIn self.old self.new name number }
         ensures room { self.old.room ≤ self.new.room + 1 }
-        ensures others { (q : FlightName) → same_flight name q ≡ false
-            → newest self.new.heads q ≡ newest self.old.heads q }
     {
         let place = (number - 1) as usize;
         let newest = raise_newest(&mut self.heads, name, number);

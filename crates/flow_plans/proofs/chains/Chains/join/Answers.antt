@@ -3,7 +3,7 @@ use Rattle.std.specs.Prelude.{max}
 use Rattle.std.proofs.lemmas.Grind.{get_or_default_zero}
 use Rattle.indexmap.specs.IndexMap.{spare}
 use Rattle.flow_plans.specs.Chains.{Chained, newest, IsUpdated, IsApart}
-use Rattle.flow_plans.proofs.ChainLemmas.{updated-stays, updated-others}
+use Rattle.flow_plans.proofs.ChainLemmas.{updated-stays}
 use Rattle.flow_plans.proofs.ChainMoves.{down-set}
 use Rattle.flow_plans.proofs.ChainChanges.{IsReached, apart-within, apart-newest-within, apart-newest, apart-below, into-newest, into-later}
 use Rattle.flow_plans.proofs.chains.Chains.join.Goals as goal
@@ -34,16 +34,6 @@ returns-then-newest-number-clause-taken g c =
     (into-newest chains c.args.number apart c.args.name c.raise_newest-newest.new.heads.entries (spare c.raise_newest-newest.new.heads)
     (omega (arith, first, c.if-newest-number.true))
     (subst (λ (m : ℕ). IsUpdated chains.heads c.raise_newest-newest.new.heads.entries c.args.name m) most c.raise_newest-newest.ensures.raised))
-
-pub returns-then-newest-number-clause-others : goal.returns-then-newest-number-clause-others
-returns-then-newest-number-clause-others g c =
-    rw (← c.self.view_is)
-    (updated-others c.self.inside.heads.entries c.raise_newest-newest.new.heads.entries c.args.name (max c.raise_newest-newest.result c.args.number) c.raise_newest-newest.ensures.raised)
-
-pub returns-clause-others : goal.returns-clause-others
-returns-clause-others g c =
-    rw (← c.self.view_is)
-    (updated-others c.self.inside.heads.entries c.raise_newest-newest.new.heads.entries c.args.name (max c.raise_newest-newest.result c.args.number) c.raise_newest-newest.ensures.raised)
 
 pub later_than-later-requires-clause-down : goal.later_than-later-requires-clause-down
 later_than-later-requires-clause-down g c = rw c.deref.ensures.value c.self.invariant

@@ -1,43 +1,48 @@
-use Rattle.std.proofs.Common.{ℕ, ◌≡◌, ◌≤◌, ◌<◌, ◌-◌, length, slice_set, slice_index, refl, sym, ◌∙◌, arith}
+use Rattle.std.proofs.Common.{ℕ, ◌≡◌, ⊎_elim, None, List, ◌≤◌, ◌<◌, ◌-◌, length, slice_set, slice_index, refl, sym, ◌∙◌, arith}
+use Rattle.std.specs.Map.{lookup}
+use Rattle.std.proofs.lemmas.Bool.{cases_lt}
 use Rattle.std.proofs.lemmas.Grind.{get_or_default_zero}
+use Rattle.flow_plans.specs.declared.chains.FlightName.{FlightName}
 use Rattle.indexmap.specs.IndexMap.{spare}
-use Rattle.flow_plans.specs.Chains.{Chained, newest, IsUpdated}
-use Rattle.flow_plans.proofs.ChainLemmas.{updated-names, updated-own}
+use Rattle.flow_plans.specs.Chains.{Chained, newest, same_flight, IsUpdated, LeaveOut}
+use Rattle.flow_plans.proofs.ChainLemmas.{updated-names}
 use Rattle.flow_plans.proofs.ChainChanges.{IsReached, out-absent, out-newest, out-later, out-past, out-stay}
 use Rattle.flow_plans.proofs.chains.Chains.leave.Goals as goal
 
 pub returns-then-newest-number-clause-out : goal.returns-then-newest-number-clause-out
 returns-then-newest-number-clause-out g c =
     let chains : Chained = record { heads = c.self.inside.heads.entries; older = c.self.inside.older.items; room = spare c.self.inside.heads } in
-    let inside : c.args.number ≤ length chains.older = rw (← c.self.view_is) at c.requires.number.1 in
-    rw (← c.self.view_is)
-    (out-stay chains chains (record { heads = c.lower_newest-newest.new.heads.entries; older = chains.older; room = spare c.lower_newest-newest.new.heads }) c.args.name.now c.args.number
-    (c.lower_newest-newest.ensures.kept (λ (e : c.lower_newest-newest.result ≡ c.args.number). omega (arith, e, c.if-newest-number.true))) refl
-    (out-absent chains c.args.name.now c.args.number c.requires.number.0 inside (omega (arith, c.lower_newest-newest.ensures.before, c.if-newest-number.true))))
-
-pub returns-then-newest-number-2-clause-left : goal.returns-then-newest-number-2-clause-left
-returns-then-newest-number-2-clause-left g c =
-    sym (updated-own c.self.inside.heads.entries c.lower_newest-newest.new.heads.entries c.args.name.now c.index-next.result.now (c.lower_newest-newest.ensures.lowered c.if-newest-number-2.true))
-
-pub returns-then-newest-number-2-clause-out : goal.returns-then-newest-number-2-clause-out
-returns-then-newest-number-2-clause-out g c =
-    let chains : Chained = record { heads = c.self.inside.heads.entries; older = c.self.inside.older.items; room = spare c.self.inside.heads } in
+    let later : Chained = record { heads = c.lower_newest-newest.new.heads.entries; older = chains.older; room = spare c.lower_newest-newest.new.heads } in
     let inside : c.args.number ≤ length chains.older = rw (← c.self.view_is) at c.requires.number.1 in
     let value : c.index-next.result.now ≡ slice_index chains.older (c.args.number - 1) =
     c.index-next.ensures ∙ get_or_default_zero chains.older (c.args.number - 1) c.index-next.result.now (omega (arith, inside, c.requires.number.0)) in
+    let left : LeaveOut chains later c.args.name.now c.args.number =
+    ⊎_elim
+    (λ (below : c.lower_newest-newest.result < c.args.number).
+    out-stay chains chains later c.args.name.now c.args.number
+    (c.lower_newest-newest.ensures.kept (λ (e : c.lower_newest-newest.result ≡ c.args.number). omega (arith, e, below))) refl
+    (out-absent chains c.args.name.now c.args.number c.requires.number.0 inside (omega (arith, c.lower_newest-newest.ensures.before, below))))
+    (λ (above : c.args.number ≤ c.lower_newest-newest.result).
+    let own : c.lower_newest-newest.result ≡ c.args.number = omega (arith, above, c.if-newest-number.true) in
     let updates : IsUpdated chains.heads c.lower_newest-newest.new.heads.entries c.args.name.now (slice_index chains.older (c.args.number - 1)) =
-    rw value at (c.lower_newest-newest.ensures.lowered c.if-newest-number-2.true) in
-    rw (← c.self.view_is)
-    (out-newest chains c.args.name.now c.args.number c.requires.number.0 inside c.lower_newest-newest.new.heads.entries (spare c.lower_newest-newest.new.heads)
-    (sym c.lower_newest-newest.ensures.before ∙ c.if-newest-number-2.true) updates)
+    rw value at (c.lower_newest-newest.ensures.lowered own) in
+    out-newest chains c.args.name.now c.args.number c.requires.number.0 inside c.lower_newest-newest.new.heads.entries (spare c.lower_newest-newest.new.heads)
+    (sym c.lower_newest-newest.ensures.before ∙ own) updates)
+    (cases_lt c.lower_newest-newest.result c.args.number) in
+    rw (← c.self.view_is) left
 
-pub returns-then-newest-number-2-clause-kept : goal.returns-then-newest-number-2-clause-kept
-returns-then-newest-number-2-clause-kept g c =
-    rw (← c.self.view_is) (
-      updated-names c.self.inside.heads.entries c.lower_newest-newest.new.heads.entries c.args.name.now c.index-next.result.now
-          (c.lower_newest-newest.ensures.lowered c.if-newest-number-2.true),
-      omega (arith, c.lower_newest-newest.ensures.room),
-    )
+pub returns-then-newest-number-clause-kept : goal.returns-then-newest-number-clause-kept
+returns-then-newest-number-clause-kept g c =
+    let heads : List (FlightName × ℕ) = c.self.inside.heads.entries in
+    let later : List (FlightName × ℕ) = c.lower_newest-newest.new.heads.entries in
+    let names : (q : FlightName) → lookup (same_flight q) later ≡ None → lookup (same_flight q) heads ≡ None =
+    ⊎_elim
+    (λ (below : c.lower_newest-newest.result < c.args.number).
+    λ q none. sym (c.lower_newest-newest.ensures.kept (λ (e : c.lower_newest-newest.result ≡ c.args.number). omega (arith, e, below)) q) ∙ none)
+    (λ (above : c.args.number ≤ c.lower_newest-newest.result).
+    updated-names heads later c.args.name.now c.index-next.result.now (c.lower_newest-newest.ensures.lowered (omega (arith, above, c.if-newest-number.true))))
+    (cases_lt c.lower_newest-newest.result c.args.number) in
+    rw (← c.self.view_is) (names, omega (arith, c.lower_newest-newest.ensures.room))
 
 pub later_than-later-requires-clause-down : goal.later_than-later-requires-clause-down
 later_than-later-requires-clause-down g c = rw c.deref.ensures.value c.self.invariant
@@ -62,7 +67,7 @@ returns-then-index-number-clause-out g c =
     rw (← c.self.view_is, value)
     (out-stay chains (record { heads = chains.heads; older = slice_set chains.older l (slice_index chains.older (n - 1)); room = chains.room })
     (record { heads = c.lower_newest-newest.new.heads.entries; older = slice_set chains.older l (slice_index chains.older (n - 1)); room = spare c.lower_newest-newest.new.heads }) c.args.name.now n
-    (c.lower_newest-newest.ensures.kept c.if-newest-number-2.false) refl
+    (c.lower_newest-newest.ensures.kept (λ (e : c.lower_newest-newest.result ≡ c.args.number). omega (arith, e, c.if-newest-number.false))) refl
     (out-later chains c.args.name.now n c.requires.number.0 inside l chains.room c.later_than-later.ensures.later reached next))
 
 pub returns-else-index-number-clause-out : goal.returns-else-index-number-clause-out
@@ -76,6 +81,6 @@ returns-else-index-number-clause-out g c =
     let most : slice_index chains.older l ≤ n = rw c.deref.ensures.value at c.later_than-later.ensures.next in
     rw (← c.self.view_is)
     (out-stay chains chains (record { heads = c.lower_newest-newest.new.heads.entries; older = chains.older; room = spare c.lower_newest-newest.new.heads }) c.args.name.now n
-    (c.lower_newest-newest.ensures.kept c.if-newest-number-2.false) refl
+    (c.lower_newest-newest.ensures.kept (λ (e : c.lower_newest-newest.result ≡ c.args.number). omega (arith, e, c.if-newest-number.false))) refl
     (out-past chains c.args.name.now n c.requires.number.0 inside l c.later_than-later.ensures.later reached most
     (λ (e : slice_index chains.older l ≡ n). c.if-index-number.false (c.index.ensures ∙ get_or_default_zero chains.older l c.index.result.now within ∙ e))))
