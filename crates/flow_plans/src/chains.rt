@@ -39,6 +39,7 @@ impl FlightName {
         }
     }
 
+    #[inline(always)]
     pub(crate) fn of_key(key: &Key) -> FlightName
         ensures { result ≡ flight_of_key key.now }
     {
