@@ -76,8 +76,8 @@ fn put_back<A: Allocator + Copy>(
 /// is left.
 ///
 /// A text is read just before it is filed: of all texts of a feed only these take the memory of what they say, and the
-/// others wait for the lock the less, the longer each reads. Where memory is refused for reading, what was read before is
-/// filed all the same: a text is left only where it or one before it was refused.
+/// others wait for the lock the less, the longer each reads. Where memory is refused for reading, what was read before
+/// is filed all the same: a text is left only where it or one before it was refused.
 fn file_next<N: Name, Q: Wait + Drop, P: Wait, A: Allocator + Copy>(
     wait: &P,
     alloc: A,
@@ -175,8 +175,8 @@ fn gather<N: Name, A: Allocator + Copy>(
     });
 }
 
-/// Has each pass file its texts, at the same time as the others. Where memory is refused before any feed is begun nothing
-/// was filed.
+/// Has each pass file its texts, at the same time as the others. Where memory is refused before any feed is begun
+/// nothing was filed.
 pub(crate) fn file_texts<
     N: Name + Send + Sync,
     Q: Wait + Drop + Send,
