@@ -22,15 +22,18 @@ pub(crate) struct Feed<N: Name, A: Allocator + Copy = Global> {
     pub end: End,
 }
 
-/// So many texts a feeder reads before it takes the lock and files them. Each time the lock goes to another feeder it
-/// goes to another processor, and the core's memory with it: with 16 filings a lock this is no longer what most time
-/// goes into. With more of them a little would still be gained, and what the texts say takes more memory meanwhile.
-const AT_ONCE: usize = 16;
+/// So many texts all feeders together have read while they wait for the lock: 16 each of 4 feeders, one each of 64.
+/// A feeder files those that it has read while it holds the lock once. Each time the lock goes to another feeder it goes
+/// to another processor, and the core's memory with it: with 16 filings a lock this is no longer what most time goes
+/// into. But the more of them are filed at once, the less their order is that of the input.
+const AHEAD: usize = 64;
 
-/// Reads texts from the front of a feed in this room, as many as are filed at once, or all that are left. Where memory
-/// is refused those that were read before are ready, and the text that wasn't read is the first that is left.
+/// Reads texts from the front of a feed in this room, as many as are filed at once, or all that are left; one at least.
+/// Where memory is refused those that were read before are ready, and the text that wasn't read is the first that is
+/// left.
 fn read_ahead<A: Allocator + Copy>(
     alloc: A,
+    at_once: usize,
     room: &mut Vec<u8, A>,
     left: &mut VecDeque<FiledText<A>, A>,
     ready: &mut VecDeque<Filing<A>, A>,
@@ -42,8 +45,9 @@ fn read_ahead<A: Allocator + Copy>(
     ensures refused { OnErr result (left.new.items ≢ []) }
     ensures room { deque_len ready.new + deque_len left.new ≤ deque_capacity left.new }
 {
-    ready.reserve(AT_ONCE)?;
-    while ready.len() < AT_ONCE {
+    let most = at_once.max(1);
+    ready.reserve(most)?;
+    while ready.len() < most {
         let Some(text) = left.pop_front() else {
             return Ok(());
         };
@@ -82,6 +86,7 @@ fn file_next<N: Name, Q: Wait + Drop, P: Wait, A: Allocator + Copy>(
     wait: &P,
     alloc: A,
     desk: &Desk<N, Q, A>,
+    at_once: usize,
     room: &mut Vec<u8, A>,
     ready: &mut VecDeque<Filing<A>, A>,
     feed: &mut Feed<N, A>,
@@ -97,7 +102,7 @@ fn file_next<N: Name, Q: Wait + Drop, P: Wait, A: Allocator + Copy>(
         feed.end = End::Finished;
         return false;
     }
-    let read = read_ahead(alloc, room, &mut feed.left, ready);
+    let read = read_ahead(alloc, at_once, room, &mut feed.left, ready);
     if let Err(fault) = desk.file_all(wait, alloc, &mut feed.pass, ready) {
         put_back(ready, &mut feed.left);
         feed.end = End::Stopped(fault);
@@ -110,18 +115,19 @@ fn file_next<N: Name, Q: Wait + Drop, P: Wait, A: Allocator + Copy>(
     true
 }
 
-/// Files a feed until it ends.
+/// Files a feed until it ends, so many texts at once.
 fn run_feed<N: Name, Q: Wait + Drop, P: Wait, A: Allocator + Copy>(
     wait: &P,
     alloc: A,
     desk: &Desk<N, Q, A>,
+    at_once: usize,
     feed: &mut Feed<N, A>,
 )
     ensures { RanFeed N.setup feed.old.pass feed.old.left.items feed.new.pass feed.new.left.items feed.new.end }
 {
     let mut room = Vec::new(alloc);
     let mut ready = VecDeque::new(alloc);
-    while file_next(wait, alloc, desk, &mut room, &mut ready, feed) {}
+    while file_next(wait, alloc, desk, at_once, &mut room, &mut ready, feed) {}
 }
 
 /// Runs all feeds at the same time, each in a thread of its own where one can be made.
@@ -139,11 +145,12 @@ fn run_all<
         (slice_index_or feeds.new.items i d).end }
 {
     let threads = feeds.len().max(1);
+    let at_once = AHEAD / threads;
     thread::for_each_mut(
         rt,
         feeds.as_mut_slice(),
         threads,
-        &|_, feed| run_feed(wait, alloc, desk, feed),
+        &|_, feed| run_feed(wait, alloc, desk, at_once, feed),
     );
 }
 

@@ -6,7 +6,7 @@ abbrev pub invariant-loop-alloc : goal.invariant-loop-alloc
 invariant-loop-alloc g l = record {
   order : l.ready.items ++ l.left.items ≡ l.fn.left.items;
   room : deque_len l.ready + deque_len l.left ≤ deque_capacity l.left;
-  most : 16 ≤ deque_capacity l.ready;
+  most : l.most ≤ deque_capacity l.ready;
 }
 
 abbrev pub decreases-loop-alloc : goal.decreases-loop-alloc
