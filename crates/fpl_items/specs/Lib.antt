@@ -6,3 +6,4 @@ pub mod ItemLaws
 pub mod RouteLaws
 pub mod Places
 pub mod Estimates
+pub mod Told

@@ -1,18 +1,19 @@
 //! Field 18: other information.
 
 ghost use Rattle.std.specs.Prelude.{◌≡◌, ◌≢◌, ◌≤◌, ◌<◌, ◌+◌, ◌-◌, true, false, is_some, slice_index_or, length, drop};
-ghost use Rattle.std.specs.Prelude.{[], None, Some, IfSome, IfOk, IfErr};
+ghost use Rattle.std.specs.Prelude.{[], None, Some, IfSome, IfOk, IfErr, List};
 ghost use Rattle.std.specs.List.{list_all, list_any, prefix_len};
 ghost use Rattle.fpl_text.specs.Bytes.{is_letter_or_digit};
 ghost use Rattle.fpl_text.specs.Times.{elapsed_time};
 ghost use Rattle.fpl_items.specs.Estimates.{AddsWord, AddsWords, AddsItem, AreEstimatesOf, PastTheEighth};
-ghost use Rattle.fpl_items.specs.Estimates.{noted_of_item, noted_of_items, noted_of_field};
+ghost use Rattle.fpl_items.specs.Estimates.{noted_of_item, noted_of_items, noted_of_field, first_for};
 ghost use Rattle.fpl_items.specs.Kinds.{is_text};
 ghost use Rattle.fpl_text.specs.Words.{words_of};
 ghost use Rattle.fpl_items.specs.Items.{begins_item, words_before, is_estimate, is_day, item_fault, first_fault};
 ghost use Rattle.fpl_items.specs.Items.{items_of, field_fault, items_or_fault, elapsed_to, is_exempt, day_of_words};
-ghost use Rattle.fpl_items.specs.Items.{day_of_items, Say, SaysAfter};
+ghost use Rattle.fpl_items.specs.Items.{Item as Entry, day_of_items, Say, SaysAfter};
 ghost use Rattle.fpl_items.specs.Routes.{Gives};
+ghost use Rattle.fpl_items.specs.Told.{TellsOf};
 ghost use Rattle.fpl_text.specs.declared.time.TheConstants.{ELAPSED_LIMIT};
 ghost use Rattle.std.specs.Str.{bytes_eq};
 
@@ -247,28 +248,26 @@ fn read_items<A: Allocator + Copy>(
     Ok(effects)
 }
 
-/// Field 18: other information (ICAO Doc 4444, appendix 3, field type 18), seen as its items.
+/// What field 18 says (ICAO Doc 4444, appendix 3, field type 18): other information, without its text. Contracts relate
+/// it to the items of the text.
 #[derive(Drop)]
 pub struct Other18<A: Allocator + Copy = Global> {
     /// What the EET items say.
     estimates: Estimates<A>,
-    text: Vec<u8, A>,
     day: Option<Day>,
     exempt: bool,
 }
 
 impl<A: Allocator + Copy> Model for Other18<A> {
-    ghost use Rattle.std.specs.Prelude.{List};
-    ghost use Rattle.fpl_items.specs.Items.{Item as Entry, items_of, Say};
-    ghost use Rattle.fpl_items.specs.Estimates.{AreEstimatesOf};
-    ghost use Rattle.fpl_text.specs.Words.{words_of};
+    ghost use Rattle.fpl_items.specs.Told.{Told};
 
-    ghost Value = { List Entry };
+    ghost Value = { Told };
 
-    ghost view = { λ o. items_of (words_of o.text.items) };
-
-    ghost invariant = { λ o. Say (items_of (words_of o.text.items)) o.day o.exempt
-        × AreEstimatesOf (items_of (words_of o.text.items)) o.estimates };
+    ghost view = { λ o. record {
+      estimates = o.estimates;
+      day = o.day;
+      exempt = o.exempt;
+    } };
 }
 
 /// Whether the first word of a field begins an item.
@@ -311,51 +310,44 @@ impl<A: Allocator + Copy> Other18<A> {
     /// Reads field 18: `0`, or one or more items. The first fault counts, from the left: BadField for a field that does
     /// not begin with an item, and for an EET item with a word that is no place with an elapsed time; BadDate for a DOF
     /// item that is not exactly one date; DuplicateItem for a second DOF. Takes memory for estimates past the eighth
-    /// before it looks at what follows.
+    /// alone, and before it looks at what follows.
     pub fn read(alloc: A, field: &[u8]) -> Result<Self, ItemFault>
-        ensures value { Gives (λ other. other) result (items_or_fault field.now) }
-        ensures items { IfOk result (λ other. other ≡ items_of (words_of field.now)) }
+        ensures value { Gives (λ other. items_of (words_of field.now)) result (items_or_fault field.now) }
+        ensures tells { IfOk result (TellsOf (items_of (words_of field.now))) }
+        ensures memory { IfErr result (λ fault. fault ≡ ItemFault.OutOfMemory → 8 < noted_of_field field.now) }
     {
         let mut estimates = Estimates::new(alloc);
         let effects = match read_field(&mut estimates, field) {
             Ok(effects) => effects,
             Err(fault) => return Err(fault),
         };
-        let Ok(text) = Vec::from_slice(alloc, field) else {
-            return Err(ItemFault::OutOfMemory);
-        };
         Ok(Other18 {
             estimates,
-            text,
             day: effects.day,
             exempt: effects.exempt,
         })
     }
 
-    /// The items, in order.
-    pub fn items(&self) -> Items<'_>
-        ensures { result ≡ self.now }
-    {
-        Items::new(&self.text)
-    }
-
     /// The day that a DOF item gives.
     pub fn day(&self) -> Option<Day>
-        ensures { result ≡ day_of_items self.now }
+        ensures value { result ≡ self.now.day }
+        ensures items { (items : List Entry) → TellsOf items self.now → result ≡ day_of_items items }
     {
         self.day
     }
 
     /// The estimates of the EET items, which are told without a look at these.
     pub fn estimates(&self) -> &Estimates<A>
-        ensures { AreEstimatesOf self.now result.now }
+        ensures value { result.now ≡ self.now.estimates }
+        ensures items { (items : List Entry) → TellsOf items self.now → AreEstimatesOf items result.now }
     {
         &self.estimates
     }
 
     /// The elapsed time, in minutes, of the first estimate for a place.
     pub fn elapsed(&self, place: &[u8]) -> Option<u32>
-        ensures value { result ≡ elapsed_to place.now self.now }
+        ensures value { result ≡ first_for place.now self.now.estimates }
+        ensures items { (items : List Entry) → TellsOf items self.now → result ≡ elapsed_to place.now items }
         ensures bound { IfSome result (λ minutes. minutes < ELAPSED_LIMIT) }
     {
         self.estimates.elapsed(place)
@@ -363,7 +355,8 @@ impl<A: Allocator + Copy> Other18<A> {
 
     /// Whether an STS item exempts the flight.
     pub fn exempt(&self) -> bool
-        ensures { result ≡ is_exempt self.now }
+        ensures value { result ≡ self.now.exempt }
+        ensures items { (items : List Entry) → TellsOf items self.now → result ≡ is_exempt items }
     {
         self.exempt
     }

@@ -1,8 +1,9 @@
 -- What the code keeps of a modification: its fields, and the places of those that are amended.
-use Rattle.std.specs.Prelude.{◌≡◌, ℕ, ◌<◌, List, Option, length}
+use Rattle.std.specs.Prelude.{ℕ, ◌<◌, List, Option, length}
 use Rattle.std.specs.Option.{option_map, ForSome}
 use Rattle.fpl_text.specs.Words.{words_of}
-use Rattle.fpl_items.specs.Items.{items_of}
+use Rattle.fpl_items.specs.Items.{Item, items_of}
+use Rattle.fpl_items.specs.Told.{TellsOfAny}
 use Rattle.fpl_message.specs.declared.changes.Changes.{Changes}
 use Rattle.fpl_message.specs.Messages.{field, Chg}
 use Rattle.fpl_message.specs.Modifications.{amended_text}
@@ -12,6 +13,10 @@ use Rattle.fpl_text.specs.declared.time.TheConstants.{ELAPSED_LIMIT}
 abbrev pub text_at : List (List ℕ) → Option ℕ → Option (List ℕ)
 text_at fields place = option_map (λ at. amended_text (field fields at)) place
 
+-- the items of an amended field 18, where there is one
+abbrev pub items_at : Option (List ℕ) → Option (List Item)
+items_at field18 = option_map (λ text. items_of (words_of text)) field18
+
 -- the modification that is kept
 abbrev pub kept : {A : Type 0} → List (List ℕ) → Changes A → Chg
 kept fields c = record {
@@ -19,7 +24,7 @@ kept fields c = record {
   rules = c.rules;
   departure = c.departure;
   destination = c.destination;
-  items = c.other;
+  items = items_at (text_at fields c.field18);
   field8 = text_at fields c.field8;
   field9 = text_at fields c.field9;
   field10 = text_at fields c.field10;
@@ -27,7 +32,7 @@ kept fields c = record {
   field18 = text_at fields c.field18;
 }
 
--- its amended fields are some of these, an elapsed time is below a hundred hours, and items are those of the amended field 18
+-- its amended fields are some of these, an elapsed time is below a hundred hours, and what is told is what the items of the amended field 18 say
 pub record StandAmong {A : Type 0} (fields : List (List ℕ)) (c : Changes A) : Type 0 where
   pub field8 : ForSome c.field8 (λ at. at < length fields)
   pub field9 : ForSome c.field9 (λ at. at < length fields)
@@ -35,4 +40,4 @@ pub record StandAmong {A : Type 0} (fields : List (List ℕ)) (c : Changes A) : 
   pub field15 : ForSome c.field15 (λ at. at < length fields)
   pub field18 : ForSome c.field18 (λ at. at < length fields)
   pub elapsed : ForSome c.destination (λ destination. ForSome destination.elapsed (λ minutes. minutes < ELAPSED_LIMIT))
-  pub items : option_map (λ text. items_of (words_of text)) (text_at fields c.field18) ≡ c.other
+  pub items : TellsOfAny (items_at (text_at fields c.field18)) c.other

@@ -4,13 +4,14 @@ ghost use Rattle.fpl_message.specs.Refusals.{Gives};
 ghost use Rattle.fpl_items.specs.Routes.{is_route, path_or_fault};
 ghost use Rattle.fpl_text.specs.Words.{words_of};
 ghost use Rattle.fpl_items.specs.Items.{items_of};
+ghost use Rattle.fpl_items.specs.Told.{TellsOf};
 ghost use Rattle.fpl_message.specs.FlightPlans.{fpl_of};
 ghost use Rattle.fpl_message.specs.Messages.{field};
 ghost use Rattle.fpl_text.specs.declared.time.TheConstants.{ELAPSED_LIMIT};
 
 use crate::fault::{Fault, boxed};
 use crate::refusal::Refusal;
-use fpl_items::{ItemFault, Other18, Route, is_route};
+use fpl_items::{ItemFault, Items, Other18, Route, is_route};
 use fpl_text::{Craft, Departure, Destination, Fields, Heading, Ident, Rules, is_equipment};
 use std::alloc::{Allocator, Global};
 use std::marker::Model;
@@ -32,6 +33,7 @@ impl<A: Allocator + Copy> Model for Fpl<A> {
     ghost use Rattle.std.specs.Prelude.{◌≡◌, ◌<◌, true, length};
     ghost use Rattle.fpl_text.specs.Words.{words_of};
     ghost use Rattle.fpl_items.specs.Items.{items_of};
+    ghost use Rattle.fpl_items.specs.Told.{TellsOf};
     ghost use Rattle.fpl_items.specs.Routes.{is_route};
     ghost use Rattle.fpl_message.specs.Messages.{Fpl as Plan, field};
     ghost use Rattle.fpl_text.specs.declared.time.TheConstants.{ELAPSED_LIMIT};
@@ -46,11 +48,11 @@ impl<A: Allocator + Copy> Model for Fpl<A> {
       departure = m.departure;
       destination = m.destination;
       elapsed = m.elapsed;
-      items = m.other;
+      items = items_of (words_of (field m.fields 8));
     } };
 
     ghost invariant = { λ m. (length m.fields ≡ 9) × (is_route (field m.fields 6) ≡ true) × (m.elapsed < ELAPSED_LIMIT)
-        × (m.other ≡ items_of (words_of (field m.fields 8))) };
+        × TellsOf (items_of (words_of (field m.fields 8))) m.other };
 }
 
 impl<A: Allocator + Copy> Fpl<A> {
@@ -141,12 +143,19 @@ impl<A: Allocator + Copy> Fpl<A> {
         self.elapsed
     }
 
-    /// Field 18: other information.
+    /// Field 18: what its items say.
     pub fn other(&self) -> &Other18<A>
-        ensures value { result.now ≡ self.now.items }
-        ensures items { result.now ≡ items_of (words_of (field self.now.fields 8)) }
+        ensures value { TellsOf self.now.items result.now }
+        ensures items { self.now.items ≡ items_of (words_of (field self.now.fields 8)) }
     {
         &self.other
+    }
+
+    /// The items of field 18, in order, read anew at each call, since a desk never asks for them.
+    pub fn items(&self) -> Items<'_>
+        ensures { result ≡ self.now.items }
+    {
+        Items::new(self.fields.field(8))
     }
 
     /// The squeezed text of the field at that place, counted from 0: fields 3, 7, 8, 9, 10, 13, 15, 16 and 18.

@@ -1,11 +1,10 @@
 //! The modification message, CHG.
 ghost use Rattle.std.specs.Prelude.{◌≡◌, ◌≤◌, ◌<◌, length, option_copied, IfSome};
-ghost use Rattle.std.specs.Option.{ForSome, option_map};
-ghost use Rattle.fpl_text.specs.Words.{words_of};
-ghost use Rattle.fpl_items.specs.Items.{items_of};
+ghost use Rattle.std.specs.Option.{ForSome};
+ghost use Rattle.fpl_items.specs.Told.{TellsOfAny};
 ghost use Rattle.fpl_message.specs.Refusals.{Gives};
 ghost use Rattle.fpl_message.specs.Modifications.{chg_of};
-ghost use Rattle.fpl_message.specs.KeptChanges.{text_at};
+ghost use Rattle.fpl_message.specs.KeptChanges.{text_at, items_at};
 ghost use Rattle.fpl_text.specs.declared.time.TheConstants.{ELAPSED_LIMIT};
 
 use crate::changes::{Changes, amended_at};
@@ -81,8 +80,8 @@ impl<A: Allocator + Copy> Chg<A> {
 
     /// What an amended field 18 says.
     pub fn other(&self) -> Option<&Other18<A>>
-        ensures value { option_copied result ≡ self.now.items }
-        ensures items { option_copied result ≡ option_map (λ text. items_of (words_of text)) self.now.field18 }
+        ensures value { TellsOfAny self.now.items (option_copied result) }
+        ensures items { self.now.items ≡ items_at self.now.field18 }
     {
         self.changes.other.as_ref()
     }
