@@ -1,7 +1,8 @@
 //! What values of a plan are after a CHG.
-ghost use Rattle.std.specs.Prelude.{◌≡◌, ◌<◌, IfSome, unwrap_or, option_copied};
+ghost use Rattle.std.specs.Prelude.{◌≡◌, ◌<◌, List, Option, IfSome, unwrap_or, option_copied};
 ghost use Rattle.std.specs.Option.{option_map_or};
-ghost use Rattle.fpl_items.specs.Items.{is_exempt};
+ghost use Rattle.fpl_items.specs.Items.{Item, is_exempt};
+ghost use Rattle.fpl_items.specs.Told.{TellsOfAny};
 ghost use Rattle.flow_plans.specs.Changes.{elapsed_after, alternates_after};
 ghost use Rattle.fpl_text.specs.declared.time.TheConstants.{ELAPSED_LIMIT};
 
@@ -31,7 +32,8 @@ pub(crate) fn rules_after(held: FlightRules, amended: Option<&Rules>) -> FlightR
 
 /// Whether an amended field 18 exempts the flight, or else what is held.
 pub(crate) fn exempt_after<A: Allocator + Copy>(held: bool, amended: Option<&Other18<A>>) -> bool
-    ensures { result ≡ option_map_or is_exempt (option_copied amended.entry) held }
+    ensures { (items : Option (List Item)) → TellsOfAny items (option_copied amended.entry)
+        → result ≡ option_map_or is_exempt items held }
 {
     match amended {
         Some(other) => other.exempt(),

@@ -1,6 +1,7 @@
 //! One flight plan.
-ghost use Rattle.std.specs.Prelude.{◌≡◌, ◌≤◌, ◌<◌, ℕ, List, true, IfOk, IfSome, IsSome, None, option_copied};
-ghost use Rattle.fpl_items.specs.Items.{day_of_items};
+ghost use Rattle.std.specs.Prelude.{◌≡◌, ◌≤◌, ◌<◌, ℕ, List, Option, true, IfOk, IfSome, IsSome, None, option_copied};
+ghost use Rattle.fpl_items.specs.Items.{Item, day_of_items};
+ghost use Rattle.fpl_items.specs.Told.{TellsOfAny};
 ghost use Rattle.flow_plans.specs.Entries.{take_off, elapsed_at, entry_at, subject};
 ghost use Rattle.fpl_message.specs.declared.order.Spot.{Spot};
 ghost use Rattle.flow_plans.specs.Near.{row_of, word_at, HasBitsOf};
@@ -122,7 +123,8 @@ impl Key {
 
 /// The day of a DOF item in an amended field 18.
 fn day_of<A: Allocator + Copy>(amended: Option<&Other18<A>>) -> Option<Day>
-    ensures { result ≡ option_map_or day_of_items (option_copied amended.entry) None }
+    ensures { (items : Option (List Item)) → TellsOfAny items (option_copied amended.entry)
+        → result ≡ option_map_or day_of_items items None }
 {
     match amended {
         Some(other) => other.day(),

@@ -1,8 +1,9 @@
 //! The field texts that a plan holds.
 ghost use Rattle.std.specs.Prelude.{◌≡◌, ◌≤◌, ◌<◌, ◌+◌, ◌++◌, true, length, List, ℕ, option_copied, MatchOption, IfOk};
-ghost use Rattle.std.specs.Prelude.{IfSome, IsSome};
+ghost use Rattle.std.specs.Prelude.{IfSome, IsSome, Option};
 ghost use Rattle.fpl_text.specs.Words.{words_of};
-ghost use Rattle.fpl_items.specs.Items.{items_of, elapsed_to};
+ghost use Rattle.fpl_items.specs.Items.{Item, items_of, elapsed_to};
+ghost use Rattle.fpl_items.specs.Told.{TellsOfAny};
 ghost use Rattle.fpl_items.specs.Estimates.{AreEstimatesOf};
 ghost use Rattle.flow_plans.specs.Changes.{texts_after};
 ghost use Rattle.flow_plans.specs.Plans.{Texts as Held, texts_or};
@@ -78,8 +79,8 @@ fn estimates_after<'a, A: Allocator + Copy>(
     held: &'a Estimates<A>,
     amended: Option<&'a Other18<A>>,
 ) -> &'a Estimates<A>
-    ensures { MatchOption (option_copied amended.entry) (result.now ≡ held.now)
-        (λ items. AreEstimatesOf items result.now) }
+    ensures { (items : Option (List Item)) → TellsOfAny items (option_copied amended.entry)
+        → MatchOption items (result.now ≡ held.now) (λ items. AreEstimatesOf items result.now) }
 {
     match amended {
         Some(other) => other.estimates(),
