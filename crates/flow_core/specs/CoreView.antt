@@ -43,10 +43,15 @@ pub record IsRunWith (setup : Settings) (traffic : Undoable) (journal : List Rec
   pub run_now : IsRun (record { setup = setup; traffic = traffic.traffic; journal = journal })
   pub back : undoable ≡ true → MayTakeBack setup traffic journal filing changes
 
--- this entry was made behind the others: the state is that of the run with it, and its filing can be taken back
-pub record Enters (setup : Settings) (old : Traffic) (new : Undoable) (journal longer : List Record) (e : Record) (changes : List Change) : Type 0 where
+-- this entry was made behind the others: the state is that of the run with it, and the traffic can be taken back
+pub record EntersText (setup : Settings) (old : Traffic) (new : Undoable) (journal longer : List Record) (e : Record) : Type 0 where
   pub entries : longer ≡ journal ++ e ∷ []
   pub number : e.receipt.number ≡ length journal + 1
   pub run_now : IsRun (record { setup = setup; traffic = new.traffic; journal = longer })
-  pub back : MayTakeBack setup new longer (Some e.input.text) changes
+  pub before : new.before ≡ Some old
   pub frozen : FrozenPairsStay (reading_of e.input.text) old new.traffic e.receipt.verdict
+
+-- and so can its filing
+pub record Enters (setup : Settings) (old : Traffic) (new : Undoable) (journal longer : List Record) (e : Record) (changes : List Change) : Type 0 where
+  pub text : EntersText setup old new journal longer e
+  pub back : MayTakeBack setup new longer (Some e.input.text) changes

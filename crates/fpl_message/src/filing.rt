@@ -6,9 +6,8 @@ ghost use Rattle.fpl_message.specs.declared.filed_text.TheConstants.{MAX_BYTES};
 
 use crate::edition::Edition;
 use crate::filed_text::{FiledText, FilingFault, MAX_BYTES};
+use crate::filing_reader::FilingReader;
 use crate::message::Reading;
-use crate::reading::read;
-use crate::refusal::Refusal;
 use std::alloc::{AllocError, Allocator, Global};
 use std::marker::Model;
 
@@ -16,9 +15,7 @@ use std::marker::Model;
 #[derive(Drop)]
 pub struct Filing<A: Allocator + Copy = Global> {
     text: FiledText<A>,
-    /// Where the text was squeezed, for the next one.
-    room: Vec<u8, A>,
-    reading: Reading<A>,
+    reader: FilingReader<A>,
 }
 
 impl<A: Allocator + Copy> Model for Filing<A> {
@@ -28,11 +25,10 @@ impl<A: Allocator + Copy> Model for Filing<A> {
     ghost Value = { FilingText };
 
     ghost use Rattle.fpl_message.specs.Reads.{reading_of};
-    ghost use Rattle.fpl_message.specs.Said.{said};
 
     ghost view = { λ f. f.text };
 
-    ghost invariant = { λ f. said f.reading ≡ reading_of f.text };
+    ghost invariant = { λ f. f.reader ≡ reading_of f.text };
 }
 
 impl<A: Allocator + Copy> Filing<A> {
@@ -76,13 +72,8 @@ impl<A: Allocator + Copy> Filing<A> {
         ensures value { IfOk result (λ filing. filing ≡ text) }
         ensures back { IfErr result (λ refused. refused.1 ≡ text) }
     {
-        let mut reading = Reading::Bad(Refusal::Empty);
-        match read(alloc, room, &mut reading, text.edition(), text.text()) {
-            Ok(()) => Ok(Filing {
-                text,
-                room: Vec::new(alloc),
-                reading,
-            }),
+        match FilingReader::read_in(alloc, room, text.edition(), text.text()) {
+            Ok(reader) => Ok(Filing { text, reader }),
             Err(AllocError) => Err((AllocError, text)),
         }
     }
@@ -101,13 +92,11 @@ impl<A: Allocator + Copy> Filing<A> {
     {
         Filing {
             text: FiledText::empty(alloc, edition),
-            room: Vec::new(alloc),
-            reading: Reading::Bad(Refusal::Empty),
+            reader: FilingReader::new(alloc),
         }
     }
 
-    /// Reads other bytes by the rules of that edition. What the last ones said is let go first, so that its memory
-    /// serves too.
+    /// Reads other bytes by the rules of that edition.
     fn renew_as(&mut self, alloc: A, edition: Edition, bytes: &[u8]) -> Result<(), FilingFault>
         ensures value { OnOk result (self.new ≡ record { edition = edition; bytes = bytes.now }) }
         ensures long { IsErrOf result FilingFault.TooLong ↔ (MAX_BYTES < length bytes.now) }
@@ -117,13 +106,12 @@ impl<A: Allocator + Copy> Filing<A> {
         if bytes.len() > MAX_BYTES {
             return Err(FilingFault::TooLong);
         }
-        self.reading = Reading::Bad(Refusal::Empty);
         let Ok(()) = self.text.renew(edition, bytes) else {
+            self.reader.clear();
             return Err(FilingFault::OutOfMemory);
         };
-        let Ok(()) = read(alloc, &mut self.room, &mut self.reading, edition, bytes) else {
+        let Ok(()) = self.reader.read(alloc, edition, bytes) else {
             self.text.clear();
-            self.reading = Reading::Bad(Refusal::Empty);
             return Err(FilingFault::OutOfMemory);
         };
         Ok(())
@@ -148,6 +136,6 @@ impl<A: Allocator + Copy> Filing<A> {
     pub fn reading(&self) -> &Reading<A>
         ensures { said result.now ≡ reading_of self.now }
     {
-        &self.reading
+        self.reader.reading()
     }
 }

@@ -9,7 +9,8 @@
 //! - *Orders*: `order` and `sub_periods` (OPEN, SHUT and TIME).
 //! - *Editions*: OPEN got its sub-periods later. A filing knows by which edition it is read, so that an old journal
 //!   tells what it told.
-//! - *Memory*: `Filing::renew` reads another text in the memory of a filing, in its place.
+//! - *Memory*: `FilingReader` reads texts one after the other in the same memory, and `Filing::renew` so reads another text
+//!   in the place of a filing's.
 #![tactic(auto)]
 
 mod changes;
@@ -17,6 +18,7 @@ mod edition;
 mod fault;
 mod filed_text;
 mod filing;
+mod filing_reader;
 mod flight_plan;
 mod laws;
 mod message;
@@ -31,6 +33,7 @@ mod sub_periods;
 pub use edition::Edition;
 pub use filed_text::{FiledText, FilingFault, MAX_BYTES};
 pub use filing::Filing;
+pub use filing_reader::FilingReader;
 pub use flight_plan::Fpl;
 pub use laws::editions_differ_in_open;
 pub use message::{Message, Reading};
