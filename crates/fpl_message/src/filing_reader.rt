@@ -8,8 +8,10 @@ use crate::edition::Edition;
 use crate::message::Reading;
 use crate::reading::read;
 use crate::refusal::Refusal;
+use crate::spares::Spares;
 use std::alloc::{AllocError, Allocator, Global};
 use std::marker::Model;
+use std::mem::replace;
 
 /// Reads the texts of filings, each in the memory of the one before. It doesn't keep them. Contracts see what the last
 /// one says.
@@ -17,6 +19,8 @@ use std::marker::Model;
 pub struct FilingReader<A: Allocator + Copy = Global> {
     /// Where the last text was squeezed, for the next one.
     room: Vec<u8, A>,
+    /// Where messages lay, for the next ones.
+    spares: Spares<A>,
     reading: Reading<A>,
 }
 
@@ -36,6 +40,7 @@ impl<A: Allocator + Copy> FilingReader<A> {
     {
         FilingReader {
             room: Vec::new(alloc),
+            spares: Spares::none(),
             reading: Reading::Bad(Refusal::Empty),
         }
     }
@@ -51,34 +56,47 @@ impl<A: Allocator + Copy> FilingReader<A> {
         requires { length bytes.now ≤ MAX_BYTES }
         ensures { IfOk result (λ reader. reader ≡ reading_of (record { edition = edition; bytes = bytes.now })) }
     {
-        let mut reading = Reading::Bad(Refusal::Empty);
-        read(alloc, room, &mut reading, edition, bytes)?;
-        Ok(FilingReader {
-            room: Vec::new(alloc),
-            reading,
-        })
+        let mut reader = FilingReader::new(alloc);
+        read(
+            alloc,
+            room,
+            &mut reader.spares,
+            &mut reader.reading,
+            edition,
+            bytes,
+        )?;
+        Ok(reader)
     }
 
-    /// Reads at most 2,000 bytes by the rules of that edition. What the last ones said is let go first, so that its
-    /// memory serves too. Where memory is refused no bytes are read.
+    /// Reads at most 2,000 bytes by the rules of that edition, in the memory of what the last ones said, or of what others
+    /// of its kind said before. Where memory is refused no bytes are read.
     pub fn read(&mut self, alloc: A, edition: Edition, bytes: &[u8]) -> Result<(), AllocError>
         requires { length bytes.now ≤ MAX_BYTES }
         ensures ok { OnOk result (self.new ≡ reading_of (record { edition = edition; bytes = bytes.now })) }
         ensures err { OnErr result (self.new ≡ bad Refusal.Empty) }
     {
         self.clear();
-        let Ok(()) = read(alloc, &mut self.room, &mut self.reading, edition, bytes) else {
+        let Ok(()) = read(
+            alloc,
+            &mut self.room,
+            &mut self.spares,
+            &mut self.reading,
+            edition,
+            bytes,
+        ) else {
             self.clear();
             return Err(AllocError);
         };
         Ok(())
     }
 
-    /// Lets go of what the last bytes said.
+    /// Lets go of what the last bytes said, and keeps its memory.
+    #[inline(always)]
     pub(crate) fn clear(&mut self)
         ensures { self.new ≡ bad Refusal.Empty }
     {
-        self.reading = Reading::Bad(Refusal::Empty);
+        self.spares
+            .keep(replace(&mut self.reading, Reading::Bad(Refusal::Empty)));
     }
 
     /// What the last bytes say, or their first refusal.

@@ -15,6 +15,7 @@ use fpl_items::{ItemFault, Items, Other18, Route, is_route};
 use fpl_text::{Craft, Departure, Destination, Fields, Heading, Ident, Rules, is_equipment};
 use std::alloc::{Allocator, Global};
 use std::marker::Model;
+use std::mem::replace;
 
 /// A filed flight plan (ICAO Doc 4444, appendix 2), with the squeezed texts of its nine fields.
 #[derive(Drop)]
@@ -58,7 +59,12 @@ impl<A: Allocator + Copy> Model for Fpl<A> {
 impl<A: Allocator + Copy> Fpl<A> {
     /// Reads the fields of an FPL, from the left.
     #[tactic(auto, unfolding(crate::specs::FlightPlans::fpl_of))]
-    pub(crate) fn read(alloc: A, fields: Fields<A>) -> Result<Box<Fpl<A>, A>, Fault>
+    pub(crate) fn read(
+        alloc: A,
+        room: &mut Vec<u8, A>,
+        spare: &mut Option<Box<Fpl<A>, A>>,
+        fields: Fields<A>,
+    ) -> Result<Box<Fpl<A>, A>, Fault>
         requires { length fields ≡ 9 }
         ensures { Gives (λ b. b.value) result (fpl_of fields) }
     {
@@ -88,7 +94,36 @@ impl<A: Allocator + Copy> Fpl<A> {
             elapsed,
             other,
         };
-        boxed(alloc, plan)
+        let Some(mut last) = spare.take() else {
+            return boxed(alloc, plan);
+        };
+        last.renew(room, plan);
+        Ok(last)
+    }
+
+    /// Makes it another plan. The room of its text is left for the next one.
+    #[inline(always)]
+    fn renew(&mut self, room: &mut Vec<u8, A>, plan: Fpl<A>)
+        ensures { self.new ≡ plan }
+    {
+        let Fpl {
+            fields,
+            ident,
+            rules,
+            craft,
+            departure,
+            destination,
+            elapsed,
+            other,
+        } = plan;
+        *room = replace(&mut self.fields, fields).into_room();
+        self.ident = ident;
+        self.rules = rules;
+        self.craft = craft;
+        self.departure = departure;
+        self.destination = destination;
+        self.elapsed = elapsed;
+        self.other = other;
     }
 
     /// Field 7: the identification.

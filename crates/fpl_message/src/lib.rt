@@ -9,8 +9,8 @@
 //! - *Orders*: `order` and `sub_periods` (OPEN, SHUT and TIME).
 //! - *Editions*: OPEN got its sub-periods later. A filing knows by which edition it is read, so that an old journal
 //!   tells what it told.
-//! - *Memory*: `FilingReader` reads texts one after the other in the same memory, and `Filing::renew` so reads another text
-//!   in the place of a filing's.
+//! - *Memory*: `FilingReader` reads texts one after the other in the same memory, and `Filing::renew` so reads another
+//!   text in the place of a filing's; `spares` keeps where the last message of each kind lay, for the next one.
 #![tactic(auto)]
 
 mod changes;
@@ -28,6 +28,7 @@ mod parts;
 mod reading;
 mod refusal;
 mod short_message;
+mod spares;
 mod sub_periods;
 
 pub use edition::Edition;

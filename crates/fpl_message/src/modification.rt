@@ -4,7 +4,7 @@ ghost use Rattle.std.specs.Option.{ForSome};
 ghost use Rattle.fpl_items.specs.Told.{TellsOfAny};
 ghost use Rattle.fpl_message.specs.Refusals.{Gives};
 ghost use Rattle.fpl_message.specs.Modifications.{chg_of};
-ghost use Rattle.fpl_message.specs.KeptChanges.{text_at, items_at};
+ghost use Rattle.fpl_message.specs.KeptChanges.{kept, text_at, items_at, StandAmong};
 ghost use Rattle.fpl_text.specs.declared.time.TheConstants.{ELAPSED_LIMIT};
 
 use crate::changes::{Changes, amended_at};
@@ -14,6 +14,7 @@ use fpl_items::Other18;
 use fpl_text::{Departure, Destination, Fields, Rules, begins_amendment};
 use std::alloc::{Allocator, Global};
 use std::marker::Model;
+use std::mem::replace;
 
 /// A modification: the plan that it is about, and the amended fields, each at most once. A field that it does not amend
 /// is None.
@@ -38,7 +39,12 @@ impl<A: Allocator + Copy> Model for Chg<A> {
 impl<A: Allocator + Copy> Chg<A> {
     /// Reads the fields of a CHG, from the left.
     #[tactic(auto, unfolding(crate::specs::Modifications::chg_of))]
-    pub(crate) fn read(alloc: A, fields: Fields<A>) -> Result<Box<Chg<A>, A>, Fault>
+    pub(crate) fn read(
+        alloc: A,
+        room: &mut Vec<u8, A>,
+        spare: &mut Option<Box<Chg<A>, A>>,
+        fields: Fields<A>,
+    ) -> Result<Box<Chg<A>, A>, Fault>
         requires { 5 ≤ length fields }
         ensures { Gives (λ b. b.value) result (chg_of fields) }
     {
@@ -46,7 +52,21 @@ impl<A: Allocator + Copy> Chg<A> {
         let opening = read_opening(alloc, has_other, &fields)?;
         let first = if has_other { 5 } else { 4 };
         let changes = Changes::read(alloc, opening.parts, &fields, first)?;
-        boxed(alloc, Chg { fields, changes })
+        let Some(mut last) = spare.take() else {
+            return boxed(alloc, Chg { fields, changes });
+        };
+        last.renew(room, fields, changes);
+        Ok(last)
+    }
+
+    /// Makes it another modification. The room of its text is left for the next one.
+    #[inline(always)]
+    fn renew(&mut self, room: &mut Vec<u8, A>, fields: Fields<A>, changes: Changes<A>)
+        requires { StandAmong fields changes }
+        ensures { self.new ≡ kept fields changes }
+    {
+        *room = replace(&mut self.fields, fields).into_room();
+        self.changes = changes;
     }
 
     /// What names the plan.

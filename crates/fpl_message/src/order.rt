@@ -7,8 +7,9 @@ ghost use Rattle.fpl_message.specs.Orders.{spot_of, open_of, shut_of, time_of, o
 ghost use Rattle.fpl_message.specs.SaidOrders.{said_order};
 
 use crate::edition::Edition;
-use crate::fault::{Fault, boxed};
+use crate::fault::Fault;
 use crate::refusal::Refusal;
+use crate::spares::boxed_over;
 use crate::sub_periods::{SubPeriods, more_of, rate_of};
 use fpl_text::{Minute, Text, Words, all_letters, all_letters_or_digits, is_letter, read_moment};
 use std::alloc::{Allocator, Global};
@@ -177,6 +178,7 @@ const BAD_ORDER: Fault = Fault::Refused(Refusal::BadOrder);
 /// Reads an order by the rules of an edition.
 pub(crate) fn read_order<A: Allocator + Copy>(
     alloc: A,
+    spare: &mut Option<Box<OpenReg, A>>,
     edition: Edition,
     text: &[u8],
 ) -> Result<Order<A>, Fault>
@@ -190,7 +192,7 @@ pub(crate) fn read_order<A: Allocator + Copy>(
         let Some(open) = open_of(edition, words) else {
             return Err(BAD_ORDER);
         };
-        Ok(Order::OpenReg(boxed(alloc, open)?))
+        Ok(Order::OpenReg(boxed_over(alloc, spare, open)?))
     } else if says_shut(verb) {
         let Some(id) = shut_of(words) else {
             return Err(BAD_ORDER);

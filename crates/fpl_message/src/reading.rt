@@ -14,17 +14,19 @@ use crate::message::{Message, Reading};
 use crate::modification::Chg;
 use crate::order::read_order;
 use crate::short_message::{Cnl, Dep, Dla};
+use crate::spares::Spares;
 use fpl_text::{Fields, Squeezed, Title};
 use std::alloc::{AllocError, Allocator};
 use std::mem::replace;
 
 /// Reads at most 2,000 bytes by the rules of an edition: what they say takes the place of another reading. They are
-/// squeezed in this room, which is there for the next text then, unless the message or a fault keeps it. Refused where
-/// memory is.
+/// squeezed in this room, which is there for the next text then, unless the message or a fault keeps it; and a message
+/// lies in the spare of its kind, where there is one. Refused where memory is.
 #[tactic(auto, unfolding(crate::specs::Reads::reading_of))]
 pub(crate) fn read<A: Allocator + Copy>(
     alloc: A,
     room: &mut Vec<u8, A>,
+    spares: &mut Spares<A>,
     reading: &mut Reading<A>,
     edition: Edition,
     bytes: &[u8],
@@ -32,7 +34,7 @@ pub(crate) fn read<A: Allocator + Copy>(
     requires { length bytes.now ≤ MAX_BYTES }
     ensures { OnOk result (said reading.new ≡ reading_of (record { edition = edition; bytes = bytes.now })) }
 {
-    match read_filed(alloc, room, reading, edition, bytes) {
+    match read_filed(alloc, room, spares, reading, edition, bytes) {
         Ok(()) => Ok(()),
         Err(Fault::Refused(refusal)) => {
             *reading = Reading::Bad(refusal);
@@ -46,6 +48,7 @@ pub(crate) fn read<A: Allocator + Copy>(
 fn read_filed<A: Allocator + Copy>(
     alloc: A,
     room: &mut Vec<u8, A>,
+    spares: &mut Spares<A>,
     reading: &mut Reading<A>,
     edition: Edition,
     bytes: &[u8],
@@ -56,12 +59,12 @@ fn read_filed<A: Allocator + Copy>(
 {
     let squeezed = squeezed(replace(room, Vec::new(alloc)), bytes)?;
     if !begins_message(squeezed.as_bytes()) {
-        let order = read_order(alloc, edition, squeezed.as_bytes());
+        let order = read_order(alloc, &mut spares.open, edition, squeezed.as_bytes());
         *room = squeezed.into_room();
         *reading = Reading::Ord(order?);
         return Ok(());
     }
-    *reading = Reading::Msg(read_message(alloc, room, fields_of(squeezed)?)?);
+    *reading = Reading::Msg(read_message(alloc, room, spares, fields_of(squeezed)?)?);
     Ok(())
 }
 
@@ -98,30 +101,31 @@ fn begins_message(text: &[u8]) -> bool
     }
 }
 
-/// Reads the fields of a message. Those of a FPL and of a CHG stay in the message; the room of the others is left for
-/// the next text.
+/// Reads the fields of a message. Those of a FPL and of a CHG stay in the message, and the room of the spare in which it
+/// lies is left for the next text; the room of the others is left too.
 fn read_message<A: Allocator + Copy>(
     alloc: A,
     room: &mut Vec<u8, A>,
+    spares: &mut Spares<A>,
     fields: Fields<A>,
 ) -> Result<Message<A>, Fault>
     ensures { Gives (λ message. msg (said_message message)) result (message_of fields) }
 {
     Ok(match fields.title() {
-        Title::Fpl => Message::Fpl(Fpl::read(alloc, fields)?),
-        Title::Chg => Message::Chg(Chg::read(alloc, fields)?),
+        Title::Fpl => Message::Fpl(Fpl::read(alloc, room, &mut spares.fpl, fields)?),
+        Title::Chg => Message::Chg(Chg::read(alloc, room, &mut spares.chg, fields)?),
         Title::Dla => {
-            let delay = Dla::read(alloc, &fields);
+            let delay = Dla::read(alloc, &mut spares.dla, &fields);
             *room = fields.into_room();
             Message::Dla(delay?)
         }
         Title::Cnl => {
-            let cancellation = Cnl::read(alloc, &fields);
+            let cancellation = Cnl::read(alloc, &mut spares.cnl, &fields);
             *room = fields.into_room();
             Message::Cnl(cancellation?)
         }
         Title::Dep => {
-            let departure = Dep::read(alloc, &fields);
+            let departure = Dep::read(alloc, &mut spares.dep, &fields);
             *room = fields.into_room();
             Message::Dep(departure?)
         }

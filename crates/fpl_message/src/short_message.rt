@@ -3,8 +3,9 @@ ghost use Rattle.std.specs.Prelude.{◌≤◌, length};
 ghost use Rattle.fpl_message.specs.Refusals.{Gives};
 ghost use Rattle.fpl_message.specs.ShortMessages.{dla_of, cnl_of, dep_of, short_opening_of};
 
-use crate::fault::{Fault, boxed};
+use crate::fault::Fault;
 use crate::parts::{Opening, Parts, read_opening};
+use crate::spares::boxed_over;
 use fpl_text::{Fields, TimeOfDay};
 use std::alloc::Allocator;
 
@@ -40,13 +41,14 @@ impl Dla {
     /// Reads the fields of a DLA, from the left.
     pub(crate) fn read<A: Allocator + Copy>(
         alloc: A,
+        spare: &mut Option<Box<Dla, A>>,
         fields: &Fields<A>,
     ) -> Result<Box<Dla, A>, Fault>
         requires { 4 ≤ length fields.now }
         ensures { Gives (λ b. b.value) result (dla_of fields.now) }
     {
         let Opening { parts, time } = read_short(alloc, fields)?;
-        boxed(alloc, Dla { parts, time })
+        boxed_over(alloc, spare, Dla { parts, time })
     }
 }
 
@@ -54,13 +56,14 @@ impl Cnl {
     /// Reads the fields of a CNL, from the left.
     pub(crate) fn read<A: Allocator + Copy>(
         alloc: A,
+        spare: &mut Option<Box<Cnl, A>>,
         fields: &Fields<A>,
     ) -> Result<Box<Cnl, A>, Fault>
         requires { 4 ≤ length fields.now }
         ensures { Gives (λ b. b.value) result (cnl_of fields.now) }
     {
         let Opening { parts, .. } = read_short(alloc, fields)?;
-        boxed(alloc, Cnl { parts })
+        boxed_over(alloc, spare, Cnl { parts })
     }
 }
 
@@ -68,12 +71,13 @@ impl Dep {
     /// Reads the fields of a DEP, from the left.
     pub(crate) fn read<A: Allocator + Copy>(
         alloc: A,
+        spare: &mut Option<Box<Dep, A>>,
         fields: &Fields<A>,
     ) -> Result<Box<Dep, A>, Fault>
         requires { 4 ≤ length fields.now }
         ensures { Gives (λ b. b.value) result (dep_of fields.now) }
     {
         let Opening { parts, time } = read_short(alloc, fields)?;
-        boxed(alloc, Dep { parts, time })
+        boxed_over(alloc, spare, Dep { parts, time })
     }
 }
