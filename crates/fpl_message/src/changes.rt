@@ -5,11 +5,11 @@ ghost use Rattle.fpl_message.specs.Refusals.{Gives};
 ghost use Rattle.fpl_message.specs.Messages.{field};
 ghost use Rattle.fpl_message.specs.Modifications.{amended_number, amended_text, amend_rules, amend_craft};
 ghost use Rattle.fpl_message.specs.Modifications.{amend_equipment, amend_departure, amend_route, amend_destination};
-ghost use Rattle.fpl_message.specs.Modifications.{amend_other, amend_numbered, amend, amended, unamended};
+ghost use Rattle.fpl_message.specs.Modifications.{amend_other, amend_numbered, amend, amended, chg_of};
 ghost use Rattle.fpl_message.specs.KeptChanges.{kept, StandAmong};
 
 use crate::fault::Fault;
-use crate::parts::Parts;
+use crate::parts::{Parts, read_opening};
 use crate::refusal::Refusal;
 use fpl_items::{Other18, is_route};
 use fpl_text::{Craft, Departure, Destination, Fields, Rules, begins_amendment, is_equipment};
@@ -204,20 +204,24 @@ impl<A: Allocator + Copy> Changes<A> {
         }
     }
 
-    /// The changes of a plan by the fields 22 from that place on.
+    /// Adds what the fields 22 from that place on amend.
     #[tactic(auto, using(crate::proofs::ModificationLemmas::amended_steps))]
-    pub(crate) fn read(
-        alloc: A,
-        parts: Parts,
-        fields: &Fields<A>,
-        first: usize,
-    ) -> Result<Changes<A>, Fault>
+    fn amend_from(&mut self, alloc: A, fields: &Fields<A>, first: usize) -> Result<(), Fault>
         requires { first ≤ length fields.now }
-        ensures change { Gives (kept fields.now) result (amended (drop first fields.now) (unamended parts)) }
-        ensures stand { IfOk result (StandAmong fields.now) }
+        ensures change { Gives (λ _. kept fields.now self.new) result
+            (amended (drop first fields.now) (kept fields.now self.old)) }
+        ensures stand { StandAmong fields.now self.old → StandAmong fields.now self.new }
     {
-        let mut changes = Changes {
-            parts,
+        for place in first..fields.count() {
+            self.amend(alloc, fields, place)?;
+        }
+        Ok(())
+    }
+
+    /// No changes of no plan.
+    pub(crate) fn none() -> Self {
+        Changes {
+            parts: Parts::none(),
             rules: None,
             departure: None,
             destination: None,
@@ -227,10 +231,28 @@ impl<A: Allocator + Copy> Changes<A> {
             field10: None,
             field15: None,
             field18: None,
-        };
-        for place in first..fields.count() {
-            changes.amend(alloc, fields, place)?;
         }
-        Ok(changes)
+    }
+
+    /// Reads the fields of a CHG, from the left, in the place of other changes.
+    #[tactic(auto, unfolding(crate::specs::Modifications::chg_of))]
+    pub(crate) fn read(&mut self, alloc: A, fields: &Fields<A>) -> Result<(), Fault>
+        requires { 5 ≤ length fields.now }
+        ensures change { Gives (λ _. kept fields.now self.new) result (chg_of fields.now) }
+        ensures stand { StandAmong fields.now self.new }
+    {
+        self.rules = None;
+        self.departure = None;
+        self.destination = None;
+        self.other = None;
+        self.field8 = None;
+        self.field9 = None;
+        self.field10 = None;
+        self.field15 = None;
+        self.field18 = None;
+        let has_other = !begins_amendment(fields.field(4));
+        let _time = read_opening(alloc, has_other, fields, &mut self.parts)?;
+        let first = if has_other { 5 } else { 4 };
+        self.amend_from(alloc, fields, first)
     }
 }

@@ -4,14 +4,14 @@ ghost use Rattle.std.specs.Option.{ForSome};
 ghost use Rattle.fpl_items.specs.Told.{TellsOfAny};
 ghost use Rattle.fpl_message.specs.Refusals.{Gives};
 ghost use Rattle.fpl_message.specs.Modifications.{chg_of};
-ghost use Rattle.fpl_message.specs.KeptChanges.{kept, text_at, items_at, StandAmong};
+ghost use Rattle.fpl_message.specs.KeptChanges.{text_at, items_at};
 ghost use Rattle.fpl_text.specs.declared.time.TheConstants.{ELAPSED_LIMIT};
 
 use crate::changes::{Changes, amended_at};
 use crate::fault::{Fault, boxed};
-use crate::parts::{Parts, read_opening};
+use crate::parts::Parts;
 use fpl_items::Other18;
-use fpl_text::{Departure, Destination, Fields, Rules, begins_amendment};
+use fpl_text::{Departure, Destination, Fields, Rules};
 use std::alloc::{Allocator, Global};
 use std::marker::Model;
 use std::mem::replace;
@@ -38,7 +38,6 @@ impl<A: Allocator + Copy> Model for Chg<A> {
 
 impl<A: Allocator + Copy> Chg<A> {
     /// Reads the fields of a CHG, from the left.
-    #[tactic(auto, unfolding(crate::specs::Modifications::chg_of))]
     pub(crate) fn read(
         alloc: A,
         room: &mut Vec<u8, A>,
@@ -48,25 +47,27 @@ impl<A: Allocator + Copy> Chg<A> {
         requires { 5 ≤ length fields }
         ensures { Gives (λ b. b.value) result (chg_of fields) }
     {
-        let has_other = !begins_amendment(fields.field(4));
-        let opening = read_opening(alloc, has_other, &fields)?;
-        let first = if has_other { 5 } else { 4 };
-        let changes = Changes::read(alloc, opening.parts, &fields, first)?;
         let Some(mut last) = spare.take() else {
+            let mut changes = Changes::none();
+            changes.read(alloc, &fields)?;
             return boxed(alloc, Chg { fields, changes });
         };
-        last.renew(room, fields, changes);
-        Ok(last)
+        match last.renew(alloc, room, fields) {
+            Ok(()) => Ok(last),
+            Err(fault) => {
+                *spare = Some(last);
+                Err(fault)
+            }
+        }
     }
 
-    /// Makes it another modification. The room of its text is left for the next one.
-    #[inline(always)]
-    fn renew(&mut self, room: &mut Vec<u8, A>, fields: Fields<A>, changes: Changes<A>)
-        requires { StandAmong fields changes }
-        ensures { self.new ≡ kept fields changes }
+    /// Reads other fields in the place of these. The room of its text is left for the next one.
+    fn renew(&mut self, alloc: A, room: &mut Vec<u8, A>, fields: Fields<A>) -> Result<(), Fault>
+        requires { 5 ≤ length fields }
+        ensures { Gives (λ _. self.new) result (chg_of fields) }
     {
         *room = replace(&mut self.fields, fields).into_room();
-        self.changes = changes;
+        self.changes.read(alloc, &self.fields)
     }
 
     /// What names the plan.

@@ -1,7 +1,7 @@
 //! What names the plan that a message is about.
 ghost use Rattle.std.specs.Prelude.{◌≤◌, ◌<◌, length, IsTrue};
 ghost use Rattle.fpl_message.specs.Refusals.{Gives};
-ghost use Rattle.fpl_message.specs.ShortMessages.{opening_of, other_day};
+ghost use Rattle.fpl_message.specs.ShortMessages.{opening, opening_of, other_day};
 
 use crate::fault::Fault;
 use fpl_items::Other18;
@@ -21,38 +21,43 @@ pub struct Parts {
     pub day: Option<Day>,
 }
 
-/// The fields with which a message about a held plan begins: what names the plan, and the time of field 13.
-#[derive(Drop)]
-pub struct Opening {
-    pub parts: Parts,
-    pub time: TimeOfDay,
+impl Parts {
+    /// Parts that name no plan.
+    pub(crate) fn none() -> Self {
+        Parts {
+            ident: Text::default(),
+            dep: Text::default(),
+            dest: Text::default(),
+            day: None,
+        }
+    }
 }
 
-/// Reads fields 3, 7, 13 and 16, and the field 18 that may stand behind them, from the left.
+/// Reads fields 3, 7, 13 and 16, and the field 18 that may stand behind them, from the left: what names the plan, in the
+/// place of other parts, and the time of field 13.
 #[tactic(auto, unfolding(crate::specs::ShortMessages::opening_of))]
 pub(crate) fn read_opening<A: Allocator + Copy>(
     alloc: A,
     has_other: bool,
     fields: &Fields<A>,
-) -> Result<Opening, Fault>
+    parts: &mut Parts,
+) -> Result<TimeOfDay, Fault>
     requires four { 4 ≤ length fields.now }
     requires other { IsTrue has_other → 4 < length fields.now }
-    ensures { Gives (λ opening. opening) result (opening_of has_other fields.now) }
+    ensures { Gives (opening parts.new) result (opening_of has_other fields.now) }
 {
     let _heading = Heading::read(fields.field(0))?;
     let ident = Ident::read(fields.field(1))?;
     let departure = Departure::read(fields.field(2))?;
     let destination = Destination::read(fields.field(3))?;
     let day = read_day(alloc, has_other, fields)?;
-    Ok(Opening {
-        parts: Parts {
-            ident: ident.name,
-            dep: departure.place,
-            dest: destination.place,
-            day,
-        },
-        time: departure.time,
-    })
+    *parts = Parts {
+        ident: ident.name,
+        dep: departure.place,
+        dest: destination.place,
+        day,
+    };
+    Ok(departure.time)
 }
 
 /// Reads the day of field 18, the fifth field, where there is one.

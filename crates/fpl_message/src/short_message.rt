@@ -1,11 +1,10 @@
 //! The messages DLA, CNL and DEP.
 ghost use Rattle.std.specs.Prelude.{◌≤◌, length};
 ghost use Rattle.fpl_message.specs.Refusals.{Gives};
-ghost use Rattle.fpl_message.specs.ShortMessages.{dla_of, cnl_of, dep_of, short_opening_of};
+ghost use Rattle.fpl_message.specs.ShortMessages.{dla_of, cnl_of, dep_of, opening, short_opening_of};
 
-use crate::fault::Fault;
-use crate::parts::{Opening, Parts, read_opening};
-use crate::spares::boxed_over;
+use crate::fault::{Fault, boxed};
+use crate::parts::{Parts, read_opening};
 use fpl_text::{Fields, TimeOfDay};
 use std::alloc::Allocator;
 
@@ -30,11 +29,15 @@ pub struct Dep {
 }
 
 /// Reads the fields of a message that has no others.
-fn read_short<A: Allocator + Copy>(alloc: A, fields: &Fields<A>) -> Result<Opening, Fault>
+fn read_short<A: Allocator + Copy>(
+    alloc: A,
+    fields: &Fields<A>,
+    parts: &mut Parts,
+) -> Result<TimeOfDay, Fault>
     requires { 4 ≤ length fields.now }
-    ensures { Gives (λ opening. opening) result (short_opening_of fields.now) }
+    ensures { Gives (opening parts.new) result (short_opening_of fields.now) }
 {
-    read_opening(alloc, fields.count() == 5, fields)
+    read_opening(alloc, fields.count() == 5, fields, parts)
 }
 
 impl Dla {
@@ -47,8 +50,21 @@ impl Dla {
         requires { 4 ≤ length fields.now }
         ensures { Gives (λ b. b.value) result (dla_of fields.now) }
     {
-        let Opening { parts, time } = read_short(alloc, fields)?;
-        boxed_over(alloc, spare, Dla { parts, time })
+        let Some(mut last) = spare.take() else {
+            let mut parts = Parts::none();
+            let time = read_short(alloc, fields, &mut parts)?;
+            return boxed(alloc, Dla { parts, time });
+        };
+        match read_short(alloc, fields, &mut last.parts) {
+            Ok(time) => {
+                last.time = time;
+                Ok(last)
+            }
+            Err(fault) => {
+                *spare = Some(last);
+                Err(fault)
+            }
+        }
     }
 }
 
@@ -62,8 +78,18 @@ impl Cnl {
         requires { 4 ≤ length fields.now }
         ensures { Gives (λ b. b.value) result (cnl_of fields.now) }
     {
-        let Opening { parts, .. } = read_short(alloc, fields)?;
-        boxed_over(alloc, spare, Cnl { parts })
+        let Some(mut last) = spare.take() else {
+            let mut parts = Parts::none();
+            let _time = read_short(alloc, fields, &mut parts)?;
+            return boxed(alloc, Cnl { parts });
+        };
+        match read_short(alloc, fields, &mut last.parts) {
+            Ok(_) => Ok(last),
+            Err(fault) => {
+                *spare = Some(last);
+                Err(fault)
+            }
+        }
     }
 }
 
@@ -77,7 +103,20 @@ impl Dep {
         requires { 4 ≤ length fields.now }
         ensures { Gives (λ b. b.value) result (dep_of fields.now) }
     {
-        let Opening { parts, time } = read_short(alloc, fields)?;
-        boxed_over(alloc, spare, Dep { parts, time })
+        let Some(mut last) = spare.take() else {
+            let mut parts = Parts::none();
+            let time = read_short(alloc, fields, &mut parts)?;
+            return boxed(alloc, Dep { parts, time });
+        };
+        match read_short(alloc, fields, &mut last.parts) {
+            Ok(time) => {
+                last.time = time;
+                Ok(last)
+            }
+            Err(fault) => {
+                *spare = Some(last);
+                Err(fault)
+            }
+        }
     }
 }
