@@ -48,9 +48,7 @@ impl<A: Allocator + Copy> Chg<A> {
         ensures { Gives (λ b. b.value) result (chg_of fields) }
     {
         let Some(mut last) = spare.take() else {
-            let mut changes = Changes::none();
-            changes.read(alloc, &fields)?;
-            return boxed(alloc, Chg { fields, changes });
+            return Chg::first(alloc, fields);
         };
         match last.renew(alloc, room, fields) {
             Ok(()) => Ok(last),
@@ -59,6 +57,18 @@ impl<A: Allocator + Copy> Chg<A> {
                 Err(fault)
             }
         }
+    }
+
+    /// Reads the fields of a CHG for which there is no spare.
+    #[cold]
+    #[inline(never)]
+    fn first(alloc: A, fields: Fields<A>) -> Result<Box<Chg<A>, A>, Fault>
+        requires { 5 ≤ length fields }
+        ensures { Gives (λ b. b.value) result (chg_of fields) }
+    {
+        let mut changes = Changes::none();
+        changes.read(alloc, &fields)?;
+        boxed(alloc, Chg { fields, changes })
     }
 
     /// Reads other fields in the place of these. The room of its text is left for the next one.

@@ -28,7 +28,8 @@ pub struct Departure {
 pub struct Alternates {
     /// The names, and empty ones behind them.
     places: [Text<4>; 2],
-    count: u8,
+    /// How many there are, in 16 bits, so that a copy takes two moves that don't overlap.
+    count: u16,
 }
 
 impl Model for Alternates {
@@ -176,6 +177,7 @@ fn alternates_of(words: Words<'_>) -> Option<Alternates>
 }
 
 /// The parts of field 16.
+#[inline(always)]
 #[tactic(auto, unfolding(crate::specs::Places::destination_of))]
 fn destination_of(field: &[u8]) -> Option<Destination>
     ensures value { result ≡ destination_of field.now }
@@ -194,6 +196,7 @@ fn destination_of(field: &[u8]) -> Option<Destination>
 impl Destination {
     /// Reads field 16: four letters, then nothing or an elapsed time hhmm, which is at most 5,999 minutes, and then at
     /// most two words of four letters.
+    #[inline(always)]
     pub fn read(field: &[u8]) -> Result<Destination, FieldFault>
         ensures value { result ≡ ok_or (destination_of field.now) (FieldFault.BadField 16) }
         ensures bound { IfOk result (λ destination. IfSome destination.elapsed (λ minutes. minutes < ELAPSED_LIMIT)) }
