@@ -1,6 +1,6 @@
 -- Notes of estimates, one after the other.
 use Rattle.std.proofs.Common.{◌≡◌, ℕ, ◌+◌, ◌-◌, ◌<◌, ◌≤◌, arith, ◌&&◌, nat_le, Bool, true, false, if◌then◌else◌, List, [], ◌∷◌, ◌++◌, length, take, drop, get_or, refl, Option, Some, None, sym, ap, ◌∙◌}
-use Rattle.std.specs.Prelude.{codes, replicate}
+use Rattle.std.specs.Prelude.{codes, replicate, slice_index}
 use Rattle.std.proofs.lemmas.Bool.{false≢true, false_from_ne_true, le-leb, lt-leb, leb-true, and_parts}
 use Rattle.std.proofs.Math.ListN.{set}
 use Rattle.std.proofs.Math.Seq.{get_or-append_right, take-append_seam, set-append_seam}
@@ -37,6 +37,17 @@ name-kept place short =
     ap (λ zs. set (place ++ zs) 11 n) behind
     ∙ set-append_right place (zeros ++ 0 ∷ []) n 11 n refl short
     ∙ ap (λ zs. place ++ zs) (ap (λ i. set (zeros ++ 0 ∷ []) i n) (sym (length-replicate (11 - n) 0)) ∙ set-append_seam zeros 0 [] n)
+
+-- four letters, seven zeros and a four are the name of a place of four letters
+pub name_of_four : (place : List ℕ) → length place ≡ 4
+    → slice_index place 0 ∷ slice_index place 1 ∷ slice_index place 2 ∷ slice_index place 3 ∷ 0 ∷ 0 ∷ 0 ∷ 0 ∷ 0 ∷ 0 ∷ 0 ∷ 4 ∷ [] ≡ name_of place
+unfolding name_of
+name_of_four [] four = absurd (omega arith)
+name_of_four (a ∷ []) four = absurd (omega arith)
+name_of_four (a ∷ b ∷ []) four = absurd (omega arith)
+name_of_four (a ∷ b ∷ c ∷ []) four = absurd (omega arith)
+name_of_four (a ∷ b ∷ c ∷ d ∷ []) four = refl
+name_of_four (a ∷ b ∷ c ∷ d ∷ e ∷ place) four = absurd (omega arith)
 
 -- the last byte of a name is the length of its place
 name-last : (place : List ℕ) → length place ≤ 11 → get_or (name_of place) 11 0 ≡ length place

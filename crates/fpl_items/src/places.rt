@@ -37,8 +37,24 @@ pub(crate) fn with_place(places: u64, place: &[u8]) -> u64
     places | 1 << bit_of(place)
 }
 
-/// A place as notes have it.
+/// A place as notes have it. Most places have four letters, whose name needs no memory to be put together.
+#[inline(always)]
+#[tactic(auto, using(crate::proofs::Notes::name_of_four))]
 pub(crate) fn name_of(place: &[u8]) -> [u8; 12]
+    requires { length place.now ≤ 11 }
+    ensures { result ≡ name_of place.now }
+{
+    if place.len() == 4 {
+        return [
+            place[0], place[1], place[2], place[3], 0, 0, 0, 0, 0, 0, 0, 4,
+        ];
+    }
+    name_by_bytes(place)
+}
+
+/// The same of any place.
+#[inline(never)]
+fn name_by_bytes(place: &[u8]) -> [u8; 12]
     requires { length place.now ≤ 11 }
     ensures { result ≡ name_of place.now }
 {

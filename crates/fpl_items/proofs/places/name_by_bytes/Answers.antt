@@ -1,7 +1,7 @@
 use Rattle.std.proofs.Common.{◌++◌, ◌∷◌, [], length, drop, ap, ◌∙◌}
 use Rattle.std.proofs.Math.ListN.{set}
 use Rattle.fpl_items.proofs.Notes.{name-kept}
-use Rattle.fpl_items.proofs.places.name_of.Goals as goal
+use Rattle.fpl_items.proofs.places.name_by_bytes.Goals as goal
 
 pub returns : goal.returns
 returns c =
