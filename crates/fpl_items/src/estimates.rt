@@ -54,6 +54,7 @@ impl<A: Allocator + Copy> Estimates<A> {
     }
 
     /// Appends the note of a place. Past the eighth it takes memory. After an `Err` all is as it was.
+    #[inline(always)]
     pub(crate) fn push(&mut self, place: &[u8], note: Estimate) -> Result<(), AllocError>
         requires place { length place.now ≤ 11 }
         requires note { note.name ≡ name_of place.now }

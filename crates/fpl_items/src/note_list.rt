@@ -49,6 +49,7 @@ impl<A: Allocator + Copy> NoteList<A> {
     }
 
     /// Appends a note. Past the eighth it takes memory. After an `Err` the notes are as they were.
+    #[inline(always)]
     pub(crate) fn push(&mut self, note: Estimate) -> Result<(), AllocError>
         ensures ok { OnOk result (self.new ≡ self.old ++ note ∷ []) }
         ensures err { OnErr result (self.new ≡ self.old) }

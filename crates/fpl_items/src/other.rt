@@ -45,6 +45,13 @@ fn note_split<A: Allocator + Copy>(
     let Some(minutes) = read_elapsed(time) else {
         return Err(ItemFault::BadField(18));
     };
+    // Most places have four letters, whose notes stay in registers up to their place in the list.
+    if place.len() == 4 {
+        let Ok(()) = estimates.push(place, Estimate::new(place, minutes)) else {
+            return Err(ItemFault::OutOfMemory);
+        };
+        return Ok(());
+    }
     let Ok(()) = estimates.push(place, Estimate::new(place, minutes)) else {
         return Err(ItemFault::OutOfMemory);
     };

@@ -8,8 +8,8 @@ use Rattle.fpl_items.specs.Estimates.{first_for}
 use Rattle.fpl_items.proofs.Notes.{one-more}
 use Rattle.fpl_items.proofs.other.note_split.Goals as goal
 
-pub returns-clause-noted : goal.returns-clause-noted
-returns-clause-noted g c = λ place words.
+pub returns-then-place-eq4-clause-noted : goal.returns-then-place-eq4-clause-noted
+returns-then-place-eq4-clause-noted g c = λ place words.
     (let word = c.args.word.now in
     let short : length (take (length word - 4) word) ≤ 11 = omega (arith, c.requires.most, length-take (length word - 4) word) in
     let kept : c.new.result.name ≡ name_of (take (length word - 4) word) = c.new.ensures.0 ∙ ap name_of c.split_at.ensures.front in
@@ -17,3 +17,13 @@ returns-clause-noted g c = λ place words.
     ap elapsed_time (sym c.split_at.ensures.back) ∙ (sym c.in-Some.ensures.value ∙ ap (λ m. Some m) (sym c.new.ensures.1)) in
     ap (λ notes. option_or (first_for place notes) (estimate_for place words)) c.in-Ok.ensures.ok
     ∙ one-more c.args.estimates.now c.new.result word short kept time place words)
+
+pub returns-clause-noted : goal.returns-clause-noted
+returns-clause-noted g c = λ place words.
+    (let word = c.args.word.now in
+    let short : length (take (length word - 4) word) ≤ 11 = omega (arith, c.requires.most, length-take (length word - 4) word) in
+    let kept : c.new-2.result.name ≡ name_of (take (length word - 4) word) = c.new-2.ensures.0 ∙ ap name_of c.split_at.ensures.front in
+    let time : elapsed_time (drop (length word - 4) word) ≡ Some c.new-2.result.minutes =
+    ap elapsed_time (sym c.split_at.ensures.back) ∙ (sym c.in-Some.ensures.value ∙ ap (λ m. Some m) (sym c.new-2.ensures.1)) in
+    ap (λ notes. option_or (first_for place notes) (estimate_for place words)) c.in-Ok-push.ensures.ok
+    ∙ one-more c.args.estimates.now c.new-2.result word short kept time place words)
