@@ -174,15 +174,15 @@ fn has_word(mut words: ItemWords<'_>, word: &[u8]) -> bool
     words.any(|other| other == word)
 }
 
-/// Whether an item has this name. Most that have another differ in the first letter.
+/// Whether an item has this name.
 #[inline(always)]
-fn is_name(name: &[u8], known: &[u8]) -> bool
+fn is_name(name: &[u8], known: &[u8; 3]) -> bool
     ensures { result ≡ bytes_eq name.now known.now }
 {
-    if name.len() == 3 && known.len() == 3 && name[0] != known[0] {
+    if name.len() != 3 {
         return false;
     }
-    name == known
+    name[0] == known[0] && name[1] == known[1] && name[2] == known[2]
 }
 
 /// What items say of a flight: its day, where a DOF stood, and whether it is exempt.
