@@ -60,9 +60,9 @@ impl Key {
         ensures { result ≡ same_key self.now key.now }
     {
         self.day == key.day
-            && self.ident.as_bytes() == key.ident.as_bytes()
-            && self.dep.as_bytes() == key.dep.as_bytes()
-            && self.dest.as_bytes() == key.dest.as_bytes()
+            && self.ident.is(&key.ident)
+            && self.dep.is(&key.dep)
+            && self.dest.is(&key.dest)
     }
 
     /// Whether it agrees with the parts of a message: in the day too where they name one.
@@ -75,9 +75,7 @@ impl Key {
                 return false;
             }
         }
-        self.ident.as_bytes() == parts.ident.as_bytes()
-            && self.dep.as_bytes() == parts.dep.as_bytes()
-            && self.dest.as_bytes() == parts.dest.as_bytes()
+        self.ident.is(&parts.ident) && self.dep.is(&parts.dep) && self.dest.is(&parts.dest)
     }
 
     /// Whether a message would make another flight of the plan: it amends the departure to another place, or field 18

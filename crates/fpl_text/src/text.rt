@@ -5,6 +5,7 @@ ghost use Rattle.std.specs.Cmp.{on_equiv, on_per, partial_equiv_from_equiv};
 ghost use Rattle.std.specs.Cmp.Lexicographic.{pointwise, nat_list_eq_equiv};
 ghost use Rattle.std.specs.Cmp.Rules.{hashing};
 ghost use Rattle.std.specs.Hash as fed;
+ghost use Rattle.std.specs.Str.{bytes_eq};
 ghost use Rattle.std.proofs.Common.{rules};
 
 use std::hash::{Hash, Hasher};
@@ -86,6 +87,14 @@ impl<const N: usize> Text<N> {
             bytes: text,
             len: bytes.len() as u8,
         }
+    }
+
+    /// Whether this is the same text. Equal texts are equal in all their bytes, so no length bounds the look.
+    #[inline(always)]
+    pub fn is(&self, other: &Self) -> bool
+        ensures { result ≡ bytes_eq self.now other.now }
+    {
+        self.len == other.len && self.bytes == other.bytes
     }
 
     /// The bytes.
