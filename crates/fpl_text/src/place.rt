@@ -142,6 +142,7 @@ impl Departure {
 }
 
 /// Four letters, and then nothing or an elapsed time.
+#[inline(always)]
 #[tactic(auto, unfolding(crate::specs::Places::arrival_of, crate::specs::Places::is_place))]
 fn arrival_of(word: &[u8]) -> Option<(Text<4>, Option<u32>)>
     ensures value { result ≡ arrival_of word.now }
