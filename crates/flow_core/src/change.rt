@@ -38,7 +38,7 @@ fn same_told(told: &Option<Told>, other: &Option<Told>) -> bool
     match (told, other) {
         (None, None) => true,
         (Some(told), Some(other)) => {
-            told.ctot == other.ctot && told.regulation.as_bytes() == other.regulation.as_bytes()
+            told.ctot == other.ctot && told.regulation.is(&other.regulation)
         }
         _ => false,
     }

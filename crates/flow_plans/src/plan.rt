@@ -85,7 +85,7 @@ impl Key {
         ensures { result ≡ changes_key message.now self.now }
     {
         if let Some(departure) = message.departure() {
-            if departure.place.as_bytes() != self.dep.as_bytes() {
+            if !departure.place.is(&self.dep) {
                 return true;
             }
         }

@@ -74,7 +74,7 @@ impl<A: Allocator + Copy> Regulation<A> {
     pub(crate) fn is_named(&self, id: &Text<8>) -> bool
         ensures { result ≡ is_named id.now self.now }
     {
-        self.id.as_bytes() == id.as_bytes()
+        self.id.is(id)
     }
 
     /// Whether it is this regulation: of the same name and place, with the same slot list.
