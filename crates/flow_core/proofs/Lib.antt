@@ -5,6 +5,7 @@ pub mod Rows
 pub mod Serves
 pub mod JournalTexts
 pub mod Journals
+pub mod Fronts
 pub mod Entries
 pub mod ReadBack
 pub mod JournalTaken
