@@ -1,5 +1,6 @@
 pub mod Runs
 pub mod Lines
+pub mod Digits
 pub mod KeptEntries
 pub mod Rows
 pub mod Serves

@@ -91,11 +91,7 @@ fn read_desk<R: Read + Drop>(alloc: Global, reader: R) -> Result<Core, Fault> {
         }
         Err(_) => return Err(Fault::Read),
     }
-    // A byte at a time, so that the place of the last one read is that of the last one looked at.
-    let Ok(bytes) = BufReader::with_capacity(alloc, 1, &mut source) else {
-        return Err(Fault::OutOfMemory);
-    };
-    let read = read_journal(alloc, &mut Counted::new(bytes));
+    let read = read_journal(alloc, &mut Counted::new(&mut source));
     match read {
         Ok(core) => Ok(core),
         Err(JournalFault::Read) => Err(Fault::Read),
