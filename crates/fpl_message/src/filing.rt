@@ -107,7 +107,7 @@ impl<A: Allocator + Copy> Filing<A> {
             return Err(FilingFault::TooLong);
         }
         let Ok(()) = self.text.renew(edition, bytes) else {
-            self.reader.clear();
+            self.reader.clear(alloc);
             return Err(FilingFault::OutOfMemory);
         };
         let Ok(()) = self.reader.read(alloc, edition, bytes) else {

@@ -8,7 +8,7 @@ use crate::edition::Edition;
 use crate::message::Reading;
 use crate::reading::read;
 use crate::refusal::Refusal;
-use crate::spares::Spares;
+use crate::spares::{Spares, keep};
 use std::alloc::{AllocError, Allocator, Global};
 use std::marker::Model;
 use std::mem::replace;
@@ -20,7 +20,7 @@ pub struct FilingReader<A: Allocator + Copy = Global> {
     /// Where the last text was squeezed, for the next one.
     room: Vec<u8, A>,
     /// Where messages lay, for the next ones.
-    spares: Spares<A>,
+    spares: Option<Box<Spares<A>, A>>,
     reading: Reading<A>,
 }
 
@@ -33,6 +33,24 @@ impl<A: Allocator + Copy> Model for FilingReader<A> {
     ghost view = { λ r. said r.reading };
 }
 
+/// Reads bytes as `read` does, with these spares or none.
+fn read_over<A: Allocator + Copy>(
+    alloc: A,
+    room: &mut Vec<u8, A>,
+    spares: &mut Option<Box<Spares<A>, A>>,
+    reading: &mut Reading<A>,
+    edition: Edition,
+    bytes: &[u8],
+) -> Result<(), AllocError>
+    requires { length bytes.now ≤ MAX_BYTES }
+    ensures { OnOk result (said reading.new ≡ reading_of (record { edition = edition; bytes = bytes.now })) }
+{
+    match spares {
+        Some(spares) => read(alloc, room, &mut **spares, reading, edition, bytes),
+        None => read(alloc, room, &mut Spares::none(), reading, edition, bytes),
+    }
+}
+
 impl<A: Allocator + Copy> FilingReader<A> {
     /// A reader that has read no bytes, and has no memory.
     pub fn new(alloc: A) -> Self
@@ -40,7 +58,7 @@ impl<A: Allocator + Copy> FilingReader<A> {
     {
         FilingReader {
             room: Vec::new(alloc),
-            spares: Spares::none(),
+            spares: None,
             reading: Reading::Bad(Refusal::Empty),
         }
     }
@@ -57,7 +75,7 @@ impl<A: Allocator + Copy> FilingReader<A> {
         ensures { IfOk result (λ reader. reader ≡ reading_of (record { edition = edition; bytes = bytes.now })) }
     {
         let mut reader = FilingReader::new(alloc);
-        read(
+        read_over(
             alloc,
             room,
             &mut reader.spares,
@@ -75,8 +93,8 @@ impl<A: Allocator + Copy> FilingReader<A> {
         ensures ok { OnOk result (self.new ≡ reading_of (record { edition = edition; bytes = bytes.now })) }
         ensures err { OnErr result (self.new ≡ bad Refusal.Empty) }
     {
-        self.clear();
-        let Ok(()) = read(
+        self.clear(alloc);
+        let Ok(()) = read_over(
             alloc,
             &mut self.room,
             &mut self.spares,
@@ -84,7 +102,7 @@ impl<A: Allocator + Copy> FilingReader<A> {
             edition,
             bytes,
         ) else {
-            self.clear();
+            self.clear(alloc);
             return Err(AllocError);
         };
         Ok(())
@@ -92,11 +110,11 @@ impl<A: Allocator + Copy> FilingReader<A> {
 
     /// Lets go of what the last bytes said, and keeps its memory.
     #[inline(always)]
-    pub(crate) fn clear(&mut self)
+    pub(crate) fn clear(&mut self, alloc: A)
         ensures { self.new ≡ bad Refusal.Empty }
     {
-        self.spares
-            .keep(replace(&mut self.reading, Reading::Bad(Refusal::Empty)));
+        let last = replace(&mut self.reading, Reading::Bad(Refusal::Empty));
+        keep(alloc, &mut self.spares, last);
     }
 
     /// What the last bytes say, or their first refusal.

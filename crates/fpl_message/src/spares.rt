@@ -34,7 +34,7 @@ impl<A: Allocator + Copy> Spares<A> {
     }
 
     /// Keeps the memory of what a filing said.
-    pub(crate) fn keep(&mut self, reading: Reading<A>) {
+    fn keep(&mut self, reading: Reading<A>) {
         match reading {
             Reading::Msg(Message::Fpl(plan)) => self.fpl = Some(plan),
             Reading::Msg(Message::Dla(delay)) => self.dla = Some(delay),
@@ -45,6 +45,27 @@ impl<A: Allocator + Copy> Spares<A> {
             Reading::Ord(_) => {}
             Reading::Bad(_) => {}
         }
+    }
+}
+
+/// Keeps the memory of what a filing said among these spares, which lie in memory of their own, so that a filing is small
+/// where it is moved. The first time they take that; where it is refused, nothing is kept.
+pub(crate) fn keep<A: Allocator + Copy>(
+    alloc: A,
+    spares: &mut Option<Box<Spares<A>, A>>,
+    reading: Reading<A>,
+) {
+    if matches!(&reading, Reading::Bad(_)) {
+        return;
+    }
+    if spares.is_none() {
+        let Ok(first) = Box::new(alloc, Spares::none()) else {
+            return;
+        };
+        *spares = Some(first);
+    }
+    if let Some(spares) = spares {
+        spares.keep(reading);
     }
 }
 
