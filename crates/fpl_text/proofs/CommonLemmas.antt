@@ -1,5 +1,5 @@
--- Common bytes, spaces and borders that are kept are easy.
-use Rattle.std.proofs.Common.{◌≡◌, ℕ, ◌+◌, zero, suc, Bool, true, false, not, ◌&&◌, ◌||◌, eqb, leb, refl, sym, ◌∙◌}
+-- Common bytes, spaces, line feeds and borders that are kept are easy.
+use Rattle.std.proofs.Common.{◌≡◌, ℕ, ◌+◌, zero, suc, Bool, true, false, not, ◌&&◌, ◌||◌, cond, eqb, leb, refl, sym, ◌∙◌}
 use Rattle.std.proofs.lemmas.Bool.{eqb-true}
 use Rattle.fpl_text.specs.Bytes.{is_plain, is_common, is_border, is_blank, is_digit, is_other_mark}
 use Rattle.fpl_text.specs.Lanes.{behind, is_kept}
@@ -22,9 +22,36 @@ common-plain x h =
     sym (letters_and_others x)
     ∙ or-mono (leb 65 x && leb x 90) (leb 46 x && leb x 58) (leb 65 x && leb x 90) (is_digit x || is_other_mark x) (λ e. e) (λ e. sym (digits_and_marks x) ∙ rw e refl) h
 
-pub space-blank : (x : ℕ) → eqb x 32 ≡ true → is_blank x ≡ true
+abbrev pub is_space_or_feed : ℕ → Bool
+is_space_or_feed x = eqb x 32 || eqb x 10
+
+pub space-blank : (x : ℕ) → is_space_or_feed x ≡ true → is_blank x ≡ true
 unfolding is_blank
-space-blank x h = rw h refl
+space-blank x h = one_more (eqb x 32) (eqb x 13) (eqb x 10) h
+  where
+    one_more : (a b c : Bool) → a || c ≡ true → a || b || c ≡ true
+    one_more true b c h = refl
+    one_more false true c h = refl
+    one_more false false c h = h
+
+no_feed : (x : ℕ) → is_blank x ≡ false → eqb x 10 ≡ false
+unfolding is_blank
+no_feed x h = last (eqb x 32 || eqb x 13) (eqb x 10) h
+  where
+    last : (a b : Bool) → a || b ≡ false → b ≡ false
+    last true b h = absurd (cc)
+    last false b h = h
+
+space-kept : (x : ℕ) → is_space_or_feed x ≡ true → cond (eqb x 10) 32 x ≡ 32
+space-kept x h = by (eqb x 10) refl h
+  where
+    by : (b : Bool) → eqb x 10 ≡ b → eqb x 32 || b ≡ true → cond b 32 x ≡ 32
+    by true e h = refl
+    by false e h = eqb-true x 32 (left (eqb x 32) h)
+      where
+        left : (a : Bool) → a || false ≡ true → a ≡ true
+        left true h = refl
+        left false h = h
 
 -- what is kept among fewer plain bytes and blanks is kept among more
 pub kept-more : (border : Bool) (p p1 q r r1 : ℕ → Bool) → ((k : ℕ) → p1 k ≡ true → p k ≡ true) → ((k : ℕ) → r1 k ≡ true → r k ≡ true) → (k : ℕ) → is_kept border p1 q r1 k ≡ true → is_kept border p q r k ≡ true
@@ -38,15 +65,17 @@ kept-more border p p1 q r r1 plain blank k =
     before zero h = h
     before (suc j) h = plain j h
 
--- and stays as it is
-pub kept-same : (border : Bool) (f : ℕ → ℕ) (k : ℕ) → is_kept border (λ j. is_common (f j)) (λ j. is_border (f j)) (λ j. eqb (f j) 32) k ≡ true → f k ≡ as_space (f k)
-kept-same border f k h = by (is_common (f k)) (is_border (f k)) (eqb (f k) 32) refl refl refl h
+-- and stays as it is, but for a line feed, which becomes a space
+pub kept-same : (border : Bool) (f : ℕ → ℕ) (k : ℕ) → is_kept border (λ j. is_common (f j)) (λ j. is_border (f j)) (λ j. is_space_or_feed (f j)) k ≡ true
+    → cond (eqb (f k) 10) 32 (f k) ≡ as_space (f k)
+kept-same border f k h = by (is_common (f k)) (is_border (f k)) (is_space_or_feed (f k)) refl refl refl h
   where
-    no_blank : is_blank (f k) ≡ false → f k ≡ as_space (f k)
-    no_blank e = rw e refl
+    no_blank : is_blank (f k) ≡ false → cond (eqb (f k) 10) 32 (f k) ≡ as_space (f k)
+    no_blank e = rw (e, no_feed (f k) e) refl
 
-    by : (a b c : Bool) → is_common (f k) ≡ a → is_border (f k) ≡ b → eqb (f k) 32 ≡ c → a || (b || (c && (is_common (f (k + 1)) && behind (not border) (λ j. is_common (f j)) k))) ≡ true → f k ≡ as_space (f k)
+    by : (a b c : Bool) → is_common (f k) ≡ a → is_border (f k) ≡ b → is_space_or_feed (f k) ≡ c → a || (b || (c && (is_common (f (k + 1)) && behind (not border) (λ j. is_common (f j)) k))) ≡ true
+        → cond (eqb (f k) 10) 32 (f k) ≡ as_space (f k)
     by true b c ea eb ec h = no_blank (plain-no_blank (f k) (common-plain (f k) ea))
     by false true c ea eb ec h = no_blank (border-no_blank (f k) eb)
-    by false false true ea eb ec h = rw (space-blank (f k) ec) (eqb-true (f k) 32 ec)
+    by false false true ea eb ec h = rw (space-blank (f k) ec) (space-kept (f k) ec)
     by false false false ea eb ec h = absurd (cc)

@@ -6,7 +6,7 @@ use Rattle.std.specs.List.{count_by}
 use Rattle.std.specs.Simd.Lanes.{zip2, sel_l, mask_l, top}
 use Rattle.std.proofs.lemmas.Simd.{bitmask_splat, ones-mask_l, length-zip2, get_or-zip2, get_or-replicate, length-sel_l, get_or-sel_l, bit_mask_l, tops_compared, mask_l-mod, mask_l-lt}
 use Rattle.std.proofs.lemmas.Nat.Bits.{bit_at-trailing_ones, bit_at-trailing_zeros, bit_at-pow_same, bit_at-pow_other, bit_at_or, bit_at_and, bit_at-lt}
-use Rattle.std.proofs.lemmas.Nat.{and_le_l, shr_le}
+use Rattle.std.proofs.lemmas.Nat.{and_le_l, and_le_r, shr_le}
 use lib.Bits.{or_add_and}
 use Rattle.std.specs.Prelude.{◌⊎◌, max, min}
 use Rattle.std.proofs.lemmas.Bool.{cases_lt, leb-true, leb-false}
@@ -89,9 +89,13 @@ flags-other t v x long =
     (λ k l. (λ i. cond (t (get_or v k 0) (get_or-replicate 16 k x 0 l i)) (get_or-replicate 16 k 0 0 l i) (get_or-replicate 16 k 255 0 l i)) ∙ unlike (t (get_or v k 0) x))
     (lanes-compared t v (replicate 16 x) (replicate 16 0) (replicate 16 255) long refl refl refl)
 
-chosen : (p : Bool) (x : ℕ) → cond (eqb (flag p) 255) 32 x ≡ cond p 32 x
-chosen true x = refl
-chosen false x = refl
+-- one byte in place of those for which the comparison with a splat holds
+pub lanes-chosen : (t : ℕ → ℕ → Bool) (v : List ℕ) (x y : ℕ) → length v ≡ 16
+    → HasLanes (sel_l (zip2 t v (replicate 16 x)) (replicate 16 y) v) (λ k. cond (t (get_or v k 0) x) y (get_or v k 0))
+lanes-chosen t v x y long =
+    lanes-same _ _ _
+    (λ k l. λ i. cond (t (get_or v k 0) (get_or-replicate 16 k x 0 l i)) (get_or-replicate 16 k y 0 l i) (get_or v k 0))
+    (lanes-compared t v (replicate 16 x) (replicate 16 y) v long refl refl long)
 
 abbrev is_set : ℕ → Bool
 is_set x = leb 128 x
@@ -211,29 +215,30 @@ behind-set v m b first p long bits h flags (suc k) one =
     let below : bit_at m k ≡ 1 = sym (h.others k) ∙ (rw step at one) in
     set_flag (p k) (rw (flags.each k (bit_below v m k long bits below)) at ((bits k).0 below))
 
--- the lowest bits of the mask of what is kept
+-- the lowest bits of the mask of what is kept, the last lane's left out
 pub record IsKeptFront (v w u : List ℕ) (border : Bool) (n : ℕ) : Type 0 where
-  pub bound : n ≤ 16
+  pub bound : n ≤ 15
   pub each : (p q r : ℕ → Bool) → HasFlags v p → HasFlags w q → HasFlags u r → (k : ℕ) → k < n → is_kept border p q r k ≡ true
 
-pub front-kept : (v w u : List ℕ) (m n o b : ℕ) (border : Bool) → length v ≡ 16 → length w ≡ 16 → length u ≡ 16
-    → IsMask v m → IsMask w n → IsMask u o → IsBehind (not border) m b
-    → IsKeptFront v w u border (trailing_ones w64 (bit_or (bit_or m n) (bit_and (bit_and o (m / 2 ^ 1)) b)))
-front-kept v w u m n o b border long wide large inm inn ino inb =
-    let low : bit_and (bit_and o (m / 2 ^ 1)) b ≤ bit_and o (m / 2 ^ 1) = and_le_l (bit_and o (m / 2 ^ 1)) b in
-    let lower : bit_and o (m / 2 ^ 1) ≤ o = and_le_l o (m / 2 ^ 1) in
+pub front-kept : (v w u : List ℕ) (m n o b : ℕ) (border : Bool) → length v ≡ 16 → IsMask v m → IsMask w n → IsMask u o → IsBehind (not border) m b
+    → IsKeptFront v w u border (trailing_ones w64 (bit_and (bit_or (bit_or m n) (bit_and (bit_and o (m / 2 ^ 1)) b)) 32767))
+front-kept v w u m n o b border long inm inn ino inb =
     let between = bit_and (bit_and o (m / 2 ^ 1)) b in
-    let small : bit_or (bit_or m n) between + 1 < 2 ^ 64 = omega (arith, or_add_and (bit_or m n) between, or_add_and m n, inm.small, inn.small, ino.small, low, lower) in
-    let t = bit_at-trailing_ones w64 (bit_or (bit_or m n) between) small in
-    let count = trailing_ones w64 (bit_or (bit_or m n) between) in
+    let all = bit_or (bit_or m n) between in
+    let low : bit_and all 32767 ≤ 32767 = and_le_r all 32767 in
+    let t = bit_at-trailing_ones w64 (bit_and all 32767) (omega arith) in
+    let count = trailing_ones w64 (bit_and all 32767) in
+    let masked : (k : ℕ) → k < count → min (bit_at all k) (bit_at 32767 k) ≡ 1 = (λ k l. rw (bit_at_and all 32767 k) at (t.2 k l)) in
+    let bound : count ≤ 15 = ⊎_elim (λ h. let last : bit_at 32767 15 ≡ 0 = refl in absurd (omega (arith, masked 15 h, last))) (λ h. h) (cases_lt 15 count) in
     let parts : (k : ℕ) → k < count → (bit_at m k ≡ 1) ⊎ ((bit_at n k ≡ 1) ⊎ ((bit_at o k ≡ 1) × ((bit_at m (1 + k) ≡ 1) × (bit_at b k ≡ 1)))) = (λ k l.
     let shifted : bit_at (m / 2 ^ 1) k ≡ bit_at m (1 + k) = ap (λ x. x % 2) (shr-shr m 1 k) in
+    let set : bit_at all k ≡ 1 = omega (arith, masked k l, bit_at-lt all k) in
     let whole : max (max (bit_at m k) (bit_at n k)) (min (min (bit_at o k) (bit_at m (1 + k))) (bit_at b k)) ≡ 1 =
-    rw (bit_at_or (bit_or m n) between k, bit_at_or m n k, bit_at_and (bit_and o (m / 2 ^ 1)) b k, bit_at_and o (m / 2 ^ 1) k, shifted) at (t.2 k l) in
+    rw (bit_at_or (bit_or m n) between k, bit_at_or m n k, bit_at_and (bit_and o (m / 2 ^ 1)) b k, bit_at_and o (m / 2 ^ 1) k, shifted) at set in
     is_one _ _ _ _ _ whole (bit_at-lt m k) (bit_at-lt n k) (bit_at-lt o k) (bit_at-lt m (1 + k)) (bit_at-lt b k)) in
-    let inside : (k : ℕ) → k < count → k < 16 = (λ k l. ⊎_elim (λ a. bit_below v m k long inm.bits a) (λ x. ⊎_elim (λ a. bit_below w n k wide inn.bits a) (λ a. bit_below u o k large ino.bits a.0) x) (parts k l)) in
+    let inside : (k : ℕ) → k < count → k < 16 = (λ k l. omega (arith, bound)) in
     record {
-      bound = ⊎_elim (λ h. absurd (let in_it = inside 16 h in omega arith)) (λ h. h) (cases_lt 16 count);
+      bound = bound;
       each = λ p q r hp hq hr k l.
           kept_or (p k) (q k) (r k) (p (k + 1)) (behind (not border) p k)
           (⊎_elim
@@ -242,11 +247,10 @@ front-kept v w u m n o b border long wide large inm inn ino inb =
           (λ a. inl (set_flag (q k) (rw (hq.each k (inside k l)) at ((inn.bits k).0 a))))
           (λ a.
           let next : 1 + k ≡ k + 1 = omega arith in
-          let within = bit_below v m (1 + k) long inm.bits a.1.0 in
           inr (
             set_flag (r k) (rw (hr.each k (inside k l)) at ((ino.bits k).0 a.0)),
             (
-              set_flag (p (k + 1)) (rw (next, hp.each (k + 1) (omega arith)) at ((inm.bits (1 + k)).0 a.1.0)),
+              set_flag (p (k + 1)) (rw (next, hp.each (k + 1) (omega (arith, l, bound))) at ((inm.bits (1 + k)).0 a.1.0)),
               behind-set v m b (not border) p long inm.bits inb hp k a.1.1,
             ),
           ))

@@ -129,12 +129,20 @@ pub(crate) fn common_lanes(v: u8x16) -> u8x16
     either(between(v, b'A', b'Z'), between(v, b'.', b':'))
 }
 
-/// Which lanes hold a space.
+/// Which lanes hold a space or a line feed.
 #[inline(always)]
-pub(crate) fn space_lanes(v: u8x16) -> u8x16
-    ensures { HasFlags result (λ k. slice_index v k == 32) }
+pub(crate) fn space_or_feed_lanes(v: u8x16) -> u8x16
+    ensures { HasFlags result (λ k. (slice_index v k == 32) || (slice_index v k == 10)) }
 {
-    equal_to(v, b' ')
+    or_equal_to(equal_to(v, b' '), v, b'\n')
+}
+
+/// The bytes, with spaces for line feeds.
+#[inline(always)]
+pub(crate) fn feeds_as_spaces(v: u8x16) -> u8x16
+    ensures { HasLanes result (λ k. if slice_index v k == 10 then 32 else slice_index v k) }
+{
+    v.simd_eq(u8x16::splat(b'\n')).select(u8x16::splat(b' '), v)
 }
 
 /// How many of the lanes from a place on are set.
@@ -157,11 +165,12 @@ pub(crate) fn border_bits(v: u8x16) -> u64
     top_bits(border_lanes(v))
 }
 
-/// How many of the first lanes are kept by a pass, of which `plain` are plain bytes, behind a border or not; and
-/// whether the last of them is a border, or the byte before them all where none is kept.
+/// How many of the first 15 lanes are kept by a pass, of which `plain` are plain bytes, behind a border or not; and
+/// whether the last of them is a border, or the byte before them all where none is kept. The last lane only tells
+/// whether a plain byte stands behind a blank in the one before it.
 #[inline(always)]
 pub(crate) fn kept_front(plain: u8x16, borders: u8x16, blanks: u8x16, border: bool) -> (usize, bool)
-    ensures bound { result.0 ≤ 16 }
+    ensures bound { result.0 ≤ 15 }
     ensures each { (p q r : ℕ → Bool) → HasFlags plain p → HasFlags borders q → HasFlags blanks r → (k : ℕ)
         → k < result.0 → is_kept border p q r k ≡ true }
     ensures last { (q : ℕ → Bool) → HasFlags borders q → result.1 ≡ behind border q result.0 }
@@ -169,7 +178,7 @@ pub(crate) fn kept_front(plain: u8x16, borders: u8x16, blanks: u8x16, border: bo
     let plain = top_bits(plain);
     let borders = top_bits(borders);
     let between = top_bits(blanks) & (plain >> 1) & bits_behind(!border, plain);
-    let count = (plain | borders | between).trailing_ones() as usize;
+    let count = ((plain | borders | between) & 32767).trailing_ones() as usize;
     (count, bit_is_set(bits_behind(border, borders), count))
 }
 

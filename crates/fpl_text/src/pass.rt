@@ -8,7 +8,9 @@ ghost use Rattle.fpl_text.specs.Passes.{IsPass, StandsAt, gap, is_easy, border_b
 ghost use Rattle.fpl_text.specs.declared.fault.TextFault.TheVariants.{Empty, BadByte};
 
 use crate::byte::{is_blank, is_border, is_plain};
-use crate::lanes::{border_lanes, common_lanes, kept_front, load, space_lanes};
+use crate::lanes::{
+    border_lanes, common_lanes, feeds_as_spaces, kept_front, load, space_or_feed_lanes,
+};
 use std::simd::prelude::*;
 
 /// How far a text is squeezed.
@@ -111,10 +113,10 @@ fn pass_bytes(text: &[u8], out: &mut [u8], from: Pass) -> Result<Pass, usize>
     Ok(pass)
 }
 
-/// What a look at 16 bytes tells.
+/// What a look at 16 bytes tells of the first 15.
 #[derive(Clone, Copy)]
 struct Front {
-    /// The bytes.
+    /// The bytes, with spaces for line feeds.
     lanes: u8x16,
     /// How many of the first of them are easy.
     count: usize,
@@ -123,11 +125,12 @@ struct Front {
 }
 
 /// Looks at the 16 bytes from a place on, behind a border or not: mostly all of them are common bytes, borders, and
-/// spaces between two common bytes, which are easy. A space in the last of them is left to the next 16.
+/// spaces or line feeds between two common bytes, which are easy; such a line feed is kept as a space. The last of them
+/// only shows what stands behind the one before, and is looked at again with the next 16.
 #[inline(always)]
 fn easy_front(bytes: &[u8], at: usize, border: bool) -> Front
     requires { at + 16 ≤ length bytes.now }
-    ensures bound { result.count ≤ 16 }
+    ensures bound { result.count ≤ 15 }
     ensures easy { (text : List ℕ) (place : ℕ) → StandsAt text place bytes.now at → (k : ℕ) → k < result.count
         → is_easy text place border k ≡ true }
     ensures border { (text : List ℕ) (place : ℕ) → StandsAt text place bytes.now at
@@ -138,11 +141,11 @@ fn easy_front(bytes: &[u8], at: usize, border: bool) -> Front
     let (count, border) = kept_front(
         common_lanes(lanes),
         border_lanes(lanes),
-        space_lanes(lanes),
+        space_or_feed_lanes(lanes),
         border,
     );
     Front {
-        lanes,
+        lanes: feeds_as_spaces(lanes),
         count,
         border,
     }
@@ -156,7 +159,7 @@ fn front_at(text: &[u8], out: &[u8], place: usize, border: bool) -> Front
     requires within { place ≤ length text.now }
     requires long { length out.now ≡ length text.now + 32 }
     requires left { StandsAt text.now place out.now (place + 16) }
-    ensures bound { result.count ≤ 16 }
+    ensures bound { result.count ≤ 15 }
     ensures easy { (k : ℕ) → k < result.count → is_easy text.now place border k ≡ true }
     ensures border { result.border ≡ border_behind text.now place border result.count }
     ensures lanes { HasFront result.lanes result.count (λ k. as_space (slice_index out.now (place + 16 + k))) }
@@ -168,7 +171,7 @@ fn front_at(text: &[u8], out: &[u8], place: usize, border: bool) -> Front
     }
 }
 
-/// Passes easy bytes, 16 at a time. What is written behind those that are easy is written over later.
+/// Passes easy bytes, 15 at a time. What is written behind those that are easy is written over later.
 fn pass_easy(text: &[u8], out: &mut [u8], from: Pass) -> Pass
     requires pass { IsPass text.now out.old from }
     requires inside { from.place < length text.now → from.blank ≡ false }
@@ -180,17 +183,14 @@ fn pass_easy(text: &[u8], out: &mut [u8], from: Pass) -> Pass
         let front = front_at(text, out, pass.place, pass.border);
         front.lanes.copy_to_slice(&mut out[pass.made..]);
         pass.border = front.border;
-        // Where all are easy the processor need not wait for the count before it goes on.
-        if front.count == 16 {
-            pass.place += 16;
-            pass.made += 16;
-            continue;
-        }
-        pass.place += front.count;
-        pass.made += front.count;
         if front.count < 15 {
+            pass.place += front.count;
+            pass.made += front.count;
             return pass;
         }
+        // Where all are easy the processor need not wait for the count before it goes on.
+        pass.place += 15;
+        pass.made += 15;
     }
     pass
 }
