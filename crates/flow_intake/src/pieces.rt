@@ -18,8 +18,9 @@ use crate::counted::Counted;
 use crate::fault::IntakeFault;
 use crate::first_frame::{Span, first_frame};
 use crate::kept::Kept;
+use crate::scan::first_of;
 use fpl_message::MAX_BYTES;
-use memchr::{memchr2, memrchr2};
+use memchr::memrchr2;
 use std::alloc::{AllocError, Allocator, Global};
 use std::io::Read;
 use std::marker::Model;
@@ -54,8 +55,8 @@ pub(crate) fn stop_in(bytes: &[u8], until: Until) -> Option<usize>
 {
     match until {
         Until::Text => text_in(bytes),
-        Until::Bracket => memchr2(b'(', b')', bytes),
-        Until::OrderEnd => memchr2(b'\n', b'(', bytes),
+        Until::Bracket => first_of(b'(', b')', bytes),
+        Until::OrderEnd => first_of(b'\n', b'(', bytes),
     }
 }
 
