@@ -152,7 +152,7 @@ fn is_same(aerodrome: &[u8], place: &[u8]) -> bool
 /// A flight plan as the desk holds it.
 ///
 /// What says where the flight enters a place stands together, since opening a regulation looks at it in each plan whose
-/// flight may come there: from the key to the first notes of the estimates, with which the texts begin.
+/// flight may come there: from the key to the estimates, with which the texts begin.
 #[derive(Drop)]
 pub struct Plan<A: Allocator + Copy = Global> {
     alternates: Alternates,
@@ -247,6 +247,7 @@ impl<A: Allocator + Copy> Plan<A> {
         requires { off_block < off_blocks_end }
         ensures { IfOk result (λ p. p ≡ plan_of off_block message.now) }
     {
+        let estimates = message.other().estimates().kept(alloc)?;
         let texts = Texts::new(
             alloc,
             message.field(2),
@@ -254,7 +255,7 @@ impl<A: Allocator + Copy> Plan<A> {
             message.field(4),
             message.field(6),
             message.field(8),
-            message.other().estimates(),
+            estimates,
         )?;
         Ok(Plan {
             key: key_of(message, off_block),

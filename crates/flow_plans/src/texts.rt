@@ -13,22 +13,23 @@ ghost use Rattle.fpl_text.specs.declared.time.TheConstants.{ELAPSED_LIMIT};
 
 use crate::amended_values::text_after;
 use crate::near::words_on_way;
-use fpl_items::{Estimates, Other18};
+use fpl_items::{KeptEstimates, Other18};
 use fpl_message::Chg;
 use std::alloc::{AllocError, Allocator, Global};
 use std::marker::Model;
 use std::mem;
 
-/// The squeezed texts of fields 8, 9, 10, 15 and 18, one after the other in one piece of memory.
+/// The squeezed texts of fields 8, 9, 10, 15 and 18, one after the other in one piece of memory. Plans are many, so where
+/// they end takes two bytes each.
 #[derive(Drop)]
 pub(crate) struct Texts<A: Allocator + Copy = Global> {
     /// What the EET items of field 18 say.
-    estimates: Estimates<A>,
+    estimates: KeptEstimates<A>,
     bytes: Vec<u8, A>,
-    end8: usize,
-    end9: usize,
-    end10: usize,
-    end15: usize,
+    end8: u16,
+    end9: u16,
+    end10: u16,
+    end15: u16,
 }
 
 impl<A: Allocator + Copy> Model for Texts<A> {
@@ -53,13 +54,14 @@ impl<A: Allocator + Copy> Model for Texts<A> {
         × AreEstimatesOf (items_of (words_of (slice_range t.bytes.items t.end15 (length t.bytes.items)))) t.estimates };
 }
 
-/// Appends a text, and answers where it ends.
-fn push_text<A: Allocator>(bytes: &mut Vec<u8, A>, text: &[u8]) -> Result<usize, AllocError>
+/// Appends a text, and answers where it ends. Refused where memory is, and behind 65,535 bytes, where the texts of no
+/// filings end: each has at most 2,000 bytes.
+fn push_text<A: Allocator>(bytes: &mut Vec<u8, A>, text: &[u8]) -> Result<u16, AllocError>
     ensures items { IfOk result (λ end. bytes.new.items ≡ bytes.old.items ++ text.now) }
     ensures end { IfOk result (λ end. end ≡ length (bytes.old.items ++ text.now)) }
 {
     bytes.extend_from_slice(text)?;
-    Ok(bytes.len())
+    u16::try_from(bytes.len()).map_err(|_| AllocError)
 }
 
 /// Whether a message leaves all of these texts as they are.
@@ -74,17 +76,18 @@ fn keeps_texts<A: Allocator + Copy>(message: &Chg<A>) -> bool
         && message.field18().is_none()
 }
 
-/// The estimates of an amended field 18, or else those held.
-fn estimates_after<'a, A: Allocator + Copy>(
-    held: &'a Estimates<A>,
-    amended: Option<&'a Other18<A>>,
-) -> &'a Estimates<A>
-    ensures { (items : Option (List Item)) → TellsOfAny items (option_copied amended.entry)
-        → MatchOption items (result.now ≡ held.now) (λ items. AreEstimatesOf items result.now) }
+/// The estimates of an amended field 18, or else those held, to be kept.
+fn estimates_after<A: Allocator + Copy>(
+    alloc: A,
+    held: &KeptEstimates<A>,
+    amended: Option<&Other18<A>>,
+) -> Result<KeptEstimates<A>, AllocError>
+    ensures { IfOk result (λ after. (items : Option (List Item)) → TellsOfAny items (option_copied amended.entry)
+        → MatchOption items (after ≡ held.now) (λ items. AreEstimatesOf items after)) }
 {
     match amended {
-        Some(other) => other.estimates(),
-        None => held,
+        Some(other) => other.estimates().kept(alloc),
+        None => held.copied(alloc),
     }
 }
 
@@ -102,7 +105,7 @@ pub(crate) fn exchange_texts<A: Allocator + Copy>(
 }
 
 impl<A: Allocator + Copy> Texts<A> {
-    /// A copy of these texts, and of the estimates of field 18.
+    /// A copy of these texts, with the estimates of field 18.
     pub(crate) fn new(
         alloc: A,
         field8: &[u8],
@@ -110,9 +113,9 @@ impl<A: Allocator + Copy> Texts<A> {
         field10: &[u8],
         field15: &[u8],
         field18: &[u8],
-        estimates: &Estimates<A>,
+        estimates: KeptEstimates<A>,
     ) -> Result<Self, AllocError>
-        requires { AreEstimatesOf (items_of (words_of field18.now)) estimates.now }
+        requires { AreEstimatesOf (items_of (words_of field18.now)) estimates }
         ensures { IfOk result (λ t. t ≡ record {
           field8 = field8.now;
           field9 = field9.now;
@@ -121,7 +124,6 @@ impl<A: Allocator + Copy> Texts<A> {
           field18 = field18.now;
         }) }
     {
-        let estimates = estimates.copied(alloc)?;
         let small = field8
             .len()
             .saturating_add(field9.len())
@@ -165,6 +167,7 @@ impl<A: Allocator + Copy> Texts<A> {
     fn rewritten(&self, alloc: A, message: &Chg<A>) -> Result<Box<Self, A>, AllocError>
         ensures { IfOk result (λ texts. texts.value ≡ texts_after self.now message.now) }
     {
+        let estimates = estimates_after(alloc, self.estimates(), message.other())?;
         let texts = Texts::new(
             alloc,
             text_after(self.field8(), message.field8()),
@@ -172,7 +175,7 @@ impl<A: Allocator + Copy> Texts<A> {
             text_after(self.field10(), message.field10()),
             text_after(self.field15(), message.field15()),
             text_after(self.field18(), message.field18()),
-            estimates_after(self.estimates(), message.other()),
+            estimates,
         )?;
         Ok(Box::new(alloc, texts)?)
     }
@@ -180,35 +183,35 @@ impl<A: Allocator + Copy> Texts<A> {
     pub(crate) fn field8(&self) -> &[u8]
         ensures { result.now ≡ self.now.field8 }
     {
-        &self.bytes[..self.end8]
+        &self.bytes[..usize::from(self.end8)]
     }
 
     pub(crate) fn field9(&self) -> &[u8]
         ensures { result.now ≡ self.now.field9 }
     {
-        &self.bytes[self.end8..self.end9]
+        &self.bytes[usize::from(self.end8)..usize::from(self.end9)]
     }
 
     pub(crate) fn field10(&self) -> &[u8]
         ensures { result.now ≡ self.now.field10 }
     {
-        &self.bytes[self.end9..self.end10]
+        &self.bytes[usize::from(self.end9)..usize::from(self.end10)]
     }
 
     pub(crate) fn field15(&self) -> &[u8]
         ensures { result.now ≡ self.now.field15 }
     {
-        &self.bytes[self.end10..self.end15]
+        &self.bytes[usize::from(self.end10)..usize::from(self.end15)]
     }
 
     pub(crate) fn field18(&self) -> &[u8]
         ensures { result.now ≡ self.now.field18 }
     {
-        &self.bytes[self.end15..]
+        &self.bytes[usize::from(self.end15)..]
     }
 
     /// What the EET items of field 18 say.
-    fn estimates(&self) -> &Estimates<A>
+    fn estimates(&self) -> &KeptEstimates<A>
         ensures { AreEstimatesOf (items_of (words_of self.now.field18)) result.now }
     {
         &self.estimates

@@ -17,6 +17,7 @@ use std::alloc::{AllocError, Allocator};
 
 impl<A: Allocator + Copy> Traffic<A> {
     /// Opens a regulation, and answers the verdict on it.
+    #[inline(never)]
     pub(crate) fn open(&mut self, order: &OpenReg) -> Result<Verdict, AllocError>
         requires from { IsDeskTime order.now.from }
         requires to { IsDeskTime order.now.to }
@@ -64,6 +65,7 @@ impl<A: Allocator + Copy> Traffic<A> {
     }
 
     /// Closes a regulation, and answers the verdict on it.
+    #[inline(never)]
     pub(crate) fn shut(&mut self, id: &Text<8>) -> Result<Verdict, AllocError>
         ensures answers { IfOk result (Answers (ord (shut_reg id.now)) self.old.traffic self.new.traffic) }
         ensures frozen { IfOk result (FrozenPairsStay (ord (shut_reg id.now)) self.old.traffic self.new.traffic) }
@@ -95,6 +97,7 @@ impl<A: Allocator + Copy> Traffic<A> {
     }
 
     /// Sets the desk's time, and answers the verdict on it.
+    #[inline(never)]
     pub(crate) fn set_time(&mut self, at: Minute) -> Result<Verdict, AllocError>
         requires { IsDeskTime at }
         ensures answers { IfOk result (Answers (ord (set_time at)) self.old.traffic self.new.traffic) }

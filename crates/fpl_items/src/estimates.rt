@@ -1,4 +1,4 @@
-//! The estimates of field 18, noted once.
+//! The estimates of field 18, noted once, as it is read.
 ghost use Rattle.std.specs.Prelude.{◌≡◌, ◌≤◌, ◌<◌, ◌∷◌, ◌++◌, [], true, List, ℕ, length, IfOk, IfSome, IsSome, OnOk};
 ghost use Rattle.std.specs.Prelude.{OnErr};
 ghost use Rattle.fpl_items.specs.Places.{may_have, name_of};
@@ -6,6 +6,7 @@ ghost use Rattle.fpl_items.specs.Estimates.{first_for};
 ghost use Rattle.fpl_text.specs.declared.time.TheConstants.{ELAPSED_LIMIT};
 
 use crate::estimate::Estimate;
+use crate::kept_estimates::KeptEstimates;
 use crate::note_list::NoteList;
 use crate::places::{may_have, name_of, with_place};
 use std::alloc::{AllocError, Allocator, Global};
@@ -42,15 +43,12 @@ impl<A: Allocator + Copy> Estimates<A> {
         }
     }
 
-    /// The same estimates. Those past the eighth take memory.
-    pub fn copied<B: Allocator + Copy>(&self, alloc: B) -> Result<Estimates<B>, AllocError>
+    /// The same estimates, in memory of their own, and no more than they take.
+    pub fn kept<B: Allocator + Copy>(&self, alloc: B) -> Result<KeptEstimates<B>, AllocError>
         ensures { IfOk result (λ e. e ≡ self.now) }
     {
-        let notes = self.notes.copied(alloc)?;
-        Ok(Estimates {
-            places: self.places,
-            notes,
-        })
+        let (few, more) = self.notes.parts();
+        KeptEstimates::of(alloc, self.places, few, more)
     }
 
     /// Appends the note of a place. Past the eighth it takes memory. After an `Err` all is as it was.
@@ -88,39 +86,11 @@ impl<A: Allocator + Copy> Estimates<A> {
         }
         first_for(more, place)
     }
-
-    /// A set that has the places of the estimates.
-    #[inline]
-    pub fn places(&self) -> u64
-        ensures { (place : List ℕ) → IsSome (first_for place self.now) → may_have result place ≡ true }
-    {
-        self.places
-    }
-
-    /// The minutes of the longest of the estimates.
-    pub fn longest(&self) -> u32
-        ensures { (place : List ℕ) → IfSome (first_for place self.now) (λ minutes. minutes ≤ result) }
-    {
-        let (few, more) = self.notes.parts();
-        longest_of(more, longest_of(few, 0))
-    }
-}
-
-/// The minutes of the longest of these notes, or others where these are more.
-fn longest_of(notes: &[Estimate], other: u32) -> u32
-    ensures notes { (place : List ℕ) → IfSome (first_for place notes.now) (λ minutes. minutes ≤ result) }
-    ensures other { other ≤ result }
-{
-    let mut longest = other;
-    for note in notes {
-        longest = longest.max(note.minutes());
-    }
-    longest
 }
 
 /// The minutes of the first of these notes that is for a place.
 #[inline(never)]
-fn first_for(notes: &[Estimate], place: &[u8]) -> Option<u32>
+pub(crate) fn first_for(notes: &[Estimate], place: &[u8]) -> Option<u32>
     requires { length place.now ≤ 11 }
     ensures value { result ≡ first_for place.now notes.now }
     ensures bound { IfSome result (λ minutes. minutes < ELAPSED_LIMIT) }

@@ -9,6 +9,9 @@ use std::marker::Model;
 /// How many notes stand in place, which is enough for most fields.
 const FEW_NOTES: usize = 8;
 
+/// For how many notes behind these memory is taken at once.
+const MORE_NOTES: usize = 56;
+
 /// Notes in order: the first eight in place, the others, if any, in memory of their own. Contracts see the notes.
 #[derive(Drop)]
 pub(crate) struct NoteList<A: Allocator + Copy = Global> {
@@ -38,16 +41,6 @@ impl<A: Allocator + Copy> NoteList<A> {
         }
     }
 
-    /// The same notes. Those past the eighth take memory.
-    pub(crate) fn copied<B: Allocator + Copy>(&self, alloc: B) -> Result<NoteList<B>, AllocError>
-        ensures { IfOk result (λ l. l ≡ self.now) }
-    {
-        let more = Vec::from_slice(alloc, self.more.as_slice())?;
-        let mut few = ArrayVec::new();
-        let _all = few.try_extend_from_slice(self.few.as_slice());
-        Ok(NoteList { few, more })
-    }
-
     /// Appends a note. Past the eighth it takes memory. After an `Err` the notes are as they were.
     #[inline(always)]
     pub(crate) fn push(&mut self, note: Estimate) -> Result<(), AllocError>
@@ -56,6 +49,9 @@ impl<A: Allocator + Copy> NoteList<A> {
         ensures full { OnErr result (8 ≤ length self.old) }
     {
         if self.few.is_full() {
+            if self.more.is_empty() {
+                self.more.reserve(MORE_NOTES)?;
+            }
             self.more.push(note)?;
         } else {
             self.few.push(note);
