@@ -1,12 +1,12 @@
 //! What messages do to the traffic.
 ghost use Rattle.std.specs.Prelude.{◌≡◌, ◌≤◌, ◌<◌, ◌+◌, List, Ok, Some, None, IfOk, IsErr, OnOk, OnErr, IfErr};
 ghost use Rattle.std.specs.Prelude.{MatchOption, length, map, slice_get, option_copied, vec_len, vec_capacity, ◌-◌};
-ghost use Rattle.std.specs.Prelude.{◌&&◌, nat_lt};
+ghost use Rattle.std.specs.Prelude.{◌&&◌, nat_lt, true, IfSome, IsSome};
 ghost use Rattle.fpl_message.specs.Said.{said_message};
 ghost use Rattle.fpl_message.specs.Reads.{msg};
 ghost use Rattle.flow_plans.specs.Settings.{IsDeskTime};
 ghost use Rattle.std.specs.List.{Contains};
-ghost use Rattle.flow_plans.specs.Plans.{Plan as Held, is_filed};
+ghost use Rattle.flow_plans.specs.Plans.{Plan as Held, is_filed, status_at};
 ghost use Rattle.flow_plans.specs.Changes.{refusal_of, IsRefusal};
 ghost use Rattle.flow_regulations.specs.Notices.{window_of};
 ghost use Rattle.flow_regulations.specs.Awaiting.{Covers};
@@ -222,7 +222,23 @@ fn awaits<A: Allocator + Copy>(plan: &Plan<A>, now: Minute) -> bool
     matches!(plan.state(), PlanState::Filed) && due_until(now) < plan.off_block().minutes()
 }
 
-/// Notes the flight of the plan of this number, if it is filed and isn't due.
+/// Whether the plan of this number was filed before the last message, too, with this off-block moment.
+fn was_filed<A: Allocator + Copy>(plans: &PlanStore<A>, number: u32, off_block: Minute) -> bool
+    requires some { 0 < number }
+    requires change { IsSome plans.now.before }
+    ensures { result ≡ true → IfSome plans.now.before (λ before.
+        status_at before number ≡ Some (record { state = PlanState.Filed; off_block = off_block })) }
+{
+    match plans.previous(number) {
+        Some(before) => {
+            matches!(before.state, PlanState::Filed) && before.off_block == off_block
+        }
+        None => false,
+    }
+}
+
+/// Notes the flight of the plan of this number, if it is filed and isn't due. Where the last message left its off-block
+/// moment as it was, it is noted already.
 fn note_flight<A: Allocator + Copy>(
     queue: &mut DueQueue<A>,
     plans: &PlanStore<A>,
@@ -230,17 +246,20 @@ fn note_flight<A: Allocator + Copy>(
     now: Minute,
 )
     requires some { 0 < number }
+    requires change { IsSome plans.now.before }
     requires room { length queue.old.flights < queue.old.room }
-    ensures covers { (before : List Held) → AreSameBut number before plans.now.plans
+    ensures covers { (before : List Held) → plans.now.before ≡ Some before → AreSameBut number before plans.now.plans
         → Covers now before queue.old.flights → Covers now plans.now.plans queue.new.flights }
     ensures kept { (a : Awaited) → Contains queue.old.flights a → Contains queue.new.flights a }
 {
     let Some(plan) = plans.plan(number) else {
         return;
     };
-    if awaits(plan, now) {
-        queue.note(number, plan.off_block());
+    let off_block = plan.off_block();
+    if !awaits(plan, now) || was_filed(plans, number, off_block) {
+        return;
     }
+    queue.note(number, off_block);
 }
 
 /// A place for what a new plan is told.

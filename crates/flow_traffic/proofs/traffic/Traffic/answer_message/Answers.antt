@@ -93,7 +93,7 @@ invariant_of-self-2 g c =
         each = c.tell.ensures.each;
         listed = rw (c.change_plans.ensures.taxi, c.settle_for.ensures.limit) settled.listed;
         settled_in = rw c.change_plans.ensures.taxi settled.settled_in;
-        covers = c.note_flight.ensures.covers i.plans.plans c.in-Ok-change_plans.ensures.same covers;
+        covers = c.note_flight.ensures.covers i.plans.plans c.in-Ok-change_plans.ensures.before c.in-Ok-change_plans.ensures.same covers;
         quiet = c.tell.ensures.quiet;
       };
       can = can-forget n u t i.plans.plans i.regulations.lists c.in-Ok-change_plans.ensures.some within c.in-Ok-change_plans.ensures.before stand c.settle_for.ensures.alone covers_old;
