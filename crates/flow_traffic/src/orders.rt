@@ -1,4 +1,4 @@
-//! What orders do to the traffic.
+//! What orders do to the traffic. Most filings are messages, so the code of orders stands apart from theirs (`inline(never)`).
 ghost use Rattle.std.specs.Prelude.{◌≡◌, ◌≤◌, ◌+◌, Some, None, IfOk, OnOk, OnErr, length};
 ghost use Rattle.fpl_message.specs.Messages.{open_reg, shut_reg, set_time};
 ghost use Rattle.fpl_message.specs.Reads.{ord};

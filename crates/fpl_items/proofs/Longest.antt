@@ -43,18 +43,3 @@ found-in-both place few more all minutes parts first =
 -- where nothing is found in the first part, what is found in both is found in the second
 pub found-in-rest : (place : List ℕ) (few more all : List Estimate) (found : Option ℕ) → few ++ more ≡ all → None ≡ first_for place few → found ≡ first_for place more → found ≡ first_for place all
 found-in-rest place few more all found parts none second = rw (sym parts) (second ∙ sym (first-of-both place few more ∙ ap (λ o. option_or o (first_for place more)) (sym none)))
-
--- what is found in both parts is one of either
-pub found-less : (place : List ℕ) (few more all : List Estimate) (longest : ℕ) → few ++ more ≡ all
-    → IfSome (first_for place few) (λ minutes. minutes ≤ longest) → IfSome (first_for place more) (λ minutes. minutes ≤ longest)
-    → IfSome (first_for place all) (λ minutes. minutes ≤ longest)
-found-less place few more all longest parts p q = rw (sym parts, first-of-both place few more) (by _ _ p q)
-  where
-    by : (x y : Option ℕ) → IfSome x (λ minutes. minutes ≤ longest) → IfSome y (λ minutes. minutes ≤ longest) → IfSome (option_or x y) (λ minutes. minutes ≤ longest)
-    by None y p q = q
-    by (Some m) y p q = p
-
--- a bound of what is found, raised
-pub below-raised : (o : Option ℕ) (low high : ℕ) → low ≤ high → IfSome o (λ minutes. minutes ≤ low) → IfSome o (λ minutes. minutes ≤ high)
-below-raised None low high l h = tt
-below-raised (Some m) low high l h = omega (arith, l, h)
