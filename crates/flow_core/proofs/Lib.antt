@@ -23,3 +23,4 @@ pub mod Filed
 pub mod Growing
 pub mod Boards
 pub mod TakenIn
+pub mod FilesOns
