@@ -1,9 +1,9 @@
 #!/usr/bin/env python3
 """Refuses each request for memory in turn to the built program, and tells how its runs ended.
 
-    bench/refused.py PROGRAM [NAME ..]
+    tests/memory/refused.py PROGRAM [NAME ..]
 
-NAME is a worked run in cases/; where none is named, some that file by themselves, with two feeders, and going on from a journal.
+NAME is a worked run in tests/cli/slotdesk; where none is named, some that file by themselves, with two feeders, and going on from a journal.
 The program asks the C library for its memory. A shim, built here with cc and loaded before that library, refuses the request
 number N, so that each N takes one short run; N rises until nothing is refused. A run must end as the worked run does, with its
 output, or with status 2, the line of want of memory and a beginning of that output. With feeders it may also end with the line of
@@ -19,7 +19,7 @@ import subprocess
 import sys
 import tempfile
 
-CASES = pathlib.Path(__file__).resolve().parent.parent / "cases"
+CASES = pathlib.Path(__file__).resolve().parent.parent / "cli" / "slotdesk"
 CHOSEN = [
     "three-flights-and-one-slot-message",
     "journal-of-one-entry",

@@ -1,11 +1,11 @@
 #!/usr/bin/env python3
 """Refuses each growth of memory in turn to two feeders, and tells how the calls ended.
 
-    bench/heaps.py [--from N] [--to N]
+    tests/memory/growths.py [--from N] [--to N]
 
 Feeds run in threads, so their memory is that of the whole program, and no test of its own can refuse it:
 `rt try --test --fail-alloc N` does, which proves nothing, and refuses the growth N of each test of a crate. So that
-one build is enough, a copy of tried/feeder_tests gets a test for each growth from the first to the last. The test of
+one build is enough, a copy of tests/unit/feeder gets a test for each growth from the first to the last. The test of
 the growth n lets memory grow N - n times before it makes anything, and then makes and opens a desk, files two feeds,
 files again what is left, ends the desk and replays its journal. Where memory was refused to it, it ends with an error
 that says what was refused, and with anything else where that isn't as the calls promise: the refused call has left
@@ -23,9 +23,10 @@ import tempfile
 
 sys.dont_write_bytecode = True
 
-from beside import ROOT, placed  # noqa: E402
+sys.path.insert(0, str(pathlib.Path(__file__).resolve().parent.parent))
 
-STANDS_ON = ["fpl_text", "fpl_message", "flow_plans", "flow_core", "flow_desk", "linked_list_allocator"]
+from workspace import ROOT, UNIT_TESTS, placed  # noqa: E402
+
 MODULE = "growths"
 HEAD = "//! A test for each growth that is refused.\nuse crate::refused::feeds_go_on;\nuse std::test::*;\n"
 TEST = "\n#[test]\nfn growth_%d(rt: HostRuntime) -> Result<(), Fail> {\n    feeds_go_on(&rt, rt.alloc(), %d)\n}\n"
@@ -41,7 +42,7 @@ def write_tests(crate, counts, last):
         file.write("#[cfg(test)]\nmod %s;\n" % MODULE)
 
 
-def tried(crate, counts, last):
+def run_tests(crate, counts, last):
     """The lines of a try, and where that of each test stands. Where one is missing, it tries again."""
     for _ in range(3):
         command = ["nice", "rt", "try", "--test", "--seconds", "600", "--fail-alloc", str(last)]
@@ -71,11 +72,11 @@ def ending(lines, at):
     return None, [head] + said
 
 
-def heaps(crate, first, last):
+def refuse_growths(crate, first, last):
     """Whether each growth was refused in turn, and all went on as promised."""
     counts = range(first, last + 1)
     write_tests(crate, counts, last)
-    lines, found = tried(crate, counts, last)
+    lines, found = run_tests(crate, counts, last)
     ends, wrong, what = collections.OrderedDict(), 0, None
     for count in counts:
         what, said = ending(lines, found[count]) if count in found else (None, lines[-5:])
@@ -97,8 +98,9 @@ def main():
     if not 1 <= args.first <= args.last:
         parser.error("the growths go from 1 on, and the last is not before the first")
     with tempfile.TemporaryDirectory() as folder:
-        crate = placed(pathlib.Path(folder), "feeder_tests", STANDS_ON, ROOT / "tried" / "feeder_tests", proofs=False)
-        sys.exit(0 if heaps(crate, args.first, args.last) else 1)
+        kept = ROOT / "tests" / "unit" / "feeder"
+        crate = placed(pathlib.Path(folder), "feeder_tests", UNIT_TESTS["feeder"], kept, proofs=False)
+        sys.exit(0 if refuse_growths(crate, args.first, args.last) else 1)
 
 
 main()

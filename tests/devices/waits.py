@@ -1,7 +1,7 @@
 #!/usr/bin/env python3
 """Files one line after the other to the built program and waits for its answer before the next, on a pipe and on a terminal.
 
-    bench/waits.py PROGRAM [--filings N]
+    tests/devices/waits.py PROGRAM [--filings N]
 
 The input stays open all the while, as a gateway keeps it, or a person at a terminal. Each answer must come within a second of
 its filing. With many feeders answers come when the input has ended, so that is how long their last line may take. Prints the
@@ -69,7 +69,7 @@ def on_terminal(program, filings):
 
 
 def with_feeders(program, filings):
-    """How long the last line took behind the end of the input, and whether each filing was answered."""
+    """How long the last line took after the end of the input, and whether each filing was answered."""
     words = [*WORDS, "--feeders", "2"]
     with subprocess.Popen([program, *words], stdin=subprocess.PIPE, stdout=subprocess.PIPE, bufsize=0) as child:
         for count in range(1, filings + 1):

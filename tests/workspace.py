@@ -1,12 +1,20 @@
 """A copy of the workspace with one crate more, which the gate doesn't prove.
 
-The crate's files have .in behind their names here, since the gate takes no source outside a crate of the workspace.
+The crate's files end in .in here, since the gate takes no source outside a crate of the workspace.
 """
 import os
 import pathlib
 import shutil
 
 ROOT = pathlib.Path(__file__).resolve().parent.parent
+
+# The crates of tests/unit, each with the crates that it calls.
+UNIT_TESTS = {
+    "message": ["fpl_text", "fpl_items", "fpl_message", "jiff", "linked_list_allocator"],
+    "flow": ["fpl_text", "fpl_message", "flow_plans", "flow_slots", "flow_regulations", "linked_list_allocator"],
+    "desk": ["fpl_text", "fpl_message", "flow_plans", "flow_intake", "flow_core", "linked_list_allocator"],
+    "feeder": ["fpl_text", "fpl_message", "flow_plans", "flow_core", "flow_desk", "linked_list_allocator"],
+}
 
 
 def workspace():
