@@ -17,8 +17,9 @@ class Function(NamedTuple):
     is_public: bool
 
 
+@functools.cache
 def crates():
-    """The crates of this repository, by name."""
+    """The names of the crates of this repository."""
     return sorted(folder.name for folder in CRATES.iterdir() if (folder / "src").is_dir())
 
 
@@ -32,17 +33,18 @@ def module_of(file):
     return () if parts in (("lib",), ("main",)) else parts
 
 
+@functools.cache
 def code_of(file):
-    """The text of a source without comments, attributes and what contracts use."""
-    lines = text_of(file).split("\n")
-    return "\n".join(line for line in lines if not re.match(r" *(//|#!?\[|ghost )", line))
+    """The text of a source without its comments, its attributes and what contracts use."""
+    text = re.sub(r"//.*", "", text_of(file))
+    return re.sub(r"^ *(#!?\[[^\]]*\]|ghost .*)", "", text, flags=re.M)
 
 
-def split_outside(text, marks):
-    """The parts of a text between commas that aren't inside of these two marks."""
+def split_outside_braces(text):
+    """The parts of a text between those commas that aren't in braces."""
     depth, part = 0, ""
     for letter in text:
-        depth += (letter == marks[0]) - (letter == marks[1])
+        depth += (letter == "{") - (letter == "}")
         if letter == "," and depth == 0:
             yield part
             part = ""
@@ -57,13 +59,13 @@ def paths_in(tree):
     if not brace:
         yield tuple(re.split(r"\s+as\s+", head.strip())[0].split("::"))
         return
-    for part in split_outside(rest[: rest.rindex("}")], "{}"):
+    for part in split_outside_braces(rest[: rest.rindex("}")]):
         if part.strip():
             yield from paths_in(head + part.strip())
 
 
 def uses(file):
-    """What a source uses: the path, and whether it hands it on to everybody."""
+    """The paths that a source uses, each with whether it exports what they lead to."""
     for visible, tree in USE.findall(code_of(file)):
         for path in paths_in(tree):
             yield path, visible == "pub "
@@ -95,8 +97,9 @@ def functions_of(file):
         begins = re.match(r"(impl\b|(pub )?trait )", line)
         if begins or head:
             head += line + " "
-            if line.rstrip().endswith(("{", "}")):
-                holder, head = holder_of(head), ""
+            if line.rstrip().endswith(("{", "{}")):
+                holder = "" if line.rstrip().endswith("}") else holder_of(head)
+                head = ""
         elif line.startswith("}"):
             holder = ""
         function = FUNCTION.match(line)
@@ -107,14 +110,14 @@ def functions_of(file):
 
 @functools.cache
 def exports(crate):
-    """What a crate hands on: its public modules, and the names with the module of each."""
+    """What a crate exports: its public modules, and the names of others, each with its module."""
     root = CRATES / crate / "src" / "lib.rt"
     modules = {(name,) for name in re.findall(r"^pub mod (\w+);", text_of(root), re.M)}
     return modules, {(path[:-1], path[-1]) for path, is_public in uses(root) if is_public}
 
 
 def is_exported(crate, file, function):
-    """Whether other crates can call a function: it is public, and its type, or itself, is handed on."""
+    """Whether other crates can call a function: it is public, and its type, or itself, is exported."""
     modules, names = exports(crate)
     module = module_of(file)
     if not function.is_public:

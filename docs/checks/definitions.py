@@ -1,6 +1,6 @@
-"""docs/DEFINITIONS.md has a row for each module of specs, below the heading of its crate, that says something of it.
+"""docs/DEFINITIONS.md has a row for each module of specs, below the heading of its crate, which says what it defines.
 
-`Lib.antt` lists the modules of its crate and defines nothing, so it has no row: it is looked at for that instead."""
+`Lib.antt` has no row, since it lists the modules of its crate and defines nothing; that is looked at instead."""
 import re
 
 from checks.code import CRATES
@@ -14,14 +14,14 @@ def modules_of(crate):
 
 
 def wrong_list(crate):
-    """What the list of a crate's modules lacks, and what it has besides."""
+    """What is listed and isn't there, or isn't listed, and what the list has besides."""
     specs = CRATES / crate / "specs"
     for file in sorted(specs.rglob("Lib.antt")):
         lines = [line.strip() for line in text_of(file).split("\n")]
         listed = {line.removeprefix("pub mod ") for line in lines if line.startswith("pub mod ")}
         there = {path.stem for path in file.parent.iterdir() if path.stem != "Lib"}
         if listed != there:
-            yield "%s: %s are not both listed and there" % (name_of(file), ", ".join(sorted(listed ^ there)))
+            yield "%s: not both listed and there: %s" % (name_of(file), ", ".join(sorted(listed ^ there)))
         for line in lines:
             if line and not re.match(r"pub mod \w+$|--", line):
                 yield "%s: defines something: %s" % (name_of(file), line)
@@ -44,7 +44,7 @@ def wrong_rows(crate, file, found):
         if heading != crate:
             yield "%s: %s is below %s" % (where, name_of(file), heading)
         if len(cells) != 2 or not all(cells):
-            yield "%s: what %s defines, or its source, is left out" % (where, name_of(file))
+            yield "%s: no word of what %s defines, or of its source" % (where, name_of(file))
     if len(found) > 1:
         yield "docs/DEFINITIONS.md:%d: %s has a row already" % (found[1][1], name_of(file))
 

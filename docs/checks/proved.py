@@ -1,5 +1,7 @@
-"""docs/PROVED.md and the crates agree: the calls of each row are in its file and other crates can call them, its
-definitions are in theirs, and each public call of a crate that has a table there is in it."""
+"""docs/PROVED.md and the crates agree.
+
+The calls of each row are in its file, public and exported; its definitions are in theirs; and each call that a crate
+exports is in its table, if it has one."""
 from checks.code import CRATES, functions_of, is_exported, public_functions
 from checks.pages import CODE, DOCS, LINK, crate_of, has_name, name_of, rows, target_of, text_of
 
@@ -21,13 +23,8 @@ def missing_definition(crate, where, word):
         yield "%s: no %s in %s" % (where, name, name_of(file))
 
 
-def name_and_holder(call):
-    holder, _, name = call.rpartition("::")
-    return name, holder
-
-
 def wrong_call(crate, where, call, files):
-    name, holder = name_and_holder(call)
+    holder, _, name = call.rpartition("::")
     found = [(file, function) for file in files for function in functions_of(file)
              if function.name == name and function.holder == holder]
     if not found:
@@ -54,9 +51,10 @@ def findings():
         if len(cells) != 4 or not (CRATES / crate / "src").is_dir():
             yield "docs/PROVED.md:%d: no row of a crate: %s" % (number, heading)
             continue
-        named.setdefault(crate, set()).update(name_and_holder(call) for call in CODE.findall(cells[0]))
+        named.setdefault(crate, set()).update(CODE.findall(cells[0]))
         yield from wrong_row(crate, number, cells)
     for crate, calls in named.items():
         for file, function in public_functions(crate):
-            if (function.name, function.holder) not in calls:
-                yield "docs/PROVED.md: no row for %s of %s" % ("::".join(filter(None, (function.holder, function.name))), name_of(file))
+            call = "%s::%s" % (function.holder, function.name) if function.holder else function.name
+            if call not in calls:
+                yield "docs/PROVED.md: no row for %s of %s" % (call, name_of(file))

@@ -1,4 +1,4 @@
-"""No two modules of a crate import one another, over others or at once."""
+"""No two modules of a crate import one another, be it at once or by way of others."""
 import re
 
 from checks.code import code_of, crates, module_of, sources, uses
@@ -13,7 +13,7 @@ KNOWN = {
 
 
 def paths_of(file):
-    """The paths that a source uses, and those by which its code calls a module at once."""
+    """The paths that a source uses, and those that stand in its code."""
     for path, _ in uses(file):
         yield path
     for path in re.findall(r"\b((?:crate|super|self)(?:::\w+)+)", code_of(file)):
@@ -36,11 +36,10 @@ def imports(file, modules):
     module = module_of(file)
     for path in paths_of(file):
         whole = resolved(module, path)
-        if path[0] not in ("crate", "self", "super") and whole[: len(module) + 1] not in modules:
-            continue
+        is_of_crate = path[0] in ("crate", "self", "super") or whole[: len(module) + 1] in modules
         while whole not in modules:
             whole = whole[:-1]
-        if whole != module:
+        if is_of_crate and whole != module:
             yield whole
 
 

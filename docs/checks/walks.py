@@ -1,6 +1,7 @@
-"""docs/ARCHITECTURE.md names what is there: in the tables of its walks each file is of the crate before it, and each
-function is defined in the file before it; in its diagram `crate::name` is what the crate hands on, and a method is one
-of its type."""
+"""docs/ARCHITECTURE.md names what is there.
+
+In the tables of its walks each file is of the crate named before it, and each function is defined in the file named
+before it. In its diagram `crate::name` is exported from the crate, and a function is one of its type."""
 import re
 
 from checks.code import CRATES, crates, exports, functions_of, public_functions, sources
@@ -16,7 +17,7 @@ def has_function(file, name):
 
 
 def wrong_names(where, text):
-    """What a cell names that isn't there: `crate: `file.rt` (`function`, `other`), `other.rt`; crate: ..`"""
+    """What a cell names that isn't there. It has the form: crate: `file.rt` (`function`, `Type::other`), `more.rt`"""
     crate, file = None, None
     for named, word in re.findall(r"(\w+): |`([^`]+)`", text):
         if named:
@@ -43,8 +44,8 @@ def wrong_walks():
         yield "docs/ARCHITECTURE.md: %d walks, and not two" % len(walks)
 
 
-def is_handed_on(crate, names):
-    """Whether a crate has a name, or a function of a type, for others; a program, which has no others, a function."""
+def has_exported(crate, names):
+    """Whether a crate exports a name, or a function of a type. Of a program, which exports nothing, whether it has it."""
     if (CRATES / crate / "src/main.rt").is_file():
         return any(has_function(file, "::".join(names)) for file in sources(crate))
     if len(names) == 1:
@@ -56,16 +57,17 @@ def is_there(path):
     """Whether there is what a path names: `crate::name`, `crate::Type::function`, or `Type::function` of any crate."""
     first, *names = path.split("::")
     if first in crates():
-        return is_handed_on(first, names)
+        return has_exported(first, names)
     return any(has_function(file, path) for crate in crates() for file in sources(crate))
 
 
 def wrong_diagrams():
-    found = [block for head, block in blocks(text_of(PAGE)) if not head.endswith(":")]
-    for path in sorted({path for block in found for path in re.findall(r"\b\w+(?:::\w+)+", block)}):
+    found = "\n".join(block for head, block in blocks(text_of(PAGE)) if not head.endswith(":"))
+    paths = re.findall(r"\b\w+(?:::\w+)+", found)
+    for path in sorted(set(paths)):
         if not is_there(path):
-            yield "docs/ARCHITECTURE.md: the diagram has no right name in %s" % path
-    if not found:
+            yield "docs/ARCHITECTURE.md: the diagram names %s, which isn't there or isn't exported" % path
+    if not paths:
         yield "docs/ARCHITECTURE.md: no diagram"
 
 
