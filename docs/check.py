@@ -4,8 +4,8 @@
     docs/check.py [PROGRAM]
 
 Looked at are README.md, docs/*.md, the stories in samples/ and the sources of all crates. Each check is a file in checks/:
-- links: each relative link leads to a file or folder, and to a heading of it where it names one; each file of code that
-  a page names, as `name.rt` or `Name.antt`, perhaps with its folders, is there;
+- links: each relative link leads to a file or folder, and to a heading of it if it names one; each file of code that a
+  page names, as `name.rt` or `Name.antt`, perhaps with its folders, is there, and so is each `Type::function`;
 - quotations: a block between fences below a line with a link and a colon at its end is found word for word in that file,
   and so are the names in that line; in docs/THEOREM.md each block has such a line;
 - definitions: docs/DEFINITIONS.md has a row for each module of crates/*/specs, which says what it defines;

@@ -1,8 +1,8 @@
-"""Links lead somewhere, and files of code that a page names are there."""
+"""Links lead somewhere, and the files and functions of code that a page names are there."""
 import re
 
-from checks.code import CRATES
-from checks.pages import LINK, anchors, lines_outside_fences, name_of, pages, target_of, text_of
+from checks.code import CRATES, crates, functions_of, sources
+from checks.pages import CODE, LINK, anchors, lines_outside_fences, name_of, pages, target_of, text_of
 
 
 def broken_links(page):
@@ -35,8 +35,22 @@ def missing_files(page, files):
                 yield "%s:%d: no file %s" % (name_of(page), number, named)
 
 
+def all_functions():
+    """The functions of all types, as pages name them."""
+    files = [file for crate in crates() for file in sources(crate)]
+    return {"%s::%s" % (function.holder, function.name) for file in files for function in functions_of(file)}
+
+
+def missing_functions(page, functions):
+    for number, line in lines_outside_fences(text_of(page)):
+        for word in CODE.findall(line):
+            if re.fullmatch(r"[A-Z]\w*::[a-z]\w*", word) and word not in functions:
+                yield "%s:%d: no function %s" % (name_of(page), number, word)
+
+
 def findings():
-    files = code_files()
+    files, functions = code_files(), all_functions()
     for page in pages():
         yield from broken_links(page)
         yield from missing_files(page, files)
+        yield from missing_functions(page, functions)
