@@ -14,7 +14,7 @@ Looked at are README.md, docs/*.md, the stories in samples/ and the sources of a
 - walks: in docs/ARCHITECTURE.md each function in a walk is in the file named before it, that file in the crate named
   before it, and what the diagram names is there;
 - rings: no two modules of a crate import one another;
-- lists: docs/FORMATS.md and docs/GUIDE.md have each refusal with its number, and README.md each ported crate.
+- lists: docs/FORMATS.md and docs/GUIDE.md have each refusal with its number, and README.md just the ported crates of crates.txt.
 With a program, each folder of samples/ is run as well: args (a word a line), stdin, stdout and status (0 where absent).
 Prints a line for each finding, then 'N findings'. The status is 1 if there are any.
 """

@@ -2,7 +2,7 @@
 import re
 
 from checks.code import CRATES
-from checks.pages import DOCS, ROOT, text_of
+from checks.pages import CODE, DOCS, ROOT, text_of
 
 
 def refusals():
@@ -23,13 +23,20 @@ def ported_crates():
     return {word for _, _, below in lines for word in below.split()} - {name.strip() for name, _, _ in lines}
 
 
-def missing_crates():
-    for crate in sorted(ported_crates()):
-        if "`%s`" % crate not in text_of(ROOT / "README.md"):
-            yield "README.md: no word of the ported crate %s" % crate
+def listed_crates():
+    """The ported crates that README lists, without those of the tests."""
+    listed = re.search(r"the ported crates (.*?) and, in tests, ", " ".join(text_of(ROOT / "README.md").split()))
+    return set(CODE.findall(listed.group(1))) if listed else set()
+
+
+def wrong_crates():
+    for crate in sorted(ported_crates() - listed_crates()):
+        yield "README.md: %s isn't among the ported crates" % crate
+    for crate in sorted(listed_crates() - ported_crates()):
+        yield "README.md: no crate stands on the ported crate %s" % crate
 
 
 def findings():
     yield from missing_refusals(DOCS / "FORMATS.md")
     yield from missing_refusals(DOCS / "GUIDE.md")
-    yield from missing_crates()
+    yield from wrong_crates()
