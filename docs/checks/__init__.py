@@ -1,0 +1,1 @@
+"""The checks that docs/check.py runs, one purpose a file."""
