@@ -1,9 +1,10 @@
 #!/usr/bin/env python3
 """Refuses each request for memory in turn to the built program, and tells how its runs ended.
 
-    tests/memory/refused.py PROGRAM [NAME ..]
+    tests/memory/refused.py PROGRAM [--short] [NAME ..]
 
-NAME is a worked run in tests/cli/slotdesk; where none is named, some that file by themselves, with two feeders, and going on from a journal.
+NAME is a worked run in tests/cli/slotdesk; if none is named, some that file by themselves, with two feeders, and going on from
+a journal, of which --short takes two. Where cc isn't there it says so, and refuses nothing.
 The program asks the C library for its memory. A shim, built here with cc and loaded before that library, refuses the request
 number N, so that each N takes one short run; N rises until nothing is refused. A run must end as the worked run does, with its
 output, or with status 2, the line of want of memory and a beginning of that output. With feeders it may also end with the line of
@@ -15,6 +16,7 @@ import argparse
 import collections
 import os
 import pathlib
+import shutil
 import subprocess
 import sys
 import tempfile
@@ -28,6 +30,7 @@ CHOSEN = [
     "feeders-and-their-journal",
     "feeders-resumed-write-the-whole-journal",
 ]
+SHORT = ["journal-of-one-entry", "feeders-of-two-flights"]
 MEMORY, THREAD = b"slotdesk: out of memory\n", b"slotdesk: thread not started\n"
 SHIM = r"""
 #define _GNU_SOURCE
@@ -137,11 +140,16 @@ def refuse(program, library, name):
 def main():
     parser = argparse.ArgumentParser(description=__doc__, formatter_class=argparse.RawDescriptionHelpFormatter)
     parser.add_argument("program")
-    parser.add_argument("names", nargs="*", default=CHOSEN)
+    parser.add_argument("--short", action="store_true")
+    parser.add_argument("names", nargs="*")
     args = parser.parse_args()
+    names = args.names or (SHORT if args.short else CHOSEN)
+    if shutil.which("cc") is None:
+        print("cc isn't there: no request for memory is refused to %s" % args.program)
+        return
     with tempfile.TemporaryDirectory() as folder:
         library = shim(pathlib.Path(folder))
-        right = [refuse(args.program, library, name) for name in args.names]
+        right = [refuse(args.program, library, name) for name in names]
     sys.exit(0 if all(right) else 1)
 
 
