@@ -1,16 +1,16 @@
 #!/usr/bin/env python3
 """Refuses each request for memory in turn to the built program, and tells how its runs ended.
 
-    tests/memory/refused.py PROGRAM [--short] [NAME ..]
+    tests/memory/refused.py PROGRAM [NAME ..]
 
 NAME is a worked run in tests/cli/slotdesk; if none is named, some that file by themselves, with two feeders, and going on from
-a journal, of which --short takes two. Where cc isn't there it says so, and refuses nothing.
+a journal. Where cc isn't there it says so, and refuses nothing.
 The program asks the C library for its memory. A shim, built here with cc and loaded before that library, refuses the request
 number N, so that each N takes one short run; N rises until nothing is refused. A run must end as the worked run does, with its
 output, or with status 2, the line of want of memory and a beginning of that output. With feeders it may also end with the line of
 a thread that wasn't started, and what it has answered are then entries without a gap in their numbers and nothing behind them,
 since the filings of the other feeders go on. What the loader and the C library ask for before the program begins isn't counted.
-Prints for each worked run how many ended in which way, and ends with 1 where one ended in another.
+Prints for each worked run how many ended in which way, and ends with 1 if one ended in another, or none for want of memory.
 """
 import argparse
 import collections
@@ -30,7 +30,6 @@ CHOSEN = [
     "feeders-and-their-journal",
     "feeders-resumed-write-the-whole-journal",
 ]
-SHORT = ["journal-of-one-entry", "feeders-of-two-flights"]
 MEMORY, THREAD = b"slotdesk: out of memory\n", b"slotdesk: thread not started\n"
 SHIM = r"""
 #define _GNU_SOURCE
@@ -134,22 +133,20 @@ def refuse(program, library, name):
             print("%s, request %d: status %d, %r, %r" % (name, count, done.returncode, done.stderr[:200], done.stdout[-80:]))
     said = ", ".join("%d %s" % (times, way) for way, times in ways.most_common() if way)
     print("%s: %d requests refused in turn: %s; %d in another way" % (name, sum(ways.values()), said, wrong))
-    return wrong == 0
+    return wrong == 0 and ways["out of memory"] > 0
 
 
 def main():
     parser = argparse.ArgumentParser(description=__doc__, formatter_class=argparse.RawDescriptionHelpFormatter)
     parser.add_argument("program")
-    parser.add_argument("--short", action="store_true")
-    parser.add_argument("names", nargs="*")
+    parser.add_argument("names", nargs="*", default=CHOSEN)
     args = parser.parse_args()
-    names = args.names or (SHORT if args.short else CHOSEN)
     if shutil.which("cc") is None:
         print("cc isn't there: no request for memory is refused to %s" % args.program)
         return
     with tempfile.TemporaryDirectory() as folder:
         library = shim(pathlib.Path(folder))
-        right = [refuse(args.program, library, name) for name in names]
+        right = [refuse(args.program, library, name) for name in args.names]
     sys.exit(0 if all(right) else 1)
 
 
