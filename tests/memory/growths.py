@@ -58,7 +58,7 @@ def told_of(lines):
 
 def main():
     parser = argparse.ArgumentParser(description=__doc__, formatter_class=argparse.RawDescriptionHelpFormatter)
-    parser.add_argument("--last", type=int, default=150)
+    parser.add_argument("--last", type=int, default=200)
     last = parser.parse_args().last
     with tempfile.TemporaryDirectory() as folder:
         lines = run_each(pathlib.Path(folder), last)
