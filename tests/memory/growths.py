@@ -1,7 +1,7 @@
 #!/usr/bin/env python3
 """Refuses each request for memory in turn to feeds at a desk and to a run of two feeders.
 
-    tests/memory/growths.py [--last N]
+    tests/memory/growths.py
 
 Feeds run in threads, so their memory is that of the whole program. The program in src beside this file calls the libraries, without
 a command line. `rt try --fail-alloc N --cases` builds it once, proves nothing, and refuses request N to each of its runs; by its input
@@ -9,7 +9,6 @@ each run makes some requests before the calls, so that another one of the calls 
 all must be as it promises then; else the program stops. To the run without an input nothing may be refused any more: then all
 were tried. Prints how many requests were refused, and ends with 1 if anything was wrong.
 """
-import argparse
 import collections
 import pathlib
 import re
@@ -24,19 +23,21 @@ sys.dont_write_bytecode = True
 from workspace import placed  # noqa: E402
 
 STANDS_ON = ["fpl_text", "fpl_message", "flow_plans", "flow_core", "flow_desk", "flow_runs"]
+# More than the calls make.
+LAST = 200
 REFUSED, NOTHING = "refused, and all as promised", "not refused"
-ENDED = "run=ended status=0 runners=1 races=unchecked proved=no"
+ENDED = "run=ended status=0 "
 
 
-def run_each(folder, last):
-    """The lines of a run in which nothing is proved, for each request up to the last."""
+def run_each(folder):
+    """The lines of a run in which nothing is proved, for each request."""
     crate = placed(folder, "growths", STANDS_ON, HOME, proofs=False)
     cases = folder / "cases"
     cases.mkdir()
-    for number in range(1, last + 1):
-        (cases / str(number)).write_bytes(b"x" * (last - number))
+    for number in range(1, LAST + 1):
+        (cases / str(number)).write_bytes(b"x" * (LAST - number))
     # The interpreter would take minutes for what the compiled program does in seconds.
-    command = ["rt", "try", "--steps", "1", "--seconds", "60", "--fail-alloc", str(last), "--cases", str(cases)]
+    command = ["rt", "try", "--steps", "1", "--seconds", "60", "--fail-alloc", str(LAST), "--cases", str(cases)]
     ran = subprocess.run(command, cwd=crate, capture_output=True, text=True, stdin=subprocess.DEVNULL)
     return (ran.stdout + ran.stderr).splitlines()
 
@@ -57,19 +58,17 @@ def told_of(lines):
 
 
 def main():
-    parser = argparse.ArgumentParser(description=__doc__, formatter_class=argparse.RawDescriptionHelpFormatter)
-    parser.add_argument("--last", type=int, default=200)
-    last = parser.parse_args().last
     with tempfile.TemporaryDirectory() as folder:
-        lines = run_each(pathlib.Path(folder), last)
+        lines = run_each(pathlib.Path(folder))
     told = told_of(lines)
-    refused = {number for number, ran in told.items() if ran[0] == REFUSED and ENDED in ran}
-    nothing = {number for number, ran in told.items() if ran[0] == NOTHING and ENDED in ran}
-    wrong = set(range(1, last + 1)) - refused - nothing
+    ended = {number for number, ran in told.items() if any(line.startswith(ENDED) for line in ran)}
+    refused = {number for number in ended if told[number][0] == REFUSED}
+    nothing = {number for number in ended if told[number][0] == NOTHING}
+    wrong = set(range(1, LAST + 1)) - refused - nothing
     for number in sorted(wrong):
         print("request %d: %s" % (number, "\n   ".join(told[number] or lines[-5:])))
-    print("growths: %d refused in turn, %d wrong%s" % (len(refused), len(wrong), "" if last in nothing else ", not all tried"))
-    return 0 if refused and last in nothing and not wrong else 1
+    print("growths: %d refused in turn, %d wrong%s" % (len(refused), len(wrong), "" if LAST in nothing else ", not all tried"))
+    return 0 if refused and LAST in nothing and not wrong else 1
 
 
 if __name__ == "__main__":
