@@ -3,9 +3,10 @@
 
     tests/devices/waits.py PROGRAM [--filings N]
 
-The input stays open all the while, as a gateway keeps it, or a person at a terminal. Each answer must come within a second of
-its filing. With many feeders answers come when the input has ended, so that is how long their last line may take. Prints the
-longest and the median wait in milliseconds, and ends with 1 where an answer took longer than a second, or didn't come.
+The input stays open all the while, as a gateway keeps it, or a person at a terminal: the program reads on before the next
+filing is there, so an answer that it keeps back doesn't come at all. It is waited for 5 seconds. With many feeders answers come
+when the input has ended. Prints for each way whether each filing was answered, and the longest and the median wait in
+milliseconds, and ends with 1 if one wasn't.
 """
 import argparse
 import os
@@ -19,7 +20,7 @@ import tty
 
 WORDS = ["--start", "2409010500"]
 FILINGS = "(FPL-AAA%d-IS-A320/M-SDFG/LB1-LIML%02d%02d-N0450F350 DCT-EDDF0150-0)\n"
-LIMIT = 1.0
+LIMIT = 5.0
 
 
 def wait_for_line(source, begin):
@@ -37,7 +38,7 @@ def wait_for_line(source, begin):
 
 
 def ask(sink, source, filings):
-    """How long each answer took, and the first filing that got none in time."""
+    """How long each answer took, and what was wrong with the first that didn't come."""
     waits = []
     for count in range(1, filings + 1):
         begin = time.monotonic()
@@ -45,9 +46,8 @@ def ask(sink, source, filings):
         answer = wait_for_line(source, begin)
         waits.append(time.monotonic() - begin)
         if not answer.startswith(b"%d OK FPL " % count):
-            print("filing %d: %r" % (count, answer))
-            return waits, False
-    return waits, True
+            return waits, "NOT ANSWERED before the next read: filing %d got %r" % (count, answer)
+    return waits, None
 
 
 def on_pipe(program, filings):
@@ -60,7 +60,8 @@ def on_pipe(program, filings):
 def on_terminal(program, filings):
     ours, theirs = pty.openpty()
     tty.setraw(theirs)
-    with subprocess.Popen([program, *WORDS], stdin=theirs, stdout=theirs, close_fds=True) as child:
+    # At its end the terminal is gone, which is a read fault.
+    with subprocess.Popen([program, *WORDS], stdin=theirs, stdout=theirs, stderr=subprocess.DEVNULL) as child:
         os.close(theirs)
         result = ask(ours, ours, filings)
         os.close(ours)
@@ -69,7 +70,7 @@ def on_terminal(program, filings):
 
 
 def with_feeders(program, filings):
-    """How long the last line took after the end of the input, and whether each filing was answered."""
+    """How long the last line took after the end of the input, and what was wrong."""
     words = [*WORDS, "--feeders", "2"]
     with subprocess.Popen([program, *words], stdin=subprocess.PIPE, stdout=subprocess.PIPE, bufsize=0) as child:
         for count in range(1, filings + 1):
@@ -77,7 +78,8 @@ def with_feeders(program, filings):
         begin = time.monotonic()
         child.stdin.close()
         lines = child.stdout.read().splitlines()
-        return [time.monotonic() - begin], len(lines) == filings + 1 and lines[-1] == b"REPLAY OK"
+        right = len(lines) == filings + 1 and lines[-1] == b"REPLAY OK"
+        return [time.monotonic() - begin], None if right else "NOT ANSWERED: %d lines" % len(lines)
 
 
 def main():
@@ -85,12 +87,13 @@ def main():
     parser.add_argument("program")
     parser.add_argument("--filings", type=int, default=500)
     args = parser.parse_args()
-    right = True
-    for name, way in (("pipe", on_pipe), ("terminal", on_terminal), ("2 feeders", with_feeders)):
-        waits, answered = way(args.program, args.filings)
-        print("%-10s longest %.1f ms, median %.3f ms" % (name, 1000 * max(waits), 1000 * statistics.median(waits)))
-        right = right and answered and max(waits) <= LIMIT
-    sys.exit(0 if right else 1)
+    failed = 0
+    for name, way in (("a pipe", on_pipe), ("a terminal", on_terminal), ("2 feeders", with_feeders)):
+        waits, wrong = way(args.program, args.filings)
+        failed += wrong is not None
+        figures = "longest %.1f ms, median %.3f ms" % (1000 * max(waits), 1000 * statistics.median(waits))
+        print("%s: %s; %s" % (name, wrong or "each of %d filings answered" % args.filings, figures))
+    sys.exit(1 if failed else 0)
 
 
 main()

@@ -1,19 +1,14 @@
 #!/usr/bin/env python3
-"""Refuses each growth of memory in turn to two feeders, and tells how the calls ended.
+"""Refuses each request for memory in turn to feeds at a desk and to a run of two feeders.
 
-    tests/memory/growths.py [--from N] [--to N]
+    tests/memory/growths.py
 
-Feeds run in threads, so their memory is that of the whole program, and no test of its own can refuse it:
-`rt try --test --fail-alloc N` does, which proves nothing, and refuses the growth N of each test of a crate. So that
-one build is enough, a copy of tests/unit/feeder gets a test for each growth from the first to the last. The test of
-the growth n lets memory grow N - n times before it makes anything, and then makes and opens a desk, files two feeds,
-files again what is left, ends the desk and replays its journal. Where memory was refused to it, it ends with an error
-that says what was refused, and with anything else where that isn't as the calls promise: the refused call has left
-things as they were, so that what was left can be filed then. The last growth must be one that no call makes any more,
-so that nothing is refused: then all were tried. It takes two minutes or three. Prints how each test ended and how
-often each call was refused, and ends with 1 where anything was wrong.
+Feeds run in threads, so their memory is that of the whole program. The program in src beside this file calls the libraries, without
+a command line. `rt try --fail-alloc N --cases` builds it once, proves nothing, and refuses request N to each of its runs; by its input
+each run makes some requests before the calls, so that another one of the calls is refused. A call that is refused is made again, and
+all must be as it promises then; else the program stops. To the run without an input nothing may be refused any more: then all
+were tried. Prints how many requests were refused, and ends with 1 if anything was wrong.
 """
-import argparse
 import collections
 import pathlib
 import re
@@ -21,86 +16,60 @@ import subprocess
 import sys
 import tempfile
 
+HOME = pathlib.Path(__file__).resolve().parent
+sys.path.insert(0, str(HOME.parent))
 sys.dont_write_bytecode = True
 
-sys.path.insert(0, str(pathlib.Path(__file__).resolve().parent.parent))
+from workspace import placed  # noqa: E402
 
-from workspace import ROOT, UNIT_TESTS, placed  # noqa: E402
-
-MODULE = "growths"
-HEAD = "//! A test for each growth that is refused.\nuse crate::refused::feeds_go_on;\nuse std::test::*;\n"
-TEST = "\n#[test]\nfn growth_%d(rt: HostRuntime) -> Result<(), Fail> {\n    feeds_go_on(&rt, rt.alloc(), %d)\n}\n"
-LINE = re.compile(r"test %s::growth_(\d+) \.\.\. (\w+)" % MODULE)
-NOTHING = "nothing"
+STANDS_ON = ["fpl_text", "fpl_message", "flow_plans", "flow_core", "flow_desk", "flow_runs"]
+# More than the calls make.
+LAST = 180
+REFUSED, NOTHING = "refused, and all as promised", "not refused"
+ENDED = "run=ended status=0 "
 
 
-def write_tests(crate, counts, last):
-    """Writes a test for each of these growths, of which each has that one refused where the last is."""
-    tests = "".join(TEST % (count, last - count) for count in counts)
-    (crate / "src" / (MODULE + ".rt")).write_text(HEAD + tests)
-    with open(crate / "src" / "lib.rt", "a") as file:
-        file.write("#[cfg(test)]\nmod %s;\n" % MODULE)
+def run_each(folder):
+    """The lines of a run in which nothing is proved, for each request."""
+    crate = placed(folder, "growths", STANDS_ON, HOME, proofs=False)
+    cases = folder / "cases"
+    cases.mkdir()
+    for number in range(1, LAST + 1):
+        (cases / str(number)).write_bytes(b"x" * (LAST - number))
+    # The interpreter would take minutes for what the compiled program does in seconds.
+    command = ["rt", "try", "--steps", "1", "--seconds", "60", "--fail-alloc", str(LAST), "--cases", str(cases)]
+    ran = subprocess.run(command, cwd=crate, capture_output=True, text=True, stdin=subprocess.DEVNULL)
+    return (ran.stdout + ran.stderr).splitlines()
 
 
-def run_tests(crate, counts, last):
-    """The lines of a try, and where that of each test stands. Where one is missing, it tries again."""
-    for _ in range(3):
-        command = ["nice", "rt", "try", "--test", "--seconds", "600", "--fail-alloc", str(last)]
-        ran = subprocess.run(command, cwd=crate, capture_output=True, text=True, stdin=subprocess.DEVNULL)
-        lines = (ran.stdout + ran.stderr).splitlines()
-        heads = [(at, LINE.match(line)) for at, line in enumerate(lines)]
-        found = {int(head[1]): at for at, head in heads if head}
-        if found.keys() == set(counts):
-            break
-    return lines + ["rt try ended with %d" % ran.returncode], found
-
-
-def ending(lines, at):
-    """What was refused to the test of this line, or None and its lines where it ended in another way."""
-    head, said = lines[at], []
-    for line in lines[at + 1:]:
-        if not line.startswith("    "):
-            break
-        said.append(line.strip())
-    if head.endswith(" ok"):
-        return NOTHING, []
-    error = re.fullmatch(r'error: "refused: (.*)"', said[0]) if said else None
-    if error:
-        return error[1], []
-    if said and re.match(r"error: (AllocError|AllocFailed|OutOfMemory)", said[0]):
-        return "the test itself", []
-    return None, [head] + said
-
-
-def refuse_growths(crate, first, last):
-    """Whether each growth was refused in turn, and all went on as promised."""
-    counts = range(first, last + 1)
-    write_tests(crate, counts, last)
-    lines, found = run_tests(crate, counts, last)
-    ends, wrong, what = collections.OrderedDict(), 0, None
-    for count in counts:
-        what, said = ending(lines, found[count]) if count in found else (None, lines[-5:])
-        print("%d: %s" % (count, what or "WRONG\n  " + "\n  ".join(said)))
-        wrong += what is None
-        if what not in (None, NOTHING):
-            ends.setdefault(what, []).append(count)
-    for refused, of_it in ends.items():
-        print("%d growths refused: %s" % (len(of_it), refused))
-    print("%d wrong%s" % (wrong, "" if what == NOTHING else ", and not all were tried"))
-    return what == NOTHING and not wrong
+def told_of(lines):
+    """What is told of each run, by the number of its request: what it said, and then how it ended."""
+    told, number = collections.defaultdict(list), None
+    for line in lines:
+        head = re.fullmatch(r"== (\d+)", line)
+        end = re.match(r"case=(\d+) (run=.*)", line)
+        if head:
+            number = int(head[1])
+        elif end:
+            told[int(end[1])].append(end[2])
+        elif number is not None:
+            told[number].append(line)
+    return told
 
 
 def main():
-    parser = argparse.ArgumentParser(description=__doc__, formatter_class=argparse.RawDescriptionHelpFormatter)
-    parser.add_argument("--from", dest="first", type=int, default=1)
-    parser.add_argument("--to", dest="last", type=int, default=200)
-    args = parser.parse_args()
-    if not 1 <= args.first <= args.last:
-        parser.error("the growths go from 1 on, and the last is not before the first")
     with tempfile.TemporaryDirectory() as folder:
-        kept = ROOT / "tests" / "unit" / "feeder"
-        crate = placed(pathlib.Path(folder), "feeder_tests", UNIT_TESTS["feeder"], kept, proofs=False)
-        sys.exit(0 if refuse_growths(crate, args.first, args.last) else 1)
+        lines = run_each(pathlib.Path(folder))
+    told = told_of(lines)
+    ended = {number for number, ran in told.items() if any(line.startswith(ENDED) for line in ran)}
+    refused = {number for number in ended if told[number][0] == REFUSED}
+    nothing = {number for number in ended if told[number][0] == NOTHING}
+    wrong = set(range(1, LAST + 1)) - refused - nothing
+    for number in sorted(wrong):
+        print("request %d: %s" % (number, "\n   ".join(told[number] or lines[-5:])))
+    print("growths: %d refused in turn, %d wrong%s" % (len(refused), len(wrong), "" if LAST in nothing else ", not all tried"))
+    return 0 if refused and LAST in nothing and not wrong else 1
 
 
-main()
+if __name__ == "__main__":
+    sys.exit(main())

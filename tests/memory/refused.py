@@ -3,18 +3,20 @@
 
     tests/memory/refused.py PROGRAM [NAME ..]
 
-NAME is a worked run in tests/cli/slotdesk; where none is named, some that file by themselves, with two feeders, and going on from a journal.
+NAME is a worked run in tests/cli/slotdesk; if none is named, some that file by themselves, with two feeders, and going on from
+a journal. Where cc isn't there it says so, and refuses nothing.
 The program asks the C library for its memory. A shim, built here with cc and loaded before that library, refuses the request
 number N, so that each N takes one short run; N rises until nothing is refused. A run must end as the worked run does, with its
 output, or with status 2, the line of want of memory and a beginning of that output. With feeders it may also end with the line of
 a thread that wasn't started, and what it has answered are then entries without a gap in their numbers and nothing behind them,
 since the filings of the other feeders go on. What the loader and the C library ask for before the program begins isn't counted.
-Prints for each worked run how many ended in which way, and ends with 1 where one ended in another.
+Prints for each worked run how many ended in which way, and ends with 1 if one ended in another, or none for want of memory.
 """
 import argparse
 import collections
 import os
 import pathlib
+import shutil
 import subprocess
 import sys
 import tempfile
@@ -131,7 +133,7 @@ def refuse(program, library, name):
             print("%s, request %d: status %d, %r, %r" % (name, count, done.returncode, done.stderr[:200], done.stdout[-80:]))
     said = ", ".join("%d %s" % (times, way) for way, times in ways.most_common() if way)
     print("%s: %d requests refused in turn: %s; %d in another way" % (name, sum(ways.values()), said, wrong))
-    return wrong == 0
+    return wrong == 0 and ways["out of memory"] > 0
 
 
 def main():
@@ -139,6 +141,9 @@ def main():
     parser.add_argument("program")
     parser.add_argument("names", nargs="*", default=CHOSEN)
     args = parser.parse_args()
+    if shutil.which("cc") is None:
+        print("cc isn't there: no request for memory is refused to %s" % args.program)
+        return
     with tempfile.TemporaryDirectory() as folder:
         library = shim(pathlib.Path(folder))
         right = [refuse(args.program, library, name) for name in args.names]
