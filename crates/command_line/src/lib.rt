@@ -2,6 +2,8 @@
 #![tactic(auto)]
 
 mod readable;
+#[cfg(test)]
+mod tests;
 mod words;
 
 pub use readable::readable_form;
