@@ -120,13 +120,13 @@ def ending(done, wanted, feeders):
 
 def refuse(program, library, name):
     folder = CASES / name
-    words, wanted = text(folder / "args").decode().split("\n")[:-1], text(folder / "stdout")
+    words, wanted = text(folder / "args").split(b"\n")[:-1], text(folder / "stdout")
     ways, wrong = collections.Counter(), 0
     for count in range(1, 1_000_000):
         done, refused = run(program, library, words, text(folder / "stdin"), count)
         if not refused:
             break
-        way = ending(done, wanted, "--feeders" in words)
+        way = ending(done, wanted, b"--feeders" in words)
         ways[way] += 1
         if way is None:
             wrong += 1

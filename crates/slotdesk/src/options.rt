@@ -7,8 +7,9 @@ use flow_plans::{MAX_PLANS, MAX_TAXI};
 use std::alloc::{AllocError, Global};
 
 const ABOUT: &str = "A flight plan desk with departure slots.\n\n\
-    Reads ICAO flight plan messages (FPL, DLA, CHG, CNL, DEP) and the orders OPEN, SHUT and TIME from\n\
-    standard input, and writes a line for each, with the slot notices that it causes.";
+    Reads ICAO flight plan messages (FPL, DLA, CHG, CNL, DEP) and the orders OPEN,\n\
+    SHUT and TIME from standard input. Writes a line for each, followed by the slot\n\
+    notices that it causes.";
 
 /// The version of the program, and of the journals that it writes.
 const VERSION: &str = "0.1.0 (journal version 2)";
@@ -16,14 +17,17 @@ const VERSION: &str = "0.1.0 (journal version 2)";
 const USAGE: &str = "slotdesk <--start <yymmddhhmm>|--resume> [OPTIONS] < FILE";
 
 const AFTER: &str =
-    "With 2 or more feeders the answers come at the end of the input. With --resume the taxi time and the\n\
-    number of plans are those of the journal.\n\n\
-    Exit status: 0 at the end of the input; 1 where reading or writing failed, or the input of --resume\n\
-    begins with no journal; 2 for a bad command line, a bad start, feeders fewer than those of the\n\
-    journal, or where memory, a reader's place or a thread is refused.\n\n\
-    Times are UTC. A day, the same with its journal, and going on from that journal:\n  \
+    "With 2 or more feeders the answers come at the end of the input. With --resume\n\
+    the taxi time and the number of plans are those of the journal. A run that is\n\
+    killed writes no journal: keep its input.\n\n\
+    Exit status: 0 at the end of the input; 1 if reading or writing fails, or the\n\
+    input of --resume begins with no journal; 2 for a bad command line, a bad start,\n\
+    fewer feeders than the journal has, or if memory, a reader's place or a thread\n\
+    is refused.\n\n\
+    Times are UTC. A day, the same with its journal, and going on from there:\n  \
     slotdesk --start 2409010500 < day.txt\n  \
-    slotdesk --start 2409010500 --journal < day.txt | sed -n '/^SLOTDESK JOURNAL/,$p' > journal.txt\n  \
+    slotdesk --start 2409010500 --journal < day.txt > answers.txt\n  \
+    sed -n '/^SLOTDESK JOURNAL/,$p' answers.txt > journal.txt\n  \
     cat journal.txt later.txt | slotdesk --resume";
 
 /// What the words of the command line ask for.
@@ -48,7 +52,7 @@ fn start_argument<'a>(alloc: Global) -> Result<Arg<'a>, AllocError> {
     Arg::new(alloc, "start")
         .long("start")
         .value_name("yymmddhhmm")
-        .help("The desk's time at the start, 0001010000 to 9812312359 (2000 to 2098)")
+        .help("The desk's time at the start, UTC, 2000 to 2098")
         .required_unless_present("resume")
 }
 
@@ -58,7 +62,7 @@ fn taxi_argument<'a>(alloc: Global) -> Arg<'a> {
         .value_name("MIN")
         .default_value("10")
         .value_parser(ValueParser::unsigned(0, MAX_TAXI as u64))
-        .help("Minutes from off-block to take-off, everywhere, 0 to 120")
+        .help("Taxi time in minutes, 0 to 120")
 }
 
 fn plans_argument<'a>(alloc: Global) -> Arg<'a> {
@@ -67,7 +71,7 @@ fn plans_argument<'a>(alloc: Global) -> Arg<'a> {
         .value_name("N")
         .default_value("1000")
         .value_parser(ValueParser::unsigned(1, MAX_PLANS as u64))
-        .help("Flight plans accepted, cancelled ones too, 1 to 20000")
+        .help("Plans accepted in all, 1 to 20000")
 }
 
 fn feeders_argument<'a>(alloc: Global) -> Arg<'a> {
@@ -76,21 +80,21 @@ fn feeders_argument<'a>(alloc: Global) -> Arg<'a> {
         .value_name("N")
         .default_value("1")
         .value_parser(ValueParser::unsigned(1, MAX_FEEDERS as u64))
-        .help("How many feeders file at the same time, 1 to 64")
+        .help("Feeders that file at once, 1 to 64")
 }
 
 fn journal_argument<'a>(alloc: Global) -> Arg<'a> {
     Arg::new(alloc, "journal")
         .long("journal")
         .action(ArgAction::SetTrue)
-        .help("Writes the journal after the answers")
+        .help("Writes the journal at the end of the input")
 }
 
 fn resume_argument<'a>(alloc: Global) -> Result<Arg<'a>, AllocError> {
     Arg::new(alloc, "resume")
         .long("resume")
         .action(ArgAction::SetTrue)
-        .help("Goes on with the desk whose journal the input begins with")
+        .help("Goes on from the journal that begins the input")
         .conflicts_with("start")
 }
 

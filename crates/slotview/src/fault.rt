@@ -1,9 +1,10 @@
 //! How a run can end before all was shown.
 ghost use Rattle.std.specs.Prelude.{◌≤◌};
 
+use command_line::WordFault;
 use std::alloc::{AllocError, AllocFailed};
 use std::io;
-use std::io::Write;
+use std::io::{ErrorKind, Write};
 
 /// Exit statuses.
 pub const DONE: u8 = 0;
@@ -17,6 +18,8 @@ pub const NOT_RUN: u8 = 2;
 pub enum Fault {
     Read,
     Write,
+    /// Nobody reads what is written any more.
+    ReaderGone,
     /// The input shows at this byte, from 0, that no journal is there.
     BadJournal { at: u64 },
     /// Something that isn't there was asked for, which has been told.
@@ -29,6 +32,7 @@ impl Fault {
         ensures { result ≤ 2 }
     {
         match self {
+            Fault::ReaderGone => DONE,
             Fault::OutOfMemory => NOT_RUN,
             _ => NOT_SHOWN,
         }
@@ -47,9 +51,13 @@ impl<T: Drop> From<AllocFailed<T>> for Fault {
     }
 }
 
-/// A write that failed.
-pub fn unwritten(_: io::Error) -> Fault {
-    Fault::Write
+/// A write that failed. A reader that has gone is no failure: it has seen what it wanted.
+pub fn unwritten(error: io::Error) -> Fault {
+    if error.kind() == ErrorKind::BrokenPipe {
+        Fault::ReaderGone
+    } else {
+        Fault::Write
+    }
 }
 
 /// Writes the line of a fault, and answers its status.
@@ -60,7 +68,7 @@ pub fn tell<E: Write>(fault: Fault, errors: &mut E) -> u8
         Fault::Read => errors.write_all(b"slotview: read fault\n"),
         Fault::Write => errors.write_all(b"slotview: write fault\n"),
         Fault::BadJournal { at } => writeln!(errors, "slotview: bad journal at byte {at}"),
-        Fault::NotThere => Ok(()),
+        Fault::ReaderGone | Fault::NotThere => Ok(()),
         Fault::OutOfMemory => errors.write_all(b"slotview: out of memory\n"),
     };
     let _flushed = errors.flush();
@@ -72,4 +80,16 @@ pub fn tell_no_memory<E: Write>(errors: &mut E) -> u8
     ensures { result ≤ 2 }
 {
     tell(Fault::OutOfMemory, errors)
+}
+
+/// Ends a run whose words can't be used: writes why, and answers the status.
+pub fn tell_words<E: Write>(fault: &WordFault, errors: &mut E) -> u8
+    ensures { result ≤ 2 }
+{
+    if let WordFault::OutOfMemory = fault {
+        return tell(Fault::OutOfMemory, errors);
+    }
+    let _told = write!(errors, "{fault}");
+    let _flushed = errors.flush();
+    NOT_RUN
 }

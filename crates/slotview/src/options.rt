@@ -7,14 +7,15 @@ use flow_plans::MAX_ENTRIES;
 use std::alloc::{AllocError, Global};
 
 const ABOUT: &str = "Shows a flight plan desk as its journal tells it.\n\n\
-    Reads a journal text from standard input, as slotdesk --journal writes it behind its answers: what\n\
-    stands before the journal is passed over, and what stands behind its END isn't read. Without a\n\
-    command it shows a summary.";
+    Reads the journal from standard input, as slotdesk --journal writes it after\n\
+    its answers: what comes before the journal is skipped, and what follows its END\n\
+    isn't read. Without a command it shows a summary.";
 
 const AFTER: &str =
-    "Exit status: 0 where it was shown; 1 where reading or writing failed, the input has no journal, or\n\
-    no such regulation, flight or entry is there; 2 for a bad command line, or where memory is refused.\n\n\
-    Times are UTC. The desk of a day, and the slot list of one regulation after entry 12:\n  \
+    "Exit status: 0 if it was shown, or its reader has gone; 1 if reading or writing\n\
+    fails, the input has no journal, or there is no such regulation, flight or\n\
+    entry; 2 for a bad command line, or if memory is refused.\n\n\
+    Times are UTC. The desk of a day, and a slot list after entry 12:\n  \
     slotdesk --start 2409010500 --journal < day.txt | slotview\n  \
     slotview --at 12 list RMZ01 < journal.txt";
 
@@ -61,7 +62,7 @@ fn at_argument<'a>(alloc: Global) -> Arg<'a> {
         .value_name("N")
         .value_parser(ValueParser::unsigned(0, MAX_ENTRIES as u64))
         .global(true)
-        .help("Shows the desk as it stood after entry N, 0 for its start")
+        .help("Shows the desk as it stood after entry N, from 0")
 }
 
 fn format_argument<'a>(alloc: Global) -> Arg<'a> {
@@ -71,7 +72,8 @@ fn format_argument<'a>(alloc: Global) -> Arg<'a> {
         .default_value("table")
         .value_parser(["table", "csv", "json"].as_slice())
         .global(true)
-        .help("How tables are written")
+        .hide_possible_values(true)
+        .help("Format of tables: table, csv or json")
 }
 
 fn list_command<'a>(alloc: Global) -> Result<Command<'a>, AllocError> {

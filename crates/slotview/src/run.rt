@@ -1,8 +1,9 @@
 //! A run of the program.
 ghost use Rattle.std.specs.Prelude.{◌≤◌};
 
+use crate::alike::most_alike;
 use crate::chart::put_chart;
-use crate::fault::{DONE, Fault, NOT_RUN, tell};
+use crate::fault::{DONE, Fault, NOT_RUN, tell, unwritten};
 use crate::flight::put_flight;
 use crate::list::put_lists;
 use crate::load::put_loads;
@@ -128,8 +129,7 @@ fn show_desk<W: Write + Drop, E: Write>(
         Shown::Chart { .. } => {}
         Shown::Flight { ident } => {
             if !put_flight(alloc, &mut sheet, core, all, ident.as_bytes())? {
-                tell_flights(core, ident, errors);
-                return Err(Fault::NotThere);
+                return Err(tell_flights(alloc, core, ident, errors));
             }
         }
     }
@@ -150,17 +150,23 @@ fn show_chart<W: Write + Drop>(
     Ok(())
 }
 
-/// Writes that there is no such flight, and the flights that there are.
-fn tell_flights<E: Write>(core: &Core, ident: &str, errors: &mut E) {
-    let _told = write!(errors, "slotview: no flight {ident}, there are:");
-    for index in 0..core.setup().max_plans() {
-        let Some(plan) = core.plan(index + 1) else {
-            break;
-        };
-        let name = str::from_utf8(plan.key().ident.as_bytes()).unwrap_or("");
+/// Writes that there is no such flight, and the flights that are most like it. Answers the fault.
+fn tell_flights<E: Write>(alloc: Global, core: &Core, ident: &str, errors: &mut E) -> Fault {
+    let alike = match most_alike(alloc, core, ident) {
+        Ok(alike) => alike,
+        Err(fault) => return fault,
+    };
+    let _told = write!(errors, "slotview: no flight {ident}, ");
+    let _begun = errors.write_all(if alike.is_empty() {
+        b"there are none"
+    } else {
+        b"most alike:"
+    });
+    for (_, name) in alike.as_slice() {
         let _named = write!(errors, " {name}");
     }
     let _ended = errors.write_all(b"\n");
+    Fault::NotThere
 }
 
 /// The open regulation of this name, alone. Where there is none, a line names those there are.
@@ -195,15 +201,20 @@ fn tell_usage<W: Write, E: Write>(error: &Error, writer: &mut W, errors: &mut E)
     }
     if error.use_stderr() {
         let _told = write!(errors, "{error}");
-        if error.kind() == ErrorKind::UnknownArgument {
+        if matches!(
+            error.kind(),
+            ErrorKind::UnknownArgument | ErrorKind::InvalidSubcommand
+        ) {
             let _hinted = errors.write_all(INPUT_HINT);
         }
         let _flushed = errors.flush();
         return NOT_RUN;
     }
-    let told = write!(writer, "{error}");
-    if told.is_err() || writer.flush().is_err() {
-        return tell(Fault::Write, errors);
+    if let Err(failed) = write!(writer, "{error}") {
+        return tell(unwritten(failed), errors);
     }
-    DONE
+    match writer.flush() {
+        Ok(()) => DONE,
+        Err(failed) => tell(unwritten(failed), errors),
+    }
 }
