@@ -192,6 +192,11 @@ walk k before [] [] up inside none = refl
 walk k before [] (n ∷ ns) up inside none = absurd (omega (arith, up.0, inside.0))
 walk k before (r ∷ rs) ns up inside none = either k before r rs ns (walk (k + 1) (drop 1 before) rs) up inside none
 
+rows-count : (ps : List Plan) (ts : List (Option Told)) → length ts ≡ length ps → length (rows_of ps ts) ≡ length ps
+rows-count [] ts e = refl
+rows-count (p ∷ ps) [] e = absurd (omega (arith, e))
+rows-count (p ∷ ps) (t ∷ ts) e = ap suc (rows-count ps ts (omega (arith, e)))
+
 -- the changes of the plans that may have changed are all
 pub all-changes : (before after : Traffic) (numbers : List ℕ) → IsStrictlyIncreasing numbers → All (λ n. (0 < n) × (n ≤ length after.plans)) numbers → ChangeAtMost numbers before after
     → length before.told ≡ length before.plans → length after.told ≡ length after.plans
@@ -199,13 +204,8 @@ pub all-changes : (before after : Traffic) (numbers : List ℕ) → IsStrictlyIn
 all-changes before after numbers rising within h each_before each =
     walk 1 (rows_in before) (rows_in after) numbers
     (rises 1 numbers rising (λ some. (within 0 0 some).0))
-    (recursion_from_All (λ n. n < 1 + length (rows_in after)) numbers (λ k d inside. omega (arith, (within k d inside).1, row-count after.plans after.told each)))
+    (recursion_from_All (λ n. n < 1 + length (rows_in after)) numbers (λ k d inside. omega (arith, (within k d inside).1, rows-count after.plans after.told each)))
     (λ n some out. unchanged before after numbers h each_before each n some out)
-  where
-    row-count : (ps : List Plan) (ts : List (Option Told)) → length ts ≡ length ps → length (rows_of ps ts) ≡ length ps
-    row-count [] ts e = refl
-    row-count (p ∷ ps) [] e = absurd (omega (arith, e))
-    row-count (p ∷ ps) (t ∷ ts) e = ap suc (row-count ps ts (omega (arith, e)))
 
 -- ---- where it is known that there is a traffic before
 
@@ -262,3 +262,18 @@ pub if-all : (o : Option Traffic) (after : Traffic) (ns : List ℕ) (cs : List C
     → IfSome o (λ b. cs ≡ changes_between (rows_in b) (rows_in after))
 if-all None after ns cs rising within h each_before each e = tt
 if-all (Some b) after ns cs rising within h each_before each e = e ∙ all-changes b after ns rising within h each_before each
+
+-- numbers that rise within some are at most as many
+rises-few : (k m : ℕ) (ns : List ℕ) → Rises k ns → AllByRecursion (λ n. n < m) ns → k ≤ m → k + length ns ≤ m
+rises-few k m [] up within h = omega arith
+rises-few k m (n ∷ ns) up within h = omega (arith, up.0, rises-few (n + 1) m ns up.1 within.1 (omega (arith, within.0)))
+
+pub numbers-few : (after : Traffic) (ns : List ℕ) → IsStrictlyIncreasing ns → All (λ n. (0 < n) × (n ≤ length after.plans)) ns → length after.told ≡ length after.plans → length ns ≤ length (rows_in after)
+numbers-few after ns rising within each =
+    let rows : length (rows_in after) ≡ length after.plans = rows-count after.plans after.told each in
+    omega (
+      arith,
+      rows,
+      rises-few 1 (1 + length after.plans) ns (rises 1 ns rising (λ some. (within 0 0 some).0))
+          (recursion_from_All (λ n. n < 1 + length after.plans) ns (λ k d inside. omega (arith, (within k d inside).1))) (omega arith),
+    )

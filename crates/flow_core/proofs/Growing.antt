@@ -40,7 +40,7 @@ filed-room max now ps qs m e =
     leb-false max (length ps) (unless-not (nat_le max (length ps)) refusal.PlansFull _ qs c)
 
 -- one plan more or none, and none above the limit
-abbrev Grows : ℕ → List Plan → List Plan → Type 0
+abbrev pub Grows : ℕ → List Plan → List Plan → Type 0
 Grows max ps qs = (length ps ≤ length qs) × (length ps ≤ max → length qs ≤ max)
 
 as-many : (max : ℕ) (ps qs : List Plan) → length qs ≡ length ps → Grows max ps qs
@@ -68,7 +68,7 @@ message-grows t m a e =
 ordered-grows : (t : Traffic) (b a : Asked) → b.plans ≡ t.plans → b ≡ a → Grows t.max_plans t.plans a.plans
 ordered-grows t b a same e = subst (λ (d : Asked). Grows t.max_plans t.plans d.plans) e (as-many t.max_plans t.plans b.plans (ap length same))
 
-asked-grows : (t : Traffic) (r : Reading) (a : Asked) → asked t r ≡ Ok a → Grows t.max_plans t.plans a.plans
+pub asked-grows : (t : Traffic) (r : Reading) (a : Asked) → asked t r ≡ Ok a → Grows t.max_plans t.plans a.plans
 unfolding asked_to_open asked_to_shut asked_at
 asked-grows t (msg m) a e = message-grows t m a e
 asked-grows t (ord (open_reg m)) a e =

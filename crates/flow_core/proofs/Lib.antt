@@ -15,7 +15,9 @@ pub mod JournalShown
 pub mod JournalHeld
 pub mod Backs
 pub mod Entering
+pub mod Undoables
 pub mod FrozenPairs
+pub mod SlotRuns
 pub mod FrozenRuns
 pub mod Comparing
 pub mod ChangedRows

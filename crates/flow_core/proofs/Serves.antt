@@ -142,7 +142,7 @@ Stopped-answered first now begun written input rest a =
 -- ---- in the middle
 
 -- nothing was read yet
-pub Serving-start : (s : State) (begun : Option (List ℕ)) (ahead : Ahead) (input : Option (List ℕ)) → ahead ≡ record { unread = []; taken = 0; ended = false } → Serving s s begun begun ahead input input
+pub Serving-start : (s : State) (begun : Option (List ℕ)) (ahead : Ahead) (input : Option (List ℕ)) → ahead ≡ record { unread = []; taken = 0; ended = false; item = Some [] } → Serving s s begun begun ahead input input
 Serving-start s begun ahead input e =
     record {
       done = [];

@@ -1,17 +1,20 @@
 -- How a core keeps the state.
-use Rattle.std.specs.Prelude.{◌≡◌, ◌≤◌, ◌<◌, ◌+◌, ◌-◌, List, [], ◌∷◌, ◌++◌, map, length, take, Bool, true, Option, Some}
+use Rattle.std.specs.Prelude.{◌≡◌, ◌≤◌, ◌<◌, ◌+◌, ◌-◌, List, [], ◌∷◌, ◌++◌, map, length, take, ℕ, Bool, true, Some}
 use Rattle.std.specs.List.{AllByRecursion}
-use Rattle.fpl_message.specs.Filings.{FilingText}
-use Rattle.fpl_message.specs.Reads.{reading_of}
+use Rattle.fpl_message.specs.Reads.{Reading, reading_of}
 use Rattle.flow_plans.specs.Settings.{Settings}
 use Rattle.flow_traffic.specs.Traffic.{Traffic, Undoable}
 use Rattle.flow_traffic.specs.Frozen.{FrozenPairsStay}
 use Rattle.flow_core.specs.State.{State, Input, Record}
+use Rattle.flow_traffic.specs.Answers.{Answers}
+use Rattle.flow_core.specs.declared.receipt.Receipt.{Receipt}
 use Rattle.flow_core.specs.declared.change.Change.{Change}
+use Rattle.flow_core.specs.declared.journal.Version.TheVariants as version
+use Rattle.flow_core.specs.Journal.{IsEntry}
 use Rattle.flow_core.specs.Steps.{run}
-use Rattle.flow_core.specs.Changes.{changes_between, rows_in}
+use Rattle.flow_core.specs.History.{History}
+use Rattle.flow_core.specs.Changes.{changes_between, rows_at, without_last_filing}
 use Rattle.flow_plans.specs.declared.setup.TheConstants.{MAX_ENTRIES}
-use Rattle.flow_core.specs.declared.entry.TheConstants.{MAX_FEEDERS}
 
 abbrev pub inputs : List Record → List Input
 inputs journal = map (λ e. e.input) journal
@@ -19,7 +22,7 @@ inputs journal = map (λ e. e.input) journal
 -- the state kept in these fields is that of the run
 pub record IsRun (s : State) : Type 0 where
   pub is : s ≡ run s.setup (inputs s.journal)
-  pub feeders : AllByRecursion (λ e. e.input.feeder < MAX_FEEDERS) s.journal
+  pub entries : AllByRecursion (λ e. IsEntry version.Two e.input) s.journal
   pub within : AllByRecursion (λ e. e.receipt.first_notice + e.receipt.notices ≤ length s.traffic.notices) s.journal
   pub room : length s.journal ≤ s.setup.max_entries
   pub limit : s.setup.max_entries ≤ MAX_ENTRIES
@@ -28,30 +31,41 @@ pub record IsRun (s : State) : Type 0 where
 abbrev pub without_last : {X : Type 0} → List X → List X
 without_last xs = take (length xs - 1) xs
 
--- the last filing, which is this one, can be taken back, what is then kept is the run without it, and these are the changes of
--- rows that it made
-pub record MayTakeBack (setup : Settings) (traffic : Undoable) (journal : List Record) (filing : Option FilingText) (changes : List Change) : Type 0 where
+-- The last filing can be taken back: the reader has read its text, for which there is capacity, and what was before it is the run
+-- without it.
+pub record MayTakeBack (setup : Settings) (traffic : Undoable) (journal : List Record) (read : Reading) (capacity : ℕ) : Type 0 where
   pub before : Traffic
   pub is : traffic.before ≡ Some before
   pub some : 0 < length journal
-  pub changed : changes ≡ changes_between (rows_in before) (rows_in traffic.traffic)
-  pub filed : (earlier : List Record) (e : Record) → journal ≡ earlier ++ e ∷ [] → filing ≡ Some e.input.text
+  pub reads : (earlier : List Record) (e : Record) → journal ≡ earlier ++ e ∷ [] → read ≡ reading_of e.input.text
+  pub fits : (earlier : List Record) (e : Record) → journal ≡ earlier ++ e ∷ [] → length e.input.text.bytes ≤ capacity
   pub run_then : IsRun (record { setup = setup; traffic = before; journal = without_last journal })
 
 -- the state kept in these fields is that of the run, and so is what can be taken back, if anything can
-pub record IsRunWith (setup : Settings) (traffic : Undoable) (journal : List Record) (undoable : Bool) (filing : Option FilingText) (changes : List Change) : Type 0 where
+pub record IsRunWith (setup : Settings) (traffic : Undoable) (journal : List Record) (undoable : Bool) (read : Reading) (buffer : List ℕ) (capacity : ℕ) : Type 0 where
   pub run_now : IsRun (record { setup = setup; traffic = traffic.traffic; journal = journal })
-  pub back : undoable ≡ true → MayTakeBack setup traffic journal filing changes
+  pub empty : buffer ≡ []
+  pub back : undoable ≡ true → MayTakeBack setup traffic journal read capacity
 
--- this entry was made behind the others: the state is that of the run with it, and the traffic can be taken back
-pub record EntersText (setup : Settings) (old : Traffic) (new : Undoable) (journal longer : List Record) (e : Record) : Type 0 where
+-- the traffic was answered so: this is the receipt of the entry after so many, and the traffic can be taken back
+pub record IsReceipt (read : Reading) (old : Traffic) (new : Undoable) (entries : ℕ) (r : Receipt) : Type 0 where
+  pub number : r.number ≡ entries + 1
+  pub first : r.first_notice ≡ length old.notices
+  pub count : r.notices ≡ length new.traffic.notices - length old.notices
+  pub grow : length old.notices ≤ length new.traffic.notices
+  pub answers : Answers read old new.traffic r.verdict
+  pub frozen : FrozenPairsStay read old new.traffic r.verdict
+  pub before : new.before ≡ Some old
+
+-- this entry was made after the others: the state is that of the run with it, and the traffic can be taken back
+pub record Enters (setup : Settings) (old : Traffic) (new : Undoable) (journal longer : List Record) (e : Record) : Type 0 where
   pub entries : longer ≡ journal ++ e ∷ []
   pub number : e.receipt.number ≡ length journal + 1
   pub run_now : IsRun (record { setup = setup; traffic = new.traffic; journal = longer })
   pub before : new.before ≡ Some old
   pub frozen : FrozenPairsStay (reading_of e.input.text) old new.traffic e.receipt.verdict
 
--- and so can its filing
-pub record Enters (setup : Settings) (old : Traffic) (new : Undoable) (journal longer : List Record) (e : Record) (changes : List Change) : Type 0 where
-  pub text : EntersText setup old new journal longer e
-  pub back : MayTakeBack setup new longer (Some e.input.text) changes
+-- There is capacity for the rows of all plans, and where the last filing can be taken back these are the rows that it changed.
+pub record IsNoted (h : History) (changes : List Change) (capacity : ℕ) : Type 0 where
+  pub room : h.setup.max_plans ≤ capacity
+  pub changed : h.undoable ≡ true → changes ≡ changes_between (rows_at (without_last_filing h)) (rows_at h)

@@ -79,3 +79,11 @@ answer_of s e = answer_line e.receipt ++ flat_map notice_line (slice_range s.tra
 -- the answer to the entry at an index, from 0
 abbrev pub answer_text : State → ℕ → List ℕ
 answer_text s index = option_map_or (answer_of s) (slice_get s.journal index) []
+
+-- what is written for a frame of more than MAX_BYTES bytes
+abbrev pub too_long_line : List ℕ
+too_long_line = codes "- NO 90 TooLong\n"
+
+-- and for a filing at a full journal
+abbrev pub journal_full_line : List ℕ
+journal_full_line = codes "- NO 91 JournalFull\n"

@@ -1,9 +1,9 @@
 -- What a desk that is served an input has answered, and its state then.
-use Rattle.std.specs.Prelude.{ℕ, List, [], ◌∷◌, ◌++◌, length, nat_le, nat_lt, if◌then◌else◌, codes}
+use Rattle.std.specs.Prelude.{ℕ, List, [], ◌∷◌, ◌++◌, length, nat_le, nat_lt, if◌then◌else◌}
 use Rattle.flow_intake.specs.NextFrame.{second}
 use Rattle.flow_core.specs.State.{State, Input}
 use Rattle.flow_core.specs.Steps.{step}
-use Rattle.flow_core.specs.Output.{answer_text}
+use Rattle.flow_core.specs.Output.{answer_text, too_long_line, journal_full_line}
 use Rattle.fpl_message.specs.declared.filed_text.TheConstants.{MAX_BYTES}
 
 -- a frame as the filing of feeder 0
@@ -18,8 +18,8 @@ served s frame = if nat_le (length frame) MAX_BYTES then (if nat_lt (length s.jo
 unfoldable pub said : State → List ℕ → List ℕ
 said s frame =
     if nat_le (length frame) MAX_BYTES
-    then (if nat_lt (length s.journal) s.setup.max_entries then answer_text (step s (as_input frame)) (length s.journal) else codes "- NO 91 JournalFull\n")
-    else codes "- NO 90 TooLong\n"
+    then (if nat_lt (length s.journal) s.setup.max_entries then answer_text (step s (as_input frame)) (length s.journal) else journal_full_line)
+    else too_long_line
 
 -- what is written for some frames, and the state after them
 unfoldable pub output : State → List (List ℕ) → List ℕ

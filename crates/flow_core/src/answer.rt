@@ -5,7 +5,7 @@ ghost use Rattle.fpl_message.specs.Numbers.{number_of, name_of};
 ghost use Rattle.flow_intake.specs.Writes.{Writes};
 ghost use Rattle.arrayvec.specs.ArrayVec.{array_vec_len};
 ghost use Rattle.flow_core.specs.Output.{kind_text, window_text, plan_text, refusal_text, verdict_text, answer_line};
-ghost use Rattle.flow_core.specs.Output.{flight_text, told_text, notice_line};
+ghost use Rattle.flow_core.specs.Output.{flight_text, told_text, notice_line, too_long_line, journal_full_line};
 
 use crate::line::{Line, put, put_number};
 use crate::receipt::Receipt;
@@ -15,6 +15,20 @@ use flow_regulations::{Notice, Said, Told, Window};
 use flow_traffic::{Kind, Verdict};
 use fpl_message::Refusal;
 use std::io::Write;
+
+/// What a frame of more than 2,000 bytes is answered.
+pub fn too_long_line() -> &'static [u8]
+    ensures { result.now ≡ too_long_line }
+{
+    b"- NO 90 TooLong\n"
+}
+
+/// What a filing is answered at a full journal.
+pub fn journal_full_line() -> &'static [u8]
+    ensures { result.now ≡ journal_full_line }
+{
+    b"- NO 91 JournalFull\n"
+}
 
 /// What an answer says of an accepted filing before the plan.
 fn accepted_text(kind: Kind) -> &'static [u8]

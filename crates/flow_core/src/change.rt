@@ -1,5 +1,6 @@
 //! The rows that a step changed.
-ghost use Rattle.std.specs.Prelude.{◌≡◌, ◌<◌, ◌-◌, IfSome, IsSome, OnOk, length, slice_get};
+ghost use Rattle.std.specs.Prelude.{◌≡◌, ◌≤◌, ◌<◌, ◌-◌, IfSome, IsSome, length, slice_get};
+ghost use Rattle.std.specs.Vec.{vec_capacity};
 ghost use Rattle.std.specs.Option.{option_map, option_and_then};
 ghost use Rattle.flow_traffic.specs.Traffic.{told_of};
 ghost use Rattle.flow_core.specs.Changes.{same_state, same_told, same_row, row_with, change_to, change_at};
@@ -9,7 +10,7 @@ use crate::row::{Row, row_at};
 use flow_plans::{PlanState, Status};
 use flow_regulations::Told;
 use flow_traffic::Traffic;
-use std::alloc::{AllocError, Allocator};
+use std::alloc::Allocator;
 
 /// The new row of a plan that a step changed.
 #[derive(Clone, Copy, Debug, PartialEq, Eq)]
@@ -133,22 +134,19 @@ fn change_at<A: Allocator + Copy>(
     change_between(number, before, row_at(traffic, number))
 }
 
-/// Notes the changes of the last reading, by plan number. Refused where memory is.
-pub(crate) fn note_changes<A: Allocator + Copy>(
-    traffic: &Traffic<A>,
-    changes: &mut Vec<Change, A>,
-) -> Result<(), AllocError>
-    requires { IsSome traffic.now.before }
-    ensures { OnOk result (IfSome traffic.now.before (λ before.
-        changes.new.items ≡ changes_between (rows_in before) (rows_in traffic.now.traffic))) }
+/// Notes the changes of the last reading, by plan number. It takes no memory.
+pub(crate) fn note_changes<A: Allocator + Copy>(traffic: &Traffic<A>, changes: &mut Vec<Change, A>)
+    requires change { IsSome traffic.now.before }
+    requires room { length (rows_in traffic.now.traffic) ≤ vec_capacity changes.old }
+    ensures changes { IfSome traffic.now.before (λ before.
+        changes.new.items ≡ changes_between (rows_in before) (rows_in traffic.now.traffic)) }
+    ensures capacity { vec_capacity changes.new ≡ vec_capacity changes.old }
 {
     changes.clear();
     let (numbers, told) = traffic.changed();
-    changes.reserve(numbers.len())?;
     for (index, number) in numbers.iter().enumerate() {
         if let Some(change) = change_at(traffic, *number, &told[index]) {
             changes.push_reserved(change);
         }
     }
-    Ok(())
 }

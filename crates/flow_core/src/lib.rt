@@ -4,9 +4,10 @@
 //! after the other, each of which reads a text, answers it, and puts an entry behind the journal. What the code keeps
 //! beside the journal is that state, ready to be looked at; `IsRunWith` says that it is the run.
 //!
-//! - *A step* (`Core::step`, and `Core::file` for a text that is read in place of the last one) either gives a
-//!   receipt, or leaves the core as it was: at a full journal, and where memory is refused. The last step can be
-//!   taken back, without memory.
+//! - *A step* (`Core::step`) either gives a receipt, or leaves the core as it was: at a full journal, and where memory
+//!   is refused. The last step can be taken back, without memory.
+//! - *The ledger* (`Ledger::file`) is where all filings are entered: those of a served input, of a journal that is read
+//!   or replayed, and of `step`. The changed rows are noted once, when a call of the core is done.
 //! - *The journal* keeps texts and receipts, one text behind the other in one row of bytes. What a text says isn't
 //!   kept: reading it again tells it, and the last filing alone is kept as it was read.
 //! - *Changes* (`Core::changes`) are the rows of plans that the last step made differ. A board that shows the rows
@@ -16,7 +17,7 @@
 //! - *The journal as a text* (`Core::write_journal`, `read_journal`) names one history. A core that is read from it
 //!   has come to the same as the one that wrote it, and goes on from there.
 //!
-//! `desk` has the calls, `entry` and `entry_list` the journal, `answer` and `line` the texts of answers, `change` and
+//! `desk` has the calls and the ledger, `entry` and `entry_list` the journal, `answer` and `line` the texts of answers, `change` and
 //! `row` what readers see, `laws` and `journal_laws` what follows from the definitions.
 #![tactic(auto)]
 
@@ -34,13 +35,14 @@ mod receipt;
 mod row;
 mod serving;
 
+pub use answer::{journal_full_line, too_long_line};
 pub use change::Change;
-pub use desk::{Core, StepFault};
-pub use entry::{Entry, EntryCopy, MAX_FEEDERS};
+pub use desk::Core;
+pub use entry::{Entry, MAX_FEEDERS};
 pub use flow_intake::{Counted, Frame, Intake, IntakeFault, MAX_INPUT, WriteFault};
 pub use flow_regulations::{Notice, Said, Told, Window};
 pub use flow_traffic::{Kind, Verdict};
 pub use journal_reading::{JournalFault, read_journal};
-pub use receipt::Receipt;
+pub use receipt::{Receipt, StepFault};
 pub use row::Row;
 pub use serving::{ServeFault, serve};

@@ -11,3 +11,12 @@ pub struct Receipt {
     /// How many notices it caused.
     pub notices: u32,
 }
+
+/// Why a filing got no entry.
+#[derive(Clone, Copy, Debug, PartialEq, Eq)]
+pub enum StepFault {
+    /// The journal holds as many entries as the setup allows.
+    JournalFull,
+    /// Memory was refused, or the first notice of the filing would have the number 2^32 or a later one.
+    OutOfMemory,
+}

@@ -1,10 +1,10 @@
 -- What a feeder has filed of its feed.
-use Rattle.std.specs.Prelude.{◌≡◌, ◌≢◌, ◌≤◌, ℕ, ◌+◌, List, [], ◌∷◌, ◌++◌, length, map}
+use Rattle.std.specs.Prelude.{◌≡◌, ◌≢◌, ◌<◌, ◌≤◌, ℕ, ◌+◌, List, [], ◌∷◌, ◌++◌, length, map}
 use mathlib.Core.List.{IsPrefix}
 use Rattle.fpl_message.specs.Filings.{FilingText}
 use Rattle.flow_plans.specs.Settings.{Settings}
 use Rattle.flow_core.specs.declared.receipt.Receipt.{Receipt}
-use Rattle.flow_core.specs.declared.desk.StepFault.TheVariants.{JournalFull}
+use Rattle.flow_core.specs.declared.receipt.StepFault.TheVariants.{JournalFull, OutOfMemory}
 use Rattle.flow_core.specs.State.{Record}
 use Rattle.flow_desk.specs.declared.feeders.End.{End}
 use Rattle.flow_desk.specs.declared.feeders.End.TheVariants.{Finished, Stopped, NotStarted}
@@ -21,10 +21,11 @@ pub record Ran (p : PassView) (feed : List FilingText) (q : PassView) (receipts 
   pub texts : map (λ (e : Record). e.input.text) entries ++ left ≡ feed
   pub answers : map (λ (e : Record). e.receipt) entries ≡ receipts
 
--- how a feed ended: with nothing left; refused, so that something is left; or before it began
+-- how a feed ended: with nothing left; with the first of what is left refused, as full exactly where the journal was; or before it
+-- began
 abbrev pub EndsAs : Settings → End → PassView → List Receipt → List FilingText → Type 0
 EndsAs s Finished q receipts left = left ≡ []
-EndsAs s (Stopped fault) q receipts left = (left ≢ []) × (fault ≡ JournalFull → length q.seen ≡ s.max_entries)
+EndsAs s (Stopped fault) q receipts left = (left ≢ []) × (fault ≡ JournalFull → length q.seen ≡ s.max_entries) × (fault ≡ OutOfMemory → length q.seen < s.max_entries)
 EndsAs s NotStarted q receipts left = receipts ≡ []
 
 pub record HasRun (setup : Settings) (p : PassView) (feed : List FilingText) (q : PassView) (receipts : List Receipt) (left : List FilingText) (end : End) : Type 0 where

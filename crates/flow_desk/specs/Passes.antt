@@ -43,10 +43,11 @@ pub record SawOthers (p q : PassView) : Type 0 where
 abbrev pub entry : ℕ → FilingText → Receipt → Record
 entry feeder text r = record { input = record { feeder = feeder; text = text }; receipt = r }
 
--- before this filing the history began with all that p had seen, and p's receipts were all of its feeder's entries; the filing is
--- one step of the desk of one thread there, which appends this one entry, and q has seen that
+-- before this filing the history began with all that p had seen, and p's receipts were all of its feeder's entries; the journal
+-- wasn't full, and the filing is one step of the desk of one thread there, which appends this one entry, and q has seen that
 pub record Filed (setup : Settings) (p : PassView) (text : FilingText) (r : Receipt) (q : PassView) : Type 0 where
   pub before : List Record
+  pub room : length before < setup.max_entries
   pub later : IsPrefix p.seen before
   pub all_own : length (own p.feeder before) ≡ p.receipts
   pub none_own : own p.feeder before ≡ own p.feeder p.seen

@@ -143,8 +143,9 @@ impl<A: Allocator + Copy> Seat<A> {
 }
 
 impl<R: Wait + Drop, A: Allocator + Copy> Publisher<R, A> {
-    /// Makes the board of a core, whose journal is this history, with room for so many readers. An operation that
-    /// changes nothing makes room for all that follow, so that publishing takes no memory.
+    /// Makes the board of a core, whose journal is this history, with capacity for so many readers, and appends two
+    /// operations that change nothing. As many are in the list at most once they were published: the last one, which
+    /// one of the boards has still to absorb, and the next. So publishing takes no memory.
     pub fn new(
         rt: R,
         alloc: A,
@@ -160,23 +161,27 @@ impl<R: Wait + Drop, A: Allocator + Copy> Publisher<R, A> {
         let first = Board::new(alloc, front, core)?;
         let second = Board::new(alloc, front, core)?;
         let idle = Operation::new(front.again(), core.entries(), ChangedRows::none(alloc));
+        let further = Operation::new(front.again(), core.entries(), ChangedRows::none(alloc));
         let mut writer = Writer::new(alloc, first, second, readers)?;
-        let appended = writer.append(idle).is_ok();
+        let one = writer.append(idle).is_ok();
+        let two = writer.append(further).is_ok();
         let publisher = Publisher { writer, rt };
-        if appended {
+        if one && two {
             Ok(publisher)
         } else {
             Err(AllocError)
         }
     }
 
-    /// Publishes what is pending, which changes nothing. The writer then knows its desk.
+    /// Publishes what is pending, which changes nothing, so that both boards have absorbed it and the list of operations
+    /// is empty. The writer then knows its desk.
     pub fn settle(self) -> Self
         ensures { (result.knows ≡ true) × (result.book ≡ self.book) × (result.setup ≡ self.setup)
             × (result.entries ≡ self.entries) }
     {
         let Publisher { writer, rt } = self;
-        let (writer, _published) = writer.publish_as::<Sees, R>(&rt);
+        let (writer, _one) = writer.publish_as::<Sees, R>(&rt);
+        let (writer, _other) = writer.publish_as::<Sees, R>(&rt);
         Publisher { writer, rt }
     }
 

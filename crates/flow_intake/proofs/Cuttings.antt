@@ -1,5 +1,5 @@
 -- Frames that are cut from an input, one after the other.
-use Rattle.std.proofs.Common.{◌≡◌, ◌≤◌, ℕ, length, Bool, true, false, List, [], ◌∷◌, ◌++◌, refl, sym, ap, ◌∙◌, subst, arith, Option, append_assoc, append-nil, IfSome, length-append}
+use Rattle.std.proofs.Common.{◌≡◌, ◌≤◌, ℕ, length, Bool, true, false, List, [], ◌∷◌, ◌++◌, refl, sym, ap, ◌∙◌, subst, arith, Option, Some, append_assoc, append-nil, IfSome, length-append}
 use Rattle.std.proofs.KnownBytes.{Consumes-nil, Consumes-trans, Consumes-whole}
 use Rattle.fpl_message.specs.Filings.{FilingText}
 use Rattle.flow_intake.specs.Frames.{first_cut, frames, ended_frames}
@@ -9,7 +9,7 @@ use Rattle.flow_intake.specs.Cutting.{Cutting, CutFront, CutEnded, Overrun}
 use Rattle.flow_intake.proofs.FrameLists.{extended, frames-some, frames-none, ended-some, first_cut-more}
 
 -- nothing was read yet
-pub Cutting-start : (ahead : Ahead) (input : Option (List ℕ)) → ahead ≡ record { unread = []; taken = 0; ended = false } → Cutting [] ahead input input
+pub Cutting-start : (ahead : Ahead) (input : Option (List ℕ)) → ahead ≡ record { unread = []; taken = 0; ended = false; item = Some [] } → Cutting [] ahead input input
 Cutting-start ahead input e =
     record {
       read = [];

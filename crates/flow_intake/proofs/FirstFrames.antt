@@ -1,13 +1,12 @@
 -- The first frame of bytes that show its end.
 use Rattle.std.proofs.Common.{◌≡◌, ℕ, ◌+◌, ◌-◌, ◌<◌, ◌≤◌, zero, suc, Bool, true, false, not, cond, ltb, None, List, [], ◌∷◌, ◌++◌, length, refl, sym, ap, subst, ◌∙◌, arith, take, drop, get_or, Option, Some, unwrap_or, position}
-use Rattle.std.proofs.lemmas.Bool.{ne_eqb, ltb-false, false≢true}
+use Rattle.std.proofs.lemmas.Bool.{ne_eqb, ltb-false}
 use Rattle.std.proofs.lemmas.List.{take-append-drop, take_rest, drop-drop, length-drop, length-take}
 use Rattle.std.specs.List.{position_or_len}
 use Rattle.std.specs.Prelude.{IfSome}
 use Rattle.flow_intake.specs.Frames.{Cut, until, since, closed, order_cut, cut, first_cut, is_text, is_bracket, ends_order}
 use Rattle.flow_intake.specs.FirstFrame.{EndsAt, Shows}
-use Rattle.flow_intake.proofs.Runs.{since-run, until-run, none-before-found, stop-behind-found}
-use Rattle.flow_intake.proofs.Waits.{text-at, position-within, drop-at}
+use Rattle.flow_intake.proofs.Runs.{since-run, until-run, none-before-found, stop-behind-found, text-at, position-within, drop-at}
 
 take-next : (bytes : List ℕ) (k : ℕ) → k < length bytes → take (k + 1) bytes ≡ take k bytes ++ get_or bytes k 0 ∷ []
 take-next [] k l = absurd (omega arith)
@@ -124,12 +123,3 @@ order-going (b ∷ bs) other none = rw (ne_eqb b 40 other, since-none ends_order
 pub going-past : (bytes : List ℕ) (begin : ℕ) → position is_text bytes ≡ Some begin → IfSome (cut (take (length bytes - begin) (drop begin bytes))) (λ c. c.ended ≡ false) → IfSome (first_cut bytes) (λ c. c.ended ≡ false)
 unfolding first_cut
 going-past bytes begin text here = rw (text-at bytes begin text) (rw (take_rest bytes begin) at here)
-
--- and where the frame is too long
-pub going-or-long : (found : Option Cut) → IfSome found (λ c. c.ended ≡ false) → IfSome found (λ c. c.ended ≡ true → 2000 < length c.frame)
-going-or-long None h = tt
-going-or-long (Some c) h = λ e. absurd (false≢true (sym h ∙ e))
-
-pub long-shown : (bytes : List ℕ) (begin end : ℕ) → Shows bytes begin end → 2000 < end - begin → IfSome (first_cut bytes) (λ c. c.ended ≡ true → 2000 < length c.frame)
-long-shown bytes begin end shows long =
-    rw shows.is (λ _. omega (arith, long, shows.within, length-take (end - begin) (drop begin bytes), length-drop begin bytes))

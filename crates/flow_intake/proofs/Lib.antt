@@ -12,4 +12,3 @@ pub mod Runs
 pub mod Ranges
 pub mod Written
 pub mod FirstBytes
-pub mod Waits

@@ -1,8 +1,9 @@
 -- Runs of bytes that don't stop.
-use Rattle.std.proofs.Common.{◌≡◌, ℕ, ◌+◌, ◌≤◌, suc, Bool, true, false, cond, not, List, [], ◌∷◌, ◌++◌, length, refl, sym, ap, ◌∙◌, subst, arith, take, drop, Some, None, unwrap_or, ltb, position}
+use Rattle.std.proofs.Common.{◌≡◌, ℕ, ◌+◌, ◌<◌, ◌≤◌, zero, suc, Option, get_or, Bool, true, false, cond, not, List, [], ◌∷◌, ◌++◌, length, refl, sym, ap, ◌∙◌, subst, arith, take, drop, Some, None, unwrap_or, ltb, position}
 use Rattle.std.specs.List.{position_or_len, prefix_len}
-use Rattle.std.proofs.lemmas.Bool.{ltb-false}
-use Rattle.flow_intake.specs.Frames.{until, since}
+use Rattle.std.proofs.lemmas.Bool.{ltb-false, ltb-true}
+use Rattle.std.proofs.lemmas.List.{take-append-drop}
+use Rattle.flow_intake.specs.Frames.{until, since, is_text}
 use Rattle.flow_intake.specs.Reader.{NoneStops, BeginsWithStop}
 
 prefix-le : (p : ℕ → Bool) (xs : List ℕ) → prefix_len p xs ≤ length xs
@@ -64,3 +65,21 @@ module _ (stops : ℕ → Bool) (xs : List ℕ) (count : ℕ) (found : count ≡
 
   pub found-within : count ≤ length xs
   found-within = omega (arith, found, stop-is stops xs, stop-within stops xs)
+
+-- where a search finds its byte
+pub text-at : (bytes : List ℕ) (k : ℕ) → position is_text bytes ≡ Some k → since is_text bytes ≡ drop k bytes
+text-at bytes k e =
+    let found : k ≡ unwrap_or (position is_text bytes) (length bytes) = sym (ap (λ (o : Option ℕ). unwrap_or o (length bytes)) e) in
+    ap (since is_text) (sym (take-append-drop k bytes)) ∙ since-run is_text (take k bytes) (drop k bytes) (none-before-found is_text bytes k found) (stop-behind-found is_text bytes k found)
+
+pub position-within : (test : ℕ → Bool) (bytes : List ℕ) (k : ℕ) → position test bytes ≡ Some k → k < length bytes
+position-within test bytes k e = by (ltb (position_or_len test bytes) (length bytes)) refl e
+  where
+    by : (t : Bool) → ltb (position_or_len test bytes) (length bytes) ≡ t → cond t (Some (position_or_len test bytes)) None ≡ Some k → k < length bytes
+    by true l e = let is : position_or_len test bytes ≡ k = cc in omega (arith, is, ltb-true (position_or_len test bytes) (length bytes) l)
+    by false l e = absurd (cc)
+
+pub drop-at : (bytes : List ℕ) (k : ℕ) → k < length bytes → drop k bytes ≡ get_or bytes k 0 ∷ drop (k + 1) bytes
+drop-at [] k l = absurd (omega arith)
+drop-at (x ∷ xs) zero l = refl
+drop-at (x ∷ xs) (suc k) l = let n : suc k + 1 ≡ suc (k + 1) = omega arith in rw n (drop-at xs k (omega arith))

@@ -30,7 +30,7 @@ order-joins : (frame rest : List ℕ) → (order_cut frame rest).frame ++ (order
 order-joins frame [] = refl
 order-joins frame (b ∷ rest) = refl
 
-cut-joins : (bs : List ℕ) (c : Cut) → cut bs ≡ Some c → c.frame ++ c.rest ≡ bs
+pub cut-joins : (bs : List ℕ) (c : Cut) → cut bs ≡ Some c → c.frame ++ c.rest ≡ bs
 cut-joins [] c e = absurd (cc)
 cut-joins (b ∷ bs) c e =
     let is : cond {A = Cut} (eqb b 40) (closed (until is_bracket bs) (since is_bracket bs)) (order_cut (b ∷ until ends_order bs) (since ends_order bs)) ≡ c = cc in
@@ -113,7 +113,7 @@ order-open : (frame rest : List ℕ) → (order_cut frame rest).ended ≡ false 
 order-open frame [] e = refl
 order-open frame (b ∷ rest) e = absurd (cc)
 
-cut-open : (bs : List ℕ) (c : Cut) → cut bs ≡ Some c → c.ended ≡ false → c.rest ≡ []
+pub cut-open : (bs : List ℕ) (c : Cut) → cut bs ≡ Some c → c.ended ≡ false → c.rest ≡ []
 cut-open [] c e f = absurd (cc)
 cut-open (b ∷ bs) c e f =
     let is : cond {A = Cut} (eqb b 40) (closed (until is_bracket bs) (since is_bracket bs)) (order_cut (b ∷ until ends_order bs) (since ends_order bs)) ≡ c = cc in

@@ -3,7 +3,7 @@ use Rattle.std.specs.Prelude.{◌≡◌, ◌+◌, ◌<◌, false, ℕ, List, ◌
 use Rattle.std.specs.Io.KnownBytes.{Consumes}
 use Rattle.flow_intake.specs.Frames.{frames, ended_frames}
 use Rattle.flow_intake.specs.Reader.{Ahead}
-use Rattle.flow_intake.specs.declared.pieces.TheConstants.{MAX_INPUT}
+use Rattle.flow_intake.specs.declared.input.TheConstants.{MAX_INPUT}
 
 -- these frames are the first of the bytes read, and stay so however the input goes on
 pub record Cutting (done : List (List ℕ)) (ahead : Ahead) (input rest : Option (List ℕ)) : Type 0 where

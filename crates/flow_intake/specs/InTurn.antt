@@ -4,7 +4,7 @@ use Rattle.fpl_message.specs.Filings.{FilingText}
 use Rattle.flow_intake.specs.declared.intake.Frame.{Frame}
 use Rattle.flow_intake.specs.Frames.{Cut, first_cut, frames}
 use Rattle.flow_intake.specs.NextFrame.{filing_in, filing_of}
-use Rattle.flow_intake.specs.declared.pieces.TheConstants.{MAX_INPUT}
+use Rattle.flow_intake.specs.declared.input.TheConstants.{MAX_INPUT}
 
 -- the filings of the frames of an input: none for a frame that is too long
 abbrev pub filings_of : List ℕ → List (Option FilingText)

@@ -1,15 +1,16 @@
 -- What one call takes from a reader, whose bytes come in pieces.
-use Rattle.std.specs.Prelude.{◌≡◌, ℕ, ◌+◌, ◌<◌, Bool, true, false, List, [], ◌∷◌, ◌++◌, length, drop, Option, Some, IsTrue, IfSome, ◌⊎◌}
-use Rattle.std.specs.List.{list_any}
+use Rattle.std.specs.Prelude.{◌≡◌, ℕ, ◌+◌, ◌<◌, Bool, true, false, List, [], ◌∷◌, ◌++◌, length, Option, Some, IsTrue, IfSome, ◌⊎◌}
 use Rattle.std.specs.Io.KnownBytes.{Consumes, IsAtEnd}
-use Rattle.flow_intake.specs.Frames.{Cut, cut, kept_of}
-use Rattle.flow_intake.specs.declared.pieces.TheConstants.{MAX_INPUT}
+use Rattle.flow_intake.specs.Frames.{Cut, cut}
+use Rattle.flow_intake.specs.declared.input.TheConstants.{MAX_INPUT}
 
--- the bytes read and not yet taken, how many were taken, and whether the reader has ended
+-- the bytes read and not yet taken, how many were taken, whether the reader has ended, and the frame that was taken last:
+-- none, if it is too long
 pub record Ahead : Type 0 where
   pub unread : List ℕ
   pub taken : ℕ
   pub ended : Bool
+  pub item : Option (List ℕ)
 
 -- where the reader has ended, nothing is left
 abbrev pub Agrees : Ahead → Option (List ℕ) → Type 0
@@ -37,55 +38,42 @@ abbrev pub BeginsWithStop : (ℕ → Bool) → List ℕ → Type 0
 BeginsWithStop stops [] = Unit {0}
 BeginsWithStop stops (b ∷ bs) = stops b ≡ true
 
--- from each place before this one on, some byte stops
-abbrev pub StopsFrom : (ℕ → Bool) → List ℕ → ℕ → Type 0
-StopsFrom stops bytes place = (k : ℕ) → k < place → list_any stops (drop k bytes) ≡ true
-
--- the frame that was kept, as far as it is kept, has grown by these bytes
-abbrev pub KeepsMore : Option (List ℕ) → Option (List ℕ) → List ℕ → Type 0
-KeepsMore kept kept' bytes = (frame : List ℕ) → kept ≡ kept_of frame → kept' ≡ kept_of (frame ++ bytes)
-
--- a run of bytes that don't stop was taken from the front of the unread ones, and kept
-pub record TookRun (stops : ℕ → Bool) (old new : Ahead) (kept kept' : Option (List ℕ)) : Type 0 where
+-- a run of bytes that don't stop was taken from the front of the unread ones
+pub record TookRun (stops : ℕ → Bool) (old new : Ahead) : Type 0 where
   pub run : List ℕ
   pub whole : old.unread ≡ run ++ new.unread
   pub none : NoneStops stops run
   pub count : new.taken ≡ old.taken + length run
-  pub keeps : KeepsMore kept kept' run
 
 -- the same, where bytes came meanwhile
-pub record Took (stops : ℕ → Bool) (old new : Ahead) (before after : Option (List ℕ)) (kept kept' : Option (List ℕ)) : Type 0 where
+pub record Took (stops : ℕ → Bool) (old new : Ahead) (before after : Option (List ℕ)) : Type 0 where
   pub came : List ℕ
   pub consumed : Consumes before after came
   pub run : List ℕ
   pub whole : old.unread ++ came ≡ run ++ new.unread
   pub none : NoneStops stops run
   pub count : new.taken ≡ old.taken + length run
-  pub keeps : KeepsMore kept kept' run
 
 -- the first byte is another
 abbrev pub BeginsWithOther : ℕ → List ℕ → Type 0
 BeginsWithOther b [] = Unit {0}
 BeginsWithOther b (x ∷ xs) = (x ≡ b) → ⊥
 
--- the byte was taken and kept, where it came next
-abbrev pub TakesIf : ℕ → Ahead → Ahead → Option (List ℕ) → Option (List ℕ) → Type 0
-TakesIf b old new kept kept' =
-    ((old.unread ≡ b ∷ new.unread) × (new.taken ≡ old.taken + 1) × KeepsMore kept kept' (b ∷ []))
-    ⊎ (BeginsWithOther b old.unread × (new ≡ old) × (kept' ≡ kept))
+-- the byte was taken, where it came next
+abbrev pub TakesIf : ℕ → Ahead → Ahead → Type 0
+TakesIf b old new =
+    ((old.unread ≡ b ∷ new.unread) × (new.taken ≡ old.taken + 1))
+    ⊎ (BeginsWithOther b old.unread × (new ≡ old))
 
--- the rest of a frame that begins with this byte was taken and kept
-pub record Finished (first : ℕ) (old new : Ahead) (before after : Option (List ℕ)) (kept kept' : Option (List ℕ)) : Type 0 where
+-- the rest of a frame that begins with this byte was taken
+pub record Finished (first : ℕ) (old new : Ahead) (before after : Option (List ℕ)) : Type 0 where
   pub came : List ℕ
   pub consumed : Consumes before after came
   pub whole : Cut
-  pub tail : List ℕ
   pub is : cut (first ∷ (old.unread ++ came)) ≡ Some whole
-  pub frame : whole.frame ≡ first ∷ tail
   pub rest : new.unread ≡ whole.rest
   pub seen : new.ended ≡ false → whole.ended ≡ true
   pub count : new.taken + length new.unread ≡ old.taken + length old.unread + length came
-  pub keeps : KeepsMore kept kept' tail
 
 -- where the reader failed, the bytes showed no end of the frame
 abbrev pub Unfinished : ℕ → Ahead → Option (List ℕ) → Option (List ℕ) → Type 0

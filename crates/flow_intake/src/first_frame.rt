@@ -4,11 +4,11 @@ ghost use Rattle.std.specs.Prelude.{◌≡◌, IfNone, IfSome, false};
 ghost use Rattle.flow_intake.specs.FirstFrame.{EndsAt, Shows};
 ghost use Rattle.flow_intake.specs.Frames.{cut, first_cut};
 
-use crate::pieces::{Until, stop_in, text_in};
+use crate::scan::{Until, stop_in, text_in};
 
 /// Where the first frame of some bytes stands in them.
 #[derive(Clone, Copy)]
-pub struct Span {
+pub(crate) struct Span {
     /// Behind the blanks.
     pub begin: usize,
     /// Behind the frame.

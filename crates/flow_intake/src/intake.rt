@@ -5,13 +5,12 @@ ghost use Rattle.flow_intake.specs.InTurn.{EndsWithin, GivesNext};
 ghost use Rattle.flow_intake.specs.NextFrame.{Cuts, Gives, Misses, Starves, filing_in, filing_kept};
 ghost use Rattle.flow_intake.specs.Source.{CutsFirst, KeepsTotal, MissesFirst, failures_after};
 ghost use Rattle.flow_intake.specs.Reader.{Agrees, Came, CameTooMuch, Finished, Unfinished};
-ghost use Rattle.flow_intake.specs.declared.pieces.TheConstants.{MAX_INPUT};
+ghost use Rattle.flow_intake.specs.declared.input.TheConstants.{MAX_INPUT};
 
 use crate::counted::Counted;
 use crate::fault::IntakeFault;
-use crate::first_frame::first_frame;
-use crate::kept::Kept;
-use crate::pieces::{Pieces, Until, take_if, take_until};
+use crate::input::Input;
+use crate::next_frame::take_frame;
 use fpl_message::{Filing, FilingFault};
 use std::alloc::{AllocError, Allocator, Global};
 use std::io::Read;
@@ -25,42 +24,13 @@ pub enum Frame<A: Allocator + Copy = Global> {
     TooLong,
 }
 
-/// Takes the rest of a frame that begins with this byte.
-fn finish<R: Read, A: Allocator>(
-    reader: &mut Counted<R>,
-    pieces: &mut Pieces<A>,
-    first: u8,
-    kept: &mut Kept<A>,
-) -> Result<(), IntakeFault>
-    requires { Agrees pieces.old (R.remaining reader.old.device) }
-    ensures took { OnOk result (Finished first pieces.old pieces.new (R.remaining reader.old.device)
-        (R.remaining reader.new.device) kept.old kept.new) }
-    ensures agrees { OnOk result (Agrees pieces.new (R.remaining reader.new.device)) }
-    ensures nearer { OnOk result (pieces.old.taken ≤ pieces.new.taken) }
-    ensures within { OnOk result (pieces.new.taken ≤ MAX_INPUT) }
-    ensures err { OnErr result (Came (R.remaining reader.old.device) (R.remaining reader.new.device)) }
-    ensures read { IsErrOf result IntakeFault.Read
-        → Unfinished first pieces.old (R.remaining reader.old.device) (R.remaining reader.new.device) }
-    ensures much { IsErrOf result IntakeFault.TooMuch
-        → CameTooMuch pieces.old (R.remaining reader.old.device) (R.remaining reader.new.device) }
-    ensures memory { result ≢ Err IntakeFault.OutOfMemory }
-    ensures failures { reader.new.failures ≡ failures_after result reader.old.failures }
-{
-    if first == b'(' {
-        take_until(reader, pieces, Until::Bracket, kept)?;
-        take_if(pieces, b')', kept);
-        return Ok(());
-    }
-    take_until(reader, pieces, Until::OrderEnd, kept)
-}
-
-/// A frame of what was kept.
-fn frame_of<A: Allocator + Copy>(alloc: A, kept: &Kept<A>) -> Result<Frame<A>, IntakeFault>
-    ensures ok { IfOk result (λ frame. filing_in frame ≡ filing_kept kept.now) }
+/// The frame that was taken last, read.
+fn frame_of<A: Allocator + Copy>(alloc: A, input: &Input<A>) -> Result<Frame<A>, IntakeFault>
+    ensures ok { IfOk result (λ frame. filing_in frame ≡ filing_kept input.now.item) }
     ensures err { IfErr result (λ e. e ≡ IntakeFault.OutOfMemory) }
-    ensures whole { OnErr result (kept.now ≢ None) }
+    ensures whole { OnErr result (input.now.item ≢ None) }
 {
-    let Some(bytes) = kept.bytes() else {
+    let Some(bytes) = input.frame() else {
         return Ok(Frame::TooLong);
     };
     match Filing::new(alloc, bytes) {
@@ -70,81 +40,34 @@ fn frame_of<A: Allocator + Copy>(alloc: A, kept: &Kept<A>) -> Result<Frame<A>, I
     }
 }
 
-/// Cuts the next frame of the input off, and answers whether there was one: its bytes are in `kept` then. Bytes stay in
-/// `pieces` from one call to the next.
-pub fn cut_frame<R: Read, A: Allocator>(
-    reader: &mut Counted<R>,
-    pieces: &mut Pieces<A>,
-    kept: &mut Kept<A>,
-) -> Result<bool, IntakeFault>
-    requires { Agrees pieces.old (R.remaining reader.old.device) }
-    ensures cuts { IfOk result (λ found.
-        Cuts found kept.new pieces.old pieces.new (R.remaining reader.old.device) (R.remaining reader.new.device)) }
-    ensures ended { IsTrue pieces.old.ended → IfOk result (λ found. found ≡ false) }
-    ensures still { IsTrue pieces.old.ended → (pieces.new ≡ pieces.old) × (reader.new ≡ reader.old) }
-    ensures agrees { OnOk result (Agrees pieces.new (R.remaining reader.new.device)) }
-    ensures nearer { IfOk result (λ found. IsTrue found → pieces.old.taken < pieces.new.taken) }
-    ensures within { IfOk result (λ found. IsTrue found → pieces.new.taken ≤ MAX_INPUT) }
-    ensures most { OnOk result (pieces.new.taken ≤ MAX_INPUT) }
-
-    // What the bytes that came show, and when each fault comes.
-    ensures err { OnErr result (Came (R.remaining reader.old.device) (R.remaining reader.new.device)) }
-    ensures going { OnErr result (pieces.old.ended ≡ false) }
-    ensures read { IsErrOf result IntakeFault.Read
-        → Starves pieces.old (R.remaining reader.old.device) (R.remaining reader.new.device) }
-    ensures much { IsErrOf result IntakeFault.TooMuch
-        → CameTooMuch pieces.old (R.remaining reader.old.device) (R.remaining reader.new.device) }
-    ensures memory { result ≢ Err IntakeFault.OutOfMemory }
-    ensures failures { reader.new.failures ≡ failures_after result reader.old.failures }
-{
-    if let Some(span) = first_frame(pieces.unread()) {
-        kept.set(&pieces.unread()[span.begin..span.end]);
-        pieces.skip(span.end);
-        return Ok(true);
-    }
-    if pieces.has_ended() {
-        return Ok(false);
-    }
-    take_until(reader, pieces, Until::Text, kept)?;
-    let Some(first) = pieces.front() else {
-        return Ok(false);
-    };
-    kept.start(first);
-    pieces.skip(1);
-    finish(reader, pieces, first, kept)?;
-    Ok(true)
-}
-
-/// The next frame of the input. Bytes stay in `pieces` from one call to the next; `kept` is room for the bytes of a
-/// frame.
+/// The next frame of the input. Bytes stay in `input` from one call to the next.
 fn next_frame<R: Read, A: Allocator + Copy>(
     alloc: A,
     reader: &mut Counted<R>,
-    pieces: &mut Pieces<A>,
-    kept: &mut Kept<A>,
+    input: &mut Input<A>,
 ) -> Result<Option<Frame<A>>, IntakeFault>
-    requires { Agrees pieces.old (R.remaining reader.old.device) }
+    requires { Agrees input.old (R.remaining reader.old.device) }
     ensures gives { IfOk result (λ frame.
-        Gives frame pieces.old pieces.new (R.remaining reader.old.device) (R.remaining reader.new.device)) }
-    ensures ended { IsTrue pieces.old.ended → IfOk result (λ frame. IsNone frame) }
-    ensures still { IsTrue pieces.old.ended → (pieces.new ≡ pieces.old) × (reader.new ≡ reader.old) }
-    ensures agrees { OnOk result (Agrees pieces.new (R.remaining reader.new.device)) }
-    ensures most { OnOk result (pieces.new.taken ≤ MAX_INPUT) }
+        Gives frame input.old input.new (R.remaining reader.old.device) (R.remaining reader.new.device)) }
+    ensures ended { IsTrue input.old.ended → IfOk result (λ frame. IsNone frame) }
+    ensures still { IsTrue input.old.ended → (input.new ≡ input.old) × (reader.new ≡ reader.old) }
+    ensures agrees { OnOk result (Agrees input.new (R.remaining reader.new.device)) }
+    ensures most { OnOk result (input.new.taken ≤ MAX_INPUT) }
 
     // When each fault comes.
-    ensures going { OnErr result (pieces.old.ended ≡ false) }
+    ensures going { OnErr result (input.old.ended ≡ false) }
     ensures much { IsErrOf result IntakeFault.TooMuch
-        → CameTooMuch pieces.old (R.remaining reader.old.device) (R.remaining reader.new.device) }
+        → CameTooMuch input.old (R.remaining reader.old.device) (R.remaining reader.new.device) }
     ensures failures { reader.new.failures ≡ failures_after result reader.old.failures }
     ensures memory { IsErrOf result IntakeFault.OutOfMemory
-        → Misses pieces.old pieces.new (R.remaining reader.old.device) (R.remaining reader.new.device)
-        × Agrees pieces.new (R.remaining reader.new.device) }
-    ensures room { IsErrOf result IntakeFault.OutOfMemory → pieces.new.taken ≤ MAX_INPUT }
+        → Misses input.old input.new (R.remaining reader.old.device) (R.remaining reader.new.device)
+        × Agrees input.new (R.remaining reader.new.device) }
+    ensures room { IsErrOf result IntakeFault.OutOfMemory → input.new.taken ≤ MAX_INPUT }
 {
-    if !cut_frame(reader, pieces, kept)? {
+    if !take_frame(reader, input)? {
         return Ok(None);
     }
-    Ok(Some(frame_of(alloc, kept)?))
+    Ok(Some(frame_of(alloc, input)?))
 }
 
 /// The frames of an input, one after the other.
@@ -152,8 +75,7 @@ fn next_frame<R: Read, A: Allocator + Copy>(
 pub struct Intake<R: Read, A: Allocator + Copy = Global> {
     alloc: A,
     reader: Counted<R>,
-    pieces: Pieces<A>,
-    kept: Kept<A>,
+    input: Input<A>,
     failed: bool,
 }
 
@@ -166,18 +88,18 @@ impl<R: Read, A: Allocator + Copy> Model for Intake<R, A> {
     ghost Value = { Source };
 
     ghost view = { λ a. record {
-      left = prepend_known a.pieces.unread (R.remaining a.reader.device);
-      taken = a.pieces.taken;
+      left = prepend_known a.input.unread (R.remaining a.reader.device);
+      taken = a.input.taken;
       failures = a.reader.failures;
-      ended = a.pieces.ended;
+      ended = a.input.ended;
       failed = a.failed;
     } };
 
-    ghost invariant = { λ a. a.failed ≡ false → Agrees a.pieces (R.remaining a.reader.device) };
+    ghost invariant = { λ a. a.failed ≡ false → Agrees a.input (R.remaining a.reader.device) };
 }
 
 impl<R: Read, A: Allocator + Copy> Intake<R, A> {
-    /// The frames of what this reader gives. Takes the memory for a piece of the input and for the longest frame.
+    /// The frames of what this reader gives. Takes the memory for the buffer.
     pub fn new(alloc: A, reader: Counted<R>) -> Result<Self, AllocError>
     where
         R: Drop,
@@ -190,13 +112,11 @@ impl<R: Read, A: Allocator + Copy> Intake<R, A> {
               failed = false;
             }) }
     {
-        let pieces = Pieces::new(alloc)?;
-        let kept = Kept::new(alloc)?;
+        let input = Input::new(alloc)?;
         Ok(Intake {
             alloc,
             reader,
-            pieces,
-            kept,
+            input,
             failed: false,
         })
     }
@@ -237,12 +157,7 @@ impl<R: Read, A: Allocator + Copy> Intake<R, A> {
         if self.failed {
             return Err(IntakeFault::Read);
         }
-        let result = next_frame(
-            self.alloc,
-            &mut self.reader,
-            &mut self.pieces,
-            &mut self.kept,
-        );
+        let result = next_frame(self.alloc, &mut self.reader, &mut self.input);
         self.failed = result.is_err();
         result
     }

@@ -9,67 +9,61 @@ use mathlib.Core.List.{IsPrefix}
 use lib.ListN.{get_or}
 use Rattle.fpl_message.specs.Filings.{FilingText}
 use Rattle.flow_plans.specs.Settings.{Settings}
-use Rattle.flow_core.specs.declared.receipt.Receipt.{Receipt}
-use Rattle.flow_core.specs.declared.desk.StepFault.TheVariants as step
+use Rattle.flow_core.specs.declared.receipt.StepFault.TheVariants as step
 use Rattle.flow_core.specs.State.{Record}
 use Rattle.flow_core.specs.History.{History, state_of}
 use Rattle.flow_desk.specs.declared.feeders.End.{End}
 use Rattle.flow_desk.specs.declared.feeders.End.TheVariants.{Stopped}
 use Rattle.flow_desk.specs.Desks.{AreOpened, IsMissing, has_pass}
-use Rattle.flow_desk.specs.Feeds.{EndsAs, HasRun, HaveRun}
 use Rattle.flow_desk.specs.Histories.{own, after}
 use Rattle.flow_desk.specs.Locks.{Agrees}
 use Rattle.flow_desk.specs.Passes.{PassView}
 use Rattle.flow_desk.proofs.Fronts.{prefix_trans, prefix_length}
 use Rattle.flow_desk.proofs.Owning.{own-append}
 use Rattle.flow_runs.specs.declared.fault.RunFault.{RunFault}
-use Rattle.flow_runs.specs.Ends.{EndsWell}
-use Rattle.flow_runs.specs.Filing.{texts, HasFiled, RanFeeds}
+use Rattle.flow_runs.specs.Ends.{EndsWell, EndsFeed}
+use Rattle.flow_runs.specs.Filing.{texts, HasFiled, RanFeed, RanFeeds}
 
 -- how one feed of many has run, by which pass, and what is true of that pass and of its end
 record RunAt (s : Settings) (Q : PassView → Type 0) (E : End → Type 0) (ps : List PassView) (qs : List PassView) (k : ℕ) (feed : List FilingText) : Type 0 where
   p : PassView
   q : PassView
-  receipts : List Receipt
   left : List FilingText
   end : End
   at_p : slice_get ps k ≡ Some p
   at_q : slice_get qs k ≡ Some q
-  ran : HasRun s p feed q receipts left end
+  ran : RanFeed s p feed q left end
   is_q : Q q
   is_end : E end
 
 all-tail : {X : Type 0} (P : X → Type 0) (x : X) (xs : List X) → All P (x ∷ xs) → All P xs
 all-tail P x xs all = λ k d lt. all (suc k) d (omega (arith, lt))
 
-run-at : (s : Settings) (Q : PassView → Type 0) (E : End → Type 0) (ps : List PassView) (fs : List (List FilingText)) (qs : List PassView) (rs : List (List Receipt)) (ls : List (List FilingText)) (es : List End)
-    → HaveRun s ps fs qs rs ls es → All Q qs → All E es → (k : ℕ) (feed : List FilingText) → slice_get fs k ≡ Some feed → RunAt s Q E ps qs k feed
-run-at s Q E ps [] qs rs ls es h all ends k feed at = absurd (omega (arith, slice_get_within [] k feed at))
-run-at s Q E [] (f ∷ fs) qs rs ls es h all ends k feed at = absurd h
-run-at s Q E (p ∷ ps) (f ∷ fs) [] rs ls es h all ends k feed at = absurd h
-run-at s Q E (p ∷ ps) (f ∷ fs) (q ∷ qs) [] ls es h all ends k feed at = absurd h
-run-at s Q E (p ∷ ps) (f ∷ fs) (q ∷ qs) (r ∷ rs) [] es h all ends k feed at = absurd h
-run-at s Q E (p ∷ ps) (f ∷ fs) (q ∷ qs) (r ∷ rs) (l ∷ ls) [] h all ends k feed at = absurd h
-run-at s Q E (p ∷ ps) (f ∷ fs) (q ∷ qs) (r ∷ rs) (l ∷ ls) (e ∷ es) h all ends zero feed at =
+run-at : (s : Settings) (Q : PassView → Type 0) (E : End → Type 0) (ps : List PassView) (fs : List (List FilingText)) (qs : List PassView) (ls : List (List FilingText)) (es : List End)
+    → RanFeeds s ps fs qs ls es → All Q qs → All E es → (k : ℕ) (feed : List FilingText) → slice_get fs k ≡ Some feed → RunAt s Q E ps qs k feed
+run-at s Q E ps [] qs ls es h all ends k feed at = absurd (omega (arith, slice_get_within [] k feed at))
+run-at s Q E [] (f ∷ fs) qs ls es h all ends k feed at = absurd h
+run-at s Q E (p ∷ ps) (f ∷ fs) [] ls es h all ends k feed at = absurd h
+run-at s Q E (p ∷ ps) (f ∷ fs) (q ∷ qs) [] es h all ends k feed at = absurd h
+run-at s Q E (p ∷ ps) (f ∷ fs) (q ∷ qs) (l ∷ ls) [] h all ends k feed at = absurd h
+run-at s Q E (p ∷ ps) (f ∷ fs) (q ∷ qs) (l ∷ ls) (e ∷ es) h all ends zero feed at =
     let same : f ≡ feed = cc at in
     record {
       p = p;
       q = q;
-      receipts = r;
       left = l;
       end = e;
       at_p = refl;
       at_q = refl;
-      ran = subst (λ (t : List FilingText). HasRun s p t q r l e) same h.0;
+      ran = subst (λ (t : List FilingText). RanFeed s p t q l e) same h.0;
       is_q = all 0 q (omega arith);
       is_end = ends 0 e (omega arith);
     }
-run-at s Q E (p ∷ ps) (f ∷ fs) (q ∷ qs) (r ∷ rs) (l ∷ ls) (e ∷ es) h all ends (suc k) feed at =
-    let i = run-at s Q E ps fs qs rs ls es h.1 (all-tail Q q qs all) (all-tail E e es ends) k feed at in
+run-at s Q E (p ∷ ps) (f ∷ fs) (q ∷ qs) (l ∷ ls) (e ∷ es) h all ends (suc k) feed at =
+    let i = run-at s Q E ps fs qs ls es h.1 (all-tail Q q qs all) (all-tail E e es ends) k feed at in
     record {
       p = i.p;
       q = i.q;
-      receipts = i.receipts;
       left = i.left;
       end = i.end;
       at_p = i.at_p;
@@ -83,7 +77,7 @@ run-at s Q E (p ∷ ps) (f ∷ fs) (q ∷ qs) (r ∷ rs) (l ∷ ls) (e ∷ es) h
 filed-at : (s : Settings) (E : End → Type 0) (n : ℕ) (read entries : List Record) (ps qs : List PassView) (k : ℕ) (feed : List FilingText) (r : RunAt s (Agrees (read ++ entries)) E ps qs k feed)
     → AreOpened n read ps → texts (own k entries) ++ r.left ≡ feed
 filed-at s E n read entries ps qs k feed r opened =
-    let ran = r.ran.ran in
+    let ran = r.ran.filed.ran in
     let opened_p : r.p ≡ record { feeder = k; receipts = length (own k read); seen = read } = opened.1 k r.p r.at_p in
     let feeder_p : r.p.feeder ≡ k = ap (λ (v : PassView). v.feeder) opened_p in
     let seen_p : r.p.seen ≡ read = ap (λ (v : PassView). v.seen) opened_p in
@@ -99,10 +93,10 @@ whole-at : (s : Settings) (read entries : List Record) (ps qs : List PassView) (
     → length (read ++ entries) < s.max_entries → texts (own k entries) ++ r.left ≡ feed → texts (own k entries) ≡ feed
 whole-at s read entries ps qs k feed r room filed = elim r.is_end [
   | inl done ↦
-      let none : r.left ≡ [] = subst (λ (e : End). EndsAs s e r.q r.receipts r.left) done r.ran.ends in
+      let none : r.left ≡ [] = subst (λ (e : End). EndsFeed s e r.q r.left) done r.ran.ends in
       sym (append-nil (texts (own k entries))) ∙ (ap (λ (ts : List FilingText). texts (own k entries) ++ ts) (sym none) ∙ filed)
   | inr full ↦
-      let ends : EndsAs s (Stopped step.JournalFull) r.q r.receipts r.left = subst (λ (e : End). EndsAs s e r.q r.receipts r.left) full r.ran.ends in
+      let ends : EndsFeed s (Stopped step.JournalFull) r.q r.left = subst (λ (e : End). EndsFeed s e r.q r.left) full r.ran.ends in
       absurd (omega (arith, ends.1 refl, prefix_length r.q.seen (read ++ entries) r.is_q.later, room))
 ]
 
@@ -117,18 +111,19 @@ read-first : (s : Settings) (E : End → Type 0) (n : ℕ) (read journal : List 
     → RunAt s (Agrees journal) E ps qs k feed → AreOpened n read ps → IsPrefix read journal
 read-first s E n read journal ps qs k feed r opened =
     let seen_p : r.p.seen ≡ read = ap (λ (v : PassView). v.seen) (opened.1 k r.p r.at_p) in
-    subst (λ (es : List Record). IsPrefix es journal) seen_p (prefix_trans r.p.seen r.q.seen journal r.ran.ran.later r.is_q.later)
+    subst (λ (es : List Record). IsPrefix es journal) seen_p (prefix_trans r.p.seen r.q.seen journal r.ran.filed.ran.later r.is_q.later)
 
 -- the feeders have filed what the closed desk has
-pub closed : (s : Settings) (n : ℕ) (read : List Record) (ps : List PassView) (fs : List (List FilingText)) (qs : List PassView) (rs : List (List Receipt)) (ls : List (List FilingText)) (es : List End) (core : History) (stop : Option RunFault)
-    → 0 < n → length fs ≡ n → AreOpened n read ps → HaveRun s ps fs qs rs ls es → (stop ≡ None → All EndsWell es)
-    → core.setup ≡ s → state_of core ≡ after s (state_of core).journal → All (λ (e : Record). e.input.feeder < n) (state_of core).journal → All (Agrees (state_of core).journal) qs
+pub closed : (s : Settings) (n : ℕ) (read : List Record) (ps : List PassView) (fs : List (List FilingText)) (qs qs' : List PassView) (ls : List (List FilingText)) (es : List End) (core : History) (stop : Option RunFault)
+    → 0 < n → length fs ≡ n → AreOpened n read ps → RanFeeds s ps fs qs ls es → (stop ≡ None → All EndsWell es) → qs' ≡ qs
+    → core.setup ≡ s → state_of core ≡ after s (state_of core).journal → All (λ (e : Record). e.input.feeder < n) (state_of core).journal → All (Agrees (state_of core).journal) qs'
     → HasFiled s read n fs core stop
-closed s n read ps fs qs rs ls es core stop some wide opened ran well setup_is one below agree =
+closed s n read ps fs qs qs' ls es core stop some wide opened ran well same setup_is one below agree' =
     let journal : List Record = (state_of core).journal in
+    let agree : All (Agrees journal) qs = subst (λ (v : List PassView). All (Agrees journal) v) same agree' in
     let any : End → Type 0 = λ e. Unit {0} in
     let first : List FilingText = get_or fs 0 [] in
-    let front : IsPrefix read journal = read-first s any n read journal ps qs 0 first (run-at s (Agrees journal) any ps fs qs rs ls es ran agree (λ k d lt. tt) 0 first (slice_get-get_or fs 0 [] (omega (arith, some, wide)))) opened in
+    let front : IsPrefix read journal = read-first s any n read journal ps qs 0 first (run-at s (Agrees journal) any ps fs qs ls es ran agree (λ k d lt. tt) 0 first (slice_get-get_or fs 0 [] (omega (arith, some, wide)))) opened in
     let entries : List Record = front.0 in
     let is : journal ≡ read ++ entries = sym front.1 in
     let agrees : All (Agrees (read ++ entries)) qs = subst (λ (j : List Record). All (Agrees j) qs) is agree in
@@ -138,49 +133,32 @@ closed s n read ps fs qs rs ls es core stop some wide opened ran well setup_is o
       journal = is;
       one_thread = one ∙ ap (after s) is;
       below = all-behind (λ (e : Record). e.input.feeder < n) read entries (subst (λ (j : List Record). All (λ (e : Record). e.input.feeder < n) j) is below);
-      fronts = λ k feed at. (let r = run-at s (Agrees (read ++ entries)) any ps fs qs rs ls es ran agrees (λ k d lt. tt) k feed at in (r.left, filed-at s any n read entries ps qs k feed r opened));
-      whole = λ none room k feed at. (let r = run-at s (Agrees (read ++ entries)) EndsWell ps fs qs rs ls es ran agrees (well none) k feed at in whole-at s read entries ps qs k feed r room (filed-at s EndsWell n read entries ps qs k feed r opened));
+      fronts = λ k feed at. (let r = run-at s (Agrees (read ++ entries)) any ps fs qs ls es ran agrees (λ k d lt. tt) k feed at in (r.left, filed-at s any n read entries ps qs k feed r opened));
+      whole = λ none room k feed at. (let r = run-at s (Agrees (read ++ entries)) EndsWell ps fs qs ls es ran agrees (well none) k feed at in whole-at s read entries ps qs k feed r room (filed-at s EndsWell n read entries ps qs k feed r opened));
     }
 
 -- as many passes come back as there were
-pub as-many : (s : Settings) (ps : List PassView) (fs : List (List FilingText)) (qs : List PassView) (rs : List (List Receipt)) (ls : List (List FilingText)) (es : List End) → HaveRun s ps fs qs rs ls es → length qs ≡ length ps
-as-many s [] [] [] rs ls es h = refl
-as-many s [] (f ∷ fs) qs rs ls es h = absurd h
-as-many s [] [] (q ∷ qs) rs ls es h = absurd h
-as-many s (p ∷ ps) [] qs rs ls es h = absurd h
-as-many s (p ∷ ps) (f ∷ fs) [] rs ls es h = absurd h
-as-many s (p ∷ ps) (f ∷ fs) (q ∷ qs) [] ls es h = absurd h
-as-many s (p ∷ ps) (f ∷ fs) (q ∷ qs) (r ∷ rs) [] es h = absurd h
-as-many s (p ∷ ps) (f ∷ fs) (q ∷ qs) (r ∷ rs) (l ∷ ls) [] h = absurd h
-as-many s (p ∷ ps) (f ∷ fs) (q ∷ qs) (r ∷ rs) (l ∷ ls) (e ∷ es) h = ap suc (as-many s ps fs qs rs ls es h.1)
+pub as-many : (s : Settings) (ps : List PassView) (fs : List (List FilingText)) (qs : List PassView) (ls : List (List FilingText)) (es : List End) → RanFeeds s ps fs qs ls es → length qs ≡ length ps
+as-many s [] [] [] ls es h = refl
+as-many s [] (f ∷ fs) qs ls es h = absurd h
+as-many s [] [] (q ∷ qs) ls es h = absurd h
+as-many s (p ∷ ps) [] qs ls es h = absurd h
+as-many s (p ∷ ps) (f ∷ fs) [] ls es h = absurd h
+as-many s (p ∷ ps) (f ∷ fs) (q ∷ qs) [] es h = absurd h
+as-many s (p ∷ ps) (f ∷ fs) (q ∷ qs) (l ∷ ls) [] h = absurd h
+as-many s (p ∷ ps) (f ∷ fs) (q ∷ qs) (l ∷ ls) (e ∷ es) h = ap suc (as-many s ps fs qs ls es h.1)
 
 -- no feeder's pass is missing when all have run
-pub none-missing : (s : Settings) (n : ℕ) (read : List Record) (ps : List PassView) (fs : List (List FilingText)) (qs : List PassView) (rs : List (List Receipt)) (ls : List (List FilingText)) (es : List End)
-    → length fs ≡ n → AreOpened n read ps → HaveRun s ps fs qs rs ls es → IsMissing n qs → ⊥
-none-missing s n read ps fs qs rs ls es wide opened ran missing =
+pub none-missing : (s : Settings) (n : ℕ) (read : List Record) (ps : List PassView) (fs : List (List FilingText)) (qs : List PassView) (ls : List (List FilingText)) (es : List End)
+    → length fs ≡ n → AreOpened n read ps → RanFeeds s ps fs qs ls es → IsMissing n qs → ⊥
+none-missing s n read ps fs qs ls es wide opened ran missing =
     let k : ℕ = missing.0 in
     let feed : List FilingText = get_or fs k [] in
     let any_pass : PassView → Type 0 = λ q. Unit {0} in
     let any_end : End → Type 0 = λ e. Unit {0} in
-    let r = run-at s any_pass any_end ps fs qs rs ls es ran (λ i d lt. tt) (λ i d lt. tt) k feed (slice_get-get_or fs k [] (omega (arith, missing.1, wide))) in
-    let feeder : r.q.feeder ≡ k = r.ran.ran.feeder ∙ ap (λ (v : PassView). v.feeder) (opened.1 k r.p r.at_p) in
+    let r = run-at s any_pass any_end ps fs qs ls es ran (λ i d lt. tt) (λ i d lt. tt) k feed (slice_get-get_or fs k [] (omega (arith, missing.1, wide))) in
+    let feeder : r.q.feeder ≡ k = r.ran.filed.ran.feeder ∙ ap (λ (v : PassView). v.feeder) (opened.1 k r.p r.at_p) in
     let its : (r.q.feeder == k) ≡ true = grind (arith, nat_tests) in
     let there : ((get_or qs k r.q).feeder == k) ≡ true = ap (λ (v : PassView). v.feeder == k) (get_or_from_slice_get qs k r.q r.q r.at_q) ∙ its in
     let has : has_pass qs k ≡ true = list_any_at (λ (v : PassView). v.feeder == k) qs k r.q (slice_get_within qs k r.q r.at_q) there in
     absurd (cc (missing.2, has))
-
--- ---- whatever the receipts of the feeds are
-
-pub many-ran : (s : Settings) (ps : List PassView) (fs : List (List FilingText)) (qs : List PassView) (ls : List (List FilingText)) (es : List End) → RanFeeds s ps fs qs ls es → length qs ≡ length ps
-many-ran s ps fs qs ls es r = as-many s ps fs qs r.receipts ls es r.run
-
-pub none-missing-ran : (s : Settings) (n : ℕ) (read : List Record) (ps : List PassView) (fs : List (List FilingText)) (qs : List PassView) (ls : List (List FilingText)) (es : List End)
-    → length fs ≡ n → AreOpened n read ps → RanFeeds s ps fs qs ls es → IsMissing n qs → ⊥
-none-missing-ran s n read ps fs qs ls es wide opened r missing = none-missing s n read ps fs qs r.receipts ls es wide opened r.run missing
-
-pub closed-ran : (s : Settings) (n : ℕ) (read : List Record) (ps : List PassView) (fs : List (List FilingText)) (qs qs' : List PassView) (ls : List (List FilingText)) (es : List End) (core : History) (stop : Option RunFault)
-    → 0 < n → length fs ≡ n → AreOpened n read ps → RanFeeds s ps fs qs ls es → (stop ≡ None → All EndsWell es) → qs' ≡ qs
-    → core.setup ≡ s → state_of core ≡ after s (state_of core).journal → All (λ (e : Record). e.input.feeder < n) (state_of core).journal → All (Agrees (state_of core).journal) qs'
-    → HasFiled s read n fs core stop
-closed-ran s n read ps fs qs qs' ls es core stop some wide opened r well same setup one_thread below agree =
-    closed s n read ps fs qs r.receipts ls es core stop some wide opened r.run well setup one_thread below (subst (λ (v : List PassView). All (Agrees (state_of core).journal) v) same agree)

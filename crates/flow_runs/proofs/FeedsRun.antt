@@ -24,13 +24,11 @@ some-left (t ∷ ts) rest after some are none = absurd (cc (are, none))
 feeds-ran : {X : Type 0} (s : Settings) (pass : X → PassView) (left : X → List FilingText) (end : X → End) (olds news : List X) → length news ≡ length olds
     → ((i : ℕ) (d : X) → i < length olds → RanFeed s (pass (slice_index_or olds i d)) (left (slice_index_or olds i d)) (pass (slice_index_or news i d)) (left (slice_index_or news i d)) (end (slice_index_or news i d)))
     → RanFeeds s (map pass olds) (map left olds) (map pass news) (map left news) (map end news)
-feeds-ran s pass left end [] [] same each = record { receipts = []; run = tt }
+feeds-ran s pass left end [] [] same each = tt
 feeds-ran s pass left end [] (y ∷ ys) same each = absurd (omega (arith, same))
 feeds-ran s pass left end (x ∷ xs) [] same each = absurd (omega (arith, same))
 feeds-ran s pass left end (x ∷ xs) (y ∷ ys) same each =
-    let first = each 0 x (omega arith) in
-    let rest = feeds-ran s pass left end xs ys (omega (arith, same)) (λ i d lt. each (suc i) d (omega (arith, lt))) in
-    record { receipts = first.receipts ∷ rest.receipts; run = (first.run, rest.run) }
+    (each 0 x (omega arith), feeds-ran s pass left end xs ys (omega (arith, same)) (λ i d lt. each (suc i) d (omega (arith, lt))))
 
 -- feeds that were made of these passes and texts, where there was none
 pub texts-ran : {X : Type 0} (s : Settings) (pass : X → PassView) (left : X → List FilingText) (end : X → End) (none olds news : List X) (ps : List PassView) (fs : List (List FilingText))

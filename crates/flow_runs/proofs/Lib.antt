@@ -1,3 +1,4 @@
+pub mod Failures
 pub mod Closed
 pub mod FeedsRun
 pub mod Sizes

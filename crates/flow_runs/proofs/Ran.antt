@@ -1,5 +1,5 @@
 -- What a run with many feeders has come to, from its parts.
-use Rattle.std.proofs.Common.{◌≡◌, ◌≢◌, ◌⊎◌, inl, inr, ℕ, ◌-◌, Bool, List, [], ◌∷◌, ◌++◌, length, drop, refl, ap, sym, ◌∙◌, subst, arith, Option, Some, None, IfSome, Result, Ok, Err, OnOk, IfErr, IsErrOf, length-append}
+use Rattle.std.proofs.Common.{◌≡◌, ◌≢◌, ◌⊎◌, inl, inr, ℕ, ◌-◌, ◌≤◌, Bool, List, [], ◌∷◌, ◌++◌, length, drop, refl, ap, sym, ◌∙◌, subst, arith, Option, Some, None, IfSome, Result, Ok, Err, OnOk, IfErr, IsErrOf, length-append}
 use Rattle.std.specs.Io.KnownBytes.{Appends}
 use Rattle.std.proofs.KnownBytes.{Keeps-refl}
 use Rattle.flow_plans.specs.Settings.{Settings}
@@ -12,6 +12,7 @@ use Rattle.flow_core.specs.State.{State, Input, Record}
 use Rattle.flow_core.specs.Steps.{run}
 use Rattle.flow_core.specs.Journal.{HoldsJournal}
 use Rattle.flow_intake.specs.Cutting.{Overrun}
+use Rattle.flow_intake.specs.declared.input.TheConstants.{MAX_INPUT}
 use Rattle.flow_desk.specs.Blanks.{first_beyond}
 use Rattle.flow_core.specs.History.{History, state_of}
 use Rattle.flow_desk.specs.Histories.{after}
@@ -203,11 +204,11 @@ ended-on fault.BadFeeders feeders journal begun written input rest others b = ab
 
 -- the journal text was read, and the run went on from there
 pub RanOn-made : (setup : Settings) (filed : List Input) (feeders : ℕ) (journal : Bool) (input mid begun written : Option (List ℕ)) → HoldsJournal setup filed input mid → first_beyond feeders 1 (run setup filed).journal ≡ None
-    → IfSome mid (λ bytes. RanMany setup (run setup filed).journal feeders journal (frames bytes) begun written) → IfSome input (λ bytes. RanOn bytes feeders journal begun written)
-RanOn-made setup filed feeders journal None mid begun written h within ran = tt
-RanOn-made setup filed feeders journal (Some bytes) None begun written h within ran = absurd h
-RanOn-made setup filed feeders journal (Some bytes) (Some rest) begun written h within ran =
-    record { setup = setup; filed = filed; text = h.0; rest = rest; is = h.1; holds = h.2; within = within; ran = ran }
+    → IfSome mid (λ bytes. length bytes ≤ MAX_INPUT) → IfSome mid (λ bytes. RanMany setup (run setup filed).journal feeders journal (frames bytes) begun written) → IfSome input (λ bytes. RanOn bytes feeders journal begun written)
+RanOn-made setup filed feeders journal None mid begun written h within most ran = tt
+RanOn-made setup filed feeders journal (Some bytes) None begun written h within most ran = absurd h
+RanOn-made setup filed feeders journal (Some bytes) (Some rest) begun written h within most ran =
+    record { setup = setup; filed = filed; text = h.0; rest = rest; is = h.1; most = most; holds = h.2; within = within; ran = ran }
 
 pub EndedBehind-made : (setup : Settings) (filed : List Input) (e : RunFault) (feeders : ℕ) (journal : Bool) (begun written input mid rest : Option (List ℕ)) → (e ≢ fault.BadJournal) × (e ≢ fault.BadFeeders) × (e ≢ fault.NoReader)
     → HoldsJournal setup filed input mid → first_beyond feeders 1 (run setup filed).journal ≡ None → EndedBy e setup (run setup filed).journal feeders journal begun written mid rest → EndedOnBy e feeders journal begun written input rest

@@ -13,7 +13,10 @@ use Rattle.flow_intake.specs.NextFrame.{GaveFirst, GaveNone, Starves}
 use Rattle.flow_intake.specs.Cutting.{Overrun, CutFront}
 use Rattle.flow_intake.specs.Frames.{frames, ended_frames, ended_in}
 use Rattle.flow_intake.proofs.Cuttings.{Cutting-start, Cutting-one, Cutting-end, CutFront-came, CutFront-one, CutEnded-read, Overrun-came}
+use Rattle.flow_intake.specs.declared.fault.IntakeFault.{IntakeFault}
+use Rattle.flow_intake.specs.declared.fault.IntakeFault.TheVariants as intake
 use Rattle.flow_runs.specs.declared.fault.RunFault.{RunFault}
+use Rattle.flow_runs.specs.Faults.{fault_of_frame}
 use Rattle.flow_runs.specs.declared.fault.RunFault.TheVariants as fault
 use Rattle.flow_runs.specs.Reading.{filings, long_lines, HasRead, ReadsNext, Reading, ToldFirst, ToldEnded, ToldFront, ToldUntil, LeavesNext}
 
@@ -101,7 +104,7 @@ ReadsNext-whole kept bytes filing old new count longer before some is-second dea
     }
 
 -- nothing was read yet
-pub Reading-start : (n : ℕ) (feeds : List (List FilingText)) (count : ℕ) (begun : Option (List ℕ)) (ahead : Ahead) (input : Option (List ℕ)) → AreDealt n [] feeds → count ≡ 0 → ahead ≡ record { unread = []; taken = 0; ended = false } → Reading n feeds count begun begun ahead input input
+pub Reading-start : (n : ℕ) (feeds : List (List FilingText)) (count : ℕ) (begun : Option (List ℕ)) (ahead : Ahead) (input : Option (List ℕ)) → AreDealt n [] feeds → count ≡ 0 → ahead ≡ record { unread = []; taken = 0; ended = false; item = Some [] } → Reading n feeds count begun begun ahead input input
 unfolding filings long_lines
 Reading-start n feeds count begun ahead input none zero fresh =
     record { done = []; cutting = Cutting-start ahead input fresh; has = record { dealt = none; counted = zero; told = Appends-none begun } }
@@ -164,16 +167,10 @@ pub told-memory : (e : RunFault) (begun input : Option (List ℕ)) → e ≡ fau
 told-memory e begun input is = subst (λ (k : RunFault). ToldUntil k begun begun input input) (sym is) (ToldFirst-none begun input)
 
 -- where no frame came
-pub told-no_frame : (e : RunFault) (begun written input rest : Option (List ℕ)) → (e ≡ fault.Read → ToldEnded begun written input rest) → ToldFirst begun written input rest
-    → (e ≢ fault.Write) × (e ≢ fault.BadJournal) × (e ≢ fault.BadFeeders) × (e ≢ fault.NoReader) × (e ≢ fault.NotStarted) → ToldUntil e begun written input rest
-told-no_frame fault.Read begun written input rest starved first others = starved refl
-told-no_frame fault.TooMuch begun written input rest starved first others = first
-told-no_frame fault.Write begun written input rest starved first others = absurd (others.0 refl)
-told-no_frame fault.OutOfMemory begun written input rest starved first others = first
-told-no_frame fault.NoReader begun written input rest starved first others = absurd (others.3 refl)
-told-no_frame fault.NotStarted begun written input rest starved first others = absurd (others.4 refl)
-told-no_frame fault.BadJournal begun written input rest starved first others = absurd (others.1 refl)
-told-no_frame fault.BadFeeders begun written input rest starved first others = absurd (others.2 refl)
+pub told-no_frame : (e : IntakeFault) (begun written input rest : Option (List ℕ)) → (e ≡ intake.Read → ToldEnded begun written input rest) → ToldFirst begun written input rest → ToldUntil (fault_of_frame e) begun written input rest
+told-no_frame intake.Read begun written input rest starved first = starved refl
+told-no_frame intake.TooMuch begun written input rest starved first = first
+told-no_frame intake.OutOfMemory begun written input rest starved first = first
 
 module _ (n : ℕ) (feeds : List (List FilingText)) (count : ℕ) (begun written : Option (List ℕ)) (old : Ahead) (input mid : Option (List ℕ)) (r : Reading n feeds count begun written old input mid) where
   -- the lines that were written are those of the first frames of what was read

@@ -1,8 +1,11 @@
 -- How feeds end, and with which fault a run.
-use Rattle.std.specs.Prelude.{◌≡◌, ◌⊎◌, Option, IfSome}
-use Rattle.flow_core.specs.declared.desk.StepFault.TheVariants as step
+use Rattle.std.specs.Prelude.{◌≡◌, ◌≢◌, ◌⊎◌, List, [], length, Option, None, Some, IfSome}
+use Rattle.fpl_message.specs.Filings.{FilingText}
+use Rattle.flow_plans.specs.Settings.{Settings}
+use Rattle.flow_core.specs.declared.receipt.StepFault.TheVariants as step
 use Rattle.flow_desk.specs.declared.feeders.End.{End}
-use Rattle.flow_desk.specs.declared.feeders.End.TheVariants.{Finished, Stopped}
+use Rattle.flow_desk.specs.declared.feeders.End.TheVariants.{Finished, Stopped, NotStarted}
+use Rattle.flow_desk.specs.Passes.{PassView}
 use Rattle.flow_runs.specs.declared.fault.RunFault.{RunFault}
 use Rattle.flow_runs.specs.declared.fault.RunFault.TheVariants as fault
 
@@ -10,6 +13,22 @@ use Rattle.flow_runs.specs.declared.fault.RunFault.TheVariants as fault
 abbrev pub EndsWell : End → Type 0
 EndsWell end = (end ≡ Finished) ⊎ (end ≡ Stopped step.JournalFull)
 
+-- how a feed ended whose texts are read just before they are filed: with nothing left; or with the first of what is left refused, as
+-- full only where the journal was
+abbrev pub EndsFeed : Settings → End → PassView → List FilingText → Type 0
+EndsFeed s Finished q left = left ≡ []
+EndsFeed s (Stopped why) q left = (left ≢ []) × (why ≡ step.JournalFull → length q.seen ≡ s.max_entries)
+EndsFeed s NotStarted q left = ⊥
+
 -- a feed's fault that ends a run, or none
 abbrev pub IsStop : Option RunFault → Type 0
 IsStop stop = IfSome stop (λ e. (e ≡ fault.OutOfMemory) ⊎ (e ≡ fault.NotStarted))
+
+-- the fault that some feeds ended with, if one did, with one more feed that ended so: a feed to which memory was refused comes before
+-- one that was never begun
+abbrev pub stop_of : Option RunFault → End → Option RunFault
+stop_of stop Finished = stop
+stop_of stop (Stopped step.JournalFull) = stop
+stop_of stop (Stopped step.OutOfMemory) = Some fault.OutOfMemory
+stop_of None NotStarted = Some fault.NotStarted
+stop_of (Some why) NotStarted = Some why

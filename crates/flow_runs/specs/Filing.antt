@@ -1,5 +1,5 @@
 -- What the feeders of a desk have filed, all in all.
-use Rattle.std.specs.Prelude.{◌≡◌, ℕ, ◌<◌, List, ◌++◌, length, map, Option, Some, None, slice_get}
+use Rattle.std.specs.Prelude.{◌≡◌, ℕ, ◌<◌, List, [], ◌∷◌, ◌++◌, length, map, Option, Some, None, slice_get}
 use Rattle.std.specs.List.{All}
 use mathlib.Core.List.{IsPrefix}
 use Rattle.fpl_message.specs.Filings.{FilingText}
@@ -8,9 +8,10 @@ use Rattle.flow_core.specs.State.{Record}
 use Rattle.flow_core.specs.History.{History, state_of}
 use Rattle.flow_core.specs.declared.receipt.Receipt.{Receipt}
 use Rattle.flow_desk.specs.declared.feeders.End.{End}
-use Rattle.flow_desk.specs.Feeds.{Ran, HasRun, HaveRun}
+use Rattle.flow_desk.specs.Feeds.{Ran}
 use Rattle.flow_desk.specs.Histories.{own, after}
 use Rattle.flow_desk.specs.Passes.{PassView}
+use Rattle.flow_runs.specs.Ends.{EndsFeed}
 use Rattle.flow_runs.specs.declared.fault.RunFault.{RunFault}
 
 -- the texts of entries
@@ -24,13 +25,14 @@ pub record FiledTo (p : PassView) (feed : List FilingText) (q : PassView) (left 
 
 -- and ended so
 pub record RanFeed (setup : Settings) (p : PassView) (feed : List FilingText) (q : PassView) (left : List FilingText) (end : End) : Type 0 where
-  pub receipts : List Receipt
-  pub run : HasRun setup p feed q receipts left end
+  pub filed : FiledTo p feed q left
+  pub ends : EndsFeed setup end q left
 
--- and so was each of these, feed by feed
-pub record RanFeeds (setup : Settings) (ps : List PassView) (feeds : List (List FilingText)) (qs : List PassView) (left : List (List FilingText)) (ends : List End) : Type 0 where
-  pub receipts : List (List Receipt)
-  pub run : HaveRun setup ps feeds qs receipts left ends
+-- and so did each of these, feed by feed
+abbrev pub RanFeeds : Settings → List PassView → List (List FilingText) → List PassView → List (List FilingText) → List End → Type 0
+RanFeeds s [] [] [] [] [] = Unit {0}
+RanFeeds s (p ∷ ps) (feed ∷ feeds) (q ∷ qs) (left ∷ ls) (end ∷ es) = RanFeed s p feed q left end × RanFeeds s ps feeds qs ls es
+RanFeeds s _ _ _ _ _ = ⊥
 
 -- a desk was closed: behind the entries read stand those of the feeders alone, all in one history of the desk of one thread. Of its feed
 -- each feeder has filed a front; where none ended with a fault and the journal isn't full, all of it

@@ -1,3 +1,4 @@
+pub mod Faults
 pub mod Dealing
 pub mod Reading
 pub mod Ends

@@ -1,17 +1,18 @@
 -- The run of a program with many feeders.
-use Rattle.std.specs.Prelude.{◌≡◌, ◌⊎◌, ℕ, zero, suc, ◌-◌, ◌<◌, Bool, true, false, List, [], ◌++◌, length, drop, codes, Option, Some, None, Result, Ok, Err, IfSome}
+use Rattle.std.specs.Prelude.{◌≡◌, ◌⊎◌, ℕ, zero, suc, ◌-◌, ◌<◌, ◌≤◌, Bool, true, false, List, [], ◌++◌, length, drop, codes, Option, Some, None, Result, Ok, Err, IfSome}
 use Rattle.std.specs.List.{All, flat_map}
 use Rattle.std.specs.Io.KnownBytes.{Appends, Keeps}
 use mathlib.Core.List.{IsPrefix}
 use Rattle.flow_plans.specs.Settings.{Settings}
 use Rattle.flow_intake.specs.Frames.{frames}
 use Rattle.flow_intake.specs.Cutting.{Overrun}
+use Rattle.flow_intake.specs.declared.input.TheConstants.{MAX_INPUT}
 use Rattle.flow_intake.specs.Writes.{AppendsFront, Writes}
 use Rattle.flow_intake.specs.declared.counted.Counted.{Counted}
 use Rattle.flow_core.specs.State.{State, Input, Record}
 use Rattle.flow_core.specs.Steps.{run}
 use Rattle.flow_core.specs.CoreView.{inputs}
-use Rattle.flow_core.specs.Output.{answer_of}
+use Rattle.flow_core.specs.Output.{answer_of, journal_full_line}
 use Rattle.flow_core.specs.Journal.{journal_text, IsJournal, HoldsJournal}
 use Rattle.flow_desk.specs.Histories.{own, after}
 use Rattle.flow_desk.specs.Blanks.{first_beyond}
@@ -30,7 +31,7 @@ answers s entries = flat_map (answer_of s) entries
 -- a line for each of so many filings at a full journal
 abbrev pub full_lines : ℕ → List ℕ
 full_lines zero = []
-full_lines (suc n) = codes "- NO 91 JournalFull\n" ++ full_lines n
+full_lines (suc n) = journal_full_line ++ full_lines n
 
 -- the journal text, where it is asked for
 abbrev pub asked_journal : Bool → State → List ℕ
@@ -88,13 +89,15 @@ pub record RanMany (setup : Settings) (read : List Record) (feeders : ℕ) (jour
   pub whole : length (read ++ entries) < setup.max_entries → (k : ℕ) → k < feeders → texts (own k entries) ≡ dealt feeders k (filings input)
   pub output : Appends begun written (ended setup read journal input entries)
 
--- the input begins with a journal text, all of whose entries are of the feeders, and the run goes on from there
+-- the input begins with a journal text, all of whose entries are of the feeders, and the run goes on from there; what follows the
+-- text is no longer than an input may be
 pub record RanOn (bytes : List ℕ) (feeders : ℕ) (journal : Bool) (begun written : Option (List ℕ)) : Type 0 where
   pub setup : Settings
   pub filed : List Input
   pub text : List ℕ
   pub rest : List ℕ
   pub is : bytes ≡ text ++ rest
+  pub most : length rest ≤ MAX_INPUT
   pub holds : IsJournal setup filed text
   pub within : first_beyond feeders 1 (run setup filed).journal ≡ None
   pub ran : RanMany setup (run setup filed).journal feeders journal (frames rest) begun written

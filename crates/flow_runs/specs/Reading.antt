@@ -1,5 +1,5 @@
 -- What is read before the feeders start.
-use Rattle.std.specs.Prelude.{◌≡◌, ℕ, List, [], ◌∷◌, ◌++◌, length, take, nat_le, if◌then◌else◌, codes, Option, None}
+use Rattle.std.specs.Prelude.{◌≡◌, ℕ, List, [], ◌∷◌, ◌++◌, length, take, nat_le, if◌then◌else◌, Option, None}
 use Rattle.std.specs.Io.KnownBytes.{Appends, Consumes}
 use Rattle.fpl_message.specs.Filings.{FilingText}
 use Rattle.flow_intake.specs.Frames.{frames, ended_frames}
@@ -7,6 +7,7 @@ use Rattle.flow_intake.specs.Writes.{AppendsFront}
 use Rattle.flow_intake.specs.NextFrame.{second, filing_of}
 use Rattle.flow_intake.specs.Reader.{Ahead}
 use Rattle.flow_intake.specs.Cutting.{Cutting}
+use Rattle.flow_core.specs.Output.{too_long_line}
 use Rattle.flow_runs.specs.declared.fault.RunFault.{RunFault}
 use Rattle.flow_runs.specs.declared.fault.RunFault.TheVariants as fault
 use Rattle.flow_runs.specs.Dealing.{AreDealt}
@@ -20,7 +21,7 @@ filings (f ∷ fs) = if nat_le (length f) MAX_BYTES then second f ∷ filings fs
 -- a line for each frame that is too long
 unfoldable pub long_lines : List (List ℕ) → List ℕ
 long_lines [] = []
-long_lines (f ∷ fs) = if nat_le (length f) MAX_BYTES then long_lines fs else codes "- NO 90 TooLong\n" ++ long_lines fs
+long_lines (f ∷ fs) = if nat_le (length f) MAX_BYTES then long_lines fs else too_long_line ++ long_lines fs
 
 -- of these frames the whole filings are dealt and counted, and of the others it was told that they are too long
 pub record HasRead (feeders : ℕ) (frames : List (List ℕ)) (feeds : List (List FilingText)) (count : ℕ) (begun written : Option (List ℕ)) : Type 0 where
@@ -73,7 +74,7 @@ ToldUntil fault.BadFeeders begun written input rest = ⊥
 
 -- what was written of one frame, of which this is the filing, where the fault came with it
 abbrev pub LeavesNext : RunFault → Option FilingText → Option (List ℕ) → Option (List ℕ) → Type 0
-LeavesNext fault.Write filing before after = (filing ≡ None) × AppendsFront before after (codes "- NO 90 TooLong\n")
+LeavesNext fault.Write filing before after = (filing ≡ None) × AppendsFront before after too_long_line
 LeavesNext fault.OutOfMemory filing before after = after ≡ before
 LeavesNext fault.Read filing before after = ⊥
 LeavesNext fault.TooMuch filing before after = ⊥

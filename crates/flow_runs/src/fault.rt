@@ -1,5 +1,6 @@
 //! Why a run ends before all is answered.
-ghost use Rattle.std.specs.Prelude.{◌≡◌, ◌≢◌, ℕ};
+ghost use Rattle.std.specs.Prelude.{◌≡◌, ◌≢◌};
+ghost use Rattle.flow_runs.specs.Faults.{fault_of_frame, fault_of_journal, IsFaultOfDesk};
 
 use flow_core::{IntakeFault, JournalFault};
 use flow_desk::DeskFault;
@@ -25,10 +26,7 @@ pub enum RunFault {
 }
 
 pub(crate) fn why_no_frame(fault: IntakeFault) -> RunFault
-    ensures read { result ≡ RunFault.Read → fault ≡ IntakeFault.Read }
-    ensures much { result ≡ RunFault.TooMuch → fault ≡ IntakeFault.TooMuch }
-    ensures others { (result ≢ RunFault.Write) × (result ≢ RunFault.BadJournal) × (result ≢ RunFault.BadFeeders)
-        × (result ≢ RunFault.NoReader) × (result ≢ RunFault.NotStarted) }
+    ensures { result ≡ fault_of_frame fault }
 {
     match fault {
         IntakeFault::Read => RunFault::Read,
@@ -38,10 +36,7 @@ pub(crate) fn why_no_frame(fault: IntakeFault) -> RunFault
 }
 
 pub(crate) fn why_no_journal(fault: JournalFault) -> RunFault
-    ensures read { result ≡ RunFault.Read → fault ≡ JournalFault.Read }
-    ensures bad { result ≡ RunFault.BadJournal → fault ≡ JournalFault.NotAJournal }
-    ensures others { (result ≢ RunFault.TooMuch) × (result ≢ RunFault.Write) × (result ≢ RunFault.BadFeeders)
-        × (result ≢ RunFault.NoReader) × (result ≢ RunFault.NotStarted) }
+    ensures { result ≡ fault_of_journal fault }
 {
     match fault {
         JournalFault::Read => RunFault::Read,
@@ -53,9 +48,7 @@ pub(crate) fn why_no_journal(fault: JournalFault) -> RunFault
 /// Where the number of feeders is that of some desk.
 pub(crate) fn why_no_desk(fault: DeskFault) -> RunFault
     requires { fault ≢ DeskFault.Feeders }
-    ensures beyond { result ≡ RunFault.BadFeeders → (n : ℕ) × (fault ≡ DeskFault.FeederBeyond n) }
-    ensures others { (result ≢ RunFault.Read) × (result ≢ RunFault.TooMuch) × (result ≢ RunFault.Write)
-        × (result ≢ RunFault.BadJournal) × (result ≢ RunFault.NotStarted) }
+    ensures { IsFaultOfDesk fault result }
 {
     match fault {
         DeskFault::Feeders => unreachable!(),

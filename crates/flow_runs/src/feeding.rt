@@ -2,7 +2,7 @@
 ghost use Rattle.std.specs.Prelude.{◌≡◌, ◌≢◌, ◌≤◌, ◌<◌, ◌+◌, ◌++◌, ℕ, [], length, map, vec_len, vec_capacity};
 ghost use Rattle.std.specs.Prelude.{slice_index_or, IsTrue, IsFalse, IfOk, OnOk, OnErr};
 ghost use Rattle.std.specs.VecDeque.{deque_len, deque_capacity};
-ghost use Rattle.flow_desk.specs.Feeds.{EndsAs};
+ghost use Rattle.flow_runs.specs.Ends.{EndsFeed};
 ghost use Rattle.flow_runs.specs.Filing.{FiledTo, RanFeed, RanFeeds};
 
 use flow_core::StepFault;
@@ -95,7 +95,7 @@ fn file_next<N: Name, Q: Wait + Drop, P: Wait, A: Allocator + Copy>(
     ensures none { ready.new.items ≡ [] }
     ensures ran { (p : _) (texts : _) → FiledTo p texts feed.old.pass feed.old.left.items
         → FiledTo p texts feed.new.pass feed.new.left.items }
-    ensures ends { IsFalse result → (rs : _) → EndsAs N.setup feed.new.end feed.new.pass rs feed.new.left.items }
+    ensures ends { IsFalse result → EndsFeed N.setup feed.new.end feed.new.pass feed.new.left.items }
     ensures goes { IsTrue result → length feed.new.left.items < length feed.old.left.items }
 {
     if feed.left.is_empty() {

@@ -1,9 +1,9 @@
 //! Runs the feeders of a desk over their feeds, and closes it.
 ghost use Rattle.std.specs.Prelude.{◌≡◌, ◌≢◌, ◌<◌, ◌≤◌, ◌+◌, ◌++◌, None, Some, length, map, vec_len};
 ghost use Rattle.std.specs.Prelude.{vec_capacity, IfOk, IfErr, IfNone};
-ghost use Rattle.std.specs.List.{All};
+ghost use Rattle.std.specs.List.{All, fold};
 ghost use Rattle.flow_desk.specs.Histories.{after};
-ghost use Rattle.flow_runs.specs.Ends.{EndsWell, IsStop};
+ghost use Rattle.flow_runs.specs.Ends.{EndsWell, IsStop, stop_of};
 ghost use Rattle.flow_runs.specs.Filing.{HasFiled};
 
 use crate::fault::RunFault;
@@ -25,6 +25,7 @@ pub(crate) struct Filed<A: Allocator + Copy = Global> {
 /// The fault that some feeds ended with, if one did, with one more feed that ended so: want of memory before a feed
 /// that was never begun.
 fn stop_with(stop: Option<RunFault>, end: End) -> Option<RunFault>
+    ensures is { result ≡ stop_of stop end }
     ensures none { result ≡ None → (stop ≡ None) × EndsWell end }
     ensures memory { result ≢ Some RunFault.OutOfMemory
         → (stop ≢ Some RunFault.OutOfMemory) × (end ≢ End.Stopped StepFault.OutOfMemory) }
@@ -43,6 +44,7 @@ fn stop_with(stop: Option<RunFault>, end: End) -> Option<RunFault>
 
 /// The fault that a feed ended with, if one did: want of memory before a feed that was never begun.
 fn stop_among<N: Name, A: Allocator + Copy>(feeds: &[Feed<N, A>]) -> Option<RunFault>
+    ensures is { result ≡ fold (λ stop f. stop_of stop f.end) None feeds.now }
     ensures none { IfNone result (All (λ f. EndsWell f.end) feeds.now) }
     ensures kinds { IsStop result }
     ensures memory { result ≢ Some RunFault.OutOfMemory

@@ -66,7 +66,7 @@ InOrder-without f [] o = tt
 InOrder-without f (w ∷ ws) o =
     elim (not (eqb w.flight f)) as (λ b. InOrder (cond b (w ∷ without f ws) (without f ws))) [ true ↦ (all-without (λ u. stands_before w u ≡ true) f ws o.0, InOrder-without f ws o.1) | false ↦ InOrder-without f ws o.1 ]
 
-BySlot-insert : (a : Placed) (xs : List Placed) → AllByRecursion (λ b. b.slot ≢ a.slot) xs → BySlot xs → BySlot (insert_fixed a xs)
+pub BySlot-insert : (a : Placed) (xs : List Placed) → AllByRecursion (λ b. b.slot ≢ a.slot) xs → BySlot xs → BySlot (insert_fixed a xs)
 BySlot-insert a [] n s = (tt, tt)
 BySlot-insert a (x ∷ xs) n s = cases (BySlot-insert a xs n.1 s.1) (ltb x.slot a.slot) refl where
   cases : BySlot (insert_fixed a xs) → (b : Bool) → ltb x.slot a.slot ≡ b → BySlot (cond b (x ∷ insert_fixed a xs) (a ∷ x ∷ xs))
@@ -82,7 +82,7 @@ BySlot-without f [] s = tt
 BySlot-without f (x ∷ xs) s =
     elim (not (eqb x.flight f)) as (λ b. BySlot (cond b (x ∷ without_fixed f xs) (without_fixed f xs))) [ true ↦ (all-without_fixed (λ b. x.slot < b.slot) f xs s.0, BySlot-without f xs s.1) | false ↦ BySlot-without f xs s.1 ]
 
-FixedApart-insert : (a : Placed) (xs : List Placed) → NoneFixed a.flight xs → FixedApart xs → FixedApart (insert_fixed a xs)
+pub FixedApart-insert : (a : Placed) (xs : List Placed) → NoneFixed a.flight xs → FixedApart xs → FixedApart (insert_fixed a xs)
 FixedApart-insert a [] n d = (tt, tt)
 FixedApart-insert a (x ∷ xs) n d =
     elim (ltb x.slot a.slot) as (λ b. FixedApart (cond b (x ∷ insert_fixed a xs) (a ∷ x ∷ xs))) [ true ↦ (all-insert_fixed (λ b. b.flight ≡ x.flight → ⊥) a xs (λ q. n.0 (sym q)) d.0, FixedApart-insert a xs n.1 d.1) | false ↦ (n, d) ]
@@ -108,7 +108,7 @@ WaitingApart-other old new (w ∷ ws) more h =
     (more w (inl refl) h.0, h.1, WaitingApart-other old new ws (λ v i. more v (inr i)) h.2)
 
 -- the changes
-sound-insert : (l : Lineup) (w : Planned) → IsSound l → NoneIs w.flight l.waiting → NoneFixed w.flight l.fixed → IsNumber l w.flight → IsWithin l.period w.entry → IsSound (with_waiting w l)
+pub sound-insert : (l : Lineup) (w : Planned) → IsSound l → NoneIs w.flight l.waiting → NoneFixed w.flight l.fixed → IsNumber l w.flight → IsWithin l.period w.entry → IsSound (with_waiting w l)
 sound-insert l w s n g number entry =
     record {
       lined = record {

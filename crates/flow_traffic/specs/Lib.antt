@@ -10,3 +10,4 @@ pub mod Frozen
 pub mod Kept
 pub mod Undoing
 pub mod Changes
+pub mod Memory

@@ -4,6 +4,7 @@ ghost use Rattle.fpl_message.specs.Messages.{open_reg, shut_reg, set_time};
 ghost use Rattle.fpl_message.specs.Reads.{ord};
 ghost use Rattle.flow_plans.specs.Settings.{IsDeskTime};
 ghost use Rattle.flow_traffic.specs.Answers.{Answers};
+ghost use Rattle.flow_traffic.specs.Memory.{MayTakeMemory};
 ghost use Rattle.flow_traffic.specs.Frozen.{FrozenPairsStay};
 ghost use Rattle.flow_plans.specs.declared.setup.TheConstants.{MAX_PLANS};
 
@@ -25,6 +26,7 @@ impl<A: Allocator + Copy> Traffic<A> {
         ensures frozen { IfOk result (FrozenPairsStay (ord (open_reg order.now)) self.old.traffic self.new.traffic) }
         ensures before { OnOk result (self.new.before ≡ Some self.old.traffic) }
         ensures err { OnErr result (self.new ≡ record { traffic = self.old.traffic; before = None }) }
+        ensures memory { OnErr result (MayTakeMemory (ord (open_reg order.now)) self.old.traffic) }
         ensures grow { length self.old.traffic.notices ≤ length self.new.traffic.notices }
         ensures few { length self.new.traffic.notices ≤ length self.old.traffic.notices + MAX_PLANS }
     {
@@ -71,6 +73,7 @@ impl<A: Allocator + Copy> Traffic<A> {
         ensures frozen { IfOk result (FrozenPairsStay (ord (shut_reg id.now)) self.old.traffic self.new.traffic) }
         ensures before { OnOk result (self.new.before ≡ Some self.old.traffic) }
         ensures err { OnErr result (self.new ≡ record { traffic = self.old.traffic; before = None }) }
+        ensures memory { OnErr result (MayTakeMemory (ord (shut_reg id.now)) self.old.traffic) }
         ensures grow { length self.old.traffic.notices ≤ length self.new.traffic.notices }
         ensures few { length self.new.traffic.notices ≤ length self.old.traffic.notices + MAX_PLANS }
     {
@@ -104,6 +107,7 @@ impl<A: Allocator + Copy> Traffic<A> {
         ensures frozen { IfOk result (FrozenPairsStay (ord (set_time at)) self.old.traffic self.new.traffic) }
         ensures before { OnOk result (self.new.before ≡ Some self.old.traffic) }
         ensures err { OnErr result (self.new ≡ record { traffic = self.old.traffic; before = None }) }
+        ensures memory { OnErr result (MayTakeMemory (ord (set_time at)) self.old.traffic) }
         ensures grow { length self.old.traffic.notices ≤ length self.new.traffic.notices }
         ensures few { length self.new.traffic.notices ≤ length self.old.traffic.notices + MAX_PLANS }
     {

@@ -5,6 +5,7 @@ ghost use Rattle.fpl_message.specs.Said.{said};
 ghost use Rattle.flow_plans.specs.Settings.{IsDeskTime};
 ghost use Rattle.flow_traffic.specs.Traffic.{no_traffic, slots_of};
 ghost use Rattle.flow_traffic.specs.Answers.{Answers, HasDeskMoments};
+ghost use Rattle.flow_traffic.specs.Memory.{MayTakeMemory};
 ghost use Rattle.flow_traffic.specs.Frozen.{FrozenPairsStay};
 ghost use Rattle.flow_plans.specs.declared.setup.TheConstants.{MAX_PLANS};
 
@@ -113,13 +114,15 @@ impl<A: Allocator + Copy> Traffic<A> {
 
     /// Takes in a reading, and answers the verdict on it. A refused one changes nothing. Frozen flights keep their
     /// slots, but for the flight of an accepted DLA, CHG or CNL, and those of a regulation that is shut. Where memory
-    /// is refused, nothing has changed, but that no reading can be taken back.
+    /// is refused, nothing has changed, but that no reading can be taken back. An unreadable text takes no memory, nor
+    /// does an order that is refused.
     pub fn answer(&mut self, reading: &Reading<A>) -> Result<Verdict, AllocError>
         requires { HasDeskMoments (said reading.now) }
         ensures answers { IfOk result (Answers (said reading.now) self.old.traffic self.new.traffic) }
         ensures frozen { IfOk result (FrozenPairsStay (said reading.now) self.old.traffic self.new.traffic) }
         ensures before { OnOk result (self.new.before ≡ Some self.old.traffic) }
         ensures err { OnErr result (self.new ≡ record { traffic = self.old.traffic; before = None }) }
+        ensures memory { OnErr result (MayTakeMemory (said reading.now) self.old.traffic) }
         ensures grow { length self.old.traffic.notices ≤ length self.new.traffic.notices }
         ensures few { length self.new.traffic.notices ≤ length self.old.traffic.notices + MAX_PLANS }
     {

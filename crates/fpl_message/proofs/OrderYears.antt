@@ -1,5 +1,6 @@
--- The moments that orders name lie in the years 2000 to 2098.
-use Rattle.std.proofs.Common.{◌≡◌, ℕ, ◌*◌, ◌<◌, ◌≤◌, refl, Bool, true, false, cond, List, [], ◌∷◌, length, codes, ◌∙◌, ap, subst}
+-- The moments that orders name lie in the years 2000 to 2098, and a regulation has few sub-periods.
+use Rattle.std.proofs.Common.{◌≡◌, ℕ, ◌*◌, ◌<◌, ◌≤◌, refl, Bool, true, false, cond, List, [], ◌∷◌, length, codes, ◌∙◌, ap, subst, arith}
+use Rattle.std.proofs.lemmas.Bool.{leb-true}
 use Rattle.std.specs.Prelude.{Option, Some, None, Result, Ok, Err, nat_le, ◌==◌}
 use Rattle.std.specs.Option.{option_map, ok_or}
 use Rattle.std.specs.List.{All}
@@ -96,11 +97,39 @@ more-years Second words parts is = some (nat_le (length words) (2 * MOST_PARTS))
     some true h = parts-years words parts h
     some false h = absurd cc
 
+-- they are pairs of words
+parts-count : (words : List (List ℕ)) (parts : List Part) → parts_of words ≡ Some parts → 2 * length parts ≤ length words
+parts-count [] parts is =
+    let none : [] ≡ parts = cc in
+    rw (← none) (omega arith)
+parts-count (moment ∷ []) parts is = absurd cc
+parts-count (moment ∷ rate ∷ words) parts is =
+    let first = chained (part_of moment rate) (λ part. option_map (λ rest. part ∷ rest) (parts_of words)) parts is in
+    let rest = mapped (parts_of words) (λ rest. first.0 ∷ rest) parts first.2 in
+    let fewer : 2 * length rest.0 ≤ length words = parts-count words rest.0 rest.1 in
+    rw (← rest.2) (omega (arith, fewer))
+
+more-few : (edition : Edition) (words : List (List ℕ)) (parts : List Part) → more_of edition words ≡ Some parts → length parts ≤ MOST_PARTS
+unfolding more_of
+more-few First words parts is = none (length words == 0) is
+  where
+    none : (b : Bool) → cond {A = Option (List Part)} b (Some []) None ≡ Some parts → length parts ≤ MOST_PARTS
+    none true h =
+        let empty : [] ≡ parts = cc in
+        rw (← empty) (omega arith)
+    none false h = absurd cc
+more-few Second words parts is = some (nat_le (length words) (2 * MOST_PARTS)) refl is
+  where
+    some : (b : Bool) → nat_le (length words) (2 * MOST_PARTS) ≡ b → cond b (parts_of words) None ≡ Some parts → length parts ≤ MOST_PARTS
+    some true few h = omega (arith, leb-true (length words) (2 * MOST_PARTS) few, parts-count words parts h)
+    some false few h = absurd cc
+
 -- the moments of a regulation
 pub record OpensWithinYears (order : OpenReg) : Type 0 where
   pub from : IsOfYears order.from
   pub to : IsOfYears order.to
   pub more : All (λ (part : Part). IsOfYears part.from) order.more
+  pub few : length order.more ≤ MOST_PARTS
 
 open-years : (edition : Edition) (words : List (List ℕ)) (order : OpenReg) → open_of edition words ≡ Some order → OpensWithinYears order
 open-years edition (id ∷ kind ∷ place ∷ from ∷ to ∷ rate ∷ words) order is =
@@ -115,6 +144,7 @@ open-years edition (id ∷ kind ∷ place ∷ from ∷ to ∷ rate ∷ words) or
       from = moment-within from start.0 start.1;
       to = moment-within to end.0 end.1;
       more = more-years edition words more.0 more.1;
+      few = more-few edition words more.0 more.1;
     })
 open-years edition _ order is = absurd cc
 

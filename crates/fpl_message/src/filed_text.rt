@@ -1,5 +1,5 @@
 //! The text of a filing.
-ghost use Rattle.std.specs.Prelude.{◌≡◌, ◌≤◌, ◌<◌, ◌↔◌, [], length, IfOk, OnOk, OnErr, IsErrOf};
+ghost use Rattle.std.specs.Prelude.{◌≡◌, ◌≤◌, ◌<◌, ◌↔◌, length, IfOk, IsErrOf};
 
 use crate::edition::Edition;
 use std::alloc::{AllocError, Allocator, Global};
@@ -39,14 +39,31 @@ impl<A: Allocator + Copy> Model for FiledText<A> {
 }
 
 impl<A: Allocator + Copy> FiledText<A> {
-    /// No bytes, and no memory.
-    pub(crate) fn empty(alloc: A, edition: Edition) -> Self
-        ensures { result ≡ record { edition = edition; bytes = [] } }
+    /// A text of these bytes, in memory of just their length.
+    pub(crate) fn copied(alloc: A, edition: Edition, bytes: &[u8]) -> Result<Self, AllocError>
+        requires { length bytes.now ≤ MAX_BYTES }
+        ensures { IfOk result (λ text. text ≡ record { edition = edition; bytes = bytes.now }) }
     {
-        FiledText {
-            bytes: Vec::new(alloc),
-            edition,
-        }
+        let mut copy = Vec::new(alloc);
+        copy.reserve_exact(bytes.len())?;
+        copy.extend_from_slice(bytes)?;
+        Ok(FiledText::of_bytes(edition, copy))
+    }
+
+    /// The text of these bytes.
+    pub(crate) fn of_bytes(edition: Edition, bytes: Vec<u8, A>) -> Self
+        requires { length bytes.items ≤ MAX_BYTES }
+        ensures { result ≡ record { edition = edition; bytes = bytes.items } }
+    {
+        FiledText { bytes, edition }
+    }
+
+    /// Its bytes, in their memory.
+    pub(crate) fn into_bytes(self) -> Vec<u8, A>
+        ensures { result.items ≡ self.bytes }
+    {
+        let FiledText { bytes, .. } = self;
+        bytes
     }
 
     /// A text of these bytes, to be read by the rules of today. After an `Err` there is none.
@@ -57,31 +74,10 @@ impl<A: Allocator + Copy> FiledText<A> {
         if bytes.len() > MAX_BYTES {
             return Err(FilingFault::TooLong);
         }
-        let mut text = FiledText::empty(alloc, Edition::Second);
-        match text.renew(Edition::Second, bytes) {
-            Ok(()) => Ok(text),
+        match FiledText::copied(alloc, Edition::Second, bytes) {
+            Ok(text) => Ok(text),
             Err(AllocError) => Err(FilingFault::OutOfMemory),
         }
-    }
-
-    /// Copies these bytes over those that were there. The memory grows to just their length where it is too small; if
-    /// that is refused, there are no bytes.
-    pub(crate) fn renew(&mut self, edition: Edition, bytes: &[u8]) -> Result<(), AllocError>
-        requires { length bytes.now ≤ MAX_BYTES }
-        ensures ok { OnOk result (self.new ≡ record { edition = edition; bytes = bytes.now }) }
-        ensures err { OnErr result (self.new ≡ record { edition = edition; bytes = [] }) }
-    {
-        self.clear();
-        self.edition = edition;
-        self.bytes.reserve_exact(bytes.len())?;
-        self.bytes.extend_from_slice(bytes)
-    }
-
-    /// Lets go of the bytes, and not of the memory.
-    pub(crate) fn clear(&mut self)
-        ensures { self.new ≡ record { edition = self.old.edition; bytes = [] } }
-    {
-        self.bytes.clear();
     }
 
     /// The bytes as they were filed, at most 2,000.

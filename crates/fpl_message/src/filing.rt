@@ -1,5 +1,5 @@
 //! A filing: its bytes, and the reading of them.
-ghost use Rattle.std.specs.Prelude.{◌≡◌, ◌≤◌, ◌<◌, ◌↔◌, [], length, IfOk, IfErr, OnOk, IsErrOf};
+ghost use Rattle.std.specs.Prelude.{◌≡◌, ◌≤◌, ◌<◌, ◌↔◌, length, IfOk, IfErr, IsErrOf};
 ghost use Rattle.fpl_message.specs.Reads.{reading_of};
 ghost use Rattle.fpl_message.specs.Said.{said};
 ghost use Rattle.fpl_message.specs.declared.filed_text.TheConstants.{MAX_BYTES};
@@ -45,21 +45,17 @@ impl<A: Allocator + Copy> Filing<A> {
         ensures value { IfOk result (λ filing. filing ≡ record { edition = edition; bytes = bytes.now }) }
         ensures long { IsErrOf result FilingFault.TooLong ↔ (MAX_BYTES < length bytes.now) }
     {
-        let mut filing = Filing::empty(alloc, edition);
-        filing.renew_as(alloc, edition, bytes)?;
-        Ok(filing)
-    }
-
-    /// Reads other bytes by the rules of today, in the memory of this filing, in place of what it was. After TooLong
-    /// nothing has changed; after OutOfMemory it is a filing of no bytes.
-    pub fn renew(&mut self, alloc: A, bytes: &[u8]) -> Result<(), FilingFault>
-        ensures value { OnOk result (self.new ≡ record { edition = Edition.Second; bytes = bytes.now }) }
-        ensures long { IsErrOf result FilingFault.TooLong ↔ (MAX_BYTES < length bytes.now) }
-        ensures same { IsErrOf result FilingFault.TooLong → self.new ≡ self.old }
-        ensures none { IsErrOf result FilingFault.OutOfMemory
-            → self.new ≡ record { edition = Edition.Second; bytes = [] } }
-    {
-        self.renew_as(alloc, Edition::Second, bytes)
+        if bytes.len() > MAX_BYTES {
+            return Err(FilingFault::TooLong);
+        }
+        let Ok(text) = FiledText::copied(alloc, edition, bytes) else {
+            return Err(FilingFault::OutOfMemory);
+        };
+        let mut reader = FilingReader::new(alloc);
+        let Ok(()) = reader.read(alloc, edition, bytes) else {
+            return Err(FilingFault::OutOfMemory);
+        };
+        Ok(Filing { text, reader })
     }
 
     /// The filing of a text, which is read in this room. The room is there for the next text then, unless the message
@@ -86,35 +82,25 @@ impl<A: Allocator + Copy> Filing<A> {
         text
     }
 
-    /// A filing of no bytes, and no memory.
-    fn empty(alloc: A, edition: Edition) -> Self
-        ensures { result ≡ record { edition = edition; bytes = [] } }
+    /// Its bytes, and the reader that has read them: for a call that reads more texts in their memory.
+    pub fn into_parts(self) -> (Vec<u8, A>, FilingReader<A>)
+        ensures bytes { result.0.items ≡ self.bytes }
+        ensures reader { result.1 ≡ reading_of self }
     {
-        Filing {
-            text: FiledText::empty(alloc, edition),
-            reader: FilingReader::new(alloc),
-        }
+        let Filing { text, reader } = self;
+        (text.into_bytes(), reader)
     }
 
-    /// Reads other bytes by the rules of that edition.
-    fn renew_as(&mut self, alloc: A, edition: Edition, bytes: &[u8]) -> Result<(), FilingFault>
-        ensures value { OnOk result (self.new ≡ record { edition = edition; bytes = bytes.now }) }
-        ensures long { IsErrOf result FilingFault.TooLong ↔ (MAX_BYTES < length bytes.now) }
-        ensures same { IsErrOf result FilingFault.TooLong → self.new ≡ self.old }
-        ensures none { IsErrOf result FilingFault.OutOfMemory → self.new ≡ record { edition = edition; bytes = [] } }
+    /// The filing of these bytes, which this reader has read by the rules of that edition. It takes no memory.
+    pub fn of_parts(edition: Edition, bytes: Vec<u8, A>, reader: FilingReader<A>) -> Self
+        requires bytes { length bytes.items ≤ MAX_BYTES }
+        requires reader { reader ≡ reading_of (record { edition = edition; bytes = bytes.items }) }
+        ensures { result ≡ record { edition = edition; bytes = bytes.items } }
     {
-        if bytes.len() > MAX_BYTES {
-            return Err(FilingFault::TooLong);
+        Filing {
+            text: FiledText::of_bytes(edition, bytes),
+            reader,
         }
-        let Ok(()) = self.text.renew(edition, bytes) else {
-            self.reader.clear(alloc);
-            return Err(FilingFault::OutOfMemory);
-        };
-        let Ok(()) = self.reader.read(alloc, edition, bytes) else {
-            self.text.clear();
-            return Err(FilingFault::OutOfMemory);
-        };
-        Ok(())
     }
 
     /// The bytes as they were given, at most 2,000.

@@ -9,8 +9,9 @@
 //! - *Orders*: `order` and `sub_periods` (OPEN, SHUT and TIME).
 //! - *Editions*: OPEN got its sub-periods later. A filing knows by which edition it is read, so that an old journal
 //!   tells what it told.
-//! - *Memory*: `FilingReader` reads texts one after the other in the same memory, and `Filing::renew` so reads another
-//!   text in the place of a filing's; `spares` keeps where the last message of each kind lay, for the next one.
+//! - *Memory*: `FilingReader` reads texts one after the other in the same memory; `spares` keeps where the last message
+//!   of each kind lay, for the next one. A filing is a text and a reader that has read it: it is taken apart and put
+//!   together without memory (`Filing::into_parts`, `Filing::of_parts`).
 #![tactic(auto)]
 
 mod changes;

@@ -6,13 +6,18 @@ use Rattle.flow_traffic.specs.Traffic.{Traffic}
 use Rattle.flow_core.specs.declared.change.Change.{Change}
 use Rattle.flow_core.specs.declared.row.Row.{Row}
 use Rattle.flow_core.specs.Changes.{rows_in, change_at}
-use Rattle.flow_core.proofs.ChangedRows.{if-told, if-more, if-all}
+use Rattle.flow_core.proofs.ChangedRows.{if-told, if-more, if-all, numbers-few}
 use Rattle.flow_core.proofs.change.note_changes.Goals as goal
 use Rattle.flow_core.proofs.change.note_changes.Goals.{in-Some, in_default}
 
 pub change_at-requires-clause-told : goal.change_at-requires-clause-told
 change_at-requires-clause-told g c =
     if-told c.args.traffic.now.before c.changed.result.0.now c.changed.result.1.now c.loop-index.index c.index-told-index.result c.changed.ensures.told c.loop-index-test.true c.index-told-index.is
+
+pub push_reserved-requires : goal.push_reserved-requires
+push_reserved-requires g c =
+    let few = numbers-few c.args.traffic.now.traffic c.changed.result.0.now c.changed.ensures.rising c.changed.ensures.numbers c.changed.ensures.each in
+    omega (arith, c.loop-index.invariant.few, c.loop-index.invariant.capacity, c.loop-index-test.true, few, c.clear.ensures.capacity, c.requires.room, c.loop-index.changes.ok.0)
 
 pub loop-index-preserved : goal.loop-index-preserved
 loop-index-preserved g c =
@@ -36,8 +41,8 @@ loop-index-preserved g c =
       }
     ]
 
-pub returns : goal.returns
-returns g c =
+pub returns-clause-changes : goal.returns-clause-changes
+returns-clause-changes g c =
     let o : Option Traffic = c.args.traffic.now.before in
     let ns : List ℕ = c.changed.result.0.now in
     let all : c.loop-index.index ≡ length ns = omega (arith, c.loop-index-test.false, c.loop-index.auto.index-end) in

@@ -6,6 +6,7 @@ use Rattle.flow_core.specs.History.{state_of}
 use Rattle.flow_core.specs.Output.{answer_text}
 use Rattle.flow_core.specs.State.{State}
 use Rattle.flow_core.specs.Steps.{step}
+use Rattle.flow_core.proofs.Undoables.{undoable-same, undoable-entered}
 use Rattle.flow_core.proofs.Serves.{served-whole, said-whole, served-full, said-full, err_is}
 use Rattle.flow_core.proofs.serving.answer_filing.Goals as goal
 
@@ -35,16 +36,28 @@ pub returns-in-Ok-write_bytes-clause-ok : goal.returns-in-Ok-write_bytes-clause-
 returns-in-Ok-write_bytes-clause-ok g c = λ frame k.
     let s = state_of c.args.core.now in
     let full = c.in-Err-JournalFull.ensures.full (err_is c.in-Err-JournalFull.field-0-is) in (
-      ap state_of c.in-Err-JournalFull.ensures.err ∙ sym (served-full s frame (second c.args.bytes.now) k full),
-      rw (said-full s frame (second c.args.bytes.now) k full) (rw c.journal_full.ensures at c.in-Ok-write_bytes.ensures.ok),
+      ap state_of (c.in-Err-JournalFull.ensures.same (err_is c.in-Err-JournalFull.field-0-is)) ∙ sym (served-full s frame (second c.args.bytes.now) k full),
+      rw (said-full s frame (second c.args.bytes.now) k full) (rw c.journal_full_line.ensures at c.in-Ok-write_bytes.ensures.ok),
     )
 
 pub returns-in-Err-write_bytes-clause-part : goal.returns-in-Err-write_bytes-clause-part
 returns-in-Err-write_bytes-clause-part g c = λ e frame k.
     let full = c.in-Err-JournalFull.ensures.full (err_is c.in-Err-JournalFull.field-0-is) in (
-      ap state_of c.in-Err-JournalFull.ensures.err ∙ sym (served-full (state_of c.args.core.now) frame (second c.args.bytes.now) k full),
-      rw (said-full (state_of c.args.core.now) frame (second c.args.bytes.now) k full) (rw c.journal_full.ensures at c.in-Err-write_bytes.ensures.err),
+      ap state_of (c.in-Err-JournalFull.ensures.same (err_is c.in-Err-JournalFull.field-0-is)) ∙ sym (served-full (state_of c.args.core.now) frame (second c.args.bytes.now) k full),
+      rw (said-full (state_of c.args.core.now) frame (second c.args.bytes.now) k full) (rw c.journal_full_line.ensures at c.in-Err-write_bytes.ensures.err),
     )
 
 pub returns-in-Err-OutOfMemory-clause-nothing : goal.returns-in-Err-OutOfMemory-clause-nothing
-returns-in-Err-OutOfMemory-clause-nothing g c = λ e. (ap state_of c.in-Err-OutOfMemory.ensures.err, refl)
+returns-in-Err-OutOfMemory-clause-nothing g c = λ e. (ap state_of (c.in-Err-OutOfMemory.ensures.memory (err_is c.in-Err-OutOfMemory.field-0-is)), refl)
+
+pub returns-in-Ok-write_answer-clause-undoable : goal.returns-in-Ok-write_answer-clause-undoable
+returns-in-Ok-write_answer-clause-undoable g c = λ not. undoable-entered _ _ _ c.in-Ok.ensures.ok
+
+pub returns-in-Err-clause-undoable : goal.returns-in-Err-clause-undoable
+returns-in-Err-clause-undoable g c = λ not. undoable-entered _ _ _ c.in-Ok.ensures.ok
+
+pub returns-in-Ok-write_bytes-clause-undoable : goal.returns-in-Ok-write_bytes-clause-undoable
+returns-in-Ok-write_bytes-clause-undoable g c = λ not. undoable-same _ _ (c.in-Err-JournalFull.ensures.same (err_is c.in-Err-JournalFull.field-0-is))
+
+pub returns-in-Err-write_bytes-clause-undoable : goal.returns-in-Err-write_bytes-clause-undoable
+returns-in-Err-write_bytes-clause-undoable g c = λ not. undoable-same _ _ (c.in-Err-JournalFull.ensures.same (err_is c.in-Err-JournalFull.field-0-is))

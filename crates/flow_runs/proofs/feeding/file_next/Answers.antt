@@ -9,7 +9,7 @@ returns-in-Err-clause-ran g c p texts h =
     c.file_all.ensures.filed c.read_ahead-read.ensures.order c.put_back.ensures.order h
 
 pub returns-in-Err-clause-ends : goal.returns-in-Err-clause-ends
-returns-in-Err-clause-ends g c refused rs = (some-left c.file_all.new.filings.items c.read_ahead-read.new.left.items c.put_back.new.left.items c.in-Err.ensures.left c.put_back.ensures.order, c.in-Err.ensures.full)
+returns-in-Err-clause-ends g c refused = (some-left c.file_all.new.filings.items c.read_ahead-read.new.left.items c.put_back.new.left.items c.in-Err.ensures.left c.put_back.ensures.order, c.in-Err.ensures.full)
 
 pub returns-then-is_err-clause-ran : goal.returns-then-is_err-clause-ran
 returns-then-is_err-clause-ran g c p texts h =

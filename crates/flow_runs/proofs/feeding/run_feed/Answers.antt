@@ -9,6 +9,7 @@ loop-alloc-init g c = record {
 }
 
 pub returns : goal.returns
-returns g c =
-    let h = c.file_next.ensures.ran c.args.feed.now.pass c.args.feed.now.left.items c.loop-alloc.invariant.filed in
-    record { receipts = h.receipts; run = record { ran = h.ran; ends = c.loop-alloc-test.ensures.ends refl h.receipts } }
+returns g c = record {
+  filed = c.file_next.ensures.ran c.args.feed.now.pass c.args.feed.now.left.items c.loop-alloc.invariant.filed;
+  ends = c.loop-alloc-test.ensures.ends refl;
+}

@@ -1,10 +1,12 @@
-use Rattle.std.proofs.Common.{◌-◌, ◌∙◌, List, ℕ, length, drop, refl, sym, subst}
+use Rattle.std.proofs.Common.{◌-◌, ◌∙◌, List, ℕ, length, drop, refl, sym, ap, subst}
 use Rattle.std.proofs.lemmas.Result.{err_from_is_err_and}
 use Rattle.flow_core.specs.State.{State}
 use Rattle.flow_core.specs.History.{state_of}
 use Rattle.flow_intake.proofs.Written.{AppendsFront-more}
 use Rattle.flow_runs.specs.declared.fault.RunFault.{RunFault}
 use Rattle.flow_runs.specs.ManyRuns.{answers, end_lines, answers_and_end, AnsweredUntil}
+use Rattle.flow_runs.proofs.Failures.{stop-writer, replay-writer}
+use Rattle.flow_runs.specs.Faults.{writer_failures}
 use Rattle.flow_runs.proofs.Ran.{answered-rest}
 use Rattle.flow_runs.proofs.run.answer_all.Goals as goal
 
@@ -24,3 +26,15 @@ pub returns-in-None-clause-left : goal.returns-in-None-clause-left
 returns-in-None-clause-left g c =
     answered-rest c.write_rest.result c.write_rest.new.writer c.args.filed.now.stop (state_of c.args.filed.now.core) c.args.read c.args.count c.args.journal
     c.in-None.is c.in_ok-write_answers.ensures.writes c.write_rest.ensures
+
+pub returns-in_err-write_answers-clause-writer : goal.returns-in_err-write_answers-clause-writer
+returns-in_err-write_answers-clause-writer g c =
+    let p = err_from_is_err_and c.from_residual.result c.from_residual.ensures.1 in
+    rw (p.1, p.2 ∙ c.in_err-write_answers.ensures.kind) c.in_err-write_answers.ensures.writes.failed
+
+pub returns-in-Some-clause-writer : goal.returns-in-Some-clause-writer
+returns-in-Some-clause-writer g c = c.in_ok-write_answers.ensures.writes.calm ∙ sym (stop-writer c.in-Some.fault c.args.writer.now.failures (rw c.in-Some.is at c.requires.stops))
+
+pub returns-in-None-clause-writer : goal.returns-in-None-clause-writer
+returns-in-None-clause-writer g c =
+    replay-writer g.W.Write.contents c.write_rest.result c.write_answers.new.writer c.write_rest.new.writer _ c.write_rest.ensures ∙ ap (writer_failures c.write_rest.result) c.in_ok-write_answers.ensures.writes.calm

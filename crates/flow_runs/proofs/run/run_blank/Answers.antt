@@ -1,11 +1,12 @@
-use Rattle.std.proofs.Common.{ℕ, map, sym, subst, ◌∙◌}
+use Rattle.std.proofs.Common.{ℕ, map, sym, ap, subst, ◌∙◌}
 use Rattle.std.proofs.lemmas.Result.{err_from_is_err_and}
 use Rattle.flow_plans.specs.Settings.{Settings}
 use Rattle.flow_intake.proofs.Results.{err_again}
-use Rattle.flow_core.proofs.JournalTexts.{OnOk-map}
 use Rattle.flow_runs.specs.Filing.{HasFiled}
 use Rattle.flow_runs.specs.Reading.{ToldUntil}
 use Rattle.flow_runs.specs.declared.fault.RunFault.{RunFault}
+use Rattle.flow_runs.specs.Faults.{writer_failures}
+use Rattle.flow_runs.proofs.Failures.{reader-calm-all}
 use Rattle.flow_runs.proofs.Ran.{RanMany-all, on_ok, on_ok_two, if_err_map, ended-told, ended-all, ended-filed}
 use Rattle.flow_runs.proofs.run.run_blank.Goals as goal
 
@@ -22,8 +23,34 @@ returns-in_err-feeds-clause-others g c =
 pub returns-clause-end : goal.returns-clause-end
 returns-clause-end g c = on_ok c.answer_all.result c.in_ok-feeds.ensures.end
 
-pub returns-clause-calm : goal.returns-clause-calm
-returns-clause-calm g c = OnOk-map c.answer_all.result (λ w. (c.in_ok-feeds.ensures.calm.0, w ∙ c.in_ok-feeds.ensures.calm.1)) c.answer_all.ensures.calm
+pub returns-clause-within : goal.returns-clause-within
+returns-clause-within g c = on_ok c.answer_all.result c.in_ok-feeds.ensures.within
+
+pub returns-in_err-feeds-clause-reader : goal.returns-in_err-feeds-clause-reader
+returns-in_err-feeds-clause-reader g c =
+    let p = err_from_is_err_and c.from_residual.result c.from_residual.ensures.1 in
+    rw (p.1, p.2) c.in_err-feeds.ensures.reader
+
+pub returns-in_err-feeds-clause-writer : goal.returns-in_err-feeds-clause-writer
+returns-in_err-feeds-clause-writer g c =
+    let p = err_from_is_err_and c.from_residual.result c.from_residual.ensures.1 in
+    rw (p.1, p.2) c.in_err-feeds.ensures.writer
+
+pub returns-in_err-filed-clause-reader : goal.returns-in_err-filed-clause-reader
+returns-in_err-filed-clause-reader g c =
+    let p = err_from_is_err_and c.from_residual-in_err-filed.result c.from_residual-in_err-filed.ensures.1 in
+    rw (p.1, p.2 ∙ c.in_err-filed.ensures.fault) c.in_ok-feeds.ensures.reader
+
+pub returns-in_err-filed-clause-writer : goal.returns-in_err-filed-clause-writer
+returns-in_err-filed-clause-writer g c =
+    let p = err_from_is_err_and c.from_residual-in_err-filed.result c.from_residual-in_err-filed.ensures.1 in
+    rw (p.1, p.2 ∙ c.in_err-filed.ensures.fault) c.in_ok-feeds.ensures.writer
+
+pub returns-clause-reader : goal.returns-clause-reader
+returns-clause-reader g c = c.in_ok-feeds.ensures.reader ∙ sym (reader-calm-all c.answer_all.result c.args.reader.now.failures (if_err_map c.answer_all.result (λ e k. k.0) c.answer_all.ensures.kinds))
+
+pub returns-clause-writer : goal.returns-clause-writer
+returns-clause-writer g c = c.answer_all.ensures.writer ∙ ap (writer_failures c.answer_all.result) c.in_ok-feeds.ensures.writer
 
 pub returns-clause-others : goal.returns-clause-others
 returns-clause-others g c = if_err_map c.answer_all.result (λ e k. (k.2, k.3, k.4)) c.answer_all.ensures.kinds

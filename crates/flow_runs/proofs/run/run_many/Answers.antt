@@ -1,5 +1,7 @@
-use Rattle.std.proofs.Common.{Err, [], ap}
+use Rattle.std.proofs.Common.{◌≡◌, Err, [], ap, sym}
+use Rattle.flow_runs.specs.declared.fault.RunFault.TheVariants.{TooMuch}
 use Rattle.flow_runs.proofs.Sizes.{sized}
+use Rattle.flow_runs.proofs.Failures.{no-desk, beyond}
 use Rattle.flow_runs.proofs.Ran.{ended-first, ended-at, no-reader, if_err_map}
 use Rattle.flow_runs.proofs.run.run_many.Goals as goal
 
@@ -19,4 +21,21 @@ returns-in-Ok-clause-no_reader g c = λ e. absurd (no-reader c.run_blank.result 
 
 pub returns-in-Err-clause-left : goal.returns-in-Err-clause-left
 returns-in-Err-clause-left g c =
-    ended-first c.args.setup.now [] c.args.feeders c.args.journal c.why_no_desk.result (g.W.Write.contents c.args.writer.now.device) (g.R.Read.remaining c.args.reader.now.device) c.why_no_desk.ensures.others.4
+    ended-first c.args.setup.now [] c.args.feeders c.args.journal c.why_no_desk.result (g.W.Write.contents c.args.writer.now.device) (g.R.Read.remaining c.args.reader.now.device) (no-desk c.in-Err.fault c.why_no_desk.result c.why_no_desk.ensures).begun
+
+pub returns-in-Err-clause-reader : goal.returns-in-Err-clause-reader
+returns-in-Err-clause-reader g c = sym ((no-desk c.in-Err.fault c.why_no_desk.result c.why_no_desk.ensures).reads c.args.reader.now.failures)
+
+pub returns-in-Err-clause-writer : goal.returns-in-Err-clause-writer
+returns-in-Err-clause-writer g c = sym ((no-desk c.in-Err.fault c.why_no_desk.result c.why_no_desk.ensures).writes c.args.writer.now.failures)
+
+pub returns-in-Err-clause-others : goal.returns-in-Err-clause-others
+returns-in-Err-clause-others g c = (
+  (no-desk c.in-Err.fault c.why_no_desk.result c.why_no_desk.ensures).journal,
+  λ bad. (let b = beyond c.in-Err.fault c.why_no_desk.result c.why_no_desk.ensures bad in c.in-Err.ensures.beyond b.0 b.1),
+)
+
+pub returns-in-Err-clause-much : goal.returns-in-Err-clause-much
+returns-in-Err-clause-much g c = λ e.
+    let much : c.why_no_desk.result ≡ TooMuch = cc in
+    absurd ((no-desk c.in-Err.fault c.why_no_desk.result c.why_no_desk.ensures).much much)

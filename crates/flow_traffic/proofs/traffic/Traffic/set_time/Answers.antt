@@ -1,4 +1,4 @@
-use Rattle.std.proofs.Common.{◌≡◌, ◌≤◌, ◌<◌, ◌∙◌, ℕ, Bool, List, map, length, refl, sym, ap, subst, arith, Option, Some}
+use Rattle.std.proofs.Common.{◌≡◌, ◌≤◌, ◌<◌, ◌∙◌, ℕ, Bool, List, map, length, refl, sym, ap, subst, arith, Option, Some, IsOk}
 use Rattle.std.proofs.lemmas.Bool.{lt-ltb, le-ltb}
 use Rattle.fpl_message.specs.Messages.{set_time}
 use Rattle.fpl_message.specs.Reads.{ord}
@@ -13,6 +13,7 @@ use Rattle.flow_traffic.specs.declared.verdict.Kind.TheVariants as kind
 use Rattle.flow_traffic.specs.declared.undo.Last.TheVariants as reading
 use Rattle.flow_traffic.specs.Traffic.{Traffic, Undoable}
 use Rattle.flow_traffic.specs.State.{State, traffic_of}
+use Rattle.flow_traffic.specs.Asked.{asked}
 use Rattle.flow_traffic.specs.Undoing.{LastReading, has_changed, past, told_past, undone, IsAgain, IsKeptWith}
 use Rattle.flow_traffic.proofs.Rising.{rises-on, few-rising}
 use Rattle.flow_traffic.proofs.Noted.{same-noted}
@@ -28,6 +29,18 @@ returns-then-minutes-clause-answers g c =
     let t : Traffic = traffic_of s i.told.items i.notices.items in
     let back : c.args.at < i.time = omega (arith, c.if-minutes.true, c.minutes.ensures.value, c.minutes-2.ensures.value) in
     rw (sym (ap (λ (v : Undoable). v.traffic) c.self.view_is)) (refused (ord (set_time c.args.at)) t _ (back-refused t c.args.at (lt-ltb _ _ back)))
+
+-- the time doesn't go back
+asked-later : (t : Traffic) (at : ℕ) → t.now ≤ at → IsOk (asked t (ord (set_time at)))
+asked-later t at later = rw (time-asked t at (le-ltb _ _ later)) refl
+
+pub returns-in_default-clause-memory : goal.returns-in_default-clause-memory
+returns-in_default-clause-memory g c =
+    asked-later c.args.self.now.traffic c.args.at (omega (arith, c.if-minutes.false, c.minutes.ensures.value, c.minutes-2.ensures.value, ap (λ (v : Undoable). v.traffic.now) c.self.view_is))
+
+pub returns-in_default-make_room_to_tell-clause-memory : goal.returns-in_default-make_room_to_tell-clause-memory
+returns-in_default-make_room_to_tell-clause-memory g c =
+    asked-later c.args.self.now.traffic c.args.at (omega (arith, c.if-minutes.false, c.minutes.ensures.value, c.minutes-2.ensures.value, ap (λ (v : Undoable). v.traffic.now) c.self.view_is))
 
 pub invariant_of-self-in_default-make_room_to_tell : goal.invariant_of-self-in_default-make_room_to_tell
 invariant_of-self-in_default-make_room_to_tell g c =

@@ -29,6 +29,14 @@ returns-then-not-is_open-clause-answers g c =
     let other = sym (named-regulations c.args.id.now i.regulations.lists) ∙ sym c.is_open.ensures ∙ c.if-not-is_open.true in
     rw (sym (ap (λ (v : Undoable). v.traffic) c.self.view_is)) (refused (ord (shut_reg c.args.id.now)) t _ (none-refused t c.args.id.now other))
 
+pub returns-in_default-clause-memory : goal.returns-in_default-clause-memory
+returns-in_default-clause-memory g c =
+    let i = c.self.inside in
+    let s : State = record { time = i.time; store = i.plans; listing = i.regulations; queue = i.queue } in
+    let t : Traffic = traffic_of s i.told.items i.notices.items in
+    let here = sym (named-regulations c.args.id.now i.regulations.lists) ∙ sym c.is_open.ensures ∙ c.if-not-is_open.false in
+    rw (sym (ap (λ (v : Undoable). v.traffic) c.self.view_is), shut-asked t c.args.id.now here) refl
+
 pub tell-requires-clause-rising : goal.tell-requires-clause-rising
 tell-requires-clause-rising g c =
     let changed : c.keep.new.self.changed ≡ c.note_fixed.new.self.changed = ap (λ (v : LastReading). v.changed) c.keep.ensures in

@@ -1,0 +1,25 @@
+use Rattle.std.proofs.Common.{◌≡◌, map, None}
+use Rattle.flow_core.proofs.JournalTexts.{OnOk-map}
+use Rattle.flow_runs.proofs.Failures.{writer-failed}
+use Rattle.flow_runs.proofs.Readings.{ReadsNext-long, ReadsNext-whole, left-result}
+use Rattle.flow_runs.proofs.dealing.deal_frame.Goals as goal
+
+pub returns-in_default-clause-next : goal.returns-in_default-clause-next
+returns-in_default-clause-next g c =
+    let none : c.args.input.now.item ≡ None = rw c.in_default.is at c.frame.ensures in
+    OnOk-map c.write_out.result
+    (λ a. ReadsNext-long c.args.input.now.item (map (λ v. v.items) c.args.dealt.now.feeds.items) c.args.dealt.now.count (g.W.Write.contents c.args.writer.now.device) (g.W.Write.contents c.write_out.new.writer.device) none a)
+    (rw c.too_long_line.ensures at c.write_out.ensures.writes.ok)
+
+pub returns-in-Ok-deal-clause-next : goal.returns-in-Ok-deal-clause-next
+returns-in-Ok-deal-clause-next g c =
+    ReadsNext-whole c.args.input.now.item c.in-Some.bytes.now c.in-Ok.text (map (λ v. v.items) c.args.dealt.now.feeds.items) (map (λ v. v.items) c.deal.new.dealt.feeds.items) c.args.dealt.now.count c.deal.new.dealt.count (g.W.Write.contents c.args.writer.now.device)
+    c.in-Some.ensures.0 c.in-Ok.ensures.value c.in-Ok-deal.ensures.ok c.in-Ok-deal.ensures.count
+
+pub returns-in_default-clause-left : goal.returns-in_default-clause-left
+returns-in_default-clause-left g c =
+    let none : c.args.input.now.item ≡ None = rw c.in_default.is at c.frame.ensures in
+    left-result c.write_out.result c.args.input.now.item (g.W.Write.contents c.args.writer.now.device) (g.W.Write.contents c.write_out.new.writer.device) none c.write_out.ensures.kind (rw c.too_long_line.ensures at c.write_out.ensures.writes.err)
+
+pub returns-in_default-clause-writer : goal.returns-in_default-clause-writer
+returns-in_default-clause-writer g c = writer-failed c.write_out.result _ _ c.write_out.ensures.writes.calm c.write_out.ensures.writes.failed c.write_out.ensures.kind

@@ -1,0 +1,61 @@
+-- Which fault a run ends with, and how many calls of its devices have failed then.
+use Rattle.std.specs.Prelude.{◌≡◌, ℕ, Result, Ok, Err}
+use Rattle.flow_intake.specs.Source.{counted_up}
+use Rattle.flow_intake.specs.declared.fault.IntakeFault.{IntakeFault}
+use Rattle.flow_intake.specs.declared.fault.IntakeFault.TheVariants as intake
+use Rattle.flow_core.specs.declared.journal_reading.JournalFault.{JournalFault}
+use Rattle.flow_core.specs.declared.journal_reading.JournalFault.TheVariants as reading
+use Rattle.flow_desk.specs.declared.blank.DeskFault.{DeskFault}
+use Rattle.flow_desk.specs.declared.blank.DeskFault.TheVariants as desk
+use Rattle.flow_runs.specs.declared.fault.RunFault.{RunFault}
+use Rattle.flow_runs.specs.declared.fault.RunFault.TheVariants as fault
+
+-- the fault where no frame came
+abbrev pub fault_of_frame : IntakeFault → RunFault
+fault_of_frame intake.Read = fault.Read
+fault_of_frame intake.TooMuch = fault.TooMuch
+fault_of_frame intake.OutOfMemory = fault.OutOfMemory
+
+-- where no journal was read
+abbrev pub fault_of_journal : JournalFault → RunFault
+fault_of_journal reading.Read = fault.Read
+fault_of_journal reading.NotAJournal = fault.BadJournal
+fault_of_journal reading.OutOfMemory = fault.OutOfMemory
+
+-- and where no desk was made for a number of feeders that a desk may have
+abbrev pub IsFaultOfDesk : DeskFault → RunFault → Type 0
+IsFaultOfDesk desk.Feeders why = ⊥
+IsFaultOfDesk (desk.FeederBeyond number) why = why ≡ fault.BadFeeders
+IsFaultOfDesk desk.NoReader why = why ≡ fault.NoReader
+IsFaultOfDesk desk.OutOfMemory why = why ≡ fault.OutOfMemory
+
+-- how many calls of the reader have failed after a run that ended with this fault
+abbrev pub reader_failures_with : RunFault → ℕ → ℕ
+reader_failures_with fault.Read before = counted_up before
+reader_failures_with fault.TooMuch before = before
+reader_failures_with fault.Write before = before
+reader_failures_with fault.OutOfMemory before = before
+reader_failures_with fault.NoReader before = before
+reader_failures_with fault.NotStarted before = before
+reader_failures_with fault.BadJournal before = before
+reader_failures_with fault.BadFeeders before = before
+
+-- the same of the writer
+abbrev pub writer_failures_with : RunFault → ℕ → ℕ
+writer_failures_with fault.Write before = counted_up before
+writer_failures_with fault.Read before = before
+writer_failures_with fault.TooMuch before = before
+writer_failures_with fault.OutOfMemory before = before
+writer_failures_with fault.NoReader before = before
+writer_failures_with fault.NotStarted before = before
+writer_failures_with fault.BadJournal before = before
+writer_failures_with fault.BadFeeders before = before
+
+-- after a run that ended so: one more only where the device failed
+abbrev pub reader_failures : {T : Type 0} → Result T RunFault → ℕ → ℕ
+reader_failures (Ok x) before = before
+reader_failures (Err why) before = reader_failures_with why before
+
+abbrev pub writer_failures : {T : Type 0} → Result T RunFault → ℕ → ℕ
+writer_failures (Ok x) before = before
+writer_failures (Err why) before = writer_failures_with why before
