@@ -6,13 +6,12 @@ pub mod Rows
 pub mod Serves
 pub mod JournalTexts
 pub mod Journals
-pub mod Fronts
-pub mod Entries
 pub mod ReadBack
 pub mod JournalTaken
 pub mod JournalBack
 pub mod JournalShown
 pub mod JournalHeld
+pub mod JournalBounds
 pub mod Backs
 pub mod Entering
 pub mod Undoables
@@ -25,4 +24,4 @@ pub mod Filed
 pub mod Growing
 pub mod Boards
 pub mod TakenIn
-pub mod FilesOns
+pub mod JournalItems

@@ -17,8 +17,9 @@
 //! - *The journal as a text* (`Core::write_journal`, `read_journal`) names one history. A core that is read from it
 //!   has come to the same as the one that wrote it, and goes on from there.
 //!
-//! `desk` has the calls and the ledger, `entry` and `entry_list` the journal, `answer` and `line` the texts of answers, `change` and
-//! `row` what readers see, `laws` and `journal_laws` what follows from the definitions.
+//! `desk` has the calls and the ledger, `entry` and `entry_list` the journal, `journal_item` and `journal_reading` read its text,
+//! `answer` and `line` have the texts of answers, `change` and `row` what readers see, `laws` and `journal_laws` what follows from
+//! the definitions.
 #![tactic(auto)]
 
 mod answer;
@@ -27,6 +28,7 @@ mod desk;
 mod entry;
 mod entry_list;
 mod journal;
+mod journal_item;
 pub mod journal_laws;
 mod journal_reading;
 pub mod laws;

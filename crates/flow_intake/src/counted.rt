@@ -66,22 +66,28 @@ impl<R: Read> Read for Counted<R> {
     }
 }
 
+/// A call of `ahead` that failed and is still to be counted: only such a call makes one.
+#[derive(Drop)]
+pub struct ReadFailure(());
+
 impl<R: BufRead> Counted<R> {
     /// The bytes that come next, as many as the device has at hand: none only at the end of the input. They stay to be
-    /// read until `pass` goes past them. A call that fails is to be counted by `count_failure`.
-    pub fn ahead(&mut self) -> io::Result<&[u8]>
+    /// read until `consume` drops them. A failure is counted by `count_failure`.
+    pub fn ahead(&mut self) -> Result<&[u8], ReadFailure>
         ensures front { IfSome (R.remaining self.old.device) (λ xs. IfOk result (λ s. StartsWith xs s.now)) }
         ensures end { IfSome (R.remaining self.old.device) (λ xs. IfOk result (λ s. length s.now ≡ 0 → xs ≡ [])) }
         ensures* after_borrow { sem 𝓛 (Rests (the_row R.row) self.entry (λ new.
             FillKeeps (R.remaining self.old.device) (R.remaining new.device) (R.consumable_len new.device) result
             × (new.failures ≡ self.old.failures))) }
     {
-        let bytes = self.device.fill_buf()?;
-        Ok(bytes)
+        match self.device.fill_buf() {
+            Ok(bytes) => Ok(bytes),
+            Err(_) => Err(ReadFailure(())),
+        }
     }
 
-    /// Goes past so many of the bytes that come next, of which `ahead` has shown as many.
-    pub fn pass(&mut self, amount: usize)
+    /// Drops the first of the bytes that come next, as many as `ahead` has shown at most.
+    pub fn consume(&mut self, amount: usize)
         ensures bytes { DropsConsumable (R.remaining self.old.device) (R.remaining self.new.device)
             (R.consumable_len self.old.device) amount }
         ensures failures { self.new.failures ≡ self.old.failures }
@@ -90,36 +96,11 @@ impl<R: BufRead> Counted<R> {
     }
 
     /// Counts a call of `ahead` that failed.
-    pub fn count_failure(&mut self)
+    pub fn count_failure(&mut self, _failure: ReadFailure)
         ensures failures { self.new.failures ≡ counted_up self.old.failures }
         ensures device { self.new.device ≡ self.old.device }
     {
         self.count(true);
-    }
-
-    /// The next byte. None at the end of the input.
-    pub fn next_byte(&mut self) -> io::Result<Option<u8>>
-        ensures byte { IfOk result (λ next. IfSome next (λ b.
-            Consumes (R.remaining self.old.device) (R.remaining self.new.device) (b ∷ []))) }
-        ensures end { IfOk result (λ next. IfNone next (IsAtEnd (R.remaining self.old.device)
-            × Keeps (R.remaining self.old.device) (R.remaining self.new.device))) }
-        ensures err { OnErr result (Keeps (R.remaining self.old.device) (R.remaining self.new.device)) }
-        ensures counts { MatchResult result (λ _. self.new.failures ≡ self.old.failures) (λ _.
-            self.new.failures ≡ counted_up self.old.failures) }
-    {
-        let bytes = match self.ahead() {
-            Ok(bytes) => bytes,
-            Err(fault) => {
-                self.count_failure();
-                return Err(fault);
-            }
-        };
-        if bytes.is_empty() {
-            return Ok(None);
-        }
-        let byte = bytes[0];
-        self.pass(1);
-        Ok(Some(byte))
     }
 }
 

@@ -19,7 +19,7 @@ pub mod laws;
 mod next_frame;
 mod scan;
 
-pub use counted::{Counted, WriteFault, write_bytes};
+pub use counted::{Counted, ReadFailure, WriteFault, write_bytes};
 pub use fault::IntakeFault;
 pub use input::{Input, MAX_INPUT};
 pub use intake::{Frame, Intake};
