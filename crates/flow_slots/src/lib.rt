@@ -31,6 +31,7 @@ mod cell;
 mod cells;
 mod chains;
 mod change_list;
+mod counting;
 mod first_slots;
 mod held_slot;
 pub mod laws;

@@ -1,17 +1,19 @@
 //! The cells of a row, made as they are needed.
 ghost use Rattle.std.specs.Prelude.{◌≡◌, ◌+◌, ◌-◌, ◌<◌, ◌≤◌, ◌++◌, ◌^◌, ◌↔◌, IfOk, IsTrue, true, drop, []};
-ghost use Rattle.std.specs.Prelude.{None, Some, length, min, replicate, slice_set, take, vec_capacity};
+ghost use Rattle.std.specs.Prelude.{None, Some, length, map, min, replicate, slice_set, take, vec_capacity};
 ghost use Rattle.flow_slots.specs.CellRow.{one_more};
 ghost use Rattle.flow_slots.specs.Changed.{gained};
 ghost use Rattle.flow_slots.specs.MadeRow.{MadeRow, EndsEmpty, counted};
-ghost use Rattle.flow_slots.specs.PackedCell.{IsStored};
+ghost use Rattle.flow_slots.specs.PackedCell.{IsStored, from_start};
 ghost use Rattle.flow_slots.specs.Period.{first_slot};
 ghost use Rattle.flow_slots.specs.Row.{cell_at, fixed_of, flight_at, place_at, EntriesWithin, IsTied};
 ghost use Rattle.flow_slots.specs.Walk.{close, displace, has_empty, AllFollow};
 ghost use Rattle.flow_slots.specs.declared.cell.Cell.TheVariants.{Empty, Waiting};
+ghost use Rattle.flow_slots.specs.declared.packed_cell.TheConstants.{NO_ENTRY};
 
 use crate::cell::{Cell, Planned};
 use crate::chains::{displace, first_later, vacate};
+use crate::counting::Counting;
 use crate::first_slots::FirstSlots;
 use crate::held_slot::HeldSlot;
 use crate::packed_cell::{PackedCell, PackedFlight, are_unfixed};
@@ -56,6 +58,58 @@ fn make<A: Allocator + Copy>(row: &mut Vec<PackedCell, A>, count: u32)
     while row.len() < count as usize {
         row.push_reserved(PackedCell::empty());
     }
+}
+
+/// Takes `flight` in from slot `from` on, and returns how many cells were written.
+#[inline(always)]
+fn displace_in(
+    cells: &mut [PackedCell],
+    places: &mut [HeldSlot],
+    from: usize,
+    flight: PackedFlight,
+) -> u64
+    requires few { length cells.old < 2 ^ 16 }
+    requires tied { IsTied places.old cells.old }
+    requires order { AllFollow (drop from cells.old) }
+    requires some { 0 < flight.flight }
+    requires number { flight.flight < length places.old }
+    requires absent { place_at places.old flight.flight ≡ None }
+    requires room { has_empty (drop from cells.old) ≡ true }
+    requires entry { flight.entry < NO_ENTRY }
+    ensures tied { IsTied places.new cells.new }
+    ensures cells { cells.new ≡ take from cells.old ++ displace flight (drop from cells.old) }
+    ensures written { result ≡ gained cells.old cells.new }
+{
+    let mut row = Counting::new(cells);
+    let k = first_later(&row, from, flight);
+    displace(&mut row, places, k, flight);
+    row.end()
+}
+
+/// Takes `flight` out of slot `k`, and returns how many cells were written.
+#[inline(always)]
+fn vacate_in<A: Allocator + Copy>(
+    cells: &mut [PackedCell],
+    places: &mut [HeldSlot],
+    shape: &FirstSlots<A>,
+    start: u32,
+    flight: u32,
+    k: usize,
+) -> u64
+    requires few { length cells.old < 2 ^ 16 }
+    requires start { start < 2 ^ 31 }
+    requires tied { IsTied places.old cells.old }
+    requires stands { flight_at cells.old k ≡ Some flight }
+    requires entries { EntriesWithin shape.now (map (from_start start) cells.old) }
+    ensures tied { IsTied places.new cells.new }
+    ensures cells { map (from_start start) cells.new
+        ≡ take k (map (from_start start) cells.old)
+        ++ close (λ e. first_slot shape.now e) k (drop (k + 1) (map (from_start start) cells.old)) }
+    ensures written { result ≡ gained cells.old cells.new + 1 }
+{
+    let mut row = Counting::new(cells);
+    vacate(&mut row, places, shape, start, flight, k);
+    row.end()
 }
 
 impl<A: Allocator + Copy> MadeCells<A> {
@@ -150,8 +204,7 @@ impl<A: Allocator + Copy> MadeCells<A> {
             ≡ min (counted self.old + gained self.old.row self.new.row) (2 ^ 64 - 1) }
     {
         let coming = PackedFlight::of(self.start, flight);
-        let k = first_later(&self.row, from as usize, coming);
-        let written = displace(&mut self.row, places, k, coming);
+        let written = displace_in(&mut self.row, places, from as usize, coming);
         self.writes = self.writes.saturating_add(written);
     }
 
@@ -175,7 +228,7 @@ impl<A: Allocator + Copy> MadeCells<A> {
         ensures writes { counted self.new
             ≡ min (counted self.old + (gained self.old.row self.new.row + 1)) (2 ^ 64 - 1) }
     {
-        let moved = vacate(&mut self.row, places, shape, self.start, flight, k as usize);
+        let moved = vacate_in(&mut self.row, places, shape, self.start, flight, k as usize);
         self.writes = self.writes.saturating_add(moved);
     }
 

@@ -3,7 +3,7 @@ use Rattle.flow_slots.proofs.Following.{Passed}
 use Rattle.flow_slots.proofs.chains.first_later.Given as goal
 
 abbrev pub invariant-loop-flight : goal.invariant-loop-flight
-invariant-loop-flight l = Passed l.cells l.from l.flight l.place
+invariant-loop-flight l = Passed l.row.cells.now l.from l.flight l.place
 
 abbrev pub decreases-loop-flight : goal.decreases-loop-flight
-decreases-loop-flight l = length l.cells - l.place
+decreases-loop-flight l = length l.row.cells.now - l.place

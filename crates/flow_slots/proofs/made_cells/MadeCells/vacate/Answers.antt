@@ -12,39 +12,39 @@ use Rattle.flow_slots.proofs.Started.{started}
 use Rattle.flow_slots.proofs.Tied.{flight_at-within}
 use Rattle.flow_slots.proofs.made_cells.MadeCells.vacate.Goals as goal
 
-pub vacate-moved-requires-clause-tied : goal.vacate-moved-requires-clause-tied
-vacate-moved-requires-clause-tied g c =
+pub vacate_in-moved-requires-clause-tied : goal.vacate_in-moved-requires-clause-tied
+vacate_in-moved-requires-clause-tied g c =
     let s = c.self.inside in
     rw c.deref_mut.ensures.value (IsTied-made c.args.places.now s.start s.row.items s.len (subst (λ v. IsTied c.args.places.now v.row) (sym c.self.view_is) c.requires.tied))
 
-pub vacate-moved-requires-clause-stands : goal.vacate-moved-requires-clause-stands
-vacate-moved-requires-clause-stands g c =
+pub vacate_in-moved-requires-clause-stands : goal.vacate_in-moved-requires-clause-stands
+vacate_in-moved-requires-clause-stands g c =
     let s = c.self.inside in
     rw c.deref_mut.ensures.value (sym (flight_at-lifted s.start s.row.items s.len c.args.k) ∙ (ap (λ v. flight_at v.row c.args.k) c.self.view_is ∙ c.requires.stands))
 
-pub vacate-moved-requires-clause-entries : goal.vacate-moved-requires-clause-entries
-vacate-moved-requires-clause-entries g c =
+pub vacate_in-moved-requires-clause-entries : goal.vacate_in-moved-requires-clause-entries
+vacate_in-moved-requires-clause-entries g c =
     let s = c.self.inside in
     rw c.deref_mut.ensures.value (EntriesWithin-made c.args.shape.now s.start s.row.items s.len (subst (λ v. EntriesWithin c.args.shape.now v.row) (sym c.self.view_is) c.requires.entries))
 
 pub returns-clause-tied : goal.returns-clause-tied
 returns-clause-tied g c =
     let s = c.self.inside in
-    let new = c.vacate-moved.new.cells in
-    let same : length new ≡ length s.row.items = c.vacate-moved.auto.cells ∙ ap length c.deref_mut.ensures.value in
+    let new = c.vacate_in-moved.new.cells in
+    let same : length new ≡ length s.row.items = c.vacate_in-moved.auto.cells ∙ ap length c.deref_mut.ensures.value in
     let is = with_items_is s.row new (omega (arith, same, s.row.ok.0)) in
-    subst (λ v. IsTied c.vacate-moved.new.places (started s.start v s.len)) (sym is) (IsTied-lifted c.vacate-moved.new.places s.start new s.len c.vacate-moved.ensures.tied)
+    subst (λ v. IsTied c.vacate_in-moved.new.places (started s.start v s.len)) (sym is) (IsTied-lifted c.vacate_in-moved.new.places s.start new s.len c.vacate_in-moved.ensures.tied)
 
 pub returns-clause-row : goal.returns-clause-row
 returns-clause-row g c =
     let s = c.self.inside in
     let cells = s.row.items in
     let k = c.args.k in
-    let new = c.vacate-moved.new.cells in
-    let same : length new ≡ length cells = c.vacate-moved.auto.cells ∙ ap length c.deref_mut.ensures.value in
+    let new = c.vacate_in-moved.new.cells in
+    let same : length new ≡ length cells = c.vacate_in-moved.auto.cells ∙ ap length c.deref_mut.ensures.value in
     let is = with_items_is s.row new (omega (arith, same, s.row.ok.0)) in
     let stands = sym (flight_at-lifted s.start cells s.len k) ∙ (ap (λ v. flight_at v.row k) c.self.view_is ∙ c.requires.stands) in
-    let closed = rw c.deref_mut.ensures.value at c.vacate-moved.ensures.cells in
+    let closed = rw c.deref_mut.ensures.value at c.vacate_in-moved.ensures.cells in
     let lifted = closed-lifted (λ e. first_slot c.args.shape.now e) s.start cells new s.len k (flight_at-within cells k c.args.flight stands) same closed in
     ap (λ v. started s.start v s.len) is ∙ (lifted ∙ ap (λ v. take k v.row ++ close (λ e. first_slot c.args.shape.now e) k (drop (k + 1) v.row)) c.self.view_is)
 
@@ -52,10 +52,10 @@ pub returns-clause-writes : goal.returns-clause-writes
 returns-clause-writes g c =
     let s = c.self.inside in
     let cells = s.row.items in
-    let new = c.vacate-moved.new.cells in
-    let same : length new ≡ length cells = c.vacate-moved.auto.cells ∙ ap length c.deref_mut.ensures.value in
+    let new = c.vacate_in-moved.new.cells in
+    let same : length new ≡ length cells = c.vacate_in-moved.auto.cells ∙ ap length c.deref_mut.ensures.value in
     let is = with_items_is s.row new (omega (arith, same, s.row.ok.0)) in
-    let written = rw c.deref_mut.ensures.value at c.vacate-moved.ensures.written in
-    let more : gained c.args.self.now.row (started s.start (with_items s.row new).items s.len) + 1 ≡ c.vacate-moved.result =
+    let written = rw c.deref_mut.ensures.value at c.vacate_in-moved.ensures.written in
+    let more : gained c.args.self.now.row (started s.start (with_items s.row new).items s.len) + 1 ≡ c.vacate_in-moved.result =
     ap (λ v. gained v.row (started s.start (with_items s.row new).items s.len) + 1) (sym c.self.view_is) ∙ (ap (λ v. gained (started s.start cells s.len) (started s.start v s.len) + 1) is ∙ (ap (λ n. n + 1) (gained-lifted s.start cells new s.len same) ∙ sym written)) in
     omega (arith, more, ap counted c.self.view_is, c.saturating_add-self-inside.ensures)
