@@ -2,7 +2,6 @@ use Rattle.std.proofs.Common.{◌≡◌, ◌+◌, ◌++◌, length, take, drop, 
 use Rattle.std.proofs.lemmas.List.{with_items_is}
 use Rattle.std.specs.Vec.{with_items}
 use Rattle.flow_slots.specs.Changed.{gained}
-use Rattle.flow_slots.specs.MadeRow.{counted}
 use Rattle.flow_slots.specs.Period.{first_slot}
 use Rattle.flow_slots.specs.Row.{flight_at, IsTied, EntriesWithin}
 use Rattle.flow_slots.specs.Walk.{close}
@@ -10,12 +9,12 @@ use Rattle.flow_slots.proofs.Behind.{EntriesWithin-made, closed-lifted}
 use Rattle.flow_slots.proofs.Lifted.{IsTied-made, IsTied-lifted, flight_at-lifted, gained-lifted}
 use Rattle.flow_slots.proofs.Started.{started}
 use Rattle.flow_slots.proofs.Tied.{flight_at-within}
-use Rattle.flow_slots.proofs.made_cells.MadeCells.vacate.Goals as goal
+use Rattle.flow_slots.proofs.cells.Cells.vacate.Goals as goal
 
 pub vacate_in-moved-requires-clause-tied : goal.vacate_in-moved-requires-clause-tied
 vacate_in-moved-requires-clause-tied g c =
     let s = c.self.inside in
-    rw c.deref_mut.ensures.value (IsTied-made c.args.places.now s.start s.row.items s.len (subst (λ v. IsTied c.args.places.now v.row) (sym c.self.view_is) c.requires.tied))
+    rw (c.deref_mut.ensures.value, c.deref_mut-2.ensures.value) (IsTied-made c.args.places.now.items s.start s.row.items s.len (subst (λ v. IsTied c.args.places.now.items v.row) (sym c.self.view_is) c.requires.tied))
 
 pub vacate_in-moved-requires-clause-stands : goal.vacate_in-moved-requires-clause-stands
 vacate_in-moved-requires-clause-stands g c =
@@ -33,7 +32,9 @@ returns-clause-tied g c =
     let new = c.vacate_in-moved.new.cells in
     let same : length new ≡ length s.row.items = c.vacate_in-moved.auto.cells ∙ ap length c.deref_mut.ensures.value in
     let is = with_items_is s.row new (omega (arith, same, s.row.ok.0)) in
-    subst (λ v. IsTied c.vacate_in-moved.new.places (started s.start v s.len)) (sym is) (IsTied-lifted c.vacate_in-moved.new.places s.start new s.len c.vacate_in-moved.ensures.tied)
+    let seats = c.vacate_in-moved.new.places in
+    let put = with_items_is c.args.places.now seats (omega (arith, c.vacate_in-moved.auto.places, ap length c.deref_mut-2.ensures.value, c.args.places.now.ok.0)) in
+    rw (is, put) (IsTied-lifted seats s.start new s.len c.vacate_in-moved.ensures.tied)
 
 pub returns-clause-row : goal.returns-clause-row
 returns-clause-row g c =
@@ -58,4 +59,4 @@ returns-clause-writes g c =
     let written = rw c.deref_mut.ensures.value at c.vacate_in-moved.ensures.written in
     let more : gained c.args.self.now.row (started s.start (with_items s.row new).items s.len) + 1 ≡ c.vacate_in-moved.result =
     ap (λ v. gained v.row (started s.start (with_items s.row new).items s.len) + 1) (sym c.self.view_is) ∙ (ap (λ v. gained (started s.start cells s.len) (started s.start v s.len) + 1) is ∙ (ap (λ n. n + 1) (gained-lifted s.start cells new s.len same) ∙ sym written)) in
-    omega (arith, more, ap counted c.self.view_is, c.saturating_add-self-inside.ensures)
+    omega (arith, more, ap (λ v. v.writes) c.self.view_is, c.saturating_add-self-inside.ensures)

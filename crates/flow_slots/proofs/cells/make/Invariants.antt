@@ -1,6 +1,6 @@
 use Rattle.std.proofs.Common.{◌≡◌, ◌-◌, ◌≤◌, length, vec_capacity}
 use Rattle.flow_slots.specs.MadeRow.{filled}
-use Rattle.flow_slots.proofs.made_cells.make.Given as goal
+use Rattle.flow_slots.proofs.cells.make.Given as goal
 
 abbrev pub invariant-loop-row : goal.invariant-loop-row
 invariant-loop-row g l = record {

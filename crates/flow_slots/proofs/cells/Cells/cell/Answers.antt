@@ -3,7 +3,7 @@ use Rattle.flow_slots.specs.MadeRow.{filled}
 use Rattle.flow_slots.specs.PackedCell.{from_start}
 use Rattle.flow_slots.proofs.Filled.{cell_at-others}
 use Rattle.flow_slots.proofs.Started.{cell_at-started}
-use Rattle.flow_slots.proofs.made_cells.MadeCells.cell.Goals as goal
+use Rattle.flow_slots.proofs.cells.Cells.cell.Goals as goal
 
 pub returns-else-k-len-clause-value : goal.returns-else-k-len-clause-value
 returns-else-k-len-clause-value g c =

@@ -2,7 +2,7 @@ use Rattle.std.proofs.Common.{sym, ap, ◌∙◌}
 use Rattle.flow_slots.specs.Row.{fixed_of}
 use Rattle.flow_slots.proofs.Started.{started}
 use Rattle.flow_slots.proofs.Unfixed.{started-unfixed}
-use Rattle.flow_slots.proofs.made_cells.MadeCells.keeps_none.Goals as goal
+use Rattle.flow_slots.proofs.cells.Cells.keeps_none.Goals as goal
 
 pub returns : goal.returns
 returns g c =
