@@ -1,5 +1,5 @@
 -- Rows in which entries are counted from a start.
-use Rattle.std.proofs.Common.{◌≡◌, ℕ, zero, suc, ◌+◌, ◌-◌, ◌<◌, ◌≤◌, ◌++◌, false, [], ◌∷◌, List, map, length, set, replicate, refl, sym, ap, ◌∙◌, arith}
+use Rattle.std.proofs.Common.{◌≡◌, ℕ, zero, suc, ◌+◌, ◌-◌, ◌<◌, ◌≤◌, ◌++◌, true, false, [], ◌∷◌, List, map, length, set, replicate, refl, sym, ap, ◌∙◌, arith}
 use Rattle.std.proofs.Math.ListN.{get_or-map}
 use Rattle.std.proofs.lemmas.Bool.{false≢true}
 use Rattle.std.proofs.lemmas.Bool.Decides.{nat_tests}
@@ -9,7 +9,7 @@ use Rattle.flow_slots.specs.declared.cell.Cell.TheVariants.{Empty, Waiting, Fixe
 use Rattle.flow_slots.specs.declared.cell.Planned.{Planned}
 use Rattle.flow_slots.specs.CellRow.{CellRow}
 use Rattle.flow_slots.specs.MadeRow.{filled}
-use Rattle.flow_slots.specs.PackedCell.{from_start, flight_from}
+use Rattle.flow_slots.specs.PackedCell.{from_start, flight_from, planned_in}
 use Rattle.flow_slots.specs.Row.{cell_at, IsFixedCell}
 use Rattle.flow_slots.specs.Walk.{waits, waits_before}
 use Rattle.flow_slots.proofs.Filled.{length-filled, filled-more, filled-set}
@@ -56,6 +56,15 @@ pub empty-started : (start : ℕ) (c : Cell) → from_start start c ≡ Empty �
 empty-started start Empty e = refl
 empty-started start (Waiting w) e = cc
 empty-started start (Fixed f) e = cc
+
+-- a cell in which a flight waits has its entry and its number
+pub waits-is : (c : Cell) → waits c ≡ true → Waiting (planned_in c) ≡ c
+waits-is Empty e = absurd (false≢true e)
+waits-is (Waiting w) e = refl
+waits-is (Fixed f) e = absurd (false≢true e)
+
+pub waits-started : (start : ℕ) (c : Cell) → waits c ≡ true → from_start start c ≡ Waiting (flight_from start (planned_in c))
+waits-started start c e = sym (ap (from_start start) (waits-is c e))
 
 -- a flight keeps its slot where nobody waits and somebody stands
 pub fixed-started : (start : ℕ) (c : Cell) → waits c ≡ false → (c ≡ Empty → ⊥) → IsFixedCell (from_start start c)

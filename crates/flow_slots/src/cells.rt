@@ -5,20 +5,19 @@ ghost use Rattle.flow_slots.specs.CellRow.{CellRow, written};
 ghost use Rattle.flow_slots.specs.Changed.{gained};
 ghost use Rattle.flow_slots.specs.Lineup.{IsKept, MayFill};
 ghost use Rattle.flow_slots.specs.MadeRow.{EndsEmpty, filled};
-ghost use Rattle.flow_slots.specs.PackedCell.{IsStored, from_start};
+ghost use Rattle.flow_slots.specs.PackedCell.{IsStored, flight_number, from_start, planned_in};
 ghost use Rattle.flow_slots.specs.Period.{first_slot};
 ghost use Rattle.flow_slots.specs.Row.{cell_at, fixed_of, flight_at, place_at, waiting_of, EntriesWithin, IsTied};
-ghost use Rattle.flow_slots.specs.Walk.{close, displace, has_empty, push, AllFollow};
+ghost use Rattle.flow_slots.specs.Walk.{close, displace, has_empty, push, waits, AllFollow};
 ghost use Rattle.flow_slots.specs.declared.cell.Cell.TheVariants.{Empty, Fixed, Waiting};
 ghost use Rattle.flow_slots.specs.declared.cell.Planned.{Planned};
-ghost use Rattle.flow_slots.specs.declared.packed_cell.TheConstants.{NO_ENTRY};
 
 use crate::cell::{Cell, Planned};
 use crate::chains::{displace, first_later, vacate};
 use crate::counting::Counting;
 use crate::first_slots::FirstSlots;
 use crate::held_slot::HeldSlot;
-use crate::packed_cell::{PackedCell, PackedFlight, are_unfixed};
+use crate::packed_cell::{PackedCell, are_unfixed};
 use std::alloc::{AllocError, Allocator, Global};
 use std::marker::Model;
 
@@ -87,18 +86,18 @@ fn displace_in(
     cells: &mut [PackedCell],
     places: &mut [HeldSlot],
     from: usize,
-    flight: PackedFlight,
+    flight: PackedCell,
 ) -> u64
     requires few { length cells.old < 2 ^ 16 }
     requires tied { IsTied places.old cells.old }
     requires order { AllFollow (drop from cells.old) }
-    requires some { 0 < flight.flight }
-    requires number { flight.flight < length places.old }
-    requires absent { place_at places.old flight.flight ≡ None }
+    requires some { 0 < flight_number flight }
+    requires number { flight_number flight < length places.old }
+    requires absent { place_at places.old (flight_number flight) ≡ None }
     requires room { has_empty (drop from cells.old) ≡ true }
-    requires entry { flight.entry < NO_ENTRY }
+    requires waits { waits flight ≡ true }
     ensures tied { IsTied places.new cells.new }
-    ensures cells { cells.new ≡ take from cells.old ++ displace flight (drop from cells.old) }
+    ensures cells { cells.new ≡ take from cells.old ++ displace (planned_in flight) (drop from cells.old) }
     ensures written { result ≡ gained cells.old cells.new }
 {
     let mut row = Counting::new(cells);
@@ -230,7 +229,7 @@ impl<A: Allocator + Copy> Cells<A> {
         ensures more { self.old.writes ≤ self.new.writes }
     {
         make_to(&mut self.row, self.len, from);
-        let coming = PackedFlight::of(self.start, flight);
+        let coming = PackedCell::waiting(self.start, flight);
         let written = displace_in(&mut self.row, places, from as usize, coming);
         self.writes = self.writes.saturating_add(written);
     }

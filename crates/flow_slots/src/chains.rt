@@ -3,27 +3,26 @@
 ghost use Rattle.std.specs.Prelude.{◌≡◌, ◌+◌, ◌-◌, ◌^◌, ◌<◌, ◌++◌, true, length, map, take, drop, IfSome, IfNone};
 ghost use Rattle.std.specs.Prelude.{None, Some};
 ghost use Rattle.flow_slots.specs.Changed.{gained};
-ghost use Rattle.flow_slots.specs.PackedCell.{from_start, flight_from};
+ghost use Rattle.flow_slots.specs.PackedCell.{flight_from, flight_number, from_start, planned_in};
 ghost use Rattle.flow_slots.specs.Period.{first_slot};
 ghost use Rattle.flow_slots.specs.Row.{flight_at, place_at, IsTied, EntriesWithin, MovesUp};
-ghost use Rattle.flow_slots.specs.Walk.{displace, has_empty, next_up, close, Follows, AllFollow, ComesIn};
-ghost use Rattle.flow_slots.specs.declared.packed_cell.TheConstants.{NO_ENTRY};
+ghost use Rattle.flow_slots.specs.Walk.{displace, has_empty, next_up, close, waits, Follows, AllFollow, ComesIn};
 
 use crate::counting::Counting;
 use crate::first_slots::FirstSlots;
 use crate::held_slot::HeldSlot;
-use crate::packed_cell::{PackedCell, PackedFlight};
+use crate::packed_cell::PackedCell;
 use std::alloc::Allocator;
 
 /// The first of these cells from a place on that is empty or held by a flight that waits and doesn't stand before
 /// `flight`.
 #[inline(always)]
-pub(crate) fn first_later(row: &Counting<'_>, from: usize, flight: PackedFlight) -> usize
+pub(crate) fn first_later(row: &Counting<'_>, from: usize, flight: PackedCell) -> usize
     requires few { length row.now.cells.now < 2 ^ 16 }
     requires order { AllFollow (drop from row.now.cells.now) }
     requires room { has_empty (drop from row.now.cells.now) ≡ true }
-    requires entry { flight.entry < NO_ENTRY }
-    ensures { ComesIn row.now.cells.now from flight result }
+    requires waits { waits flight ≡ true }
+    ensures { ComesIn row.now.cells.now from (planned_in flight) result }
 {
     let mut place = from;
     while row.get(place).waits_before(flight) || row.get(place).is_fixed() {
@@ -39,42 +38,37 @@ pub(crate) fn displace(
     row: &mut Counting<'_>,
     places: &mut [HeldSlot],
     from: usize,
-    flight: PackedFlight,
+    flight: PackedCell,
 )
     requires fresh { row.old.written ≡ 0 }
     requires few { length row.old.cells.now < 2 ^ 16 }
     requires tied { IsTied places.old row.old.cells.now }
-    requires some { 0 < flight.flight }
-    requires number { flight.flight < length places.old }
-    requires absent { place_at places.old flight.flight ≡ None }
-    requires follows { Follows flight (drop from row.old.cells.now) }
+    requires some { 0 < flight_number flight }
+    requires number { flight_number flight < length places.old }
+    requires absent { place_at places.old (flight_number flight) ≡ None }
+    requires follows { Follows (planned_in flight) (drop from row.old.cells.now) }
     requires room { has_empty (drop from row.old.cells.now) ≡ true }
-    requires entry { flight.entry < NO_ENTRY }
+    requires waits { waits flight ≡ true }
     ensures same_reference { row.new.cells.ghost_name ≡ row.old.cells.ghost_name }
     ensures tied { IsTied places.new row.new.cells.now }
     ensures cells { row.new.cells.now
-        ≡ take from row.old.cells.now ++ displace flight (drop from row.old.cells.now) }
+        ≡ take from row.old.cells.now ++ displace (planned_in flight) (drop from row.old.cells.now) }
     ensures written { row.new.written ≡ gained row.old.cells.now row.new.cells.now }
 {
     let mut coming = flight;
     let mut k = from;
     loop {
         let cell = row.get(k);
-        match cell.waiting() {
-            Some(held) => {
-                row.put(k, PackedCell::waiting_in(coming));
-                places[coming.flight() as usize] = HeldSlot::of(k as u32);
-                coming = held;
-            }
-            None => {
-                if cell.is_empty() {
-                    break;
-                }
-            }
+        if cell.is_waiting() {
+            row.put(k, coming);
+            places[coming.flight() as usize] = HeldSlot::of(k as u32);
+            coming = cell;
+        } else if cell.is_empty() {
+            break;
         }
         k += 1;
     }
-    row.put(k, PackedCell::waiting_in(coming));
+    row.put(k, coming);
     places[coming.flight() as usize] = HeldSlot::of(k as u32);
 }
 
@@ -82,7 +76,7 @@ pub(crate) fn displace(
 #[derive(Clone, Copy, Debug)]
 struct NextUp {
     slot: usize,
-    held: PackedFlight,
+    held: PackedCell,
 }
 
 /// The flight that may move up into an empty slot `hole`, with its slot. The row begins with these cells, whose entries
@@ -99,31 +93,26 @@ fn next_up<A: Allocator + Copy>(
     requires hole { hole < length row.now.cells.now }
     requires entries { EntriesWithin shape.now (map (from_start start) row.now.cells.now) }
     ensures found { IfSome result
-        (λ r. MovesUp shape.now (map (from_start start) row.now.cells.now) hole r.slot (flight_from start r.held)) }
+        (λ r. MovesUp shape.now (map (from_start start) row.now.cells.now) hole r.slot (flight_from start (planned_in r.held))) }
     ensures within { IfSome result (λ r. r.slot < length row.now.cells.now) }
-    ensures entry { IfSome result (λ r. r.held.entry < NO_ENTRY) }
+    ensures waits { IfSome result (λ r. waits r.held ≡ true) }
     ensures none { IfNone result
         (next_up (λ e. first_slot shape.now e) hole (drop (hole + 1) (map (from_start start) row.now.cells.now))
         ≡ None) }
 {
     for next in hole + 1..row.len() {
         let cell = row.get(next);
-        match cell.waiting() {
-            Some(waiting) => {
-                let held = waiting.get(start);
-                if hole < shape.at(held.entry) as usize {
-                    return None;
-                }
-                return Some(NextUp {
-                    slot: next,
-                    held: waiting,
-                });
+        if cell.is_waiting() {
+            if hole < shape.at(cell.entry(start)) as usize {
+                return None;
             }
-            None => {
-                if cell.is_empty() {
-                    return None;
-                }
-            }
+            return Some(NextUp {
+                slot: next,
+                held: cell,
+            });
+        }
+        if cell.is_empty() {
+            return None;
         }
     }
     None
@@ -156,7 +145,7 @@ pub(crate) fn vacate<A: Allocator + Copy>(
     let mut hole = k;
     places[flight as usize] = HeldSlot::none();
     while let Some(next) = next_up(row, shape, start, hole) {
-        row.put(hole, PackedCell::waiting_in(next.held));
+        row.put(hole, next.held);
         places[next.held.flight() as usize] = HeldSlot::of(hole as u32);
         hole = next.slot;
     }

@@ -1,13 +1,14 @@
 use Rattle.std.proofs.Common.{◌≡◌, refl, length, map, set, sym, ap, subst, ◌∙◌, arith}
 use Rattle.std.proofs.lemmas.List.{length-map, length-set, map-set}
 use Rattle.flow_slots.specs.declared.cell.Cell.TheVariants.{Empty, Waiting}
-use Rattle.flow_slots.specs.PackedCell.{from_start, flight_from}
+use Rattle.flow_slots.specs.PackedCell.{from_start, flight_from, planned_in}
 use Rattle.flow_slots.specs.Period.{first_slot}
 use Rattle.flow_slots.specs.Changed.{gained}
 use Rattle.flow_slots.specs.Row.{IsTied}
 use Rattle.flow_slots.proofs.Behind.{IsTied-row, IsTied-cells, flight_at-row, gained-row}
 use Rattle.flow_slots.proofs.MovingUp.{Closing-start, Closing-move, close-stays, Closing-end}
 use Rattle.flow_slots.proofs.Tied.{IsTied-known, IsTied-other, flight_at-within}
+use Rattle.flow_slots.proofs.Started.{waits-started}
 use Rattle.flow_slots.proofs.chains.vacate.Goals as goal
 
 pub bounds-places-flight : goal.bounds-places-flight
@@ -18,7 +19,7 @@ pub bounds-places-flight-in-Some : goal.bounds-places-flight-in-Some
 bounds-places-flight-in-Some g c =
     let start = c.args.start in
     let m = c.in-Some.ensures.found in
-    omega (arith, IsTied-other c.loop-next.places (map (from_start start) c.loop-next.row.cells.now) c.loop-next.hole c.in-Some.next.slot (flight_from start c.in-Some.next.held) c.loop-next.invariant.walk.tied m.after m.stands, c.flight.ensures)
+    omega (arith, IsTied-other c.loop-next.places (map (from_start start) c.loop-next.row.cells.now) c.loop-next.hole c.in-Some.next.slot (flight_from start (planned_in c.in-Some.next.held)) c.loop-next.invariant.walk.tied m.after m.stands, c.flight.ensures)
 
 pub loop-next-init : goal.loop-next-init
 loop-next-init g c =
@@ -35,12 +36,13 @@ pub loop-next-preserved : goal.loop-next-preserved
 loop-next-preserved g c =
     let start = c.args.start in
     let cells = c.loop-next.row.cells.now in
-    let put = map-set (from_start start) cells c.loop-next.hole (Waiting c.in-Some.next.held) in
-    let moved = Closing-move _ _ _ _ _ _ _ _ c.loop-next.hole c.in-Some.next.slot (flight_from start c.in-Some.next.held) c.loop-next.invariant.walk c.in-Some.ensures.found in
-    rw (c.put.ensures.cells, c.put.ensures.written, c.waiting_in.ensures, c.of.ensures, c.flight.ensures, put) (record {
+    let held = c.in-Some.next.held in
+    let put : map (from_start start) (set cells c.loop-next.hole held) ≡ set (map (from_start start) cells) c.loop-next.hole (Waiting (flight_from start (planned_in held))) = map-set (from_start start) cells c.loop-next.hole held ∙ ap (set (map (from_start start) cells) c.loop-next.hole) (waits-started start held c.in-Some.ensures.waits) in
+    let moved = Closing-move _ _ _ _ _ _ _ _ c.loop-next.hole c.in-Some.next.slot (flight_from start (planned_in c.in-Some.next.held)) c.loop-next.invariant.walk c.in-Some.ensures.found in
+    rw (c.put.ensures.cells, c.put.ensures.written, c.of.ensures, c.flight.ensures, put) (record {
       same_reference = c.put.ensures.same_reference ∙ c.loop-next.invariant.same_reference;
       walk = moved;
-      within = omega (arith, c.in-Some.ensures.within, length-set cells c.loop-next.hole (Waiting c.in-Some.next.held));
+      within = omega (arith, c.in-Some.ensures.within, length-set cells c.loop-next.hole held);
       few = omega (arith, c.loop-next.invariant.few, c.in-Some.ensures.found.after);
     })
 

@@ -2,7 +2,7 @@ use Rattle.std.proofs.Common.{◌≡◌, ◌++◌, length, map, take, drop, sym,
 use Rattle.std.proofs.lemmas.List.{with_items_is}
 use Rattle.std.specs.Vec.{with_items}
 use Rattle.flow_slots.specs.Changed.{gained}
-use Rattle.flow_slots.specs.PackedCell.{from_start}
+use Rattle.flow_slots.specs.PackedCell.{from_start, planned_in}
 use Rattle.flow_slots.specs.Row.{IsTied}
 use Rattle.flow_slots.specs.Walk.{displace, has_empty, AllFollow}
 use Rattle.flow_slots.proofs.Lifted.{IsTied-made, IsTied-lifted, AllFollow-made, has_empty-made, displaced-lifted, gained-lifted}
@@ -60,7 +60,7 @@ returns-clause-row g c =
     let from = c.args.from in
     let room = has_empty-made s.start made s.len from c.make_to.ensures.ends (ap (λ v. has_empty (drop from v)) row ∙ c.requires.room) in
     let put = rw c.deref_mut.ensures.value at c.displace_in-written.ensures.cells in
-    let lifted = displaced-lifted s.start made new s.len from c.of-coming.result c.args.flight room c.of-coming.ensures.value same put in
+    let lifted = displaced-lifted s.start made new s.len from (planned_in c.waiting-coming.result) c.args.flight room c.waiting-coming.ensures.value same put in
     ap (λ v. started s.start v s.len) is ∙ (lifted ∙ ap (λ v. take from v ++ displace c.args.flight (drop from v)) row)
 
 pub returns-clause-writes : goal.returns-clause-writes
