@@ -52,11 +52,6 @@ row-new start len cells is =
     ap (λ cs. let r : CellRow = record { row = started start cs len; writes = 0; start = start } in r) is
     ∙ ap (λ v. let r : CellRow = record { row = v; writes = 0; start = start } in r) (started-empty start (len - 0) ∙ ap (λ n. replicate n Empty) left)
 
-pub empty-started : (start : ℕ) (c : Cell) → from_start start c ≡ Empty → c ≡ Empty
-empty-started start Empty e = refl
-empty-started start (Waiting w) e = cc
-empty-started start (Fixed f) e = cc
-
 -- a cell in which a flight waits has its entry and its number
 pub waits-is : (c : Cell) → waits c ≡ true → Waiting (planned_in c) ≡ c
 waits-is Empty e = absurd (false≢true e)
