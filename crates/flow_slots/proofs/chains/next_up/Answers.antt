@@ -1,4 +1,4 @@
-use Rattle.std.proofs.Common.{◌≡◌, true, map, sym, subst, ◌∙◌, arith}
+use Rattle.std.proofs.Common.{◌≡◌, true, map, sym, ap, subst, ◌∙◌, arith}
 use Rattle.std.proofs.lemmas.List.{length-map}
 use Rattle.flow_slots.specs.declared.cell.Cell.TheVariants.{Empty}
 use Rattle.flow_slots.specs.PackedCell.{from_start, flight_from, planned_in}
@@ -27,9 +27,9 @@ returns-then-hole-at-clause-none g c =
     let cell = c.get-cell.result in
     let yes : waits cell ≡ true = sym c.is_waiting.ensures ∙ c.if-is_waiting.true in
     let stands = stands-started start cells next cell c.get-cell.ensures in
-    let late = rw (c.at.ensures, c.entry.ensures) at c.if-hole-at.true in
+    let slot = ap (λ e. first_slot c.args.shape.now e) c.entry.ensures in
     c.loop-next.invariant.same
-    ∙ next_up-late (λ e. first_slot c.args.shape.now e) c.args.hole next (flight_from start (planned_in cell)) (map (from_start start) cells) (omega (arith, length-map cells (from_start start))) (sym (waits-started start cell yes) ∙ stands) late
+    ∙ next_up-late (λ e. first_slot c.args.shape.now e) c.args.hole next (flight_from start (planned_in cell)) (map (from_start start) cells) (omega (arith, length-map cells (from_start start))) (sym (waits-started start cell yes) ∙ stands) (omega (arith, slot))
 
 pub returns-then-is_empty-clause-none : goal.returns-then-is_empty-clause-none
 returns-then-is_empty-clause-none g c =
