@@ -6,6 +6,7 @@ use Rattle.flow_slots.specs.declared.cell.Planned.{Planned}
 use Rattle.flow_slots.specs.declared.cell.Cell.{Cell}
 use Rattle.flow_slots.specs.declared.cell.Cell.TheVariants.{Empty, Waiting, Fixed}
 use Rattle.flow_slots.specs.Changed.{gained}
+use Rattle.flow_slots.specs.PackedCell.{flight_number, planned_in}
 use Rattle.flow_slots.specs.Row.{flight_of, flight_at, place_at, IsTied}
 use Rattle.flow_slots.specs.Walk.{displace, has_empty, waits, Follows}
 use Rattle.flow_slots.proofs.Following.{Follows-fixed, Follows-waiting}
@@ -80,7 +81,7 @@ Displacing-count start flights first_writes from x row writes places coming k d 
     let more = gained-write start row k coming.flight (Waiting coming) h (omega (arith, d.len)) same refl apart in
     omega (arith, more, d.count)
 
-pub Displacing-later : (start : List Cell) (flights first_writes from : ℕ) (x : Planned) (row : List Cell) (writes : ℕ) (places : List (Option ℕ)) (coming : Planned) (k : ℕ) (held : Planned) → Displacing start flights first_writes from x row writes places coming k → k < length row → Waiting held ≡ get_or row k Empty → Displacing start flights first_writes from x (set row k (Waiting coming)) (writes + 1) (set places coming.flight (Some k)) held (k + 1)
+Displacing-later : (start : List Cell) (flights first_writes from : ℕ) (x : Planned) (row : List Cell) (writes : ℕ) (places : List (Option ℕ)) (coming : Planned) (k : ℕ) (held : Planned) → Displacing start flights first_writes from x row writes places coming k → k < length row → Waiting held ≡ get_or row k Empty → Displacing start flights first_writes from x (set row k (Waiting coming)) (writes + 1) (set places coming.flight (Some k)) held (k + 1)
 Displacing-later start flights first_writes from x row writes places coming k held d h e =
     let beyond = drop-set-lt (k + 1) row k (Waiting coming) (omega arith) in
     let next = Follows-waiting row k held coming h e d.follows in
@@ -96,3 +97,11 @@ Displacing-later start flights first_writes from x row writes places coming k he
       count = Displacing-count start flights first_writes from x row writes places coming k d h;
       target = sym (displace-later row k held coming h e next.0) ∙ d.target;
     }
+
+-- so where both are known as cells in which a flight waits
+pub Displacing-taken : (start : List Cell) (flights first_writes from : ℕ) (x : Planned) (row : List Cell) (writes : ℕ) (places : List (Option ℕ)) (coming held : Cell) (k : ℕ) → Displacing start flights first_writes from x row writes places (planned_in coming) k → k < length row → held ≡ get_or row k Empty → waits coming ≡ true → waits held ≡ true → Displacing start flights first_writes from x (set row k coming) (writes + 1) (set places (flight_number coming) (Some k)) (planned_in held) (k + 1)
+Displacing-taken start flights first_writes from x row writes places Empty held k d h e c w = cc
+Displacing-taken start flights first_writes from x row writes places (Fixed f) held k d h e c w = cc
+Displacing-taken start flights first_writes from x row writes places (Waiting v) Empty k d h e c w = cc
+Displacing-taken start flights first_writes from x row writes places (Waiting v) (Fixed f) k d h e c w = cc
+Displacing-taken start flights first_writes from x row writes places (Waiting v) (Waiting u) k d h e c w = Displacing-later start flights first_writes from x row writes places v k u d h e

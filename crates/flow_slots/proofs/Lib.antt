@@ -33,4 +33,5 @@ pub mod TakenBack
 pub mod Tied
 pub mod Undone
 pub mod Unfixed
+pub mod Unmoved
 pub mod UndoneAll

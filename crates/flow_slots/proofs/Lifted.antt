@@ -6,14 +6,14 @@ use Rattle.flow_slots.specs.declared.cell.Cell.{Cell}
 use Rattle.flow_slots.specs.declared.cell.Cell.TheVariants.{Empty, Waiting, Fixed}
 use Rattle.flow_slots.specs.declared.cell.Planned.{Planned}
 use Rattle.flow_slots.specs.Changed.{gained_by, gained}
-use Rattle.flow_slots.specs.MadeRow.{MadeRow, EndsEmpty, filled}
+use Rattle.flow_slots.specs.MadeRow.{EndsEmpty, filled}
 use Rattle.flow_slots.specs.Order.{stands_before}
 use Rattle.flow_slots.specs.PackedCell.{from_start, flight_from}
 use Rattle.flow_slots.specs.Row.{flight_of, cell_at, flight_at, IsTied}
 use Rattle.flow_slots.specs.Walk.{displace, has_empty, Follows, AllFollow}
 use Rattle.flow_slots.proofs.Filled.{cell_at-filled}
 use Rattle.flow_slots.proofs.Gained.{gained-same}
-use Rattle.flow_slots.proofs.Started.{started, length-started, cell_at-started, before-started, empty-started}
+use Rattle.flow_slots.proofs.Started.{started, cell_at-started, before-started}
 
 -- these cells, their entries counted from the start, and so many empty ones
 abbrev shown : ℕ → List Cell → ℕ → List Cell
@@ -123,19 +123,12 @@ has_empty-from start zero cs = has_empty-shown start cs
 has_empty-from start (suc from) [] = refl
 has_empty-from start (suc from) (c ∷ cs) = has_empty-from start from cs
 
-pub has_empty-made : (start : ℕ) (cells : List Cell) (len from n : ℕ) (c : MadeRow) → (let r : MadeRow = record { row = started start cells len; made = length cells; writes = n; start = start } in r) ≡ c → length cells ≤ len → EndsEmpty c from → has_empty (drop from c.row) ≡ true → has_empty (drop from cells) ≡ true
-has_empty-made start cells len from n c is fits ends e = cases (cases_lt (length cells) len) where
-  made : c.made ≡ length cells
-  made = ap (λ v. v.made) (sym is)
-
-  row : c.row ≡ started start cells len
-  row = ap (λ v. v.row) (sym is)
-
+pub has_empty-made : (start : ℕ) (cells : List Cell) (len from : ℕ) → EndsEmpty cells len from → has_empty (drop from (started start cells len)) ≡ true → has_empty (drop from cells) ≡ true
+has_empty-made start cells len from ends e = cases (cases_lt (length cells) len) where
   cases : (length cells < len) ⊎ (len ≤ length cells) → has_empty (drop from cells) ≡ true
   cases (inl l) =
-      let last = ends.last (omega (arith, made, l, ap length row, length-started start cells len fits)) in
-      let there : from_start start (cell_at cells (c.made - 1)) ≡ Empty = ap (from_start start) (sym (cell_at-filled cells len (c.made - 1))) ∙ (sym (cell_at-started start (filled cells len) (c.made - 1)) ∙ (ap (λ v. cell_at v (c.made - 1)) (sym row) ∙ last.1)) in
-      has_empty-at from (c.made - 1) cells (omega (arith, last.0)) (omega (arith, last.0, made)) (empty-started start (cell_at cells (c.made - 1)) there)
+      let last = ends.last l in
+      has_empty-at from (length cells - 1) cells (omega (arith, last.0)) (omega (arith, last.0)) last.1
   cases (inr l) =
       let none : len - length cells ≡ 0 = omega (arith, l) in
-      sym (has_empty-from start from cells) ∙ (ap (λ m. has_empty (drop from (shown start cells m))) (sym none) ∙ (ap (λ v. has_empty (drop from v)) (sym row) ∙ e))
+      sym (has_empty-from start from cells) ∙ (ap (λ m. has_empty (drop from (shown start cells m))) (sym none) ∙ e)

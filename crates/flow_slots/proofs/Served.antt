@@ -134,7 +134,7 @@ false_left : (b c : Bool) → (b || c) ≡ false → b ≡ false
 false_left true c e = cc
 false_left false c e = refl
 
-not_taken : (j k : ℕ) (taken : List ℕ) → is_in j (k ∷ taken) ≡ false → j ≢ k
+pub not_taken : (j k : ℕ) (taken : List ℕ) → is_in j (k ∷ taken) ≡ false → j ≢ k
 not_taken j k taken e q = false≢true (sym (false_left (eqb k j) (is_in j taken) e) ∙ eq-eqb k j (sym q))
 
 pub first_free-free : (taken : List ℕ) (k : ℕ) → is_in (first_free taken k) taken ≡ false
@@ -230,7 +230,7 @@ pub record Earlier (first : ℕ → ℕ) (taken : List ℕ) (ws : List Planned) 
   pub before : stands_before waits w ≡ true
   pub holds : In (pair waits.flight j) (greedy first taken ws)
 
-is_in-before : (j k : ℕ) (taken : List ℕ) → k ≤ j → j < first_free taken k → (b : Bool) → is_in j taken ≡ b → is_in j taken ≡ true
+pub is_in-before : (j k : ℕ) (taken : List ℕ) → k ≤ j → j < first_free taken k → (b : Bool) → is_in j taken ≡ b → is_in j taken ≡ true
 is_in-before j k taken l h true e = e
 is_in-before j k taken l h false e = absurd (omega (arith, first_free_within-least (above taken) k j taken l e))
 

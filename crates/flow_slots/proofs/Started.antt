@@ -1,5 +1,5 @@
 -- Rows in which entries are counted from a start.
-use Rattle.std.proofs.Common.{◌≡◌, ℕ, zero, suc, ◌+◌, ◌-◌, ◌<◌, ◌≤◌, ◌++◌, false, [], ◌∷◌, List, map, length, set, replicate, refl, sym, ap, ◌∙◌, arith}
+use Rattle.std.proofs.Common.{◌≡◌, ℕ, zero, suc, ◌+◌, ◌-◌, ◌<◌, ◌≤◌, ◌++◌, true, false, [], ◌∷◌, List, map, length, set, replicate, refl, sym, ap, ◌∙◌, arith}
 use Rattle.std.proofs.Math.ListN.{get_or-map}
 use Rattle.std.proofs.lemmas.Bool.{false≢true}
 use Rattle.std.proofs.lemmas.Bool.Decides.{nat_tests}
@@ -7,8 +7,9 @@ use Rattle.std.proofs.lemmas.List.{length-map, map-set}
 use Rattle.flow_slots.specs.declared.cell.Cell.{Cell}
 use Rattle.flow_slots.specs.declared.cell.Cell.TheVariants.{Empty, Waiting, Fixed}
 use Rattle.flow_slots.specs.declared.cell.Planned.{Planned}
-use Rattle.flow_slots.specs.MadeRow.{MadeRow, filled}
-use Rattle.flow_slots.specs.PackedCell.{from_start, flight_from}
+use Rattle.flow_slots.specs.CellRow.{CellRow}
+use Rattle.flow_slots.specs.MadeRow.{filled}
+use Rattle.flow_slots.specs.PackedCell.{from_start, flight_from, planned_in}
 use Rattle.flow_slots.specs.Row.{cell_at, IsFixedCell}
 use Rattle.flow_slots.specs.Walk.{waits, waits_before}
 use Rattle.flow_slots.proofs.Filled.{length-filled, filled-more, filled-set}
@@ -45,16 +46,20 @@ pub started-set : (start : ℕ) (cells : List Cell) (len k : ℕ) (x c : Cell) �
 started-set start cells len k x c h is =
     ap (map (from_start start)) (filled-set cells len k x h) ∙ (map-set (from_start start) (filled cells len) k x ∙ ap (set (started start cells len) k) is)
 
-pub made-new : (start len : ℕ) (cells : List Cell) → cells ≡ [] → (let r : MadeRow = record { row = started start cells len; made = length cells; writes = 0; start = start } in r) ≡ record { row = replicate len Empty; made = 0; writes = 0; start = start }
-made-new start len cells is =
+pub row-new : (start len : ℕ) (cells : List Cell) → cells ≡ [] → (let r : CellRow = record { row = started start cells len; writes = 0; start = start } in r) ≡ record { row = replicate len Empty; writes = 0; start = start }
+row-new start len cells is =
     let left : len - 0 ≡ len = omega arith in
-    ap (λ cs. let r : MadeRow = record { row = started start cs len; made = length cs; writes = 0; start = start } in r) is
-    ∙ ap (λ v. let r : MadeRow = record { row = v; made = 0; writes = 0; start = start } in r) (started-empty start (len - 0) ∙ ap (λ n. replicate n Empty) left)
+    ap (λ cs. let r : CellRow = record { row = started start cs len; writes = 0; start = start } in r) is
+    ∙ ap (λ v. let r : CellRow = record { row = v; writes = 0; start = start } in r) (started-empty start (len - 0) ∙ ap (λ n. replicate n Empty) left)
 
-pub empty-started : (start : ℕ) (c : Cell) → from_start start c ≡ Empty → c ≡ Empty
-empty-started start Empty e = refl
-empty-started start (Waiting w) e = cc
-empty-started start (Fixed f) e = cc
+-- a cell in which a flight waits has its entry and its number
+pub waits-is : (c : Cell) → waits c ≡ true → Waiting (planned_in c) ≡ c
+waits-is Empty e = absurd (false≢true e)
+waits-is (Waiting w) e = refl
+waits-is (Fixed f) e = absurd (false≢true e)
+
+pub waits-started : (start : ℕ) (c : Cell) → waits c ≡ true → from_start start c ≡ Waiting (flight_from start (planned_in c))
+waits-started start c e = sym (ap (from_start start) (waits-is c e))
 
 -- a flight keeps its slot where nobody waits and somebody stands
 pub fixed-started : (start : ℕ) (c : Cell) → waits c ≡ false → (c ≡ Empty → ⊥) → IsFixedCell (from_start start c)

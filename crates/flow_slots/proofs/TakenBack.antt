@@ -1,17 +1,15 @@
 -- The calls that undo a change, from what a caller knows of a lineup.
-use Rattle.std.proofs.Common.{◌≡◌, ℕ, ◌++◌, inl, inr, Bool, true, false, cond, not, eqb, List, [], ◌∷◌, Some, refl, sym, ap, subst, ◌∙◌}
+use Rattle.std.proofs.Common.{◌≡◌, ℕ, ◌++◌, inl, inr, Bool, true, false, cond, not, eqb, List, [], ◌∷◌, Some, refl, ap, subst, ◌∙◌}
 use Rattle.std.proofs.lemmas.Bool.{eqb-true, eqb-false, false≢true}
 use Rattle.std.specs.Option.{IsSome, is_some}
 use Rattle.flow_slots.specs.declared.cell.Planned.{Planned}
 use Rattle.flow_slots.specs.Period.{first_slot}
-use Rattle.flow_slots.specs.Order.{without}
 use Rattle.flow_slots.specs.Assignment.{Placed, greedy, slots}
 use Rattle.flow_slots.specs.Lineup.{Lineup, IsLineup, NoneIs, NoneFixed, FixedApart, WaitingApart, entry_in, waiting_entry, slot_in, held_slot, fixed_slot, with_waiting, with_fixed, without_flight, without_fixed, fixed_at}
-use Rattle.flow_slots.proofs.Leaving.{without-here, without-other}
-use Rattle.flow_slots.proofs.Undone.{IsOne, IsOneFixed, with_waiting-undone, without_flight-undone, without_flight-put_back, fixed_at-undone}
+use Rattle.flow_slots.proofs.Undone.{IsOne, IsOneFixed, without_flight-undone, without_flight-put_back, fixed_at-undone}
 
 -- a flight that waits with an entry is one of the waiting ones, and none of the fixed ones
-entry_in-one : (fixed : List Placed) (w : Planned) (ws : List Planned) → WaitingApart fixed ws → entry_in w.flight ws ≡ Some w.entry → IsOne w ws × NoneFixed w.flight fixed
+pub entry_in-one : (fixed : List Placed) (w : Planned) (ws : List Planned) → WaitingApart fixed ws → entry_in w.flight ws ≡ Some w.entry → IsOne w ws × NoneFixed w.flight fixed
 entry_in-one fixed w [] a e = cc
 entry_in-one fixed w (v ∷ ws) a e = cases (entry_in-one fixed w ws a.2) (eqb v.flight w.flight) refl e where
   cases : (entry_in w.flight ws ≡ Some w.entry → IsOne w ws × NoneFixed w.flight fixed) → (b : Bool) → eqb v.flight w.flight ≡ b → cond b (Some v.entry) (entry_in w.flight ws) ≡ Some w.entry → IsOne w (v ∷ ws) × NoneFixed w.flight fixed
@@ -48,14 +46,7 @@ fixed-none_waits f k fixed [] a e = tt
 fixed-none_waits f k fixed (w ∷ ws) a e =
     ((λ q. NoneFixed-found f k fixed (subst (λ v. NoneFixed v fixed) q a.0) e), fixed-none_waits f k fixed ws a.2 e)
 
--- nobody has the number of a flight that was taken out
-without-gone : (f : ℕ) (ws : List Planned) → NoneIs f (without f ws)
-without-gone f [] = tt
-without-gone f (w ∷ ws) = cases (without-gone f ws) (eqb w.flight f) refl where
-  cases : NoneIs f (without f ws) → (b : Bool) → eqb w.flight f ≡ b → NoneIs f (without f (w ∷ ws))
-  cases again true q = subst (NoneIs f) (sym (without-here f w ws (eqb-true w.flight f q))) again
-  cases again false q = subst (NoneIs f) (sym (without-other f w ws (eqb-false w.flight f q))) (eqb-false w.flight f q, again)
-
+-- no fixed flight has the number of one that was taken out
 pub without_fixed-gone : (f : ℕ) (xs : List Placed) → NoneFixed f (without_fixed f xs)
 without_fixed-gone f [] = tt
 without_fixed-gone f (x ∷ xs) =
@@ -86,9 +77,3 @@ pub removed-put_fixed : (l : Lineup) (a : Placed) → IsLineup l → held_slot l
 removed-put_fixed l a i e s =
     let at = fixed_at_slot a l e s in
     without_flight-put_back a l i.by_slot (slot_in-one a l.fixed i.fixed_apart at) (fixed-none_waits a.flight a.slot l.fixed l.waiting i.waiting_apart at)
-
-pub released-put_fixed : (l : Lineup) (a : Placed) (entry : ℕ) → IsLineup l → held_slot l a.flight ≡ Some a.slot → IsSome (fixed_slot l a.flight) → with_fixed a (without_flight a.flight (with_waiting (record { entry = entry; flight = a.flight }) (without_flight a.flight l))) ≡ l
-released-put_fixed l a entry i e s =
-    let w : Planned = record { entry = entry; flight = a.flight } in
-    let back = with_waiting-undone w (without_flight a.flight l) (without-gone a.flight l.waiting) (without_fixed-gone a.flight l.fixed) in
-    ap (with_fixed a) back ∙ removed-put_fixed l a i e s

@@ -11,11 +11,11 @@ use Rattle.flow_slots.specs.Lineup.{Lineup, with_waiting, with_fixed, without_fl
 use Rattle.flow_slots.proofs.Chain.{insert-first}
 use Rattle.flow_slots.proofs.Leaving.{without-here, without-other}
 
-without-none : (f : ℕ) (ws : List Planned) → NoneIs f ws → without f ws ≡ ws
+pub without-none : (f : ℕ) (ws : List Planned) → NoneIs f ws → without f ws ≡ ws
 without-none f [] a = refl
 without-none f (w ∷ ws) a = without-other f w ws a.0 ∙ ap (λ v. w ∷ v) (without-none f ws a.1)
 
-without_fixed-none : (f : ℕ) (xs : List Placed) → NoneFixed f xs → without_fixed f xs ≡ xs
+pub without_fixed-none : (f : ℕ) (xs : List Placed) → NoneFixed f xs → without_fixed f xs ≡ xs
 without_fixed-none f [] a = refl
 without_fixed-none f (x ∷ xs) a =
     ap (λ b. cond (not b) (x ∷ without_fixed f xs) (without_fixed f xs)) (ne_eqb x.flight f a.0) ∙ ap (λ v. x ∷ v) (without_fixed-none f xs a.1)

@@ -1,20 +1,8 @@
 -- A row of slots of which only the first cells were made; the others are empty.
-use Rattle.std.specs.Prelude.{◌≡◌, ℕ, ◌-◌, ◌^◌, min, ◌<◌, ◌≤◌, List, ◌++◌, length, replicate}
+use Rattle.std.specs.Prelude.{◌≡◌, ℕ, ◌-◌, ◌^◌, ◌<◌, ◌≤◌, List, ◌++◌, length, replicate}
 use Rattle.flow_slots.specs.declared.cell.Cell.{Cell}
 use Rattle.flow_slots.specs.declared.cell.Cell.TheVariants.{Empty}
 use Rattle.flow_slots.specs.Row.{cell_at}
-
-pub record MadeRow : Type 0 where
-  pub row : List Cell
-  pub made : ℕ
-  -- how often a cell was written
-  pub writes : ℕ
-  -- the minute from which entries are counted in memory
-  pub start : ℕ
-
--- the count of the cells written, which stays at its greatest value
-abbrev pub counted : MadeRow → ℕ
-counted c = min c.writes (2 ^ 64 - 1)
 
 -- the row of so many slots that begins with these cells
 abbrev pub filled : List Cell → ℕ → List Cell
@@ -28,7 +16,7 @@ pub record HasRoom (cells : List Cell) (len capacity start : ℕ) : Type 0 where
   pub slots : len < 2 ^ 16
   pub early : start < 2 ^ 31
 
--- where not all cells were made, the last one is empty and not before slot `k`
-pub record EndsEmpty (c : MadeRow) (k : ℕ) : Type 0 where
-  pub most : c.made ≤ length c.row
-  pub last : c.made < length c.row → (k < c.made) × (cell_at c.row (c.made - 1) ≡ Empty)
+-- where not all cells of so many slots were made, the last one is empty and not before slot `k`
+pub record EndsEmpty (cells : List Cell) (len k : ℕ) : Type 0 where
+  pub most : length cells ≤ len
+  pub last : length cells < len → (k < length cells) × (cell_at cells (length cells - 1) ≡ Empty)

@@ -25,14 +25,6 @@ from_start start Empty = Empty
 from_start start (Waiting w) = Waiting (flight_from start w)
 from_start start (Fixed f) = Fixed f
 
--- the place of a flight in the order, as one number
-abbrev pub packed_rank : Planned → ℕ
-packed_rank w = FLIGHTS * w.entry + w.flight
-
--- the flight of such a place in the order
-abbrev pub ranked : ℕ → Planned
-ranked word = record { entry = word / FLIGHTS; flight = word % FLIGHTS }
-
 -- the cell that an entry and a flight stand for
 abbrev pub unpacked : ℕ → ℕ → Cell
 unpacked entry flight =
@@ -54,13 +46,13 @@ flight_number Empty = 0
 flight_number (Waiting w) = w.flight
 flight_number (Fixed f) = f
 
+-- both, as a flight: of a cell in which one waits it is that flight
+abbrev pub planned_in : Cell → Planned
+planned_in cell = record { entry = entry_number cell; flight = flight_number cell }
+
 -- the number of a cell
 abbrev pub word_of : Cell → ℕ
 word_of cell = FLIGHTS * entry_number cell + flight_number cell
-
--- a place in the order gives its number back
-pub rank_back : (word : ℕ) → packed_rank (ranked word) ≡ word
-rank_back word = div-add-mod word FLIGHTS
 
 -- a cell gives its numbers back
 pub entry_back : (entry flight : ℕ) → entry_number (unpacked entry flight) ≡ entry

@@ -1,53 +1,158 @@
 //! The row of slots as its callers see it: what stands in each slot, and how often slots were written.
-ghost use Rattle.std.specs.Prelude.{◌≡◌, ◌+◌, ◌-◌, ◌^◌, ◌<◌, ◌≤◌, ◌++◌, true, ◌↔◌, IfOk, IsTrue};
-ghost use Rattle.std.specs.Prelude.{None, Some, [], drop, length, replicate, take};
+ghost use Rattle.std.specs.Prelude.{◌≡◌, ℕ, ◌+◌, ◌-◌, ◌^◌, ◌<◌, ◌≤◌, ◌++◌, true, ◌↔◌, IfOk, IsTrue, vec_capacity};
+ghost use Rattle.std.specs.Prelude.{None, Some, [], drop, length, map, replicate, take, vec_len};
 ghost use Rattle.flow_slots.specs.CellRow.{CellRow, written};
 ghost use Rattle.flow_slots.specs.Changed.{gained};
-ghost use Rattle.flow_slots.specs.MadeRow.{counted};
-ghost use Rattle.flow_slots.specs.PackedCell.{IsStored};
+ghost use Rattle.flow_slots.specs.Lineup.{IsKept, MayFill};
+ghost use Rattle.flow_slots.specs.MadeRow.{EndsEmpty, filled};
+ghost use Rattle.flow_slots.specs.PackedCell.{IsStored, flight_number, from_start, planned_in};
 ghost use Rattle.flow_slots.specs.Period.{first_slot};
-ghost use Rattle.flow_slots.specs.Row.{cell_at, fixed_of, flight_at, place_at, EntriesWithin, IsTied};
-ghost use Rattle.flow_slots.specs.Walk.{close, displace, has_empty, AllFollow};
-ghost use Rattle.flow_slots.specs.declared.cell.Cell.TheVariants.{Empty, Waiting};
+ghost use Rattle.flow_slots.specs.Row.{cell_at, fixed_of, flight_at, place_at, waiting_of, EntriesWithin, IsTied};
+ghost use Rattle.flow_slots.specs.Walk.{close, displace, has_empty, push, waits, AllFollow};
+ghost use Rattle.flow_slots.specs.declared.cell.Cell.TheVariants.{Empty, Fixed, Waiting};
+ghost use Rattle.flow_slots.specs.declared.cell.Planned.{Planned};
 
 use crate::cell::{Cell, Planned};
+use crate::chains::{displace, first_later, vacate};
+use crate::counting::Counting;
 use crate::first_slots::FirstSlots;
 use crate::held_slot::HeldSlot;
-use crate::made_cells::MadeCells;
+use crate::packed_cell::{PackedCell, are_unfixed};
 use std::alloc::{AllocError, Allocator, Global};
 use std::marker::Model;
 
 /// The row of slots. Each write to a cell is counted.
+///
+/// The capacity for all cells is there from the start. They are made up to the last one that was written or that a
+/// chain was to reach; the others are empty.
 #[derive(Drop)]
 pub struct Cells<A: Allocator + Copy = Global> {
-    made: MadeCells<A>,
+    row: Vec<PackedCell, A>,
+    len: u32,
+    /// The minute from which entries are counted in the cells: no entry is before it.
+    start: u32,
+    writes: u64,
 }
 
 impl<A: Allocator + Copy> Model for Cells<A> {
+    ghost use Rattle.std.specs.Prelude.{map, vec_capacity};
     ghost use Rattle.flow_slots.specs.CellRow.{CellRow};
-    ghost use Rattle.flow_slots.specs.MadeRow.{counted};
+    ghost use Rattle.flow_slots.specs.MadeRow.{HasRoom, filled};
+    ghost use Rattle.flow_slots.specs.PackedCell.{from_start};
 
     ghost Value = { CellRow };
 
-    ghost view = { λ c. record { row = c.made.row; writes = counted c.made; start = c.made.start } };
+    ghost view = { λ c. record {
+      row = map (from_start c.start) (filled c.row.items c.len);
+      writes = c.writes;
+      start = c.start;
+    } };
+
+    ghost invariant = { λ c. HasRoom c.row.items c.len (vec_capacity c.row) c.start };
+}
+
+/// Makes empty cells, until there are `count`.
+fn make<A: Allocator + Copy>(row: &mut Vec<PackedCell, A>, count: u32)
+    requires { count ≤ vec_capacity row.old }
+    ensures items { row.new.items
+        ≡ row.old.items ++ replicate (count - length row.old.items) Empty }
+    ensures capacity { vec_capacity row.new ≡ vec_capacity row.old }
+{
+    while row.len() < count as usize {
+        row.push_reserved(PackedCell::empty());
+    }
+}
+
+/// Makes the cells up to slot `k` of `len`, and an empty one at their end where there are more slots.
+fn make_to<A: Allocator + Copy>(row: &mut Vec<PackedCell, A>, len: u32, k: u32)
+    requires slot { k < len }
+    requires made { length row.old.items ≤ len }
+    requires capacity { len ≤ vec_capacity row.old }
+    ensures same { filled row.new.items len ≡ filled row.old.items len }
+    ensures capacity { vec_capacity row.new ≡ vec_capacity row.old }
+    ensures ends { EndsEmpty row.new.items len k }
+{
+    let made = row.len() as u32;
+    if made <= k {
+        make(row, k + 1);
+    } else if made < len && !row[made as usize - 1].is_empty() {
+        make(row, made + 1);
+    }
+}
+
+/// Takes `flight` in from slot `from` on, and returns how many cells were written.
+#[inline(always)]
+fn displace_in(
+    cells: &mut [PackedCell],
+    places: &mut [HeldSlot],
+    from: usize,
+    flight: PackedCell,
+) -> u64
+    requires few { length cells.old < 2 ^ 16 }
+    requires tied { IsTied places.old cells.old }
+    requires order { AllFollow (drop from cells.old) }
+    requires some { 0 < flight_number flight }
+    requires number { flight_number flight < length places.old }
+    requires absent { place_at places.old (flight_number flight) ≡ None }
+    requires room { has_empty (drop from cells.old) ≡ true }
+    requires waits { waits flight ≡ true }
+    ensures tied { IsTied places.new cells.new }
+    ensures cells { cells.new ≡ take from cells.old ++ displace (planned_in flight) (drop from cells.old) }
+    ensures written { result ≡ gained cells.old cells.new }
+{
+    let mut row = Counting::new(cells);
+    let k = first_later(&row, from, flight);
+    displace(&mut row, places, k, flight);
+    row.end()
+}
+
+/// Takes `flight` out of slot `k`, and returns how many cells were written.
+#[inline(always)]
+fn vacate_in<A: Allocator + Copy>(
+    cells: &mut [PackedCell],
+    places: &mut [HeldSlot],
+    shape: &FirstSlots<A>,
+    start: u32,
+    flight: u32,
+    k: usize,
+) -> u64
+    requires few { length cells.old < 2 ^ 16 }
+    requires start { start < 2 ^ 31 }
+    requires tied { IsTied places.old cells.old }
+    requires stands { flight_at cells.old k ≡ Some flight }
+    requires entries { EntriesWithin shape.now (map (from_start start) cells.old) }
+    ensures tied { IsTied places.new cells.new }
+    ensures cells { map (from_start start) cells.new
+        ≡ take k (map (from_start start) cells.old)
+        ++ close (λ e. first_slot shape.now e) k (drop (k + 1) (map (from_start start) cells.old)) }
+    ensures written { result ≡ gained cells.old cells.new + 1 }
+{
+    let mut row = Counting::new(cells);
+    vacate(&mut row, places, shape, start, flight, k);
+    row.end()
 }
 
 impl<A: Allocator + Copy> Cells<A> {
+    /// Takes memory for all cells, and makes none. No entry is to be before the start.
     pub(crate) fn new(alloc: A, len: u32, start: u32) -> Result<Cells<A>, AllocError>
         requires len { len < 2 ^ 16 }
         requires start { start < 2 ^ 31 }
         ensures { IfOk result (λ c. c ≡ record { row = replicate len Empty; writes = 0; start = start }) }
     {
         Ok(Cells {
-            made: MadeCells::new(alloc, len, start)?,
+            row: Vec::with_capacity(alloc, len as usize)?,
+            len,
+            start,
+            writes: 0,
         })
     }
 
+    /// How many slots the row has.
     #[inline(always)]
     pub(crate) fn len(&self) -> u32
         ensures { result ≡ length self.now.row }
     {
-        self.made.len()
+        self.len
     }
 
     /// The flight in slot `k`.
@@ -81,66 +186,76 @@ impl<A: Allocator + Copy> Cells<A> {
     pub fn writes(&self) -> u64
         ensures { result ≡ self.now.writes }
     {
-        self.made.writes()
+        self.writes
     }
 
+    /// What stands in slot `k`.
     #[inline(always)]
     pub(crate) fn cell(&self, k: u32) -> Cell
         requires { k < length self.now.row }
         ensures value { result ≡ cell_at self.now.row k }
         ensures kept { IsStored self.now.start result }
     {
-        self.made.cell(k)
+        if (k as usize) < self.row.len() {
+            self.row[k as usize].get(self.start)
+        } else {
+            Cell::Empty
+        }
     }
 
     /// Whether no flight keeps a slot.
     pub(crate) fn keeps_none(&self) -> bool
         ensures { IsTrue result ↔ (fixed_of 0 self.now.row ≡ []) }
     {
-        self.made.keeps_none()
+        are_unfixed(&self.row)
     }
 
     /// Takes `flight` in from slot `from` on: it gets the first slot that is empty or held by a later flight, which
     /// goes on in the same way.
     #[inline(always)]
-    pub(crate) fn displace(&mut self, places: &mut [HeldSlot], from: u32, flight: Planned)
-        requires tied { IsTied places.old self.old.row }
+    pub(crate) fn displace(&mut self, places: &mut Vec<HeldSlot, A>, from: u32, flight: Planned)
+        requires tied { IsTied places.old.items self.old.row }
         requires order { AllFollow (drop from self.old.row) }
         requires some { 0 < flight.flight }
-        requires number { flight.flight < length places.old }
-        requires absent { place_at places.old flight.flight ≡ None }
+        requires number { flight.flight < vec_len places.old }
+        requires absent { place_at places.old.items flight.flight ≡ None }
         requires room { has_empty (drop from self.old.row) ≡ true }
         requires stored { IsStored self.old.start (Waiting flight) }
-        ensures tied { IsTied places.new self.new.row }
+        ensures tied { IsTied places.new.items self.new.row }
         ensures start { self.new.start ≡ self.old.start }
         ensures row { self.new.row ≡ take from self.old.row ++ displace flight (drop from self.old.row) }
+        ensures len { vec_len places.new ≡ vec_len places.old }
         ensures writes { self.new.writes ≤ self.old.writes + gained self.old.row self.new.row }
         ensures more { self.old.writes ≤ self.new.writes }
     {
-        self.made.make_to(from);
-        self.made.displace(places, from, flight);
+        make_to(&mut self.row, self.len, from);
+        let coming = PackedCell::waiting(self.start, flight);
+        let written = displace_in(&mut self.row, places, from as usize, coming);
+        self.writes = self.writes.saturating_add(written);
     }
 
     /// Takes `flight` out of slot `k`: flights move up into the hole that it leaves.
     #[inline(always)]
     pub(crate) fn vacate(
         &mut self,
-        places: &mut [HeldSlot],
+        places: &mut Vec<HeldSlot, A>,
         shape: &FirstSlots<A>,
         flight: u32,
         k: u32,
     )
-        requires tied { IsTied places.old self.old.row }
+        requires tied { IsTied places.old.items self.old.row }
         requires stands { flight_at self.old.row k ≡ Some flight }
         requires entries { EntriesWithin shape.now self.old.row }
-        ensures tied { IsTied places.new self.new.row }
+        ensures tied { IsTied places.new.items self.new.row }
         ensures start { self.new.start ≡ self.old.start }
         ensures row { self.new.row
             ≡ take k self.old.row ++ close (λ e. first_slot shape.now e) k (drop (k + 1) self.old.row) }
+        ensures len { vec_len places.new ≡ vec_len places.old }
         ensures writes { self.new.writes ≤ self.old.writes + gained self.old.row self.new.row + 1 }
         ensures more { self.old.writes ≤ self.new.writes }
     {
-        self.made.vacate(places, shape, flight, k);
+        let moved = vacate_in(&mut self.row, places, shape, self.start, flight, k as usize);
+        self.writes = self.writes.saturating_add(moved);
     }
 
     /// Writes a cell, and counts it.
@@ -152,6 +267,68 @@ impl<A: Allocator + Copy> Cells<A> {
         ensures more { self.old.writes ≤ self.new.writes }
         ensures small { k < 2 ^ 16 - 1 }
     {
-        self.made.write(k, cell);
+        make(&mut self.row, k + 1);
+        self.row[k as usize].set(self.start, cell);
+        self.writes = self.writes.saturating_add(1);
+    }
+
+    /// Fixes a flight that stands nowhere in slot `k`; a flight that waits there makes way.
+    pub(crate) fn put_fixed(&mut self, places: &mut Vec<HeldSlot, A>, flight: u32, k: u32)
+        requires tied { IsTied places.old.items self.old.row }
+        requires order { AllFollow self.old.row }
+        requires some { 0 < flight }
+        requires number { flight < vec_len places.old }
+        requires absent { place_at places.old.items flight ≡ None }
+        requires stored { IsStored self.old.start (Fixed flight) }
+        requires slot { k < length self.old.row }
+        requires open { (f : ℕ) → cell_at self.old.row k ≡ Cell.Fixed f → ⊥ }
+        requires room { (held : Planned) → cell_at self.old.row k ≡ Cell.Waiting held
+            → has_empty (drop (k + 1) self.old.row) ≡ true }
+        ensures tied { IsTied places.new.items self.new.row }
+        ensures start { self.new.start ≡ self.old.start }
+        ensures row { self.new.row ≡ take k self.old.row ++ push flight (drop k self.old.row) }
+        ensures len { vec_len places.new ≡ vec_len places.old }
+        ensures writes { self.new.writes ≤ self.old.writes + gained self.old.row self.new.row + 1 }
+        ensures more { self.old.writes ≤ self.new.writes }
+    {
+        let cell = self.cell(k);
+        self.write(k, Cell::Fixed(flight));
+        places[flight as usize] = HeldSlot::of(k);
+        if let Cell::Waiting(held) = cell {
+            places[held.flight as usize] = HeldSlot::none();
+            self.displace(places, k + 1, held);
+        }
+    }
+
+    /// Takes flights, which stand in the order, into an empty row: each gets the later of the first slot of its entry
+    /// and the slot after that of the flight before it.
+    pub(crate) fn fill(
+        &mut self,
+        places: &mut Vec<HeldSlot, A>,
+        shape: &FirstSlots<A>,
+        flights: &[Planned],
+    )
+        requires kept { IsKept shape.now (length places.old.items - 1) self.old.row places.old.items }
+        requires start { self.old.start ≡ shape.now.start }
+        requires may { MayFill flights.now (record {
+          period = shape.now;
+          capacity = length places.old.items - 1;
+          waiting = waiting_of self.old.row;
+          fixed = fixed_of 0 self.old.row;
+        }) }
+        ensures kept { IsKept shape.now (length places.old.items - 1) self.new.row places.new.items }
+        ensures start { self.new.start ≡ self.old.start }
+        ensures waiting { waiting_of self.new.row ≡ flights.now }
+        ensures fixed { fixed_of 0 self.new.row ≡ [] }
+        ensures writes { self.new.writes ≤ self.old.writes + length flights.now }
+        ensures more { self.old.writes ≤ self.new.writes }
+    {
+        let mut next = 0;
+        for planned in flights {
+            let k = shape.at(planned.entry).max(next);
+            self.write(k, Cell::Waiting(*planned));
+            places[planned.flight as usize] = HeldSlot::of(k);
+            next = k + 1;
+        }
     }
 }

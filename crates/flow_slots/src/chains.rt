@@ -3,161 +3,151 @@
 ghost use Rattle.std.specs.Prelude.{◌≡◌, ◌+◌, ◌-◌, ◌^◌, ◌<◌, ◌++◌, true, length, map, take, drop, IfSome, IfNone};
 ghost use Rattle.std.specs.Prelude.{None, Some};
 ghost use Rattle.flow_slots.specs.Changed.{gained};
-ghost use Rattle.flow_slots.specs.PackedCell.{from_start, flight_from};
+ghost use Rattle.flow_slots.specs.PackedCell.{flight_from, flight_number, from_start, planned_in};
 ghost use Rattle.flow_slots.specs.Period.{first_slot};
 ghost use Rattle.flow_slots.specs.Row.{flight_at, place_at, IsTied, EntriesWithin, MovesUp};
-ghost use Rattle.flow_slots.specs.Walk.{displace, has_empty, next_up, close, Follows, AllFollow, ComesIn};
-ghost use Rattle.flow_slots.specs.declared.packed_cell.TheConstants.{NO_ENTRY};
+ghost use Rattle.flow_slots.specs.Walk.{displace, has_empty, next_up, close, waits, Follows, AllFollow, ComesIn};
 
+use crate::counting::Counting;
 use crate::first_slots::FirstSlots;
 use crate::held_slot::HeldSlot;
-use crate::packed_cell::{PackedCell, PackedFlight};
+use crate::packed_cell::PackedCell;
 use std::alloc::Allocator;
 
 /// The first of these cells from a place on that is empty or held by a flight that waits and doesn't stand before
 /// `flight`.
 #[inline(always)]
-pub(crate) fn first_later(cells: &[PackedCell], from: usize, flight: PackedFlight) -> usize
-    requires order { AllFollow (drop from cells.now) }
-    requires room { has_empty (drop from cells.now) ≡ true }
-    requires entry { flight.entry < NO_ENTRY }
-    ensures { ComesIn cells.now from flight result }
+pub(crate) fn first_later(row: &Counting<'_>, from: usize, flight: PackedCell) -> usize
+    requires few { length row.now.cells.now < 2 ^ 16 }
+    requires order { AllFollow (drop from row.now.cells.now) }
+    requires room { has_empty (drop from row.now.cells.now) ≡ true }
+    requires waits { waits flight ≡ true }
+    ensures { ComesIn row.now.cells.now from (planned_in flight) result }
 {
     let mut place = from;
-    while cells[place].waits_before(flight) || cells[place].is_fixed() {
+    while row.get(place).waits_before(flight) || row.get(place).is_fixed() {
         place += 1;
     }
     place
 }
 
 /// Takes `flight` in at place `from`, where no waiting flight up to the next empty cell stands before
-/// it: each flight takes the cell of the next one that waits, the last one the empty cell. The answer is
-/// the number of cells that were written.
+/// it: each flight takes the cell of the next one that waits, the last one the empty cell.
 #[inline(always)]
 pub(crate) fn displace(
-    cells: &mut [PackedCell],
+    row: &mut Counting<'_>,
     places: &mut [HeldSlot],
     from: usize,
-    flight: PackedFlight,
-) -> u64
-    requires few { length cells.old < 2 ^ 16 }
-    requires tied { IsTied places.old cells.old }
-    requires some { 0 < flight.flight }
-    requires number { flight.flight < length places.old }
-    requires absent { place_at places.old flight.flight ≡ None }
-    requires follows { Follows flight (drop from cells.old) }
-    requires room { has_empty (drop from cells.old) ≡ true }
-    requires entry { flight.entry < NO_ENTRY }
-    ensures tied { IsTied places.new cells.new }
-    ensures cells { cells.new ≡ take from cells.old ++ displace flight (drop from cells.old) }
-    ensures written { result ≡ gained cells.old cells.new }
+    flight: PackedCell,
+)
+    requires fresh { row.old.written ≡ 0 }
+    requires few { length row.old.cells.now < 2 ^ 16 }
+    requires tied { IsTied places.old row.old.cells.now }
+    requires some { 0 < flight_number flight }
+    requires number { flight_number flight < length places.old }
+    requires absent { place_at places.old (flight_number flight) ≡ None }
+    requires follows { Follows (planned_in flight) (drop from row.old.cells.now) }
+    requires room { has_empty (drop from row.old.cells.now) ≡ true }
+    requires waits { waits flight ≡ true }
+    ensures same_reference { row.new.cells.ghost_name ≡ row.old.cells.ghost_name }
+    ensures tied { IsTied places.new row.new.cells.now }
+    ensures cells { row.new.cells.now
+        ≡ take from row.old.cells.now ++ displace (planned_in flight) (drop from row.old.cells.now) }
+    ensures written { row.new.written ≡ gained row.old.cells.now row.new.cells.now }
 {
     let mut coming = flight;
     let mut k = from;
-    let mut written = 0;
     loop {
-        let cell = cells[k];
-        match cell.waiting() {
-            Some(held) => {
-                cells[k] = PackedCell::waiting_in(coming);
-                places[coming.flight() as usize] = HeldSlot::of(k as u32);
-                written += 1;
-                coming = held;
-            }
-            None => {
-                if cell.is_empty() {
-                    break;
-                }
-            }
+        let cell = row.get(k);
+        if cell.is_waiting() {
+            row.put(k, coming);
+            places[coming.flight() as usize] = HeldSlot::of(k as u32);
+            coming = cell;
+        } else if cell.is_empty() {
+            break;
         }
         k += 1;
     }
-    cells[k] = PackedCell::waiting_in(coming);
+    row.put(k, coming);
     places[coming.flight() as usize] = HeldSlot::of(k as u32);
-    written + 1
 }
 
 /// A flight that waits, and its slot.
 #[derive(Clone, Copy, Debug)]
 struct NextUp {
     slot: usize,
-    held: PackedFlight,
+    held: PackedCell,
 }
 
 /// The flight that may move up into an empty slot `hole`, with its slot. The row begins with these cells, whose entries
 /// are counted from the start, and empty ones follow.
 #[inline(always)]
 fn next_up<A: Allocator + Copy>(
-    cells: &[PackedCell],
+    row: &Counting<'_>,
     shape: &FirstSlots<A>,
     start: u32,
     hole: usize,
 ) -> Option<NextUp>
+    requires few { length row.now.cells.now < 2 ^ 16 }
     requires start { start < 2 ^ 31 }
-    requires hole { hole < length cells.now }
-    requires entries { EntriesWithin shape.now (map (from_start start) cells.now) }
+    requires hole { hole < length row.now.cells.now }
+    requires entries { EntriesWithin shape.now (map (from_start start) row.now.cells.now) }
     ensures found { IfSome result
-        (λ r. MovesUp shape.now (map (from_start start) cells.now) hole r.slot (flight_from start r.held)) }
-    ensures within { IfSome result (λ r. r.slot < length cells.now) }
-    ensures entry { IfSome result (λ r. r.held.entry < NO_ENTRY) }
+        (λ r. MovesUp shape.now (map (from_start start) row.now.cells.now) hole r.slot (flight_from start (planned_in r.held))) }
+    ensures within { IfSome result (λ r. r.slot < length row.now.cells.now) }
+    ensures waits { IfSome result (λ r. waits r.held ≡ true) }
     ensures none { IfNone result
-        (next_up (λ e. first_slot shape.now e) hole (drop (hole + 1) (map (from_start start) cells.now))
+        (next_up (λ e. first_slot shape.now e) hole (drop (hole + 1) (map (from_start start) row.now.cells.now))
         ≡ None) }
 {
-    for next in hole + 1..cells.len() {
-        let cell = cells[next];
-        match cell.waiting() {
-            Some(waiting) => {
-                let held = waiting.get(start);
-                if hole < shape.at(held.entry) as usize {
-                    return None;
-                }
-                return Some(NextUp {
-                    slot: next,
-                    held: waiting,
-                });
+    for next in hole + 1..row.len() {
+        let cell = row.get(next);
+        if cell.is_waiting() {
+            if hole < shape.at(cell.entry(start)) as usize {
+                return None;
             }
-            None => {
-                if cell.is_empty() {
-                    return None;
-                }
-            }
+            return Some(NextUp {
+                slot: next,
+                held: cell,
+            });
+        }
+        if cell.is_empty() {
+            return None;
         }
     }
     None
 }
 
 /// Takes `flight` out of slot `k`: flights move up into the hole that it leaves. The row begins with these cells, whose
-/// entries are counted from the start, and empty ones follow. The answer is the number of cells that were written.
+/// entries are counted from the start, and empty ones follow.
 #[inline(always)]
 pub(crate) fn vacate<A: Allocator + Copy>(
-    cells: &mut [PackedCell],
+    row: &mut Counting<'_>,
     places: &mut [HeldSlot],
     shape: &FirstSlots<A>,
     start: u32,
     flight: u32,
     k: usize,
-) -> u64
-    requires few { length cells.old < 2 ^ 16 }
+)
+    requires fresh { row.old.written ≡ 0 }
+    requires few { length row.old.cells.now < 2 ^ 16 }
     requires start { start < 2 ^ 31 }
-    requires tied { IsTied places.old cells.old }
-    requires stands { flight_at cells.old k ≡ Some flight }
-    requires entries { EntriesWithin shape.now (map (from_start start) cells.old) }
-    ensures tied { IsTied places.new cells.new }
-    ensures cells { map (from_start start) cells.new
-        ≡ take k (map (from_start start) cells.old)
-        ++ close (λ e. first_slot shape.now e) k (drop (k + 1) (map (from_start start) cells.old)) }
-    ensures written { result ≡ gained cells.old cells.new + 1 }
+    requires tied { IsTied places.old row.old.cells.now }
+    requires stands { flight_at row.old.cells.now k ≡ Some flight }
+    requires entries { EntriesWithin shape.now (map (from_start start) row.old.cells.now) }
+    ensures same_reference { row.new.cells.ghost_name ≡ row.old.cells.ghost_name }
+    ensures tied { IsTied places.new row.new.cells.now }
+    ensures cells { map (from_start start) row.new.cells.now
+        ≡ take k (map (from_start start) row.old.cells.now)
+        ++ close (λ e. first_slot shape.now e) k (drop (k + 1) (map (from_start start) row.old.cells.now)) }
+    ensures written { row.new.written ≡ gained row.old.cells.now row.new.cells.now + 1 }
 {
     let mut hole = k;
-    let mut written = 0;
     places[flight as usize] = HeldSlot::none();
-    while let Some(next) = next_up(cells, shape, start, hole) {
-        cells[hole] = PackedCell::waiting_in(next.held);
+    while let Some(next) = next_up(row, shape, start, hole) {
+        row.put(hole, next.held);
         places[next.held.flight() as usize] = HeldSlot::of(hole as u32);
-        written += 1;
         hole = next.slot;
     }
-    cells[hole] = PackedCell::empty();
-    written + 1
+    row.put(hole, PackedCell::empty());
 }

@@ -1,8 +1,10 @@
 //! The slot that a flight holds.
 ghost use Rattle.std.specs.Prelude.{◌≡◌, ◌<◌, ◌≤◌, ◌-◌, ◌^◌, ◌↔◌, ℕ, None, Some, IsSome, IsTrue, length};
-ghost use Rattle.std.specs.Prelude.{slice_index_or};
+ghost use Rattle.std.specs.Prelude.{slice_index_or, vec_len};
 ghost use Rattle.std.specs.List.{All};
+ghost use Rattle.flow_slots.specs.Row.{place_at};
 
+use std::alloc::Allocator;
 use std::marker::Model;
 
 /// How many slots a search looks at at once.
@@ -107,4 +109,36 @@ pub(crate) fn first_held(slots: &[HeldSlot], from: usize) -> usize
         next += 1;
     }
     next
+}
+
+/// The slot that `flight` holds.
+#[inline(always)]
+pub(crate) fn place_of<A: Allocator + Copy>(places: &Vec<HeldSlot, A>, flight: u32) -> Option<u32>
+    ensures { result ≡ place_at places.now.items flight }
+{
+    if (flight as usize) < places.len() {
+        places[flight as usize].get()
+    } else {
+        None
+    }
+}
+
+/// The first number from this one on of a flight that holds a slot. Where no later one does, the first number after
+/// all, or `from` where that is later.
+#[inline(always)]
+pub(crate) fn next_placed<A: Allocator + Copy>(places: &Vec<HeldSlot, A>, from: u32) -> u32
+    requires { vec_len places.now < 2 ^ 32 }
+    ensures from { from ≤ result }
+    ensures passed { (f : ℕ) → from ≤ f → f < result → place_at places.now.items f ≡ None }
+    ensures stops { result < vec_len places.now → IsSome (place_at places.now.items result) }
+    ensures end { from ≤ vec_len places.now → result ≤ vec_len places.now }
+    ensures late { vec_len places.now ≤ from → result ≡ from }
+{
+    if from as usize >= places.len() {
+        return from;
+    }
+    if !places[from as usize].is_none() {
+        return from;
+    }
+    first_held(places, from as usize) as u32
 }

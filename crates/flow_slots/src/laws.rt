@@ -1,57 +1,19 @@
 //! Laws over the definitions that the contracts cite: what the fresh assignment of a lineup is, whichever way it is
-//! made, and that each change of a slot list, and each list of changes, is undone by further calls. The lineups are
-//! those that the clauses of the calls name.
+//! made, that fixing a flight moves nobody, and that each list of changes of a slot list is undone by further calls.
+//! The lineups are those that the clauses of the calls name.
 
-ghost use Rattle.std.specs.Prelude.{◌≡◌, ℕ, ◌<◌, ◌⊎◌, ◌↔◌, true, List, [], None, Some, IsSome};
-ghost use Rattle.flow_slots.specs.Assignment.{Placed};
+ghost use Rattle.std.specs.Prelude.{◌≡◌, ℕ, ◌<◌, ◌⊎◌, ◌↔◌, true, List, [], Some, IsSome};
 ghost use Rattle.flow_slots.specs.ChangeList.{MayAll, changed_by};
 ghost use Rattle.flow_slots.specs.Delay.{HasLeastDelay, Rise, waiting_slots};
 ghost use Rattle.flow_slots.specs.FirstServed.{IsFirstServed};
-ghost use Rattle.flow_slots.specs.Lineup.{Lineup, IsLineup, MayFill, len_of, assigned, held_slot, held_flight};
-ghost use Rattle.flow_slots.specs.Lineup.{fixed_slot, waiting_entry, with_waiting, with_fixed, with_all_waiting};
-ghost use Rattle.flow_slots.specs.Lineup.{without_flight, fixed_at};
+ghost use Rattle.flow_slots.specs.Lineup.{Lineup, MayFill, len_of, assigned, held_slot, held_flight, fixed_slot};
+ghost use Rattle.flow_slots.specs.Lineup.{waiting_entry, with_all_waiting, fixed_at};
 ghost use Rattle.flow_slots.specs.LineupLaws.{IsNumber, IsSound, NoneTwice, Waits, IsNextFree};
 ghost use Rattle.flow_slots.specs.Order.{stands_before};
 ghost use Rattle.flow_slots.specs.Period.{Period, IsRegular};
 ghost use Rattle.flow_slots.specs.Undoings.{undoing_all};
 ghost use Rattle.flow_slots.specs.declared.cell.Planned.{Planned};
 ghost use Rattle.flow_slots.specs.declared.change_list.Change.{Change};
-
-/// `insert` is undone by `remove`.
-pub fn insert_undone()
-    ensures { (l : Lineup) (w : Planned) → held_slot l w.flight ≡ None
-        → without_flight w.flight (with_waiting w l) ≡ l }
-{}
-
-/// `put_fixed` is undone by `remove`.
-pub fn put_fixed_undone()
-    ensures { (l : Lineup) (a : Placed) → held_slot l a.flight ≡ None
-        → without_flight a.flight (with_fixed a l) ≡ l }
-{}
-
-/// `remove` of a flight that waits is undone by `insert` with its entry, and that of a fixed flight by
-/// `put_fixed` in its slot.
-pub fn remove_undone()
-    ensures waiting { (l : Lineup) (w : Planned) → IsLineup l → waiting_entry l w.flight ≡ Some w.entry
-        → with_waiting w (without_flight w.flight l) ≡ l }
-    ensures fixed { (l : Lineup) (a : Placed) → IsLineup l → held_slot l a.flight ≡ Some a.slot
-        → IsSome (fixed_slot l a.flight) → with_fixed a (without_flight a.flight l) ≡ l }
-{}
-
-/// `fix` is undone by `release` with the flight's entry, which is a `remove` and an `insert`.
-pub fn fix_undone()
-    ensures { (l : Lineup) (w : Planned) (k : ℕ) → IsLineup l
-        → waiting_entry l w.flight ≡ Some w.entry
-        → with_waiting w (without_flight w.flight (fixed_at (record { flight = w.flight; slot = k }) l)) ≡ l }
-{}
-
-/// `release` is undone by `remove` and `put_fixed` in the flight's slot.
-pub fn release_undone()
-    ensures { (l : Lineup) (a : Placed) (entry : ℕ) → IsLineup l
-        → held_slot l a.flight ≡ Some a.slot → IsSome (fixed_slot l a.flight)
-        → with_fixed a (without_flight a.flight
-        (with_waiting (record { entry = entry; flight = a.flight }) (without_flight a.flight l))) ≡ l }
-{}
 
 /// No two flights have one slot, and no flight has two: the slot of a flight and the flight in a slot are
 /// inverse. All that wait are held, and so are those that keep a slot, in that slot.
@@ -75,6 +37,12 @@ pub fn slots_rise()
     ensures rise { (l : Lineup) → IsSound l → Rise (waiting_slots l) }
     ensures order { (l : Lineup) (v w : Planned) (j k : ℕ) → IsSound l → Waits l v → Waits l w
         → stands_before v w ≡ true → held_slot l v.flight ≡ Some j → held_slot l w.flight ≡ Some k → j < k }
+{}
+
+/// Fixing a flight in the slot where it waits leaves the assignment as it is: each flight has the slot that it had.
+pub fn fixing_moves_nobody()
+    ensures { (l : Lineup) (w : Planned) (k flight : ℕ) → IsSound l → Waits l w → held_slot l w.flight ≡ Some k
+        → held_slot (fixed_at (record { flight = w.flight; slot = k }) l) flight ≡ held_slot l flight }
 {}
 
 /// Each waiting flight has the first slot not before its entry that is free for it: in each slot between

@@ -22,21 +22,21 @@
 //! - *What it costs*: a change touches the cells from the flight's first slot to the end of its chain, and writes one
 //!   cell a flight that moves. Only `SlotList::new` takes memory.
 //!
-//! `slot_list` has the calls, `row` and `chains` the walks, `shape` periods and rates with their limits, `first_slots`
-//! a table of first slots by minutes; `cells`, `made_cells`, `packed_cell` and `held_slot` are how cells and places lie
-//! in memory. `laws` says what the fresh assignment is, and how each change and each list of changes is undone.
+//! `slot_list` has the calls, `cells` the row and `chains` the walks along it, which write cells by `counting` alone;
+//! `shape` has periods and rates with their limits, `first_slots` a table of first slots by minutes; `packed_cell` and
+//! `held_slot` are how cells and places lie in memory. `laws` says what the fresh assignment is, and how each list of
+//! changes is undone.
 #![tactic(auto)]
 
 mod cell;
 mod cells;
 mod chains;
 mod change_list;
+mod counting;
 mod first_slots;
 mod held_slot;
 pub mod laws;
-mod made_cells;
 mod packed_cell;
-mod row;
 mod shape;
 mod slot_list;
 

@@ -2,9 +2,10 @@
 //!
 //! It has the minutes of an entry from a start, which the row keeps once: that of its period. A period has at most
 //! 1,440 minutes, and 17 bits are there for them; 15 bits are there for a flight's number, which is at most 20,000.
-ghost use Rattle.std.specs.Prelude.{◌≡◌, ◌+◌, ◌*◌, ◌/◌, ◌%◌, ◌^◌, ◌<◌, ◌≤◌, ◌↔◌, false, IfNone, IfSome, IsTrue};
+ghost use Rattle.std.specs.Prelude.{◌≡◌, ◌+◌, ◌*◌, ◌/◌, ◌%◌, ◌^◌, ◌<◌, ◌≤◌, ◌↔◌, true, IsTrue};
 ghost use Rattle.std.specs.List.{All};
-ghost use Rattle.flow_slots.specs.PackedCell.{IsStored, flight_from, from_start};
+ghost use Rattle.flow_slots.specs.PackedCell.{IsStored, entry_number, flight_from, flight_number, from_start};
+ghost use Rattle.flow_slots.specs.PackedCell.{planned_in};
 ghost use Rattle.flow_slots.specs.Row.{IsFixedCell};
 ghost use Rattle.flow_slots.specs.Walk.{waits, waits_before};
 ghost use Rattle.flow_slots.specs.declared.cell.Cell.TheVariants.{Waiting};
@@ -43,27 +44,6 @@ impl Model for PackedCell {
 
 const _: () = prove!(size_of::<PackedCell>() <= 4);
 
-/// A flight that waits, as its place in the order: a chain takes it out of one cell and puts it into another as one
-/// word.
-#[derive(Clone, Copy, Debug)]
-pub(crate) struct PackedFlight {
-    word: u32,
-}
-
-impl Model for PackedFlight {
-    ghost use Rattle.flow_slots.specs.declared.cell.Planned.{Planned};
-
-    ghost Value = { Planned };
-
-    ghost use Rattle.flow_slots.specs.PackedCell.{packed_rank, ranked, rank_back};
-
-    ghost view = { λ p. ranked p.word };
-
-    ghost inverse = { λ planned. record { word = packed_rank planned } };
-
-    ghost inverse_ok = { λ p h i. record { word = rank_back p.word i } };
-}
-
 /// The word of an entry and a flight.
 #[inline(always)]
 fn word_of(entry: u32, flight: u32) -> u32
@@ -90,40 +70,6 @@ fn flight_in(word: u32) -> u32
     word % FLIGHTS
 }
 
-impl PackedFlight {
-    /// This flight, its entry counted from the start.
-    #[inline(always)]
-    pub(crate) fn of(start: u32, planned: Planned) -> Self
-        requires { IsStored start (Waiting planned) }
-        ensures value { flight_from start result ≡ planned }
-        ensures kept { (result.entry < NO_ENTRY) × (result.flight < FLIGHTS) }
-    {
-        PackedFlight {
-            word: word_of(planned.entry - start, planned.flight),
-        }
-    }
-
-    /// The flight and its entry.
-    #[inline(always)]
-    pub(crate) fn get(self, start: u32) -> Planned
-        requires { start < 2 ^ 31 }
-        ensures { result ≡ flight_from start self }
-    {
-        Planned {
-            entry: start + entry_in(self.word),
-            flight: flight_in(self.word),
-        }
-    }
-
-    /// The number of the flight.
-    #[inline(always)]
-    pub(crate) fn flight(self) -> u32
-        ensures { result ≡ self.flight }
-    {
-        flight_in(self.word)
-    }
-}
-
 impl PackedCell {
     /// No flight.
     #[inline(always)]
@@ -135,13 +81,16 @@ impl PackedCell {
         }
     }
 
-    /// This flight, which waits in the slot.
+    /// This flight, which waits in the slot, its entry counted from the start.
     #[inline(always)]
-    pub(crate) fn waiting_in(flight: PackedFlight) -> Self
-        requires { flight.entry < NO_ENTRY }
-        ensures { result ≡ Waiting flight }
+    pub(crate) fn waiting(start: u32, planned: Planned) -> Self
+        requires { IsStored start (Waiting planned) }
+        ensures value { flight_from start (planned_in result) ≡ planned }
+        ensures waits { waits result ≡ true }
     {
-        PackedCell { word: flight.word }
+        PackedCell {
+            word: word_of(planned.entry - start, planned.flight),
+        }
     }
 
     /// What stands in the slot.
@@ -166,19 +115,29 @@ impl PackedCell {
         }
     }
 
-    /// The flight that waits in the slot, in the same word, so that a chain takes it on as it stands.
+    /// Whether a flight waits in the slot. A chain takes it on in the same word, as it stands.
     #[inline(always)]
-    pub(crate) fn waiting(self) -> Option<PackedFlight>
-        ensures value { IfSome result (λ w. Cell.Waiting w ≡ self) }
-        ensures kept { IfSome result (λ w. (w.entry < NO_ENTRY) × (w.flight < FLIGHTS)) }
-        ensures none { IfNone result (waits self ≡ false) }
+    pub(crate) fn is_waiting(self) -> bool
+        ensures { result ≡ waits self }
     {
-        let word = self.word;
-        if entry_in(word) != NO_ENTRY {
-            Some(PackedFlight { word })
-        } else {
-            None
-        }
+        entry_in(self.word) != NO_ENTRY
+    }
+
+    /// The entry of the flight that waits in the slot.
+    #[inline(always)]
+    pub(crate) fn entry(self, start: u32) -> u32
+        requires { start < 2 ^ 31 }
+        ensures { result ≡ start + entry_number self }
+    {
+        start + entry_in(self.word)
+    }
+
+    /// The number of the flight in the slot, 0 where there is none.
+    #[inline(always)]
+    pub(crate) fn flight(self) -> u32
+        ensures { result ≡ flight_number self }
+    {
+        flight_in(self.word)
     }
 
     /// Whether there is no flight in the slot.
@@ -201,9 +160,9 @@ impl PackedCell {
     /// Whether a flight waits in the slot that stands before this one. An empty slot and a fixed flight have the
     /// greatest entry, so one comparison of the words tells.
     #[inline(always)]
-    pub(crate) fn waits_before(&self, flight: PackedFlight) -> bool
-        requires { flight.entry < NO_ENTRY }
-        ensures { result ≡ waits_before flight self.now }
+    pub(crate) fn waits_before(&self, flight: PackedCell) -> bool
+        requires { waits flight ≡ true }
+        ensures { result ≡ waits_before (planned_in flight) self.now }
     {
         self.word < flight.word
     }

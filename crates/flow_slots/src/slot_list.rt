@@ -13,7 +13,7 @@ ghost use Rattle.flow_slots.specs.LineupLaws.{IsNumber, IsSound};
 use crate::cell::{Cell, Planned};
 use crate::cells::Cells;
 use crate::first_slots::FirstSlots;
-use crate::row::Row;
+use crate::held_slot::{HeldSlot, next_placed, place_of};
 use crate::shape::Shape;
 use fpl_text::Minute;
 use std::alloc::{AllocError, Allocator, Global};
@@ -33,7 +33,9 @@ use std::marker::Model;
 pub struct SlotList<A: Allocator + Copy = Global> {
     first_slots: FirstSlots<A>,
     capacity: u32,
-    row: Row<A>,
+    cells: Cells<A>,
+    /// For each flight, by its number, the slot in which it stands.
+    places: Vec<HeldSlot, A>,
 }
 
 impl<A: Allocator + Copy> Model for SlotList<A> {
@@ -46,14 +48,14 @@ impl<A: Allocator + Copy> Model for SlotList<A> {
       lineup = record {
         period = s.first_slots;
         capacity = s.capacity;
-        waiting = waiting_of s.row.cells.row;
-        fixed = fixed_of 0 s.row.cells.row;
+        waiting = waiting_of s.cells.row;
+        fixed = fixed_of 0 s.cells.row;
       };
-      writes = s.row.cells.writes;
+      writes = s.cells.writes;
     } };
 
     ghost invariant = { λ s.
-        IsKeptFrom s.row.cells.start s.first_slots s.capacity s.row.cells.row s.row.places.items };
+        IsKeptFrom s.cells.start s.first_slots s.capacity s.cells.row s.places.items };
 }
 
 impl<A: Allocator + Copy> SlotList<A> {
@@ -70,12 +72,14 @@ impl<A: Allocator + Copy> SlotList<A> {
         ensures regular { OnOk result (IsRegular shape) }
     {
         let slots = shape.slots_before_end() + max_plans;
-        let row = Row::new(alloc, slots, max_plans, shape.start_minutes())?;
+        let cells = Cells::new(alloc, slots, shape.start_minutes())?;
+        let places = vec![in alloc; HeldSlot::none(); max_plans as usize + 1]?;
         let first_slots = FirstSlots::new(alloc, shape)?;
         Ok(SlotList {
             first_slots,
             capacity: max_plans,
-            row,
+            cells,
+            places,
         })
     }
 
@@ -93,7 +97,7 @@ impl<A: Allocator + Copy> SlotList<A> {
         ensures value { result ≡ len_of self.now.lineup }
         ensures most { result ≤ most_slots }
     {
-        self.row.cells.len()
+        self.cells.len()
     }
 
     /// The period and its rates.
@@ -117,7 +121,7 @@ impl<A: Allocator + Copy> SlotList<A> {
         ensures first_served { IsFirstServed self.now.lineup }
         ensures least_delay { HasLeastDelay self.now.lineup }
     {
-        &self.row.cells
+        &self.cells
     }
 
     /// The slot of a flight, None where it isn't held. No other flight has it, and no flight stands twice in the list.
@@ -130,7 +134,7 @@ impl<A: Allocator + Copy> SlotList<A> {
         ensures number { IfSome result (λ _. IsNumber self.now.lineup flight) }
         ensures lined { IsLineup self.now.lineup }
     {
-        self.row.place(flight)
+        place_of(&self.places, flight)
     }
 
     /// The first number from this one on of a flight that is held. Where no later one is, the first number after
@@ -143,7 +147,7 @@ impl<A: Allocator + Copy> SlotList<A> {
         ensures end { from ≤ self.now.lineup.capacity → result ≤ self.now.lineup.capacity + 1 }
         ensures late { self.now.lineup.capacity < from → result ≡ from }
     {
-        self.row.next_placed(from)
+        next_placed(&self.places, from)
     }
 
     /// The entry of a flight that waits, None where it doesn't. No flight waits twice, and none that waits keeps a
@@ -154,7 +158,7 @@ impl<A: Allocator + Copy> SlotList<A> {
         ensures within { IfSome result (λ e. IsWithin self.now.lineup.period e) }
         ensures lined { IsLineup self.now.lineup }
     {
-        match self.row.cells.cell(self.row.place(flight)?) {
+        match self.cells.cell(place_of(&self.places, flight)?) {
             Cell::Waiting(planned) => Some(Minute::from_minutes(planned.entry)),
             _ => None,
         }
@@ -168,8 +172,8 @@ impl<A: Allocator + Copy> SlotList<A> {
         ensures within { IfSome result (λ _. k < len_of self.now.lineup) }
         ensures most { IfSome result (λ _. k < most_slots) }
     {
-        if k < self.row.cells.len() {
-            self.row.cells.at(k)
+        if k < self.cells.len() {
+            self.cells.at(k)
         } else {
             None
         }
@@ -183,7 +187,7 @@ impl<A: Allocator + Copy> SlotList<A> {
     {
         self.max_plans() == other.max_plans()
             && self.shape().is(other.shape())
-            && self.row.cells.same(&other.row.cells)
+            && self.cells.same(&other.cells)
     }
 
     /// Takes a flight in, to wait in the order of its entry, ties by the lower number; later flights
@@ -201,7 +205,8 @@ impl<A: Allocator + Copy> SlotList<A> {
     {
         let entry = entry.minutes();
         let from = self.first_slots.at(entry);
-        self.row.displace(from, Planned { entry, flight });
+        self.cells
+            .displace(&mut self.places, from, Planned { entry, flight });
     }
 
     /// Takes flights into a list that holds none, in one pass. They stand in the order of their entries, ties by the
@@ -214,7 +219,8 @@ impl<A: Allocator + Copy> SlotList<A> {
         ensures writes { self.new.writes ≤ self.old.writes + length flights.now }
         ensures more { self.old.writes ≤ self.new.writes }
     {
-        self.row.fill(&self.first_slots, flights);
+        self.cells
+            .fill(&mut self.places, &self.first_slots, flights);
     }
 
     /// Takes out a flight that is held, fixed or not; later flights move up.
@@ -226,8 +232,9 @@ impl<A: Allocator + Copy> SlotList<A> {
             ≤ self.old.writes + moved_flights self.old.lineup self.new.lineup + 1 }
         ensures more { self.old.writes ≤ self.new.writes }
     {
-        if let Some(k) = self.row.place(flight) {
-            self.row.vacate(&self.first_slots, flight, k);
+        if let Some(k) = place_of(&self.places, flight) {
+            self.cells
+                .vacate(&mut self.places, &self.first_slots, flight, k);
         }
     }
 
@@ -235,7 +242,7 @@ impl<A: Allocator + Copy> SlotList<A> {
     pub fn keeps_none(&self) -> bool
         ensures { IsTrue result ↔ (self.now.lineup.fixed ≡ []) }
     {
-        self.row.cells.keeps_none()
+        self.cells.keeps_none()
     }
 
     /// Whether a flight keeps its slot. No flight keeps two slots, and none that keeps one waits.
@@ -244,8 +251,8 @@ impl<A: Allocator + Copy> SlotList<A> {
         ensures fixed { IsTrue result ↔ IsSome (fixed_slot self.now.lineup flight) }
         ensures lined { IsLineup self.now.lineup }
     {
-        match self.row.place(flight) {
-            Some(k) => matches!(self.row.cells.cell(k), Cell::Fixed(_)),
+        match place_of(&self.places, flight) {
+            Some(k) => matches!(self.cells.cell(k), Cell::Fixed(_)),
             None => false,
         }
     }
@@ -262,8 +269,8 @@ impl<A: Allocator + Copy> SlotList<A> {
             ≤ self.old.writes + moved_flights self.old.lineup self.new.lineup + 1 }
         ensures more { self.old.writes ≤ self.new.writes }
     {
-        if let Some(k) = self.row.place(flight) {
-            self.row.cells.write(k, Cell::Fixed(flight));
+        if let Some(k) = place_of(&self.places, flight) {
+            self.cells.write(k, Cell::Fixed(flight));
         }
     }
 
@@ -298,6 +305,6 @@ impl<A: Allocator + Copy> SlotList<A> {
             ≤ self.old.writes + moved_flights self.old.lineup self.new.lineup + 1 }
         ensures more { self.old.writes ≤ self.new.writes }
     {
-        self.row.put_fixed(flight, k);
+        self.cells.put_fixed(&mut self.places, flight, k);
     }
 }

@@ -1,13 +1,16 @@
-use Rattle.std.proofs.Common.{◌≤◌, ◌<◌, ◌-◌, length}
+use Rattle.std.proofs.Common.{◌≡◌, ◌≤◌, ◌-◌, true, length}
+use Rattle.flow_slots.specs.PackedCell.{planned_in}
+use Rattle.flow_slots.specs.Walk.{waits}
 use Rattle.flow_slots.proofs.Displacing.{Displacing}
 use Rattle.flow_slots.proofs.chains.displace.Given as goal
 
-abbrev pub invariant-loop-held : goal.invariant-loop-held
-invariant-loop-held l = record {
-  walk : Displacing l.fn.cells (length l.fn.places) 0 l.from l.fn.flight l.cells l.written l.places l.coming l.k;
-  entry : l.coming.entry < 131_071;
-  few : l.written ≤ l.k;
+abbrev pub invariant-loop-row : goal.invariant-loop-row
+invariant-loop-row l = record {
+  same_reference : l.row.cells.ghost_name ≡ l.fn.row.cells.ghost_name;
+  walk : Displacing l.fn.row.cells.now (length l.fn.places) 0 l.from (planned_in l.fn.flight) l.row.cells.now l.row.written l.places (planned_in l.coming) l.k;
+  waits : waits l.coming ≡ true;
+  few : l.row.written ≤ l.k;
 }
 
-abbrev pub decreases-loop-held : goal.decreases-loop-held
-decreases-loop-held l = length l.fn.cells - l.k
+abbrev pub decreases-loop-row : goal.decreases-loop-row
+decreases-loop-row l = length l.fn.row.cells.now - l.k

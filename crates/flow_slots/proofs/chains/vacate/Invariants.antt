@@ -1,4 +1,4 @@
-use Rattle.std.proofs.Common.{length, map, ◌-◌, ◌<◌, ◌≤◌}
+use Rattle.std.proofs.Common.{◌≡◌, length, map, ◌-◌, ◌<◌, ◌≤◌}
 use Rattle.flow_slots.specs.PackedCell.{from_start}
 use Rattle.flow_slots.proofs.MovingUp.{Closing}
 use Rattle.flow_slots.proofs.chains.vacate.Given as goal
@@ -6,10 +6,11 @@ use Rattle.flow_slots.proofs.chains.vacate.Given as goal
 abbrev pub invariant-loop-next : goal.invariant-loop-next
 invariant-loop-next g l =
     record {
-      walk : Closing l.shape (map (from_start l.start) l.fn.cells) l.fn.places 0 l.fn.k (map (from_start l.start) l.cells) l.written l.places l.hole;
-      within : l.hole < length l.cells;
-      few : l.written ≤ l.hole;
+      same_reference : l.row.cells.ghost_name ≡ l.fn.row.cells.ghost_name;
+      walk : Closing l.shape (map (from_start l.start) l.fn.row.cells.now) l.fn.places 0 l.fn.k (map (from_start l.start) l.row.cells.now) l.row.written l.places l.hole;
+      within : l.hole < length l.row.cells.now;
+      few : l.row.written ≤ l.hole;
     }
 
 abbrev pub decreases-loop-next : goal.decreases-loop-next
-decreases-loop-next g l = length l.fn.cells - l.hole
+decreases-loop-next g l = length l.fn.row.cells.now - l.hole

@@ -7,6 +7,6 @@ use Rattle.flow_slots.proofs.slot_list.SlotList.max_plans.Goals as goal
 pub returns-clause-held : goal.returns-clause-held
 returns-clause-held g c = λ flight k e.
     (let s = c.self.inside in
-    let is = held_slot-is s.first_slots s.capacity s.capacity s.row.cells.row s.row.places.items flight c.self.invariant.kept in
-    place_at-number s.first_slots s.capacity flight k s.row.cells.row s.row.places.items (lineup_of s.first_slots s.capacity s.row.cells.row) c.self.invariant.kept refl
+    let is = held_slot-is s.first_slots s.capacity s.capacity s.cells.row s.places.items flight c.self.invariant.kept in
+    place_at-number s.first_slots s.capacity flight k s.cells.row s.places.items (lineup_of s.first_slots s.capacity s.cells.row) c.self.invariant.kept refl
     (sym is ∙ (ap (λ v. held_slot v.lineup flight) c.self.view_is ∙ e)))

@@ -17,8 +17,8 @@ returns-then-is g c =
           let p : s.first_slots ≡ o.first_slots = ap (λ v. v.period) mine ∙ (periods ∙ sym (ap (λ v. v.period) theirs)) in
           let capacities : c.args.self.now.lineup.capacity ≡ c.args.other.now.lineup.capacity = sym c.max_plans.ensures.value ∙ (w.if-max_plans.true ∙ c.max_plans-2.ensures.value) in
           let n : s.capacity ≡ o.capacity = ap (λ v. v.capacity) mine ∙ (capacities ∙ sym (ap (λ v. v.capacity) theirs)) in (
-            (λ t. sym mine ∙ (lineup-same s.first_slots o.first_slots s.capacity o.capacity s.row.cells.row o.row.cells.row p n (c.same.ensures.0 t) ∙ theirs)),
-            (λ e. c.same.ensures.1 (row-same s.first_slots o.first_slots s.capacity o.capacity s.row.cells.row o.row.cells.row s.row.places.items o.row.places.items c.self.invariant.kept c.other.invariant.kept (mine ∙ (e ∙ sym theirs)))),
+            (λ t. sym mine ∙ (lineup-same s.first_slots o.first_slots s.capacity o.capacity s.cells.row o.cells.row p n (c.same.ensures.0 t) ∙ theirs)),
+            (λ e. c.same.ensures.1 (row-same s.first_slots o.first_slots s.capacity o.capacity s.cells.row o.cells.row s.places.items o.places.items c.self.invariant.kept c.other.invariant.kept (mine ∙ (e ∙ sym theirs)))),
           )
       | else-max_plans w ↦ absurd (w.if-max_plans.false (eqb-true c.max_plans.result c.max_plans-2.result (sym w.value-is ∙ c.if-is.true)))
     ]
