@@ -2,7 +2,7 @@
 ghost use Rattle.std.specs.Prelude.{◌≡◌, ◌++◌, ◌∷◌, [], true, OnOk, length};
 ghost use Rattle.std.specs.Option.{option_and_then};
 ghost use Rattle.std.specs.Io.KnownBytes.{Appends};
-ghost use Rattle.flow_intake.specs.NextFrame.{second};
+ghost use Rattle.flow_input.specs.NextFrame.{second};
 ghost use Rattle.flow_slots.specs.Lineup.{held_slot};
 ghost use Rattle.flow_traffic.specs.Traffic.{slots_of};
 ghost use Rattle.flow_core.specs.History.{state_of};

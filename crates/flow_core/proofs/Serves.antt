@@ -5,21 +5,21 @@ use Rattle.std.proofs.lemmas.List.{append-nil}
 use Rattle.std.specs.Io.KnownBytes.{Appends, Keeps}
 use Rattle.std.proofs.KnownBytes.{Appends-nil, Appends-trans, Consumes-nil}
 use Rattle.fpl_message.specs.Filings.{FilingText}
-use Rattle.flow_intake.specs.Frames.{frames}
-use Rattle.flow_intake.specs.Reader.{Ahead, Agrees, Came, CameTooMuch}
-use Rattle.flow_intake.specs.NextFrame.{second, filing_of, GaveFirst, GaveNone, Starves}
-use Rattle.flow_intake.specs.Cutting.{CutFront, Overrun}
-use Rattle.flow_intake.specs.Writes.{AppendsFront}
-use Rattle.flow_intake.proofs.Cuttings.{Cutting-start, Cutting-one, Cutting-end, Cutting-within, CutFront-came, CutFront-one, CutEnded-read, Overrun-came}
-use Rattle.flow_intake.proofs.Written.{AppendsFront-both}
+use Rattle.flow_input.specs.Frames.{frames}
+use Rattle.flow_input.specs.Reader.{Ahead, Agrees, Came, CameTooMuch}
+use Rattle.flow_input.specs.NextFrame.{second, filing_of, GaveFirst, GaveNone, Starves}
+use Rattle.flow_input.specs.Cutting.{CutFront, Overrun}
+use Rattle.flow_input.specs.Writes.{AppendsFront}
+use Rattle.flow_input.proofs.Cuttings.{Cutting-start, Cutting-one, Cutting-end, Cutting-within, CutFront-came, CutFront-one, CutEnded-read, Overrun-came}
+use Rattle.flow_input.proofs.Written.{AppendsFront-both}
 use Rattle.flow_core.specs.State.{State}
 use Rattle.flow_core.specs.Steps.{step}
 use Rattle.flow_core.specs.Output.{answer_text}
 use Rattle.flow_core.specs.Served.{served, said, output, after, as_input}
 use Rattle.flow_core.specs.Serving.{Answered, AnswersFrame, AnswersPart, AppendsMore, Serving, Stopped, Starved, fault_of}
 use Rattle.flow_core.specs.declared.serving.ServeFault.TheVariants as serve
-use Rattle.flow_intake.specs.declared.fault.IntakeFault.{IntakeFault}
-use Rattle.flow_intake.specs.declared.fault.IntakeFault.TheVariants as intake
+use Rattle.flow_input.specs.declared.fault.IntakeFault.{IntakeFault}
+use Rattle.flow_input.specs.declared.fault.IntakeFault.TheVariants as intake
 
 module _ (s : State) (frame : List ℕ) where
   -- a frame that is too long

@@ -1,6 +1,6 @@
 -- What a desk that is served an input has answered, and its state then.
 use Rattle.std.specs.Prelude.{ℕ, List, [], ◌∷◌, ◌++◌, length, nat_le, nat_lt, if◌then◌else◌}
-use Rattle.flow_intake.specs.NextFrame.{second}
+use Rattle.flow_input.specs.NextFrame.{second}
 use Rattle.flow_core.specs.State.{State, Input}
 use Rattle.flow_core.specs.Steps.{step}
 use Rattle.flow_core.specs.Output.{answer_text, too_long_line, journal_full_line}

@@ -2,14 +2,14 @@
 use Rattle.std.specs.Prelude.{◌≡◌, ◌≤◌, ℕ, List, ◌++◌, length, Option, Result, Ok, Err}
 use Rattle.std.specs.Io.KnownBytes.{Appends, Consumes}
 use Rattle.fpl_message.specs.Filings.{FilingText}
-use Rattle.flow_intake.specs.Frames.{frames, ended_frames}
-use Rattle.flow_intake.specs.Reader.{Ahead, Agrees}
-use Rattle.flow_intake.specs.NextFrame.{filing_of}
-use Rattle.flow_intake.specs.Cutting.{Cutting}
-use Rattle.flow_intake.specs.Writes.{AppendsFront}
-use Rattle.flow_intake.specs.Source.{counted_up}
-use Rattle.flow_intake.specs.declared.fault.IntakeFault.{IntakeFault}
-use Rattle.flow_intake.specs.declared.fault.IntakeFault.TheVariants as intake
+use Rattle.flow_input.specs.Frames.{frames, ended_frames}
+use Rattle.flow_input.specs.Reader.{Ahead, Agrees}
+use Rattle.flow_input.specs.NextFrame.{filing_of}
+use Rattle.flow_input.specs.Cutting.{Cutting}
+use Rattle.flow_input.specs.Writes.{AppendsFront}
+use Rattle.flow_input.specs.Source.{counted_up}
+use Rattle.flow_input.specs.declared.fault.IntakeFault.{IntakeFault}
+use Rattle.flow_input.specs.declared.fault.IntakeFault.TheVariants as intake
 use Rattle.flow_core.specs.State.{State}
 use Rattle.flow_core.specs.Served.{served, said, output, after}
 use Rattle.flow_core.specs.declared.serving.ServeFault.{ServeFault}

@@ -2,7 +2,7 @@
 ghost use Rattle.std.specs.Prelude.{◌≡◌, ◌≤◌, ◌+◌, ◌++◌, ◌-◌, length, codes, decimal};
 ghost use Rattle.std.specs.List.{flat_map};
 ghost use Rattle.fpl_message.specs.Numbers.{number_of, name_of};
-ghost use Rattle.flow_intake.specs.Writes.{Writes};
+ghost use Rattle.flow_input.specs.Writes.{Writes};
 ghost use Rattle.arrayvec.specs.ArrayVec.{array_vec_len};
 ghost use Rattle.flow_core.specs.Output.{kind_text, window_text, plan_text, refusal_text, verdict_text, answer_line};
 ghost use Rattle.flow_core.specs.Output.{flight_text, told_text, notice_line, too_long_line, journal_full_line};
@@ -10,7 +10,7 @@ ghost use Rattle.flow_core.specs.Output.{flight_text, told_text, notice_line, to
 use crate::line::{Line, put, put_number};
 use crate::receipt::Receipt;
 use arrayvec::ArrayVec;
-use flow_intake::{Counted, WriteFault, write_bytes};
+use flow_input::{Counted, WriteFault, write_bytes};
 use flow_regulations::{Notice, Said, Told, Window};
 use flow_traffic::{Kind, Verdict};
 use fpl_message::Refusal;

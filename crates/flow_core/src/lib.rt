@@ -41,7 +41,7 @@ pub use answer::{journal_full_line, too_long_line};
 pub use change::Change;
 pub use desk::Core;
 pub use entry::{Entry, MAX_FEEDERS};
-pub use flow_intake::{Counted, Frame, Intake, IntakeFault, MAX_INPUT, WriteFault};
+pub use flow_input::{Counted, Frame, Intake, IntakeFault, MAX_INPUT, WriteFault};
 pub use flow_regulations::{Notice, Said, Told, Window};
 pub use flow_traffic::{Kind, Verdict};
 pub use journal_reading::{JournalFault, read_journal};

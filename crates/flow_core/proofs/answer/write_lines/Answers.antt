@@ -1,7 +1,7 @@
 use Rattle.std.proofs.Common.{◌++◌, refl}
 use Rattle.std.specs.List.{flat_map}
 use Rattle.flow_core.specs.Output.{notice_line, answer_line}
-use Rattle.flow_intake.proofs.Written.{Writes-then, Writes-stopped}
+use Rattle.flow_input.proofs.Written.{Writes-then, Writes-stopped}
 use Rattle.flow_core.proofs.answer.write_lines.Goals as goal
 
 pub returns-in_err-write_line : goal.returns-in_err-write_line

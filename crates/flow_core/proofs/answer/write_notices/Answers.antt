@@ -2,7 +2,7 @@ use Rattle.std.proofs.Common.{Ok, refl, sym, add-one, ◌+◌, ap, ◌≡◌, su
 use Rattle.std.specs.List.{flat_map}
 use Rattle.flow_core.specs.Output.{notice_line}
 use Rattle.flow_regulations.specs.declared.notice.Notice.{Notice}
-use Rattle.flow_intake.proofs.Written.{Writes-none, Writes-then, Writes-stopped, flat_map-at}
+use Rattle.flow_input.proofs.Written.{Writes-none, Writes-then, Writes-stopped, flat_map-at}
 use Rattle.flow_core.proofs.Lines.{flat_map-next}
 use Rattle.flow_core.proofs.answer.write_notices.Goals as goal
 

@@ -1,6 +1,6 @@
 use Rattle.std.proofs.Common.{◌≡◌, ◌-◌}
 use Rattle.flow_core.specs.History.{state_of, KeepsUndoable}
-use Rattle.flow_intake.specs.Reader.{Agrees}
+use Rattle.flow_input.specs.Reader.{Agrees}
 use Rattle.flow_core.specs.Serving.{Serving}
 use Rattle.flow_core.proofs.serving.answer_all.Given as goal
 

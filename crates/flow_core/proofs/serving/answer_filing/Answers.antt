@@ -1,7 +1,7 @@
 use Rattle.std.proofs.Common.{sym, ap, ◌∙◌, subst, List, ℕ, arith, ◌≡◌, ◌-◌, length, refl}
 use Rattle.std.specs.Io.KnownBytes.{Appends}
-use Rattle.flow_intake.specs.NextFrame.{second}
-use Rattle.flow_intake.specs.Writes.{AppendsFront}
+use Rattle.flow_input.specs.NextFrame.{second}
+use Rattle.flow_input.specs.Writes.{AppendsFront}
 use Rattle.flow_core.specs.History.{state_of}
 use Rattle.flow_core.specs.Output.{answer_text}
 use Rattle.flow_core.specs.State.{State}

@@ -1,5 +1,5 @@
 use Rattle.std.proofs.Common.{sym, ap, ◌∙◌, refl}
-use Rattle.flow_intake.specs.NextFrame.{filing_kept}
+use Rattle.flow_input.specs.NextFrame.{filing_kept}
 use Rattle.flow_core.specs.History.{state_of}
 use Rattle.flow_core.proofs.Serves.{served-long, said-long}
 use Rattle.flow_core.proofs.Undoables.{undoable-same}

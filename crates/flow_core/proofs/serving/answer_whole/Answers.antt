@@ -1,5 +1,5 @@
 use Rattle.std.proofs.Common.{◌≡◌, ◌∙◌, sym, arith}
-use Rattle.flow_intake.specs.NextFrame.{filing_kept}
+use Rattle.flow_input.specs.NextFrame.{filing_kept}
 use Rattle.flow_core.specs.declared.serving.ServeFault.TheVariants as serve
 use Rattle.flow_core.specs.History.{state_of}
 use Rattle.flow_core.proofs.Undoables.{undoable-both}

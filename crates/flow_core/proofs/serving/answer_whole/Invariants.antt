@@ -1,6 +1,6 @@
 use Rattle.std.proofs.Common.{◌≡◌, ◌-◌, ◌≤◌, List, ℕ, Option}
 use Rattle.flow_core.specs.History.{state_of, KeepsUndoable}
-use Rattle.flow_intake.specs.Reader.{Agrees}
+use Rattle.flow_input.specs.Reader.{Agrees}
 use Rattle.flow_core.specs.Serving.{ComesOn}
 use Rattle.flow_core.proofs.serving.answer_whole.Given as goal
 

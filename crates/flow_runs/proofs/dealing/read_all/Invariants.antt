@@ -1,5 +1,5 @@
 use Rattle.std.proofs.Common.{◌≡◌, ◌≤◌, ◌-◌, length, map}
-use Rattle.flow_intake.specs.Reader.{Agrees}
+use Rattle.flow_input.specs.Reader.{Agrees}
 use Rattle.flow_runs.specs.Reading.{Reading}
 use Rattle.flow_runs.proofs.dealing.read_all.Given as goal
 

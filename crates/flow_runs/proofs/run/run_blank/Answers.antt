@@ -1,7 +1,7 @@
 use Rattle.std.proofs.Common.{ℕ, map, sym, ap, subst, ◌∙◌}
 use Rattle.std.proofs.lemmas.Result.{err_from_is_err_and}
 use Rattle.flow_plans.specs.Settings.{Settings}
-use Rattle.flow_intake.proofs.Results.{err_again}
+use Rattle.flow_input.proofs.Results.{err_again}
 use Rattle.flow_runs.specs.Filing.{HasFiled}
 use Rattle.flow_runs.specs.Reading.{ToldUntil}
 use Rattle.flow_runs.specs.declared.fault.RunFault.{RunFault}

@@ -1,0 +1,71 @@
+-- What one call for a frame takes from the input.
+use Rattle.std.specs.Prelude.{◌≡◌, ◌+◌, ℕ, length, nat_le, if◌then◌else◌, Bool, true, false, List, [], ◌++◌, Option, Some, None}
+use Rattle.std.specs.Io.KnownBytes.{Consumes}
+use Rattle.flow_input.specs.declared.intake.Frame.{Frame}
+use Rattle.flow_input.specs.declared.intake.Frame.TheVariants.{Whole, TooLong}
+use Rattle.fpl_message.specs.Filings.{FilingText}
+use Rattle.fpl_message.specs.declared.edition.Edition.TheVariants as edition
+use Rattle.flow_input.specs.Frames.{Cut, first_cut, ended_frames, kept_of}
+use Rattle.flow_input.specs.Reader.{Ahead}
+use Rattle.fpl_message.specs.declared.filed_text.TheConstants.{MAX_BYTES}
+
+-- a frame read by the second edition
+abbrev pub second : List ℕ → FilingText
+second frame = record { edition = edition.Second; bytes = frame }
+
+-- the filing of a frame: none, where it is too long
+abbrev pub filing_of : List ℕ → Option FilingText
+filing_of frame = if nat_le (length frame) MAX_BYTES then Some (second frame) else None
+
+-- the filing that was made of a frame
+abbrev pub filing_in : {A : Type 0} → Frame A → Option FilingText
+filing_in (Whole filing) = Some filing
+filing_in TooLong = None
+
+-- the filing of what was kept of a frame
+abbrev pub filing_kept : Option (List ℕ) → Option FilingText
+filing_kept None = None
+filing_kept (Some frame) = Some (second frame)
+
+-- whatever frame was kept so, this is its filing
+abbrev pub IsFiled : Option (List ℕ) → Option FilingText → Type 0
+IsFiled kept filing = (frame : List ℕ) → kept ≡ kept_of frame → filing ≡ filing_of frame
+
+-- the first frame of the unread bytes and those that came: either its end was seen, or the reader has ended
+pub record GaveFirst (filing : Option FilingText) (old new : Ahead) (before after : Option (List ℕ)) : Type 0 where
+  pub came : List ℕ
+  pub consumed : Consumes before after came
+  pub whole : Cut
+  pub is : first_cut (old.unread ++ came) ≡ Some whole
+  pub rest : new.unread ≡ whole.rest
+  pub going : old.ended ≡ false
+  pub seen : new.ended ≡ false → whole.ended ≡ true
+  pub count : new.taken + length new.unread ≡ old.taken + length old.unread + length came
+  pub filed : filing ≡ filing_of whole.frame
+
+-- no frame is left
+pub record GaveNone (old new : Ahead) (before after : Option (List ℕ)) : Type 0 where
+  pub came : List ℕ
+  pub consumed : Consumes before after came
+  pub is : first_cut (old.unread ++ came) ≡ None
+  pub ended : new.ended ≡ true
+  pub count : new.taken + length new.unread ≡ old.taken + length old.unread + length came
+  pub quiet : old.ended ≡ true → came ≡ []
+
+-- whether a frame was cut off, what was kept of it, and what is left
+abbrev pub Cuts : Bool → Option (List ℕ) → Ahead → Ahead → Option (List ℕ) → Option (List ℕ) → Type 0
+Cuts false kept old new before after = GaveNone old new before after
+Cuts true kept old new before after = GaveFirst (filing_kept kept) old new before after
+
+-- what a call for a frame answers, and leaves
+abbrev pub Gives : {A : Type 0} → Option (Frame A) → Ahead → Ahead → Option (List ℕ) → Option (List ℕ) → Type 0
+Gives None old new before after = GaveNone old new before after
+Gives (Some frame) old new before after = GaveFirst (filing_in frame) old new before after
+
+-- a frame was cut off that isn't too long, but its filing isn't answered
+abbrev pub Misses : Ahead → Ahead → Option (List ℕ) → Option (List ℕ) → Type 0
+Misses old new before after = (filing : FilingText) × GaveFirst (Some filing) old new before after
+
+-- where the reader failed, no frame had ended in the bytes that were there
+abbrev pub Starves : Ahead → Option (List ℕ) → Option (List ℕ) → Type 0
+Starves old before after = (came : List ℕ) × Consumes before after came × (ended_frames (old.unread ++ came) ≡ [])

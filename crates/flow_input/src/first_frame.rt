@@ -1,0 +1,51 @@
+//! The first frame of some bytes, where they show its end: most frames stand whole in the piece that was read last, and
+//! are taken at once.
+ghost use Rattle.std.specs.Prelude.{◌≡◌, IfNone, IfSome, false};
+ghost use Rattle.flow_input.specs.FirstFrame.{EndsAt, Shows};
+ghost use Rattle.flow_input.specs.Frames.{cut, first_cut};
+
+use crate::scan::{Until, stop_in, text_in};
+
+/// Where the first frame of some bytes stands in them.
+#[derive(Clone, Copy)]
+pub(crate) struct Span {
+    /// Behind the blanks.
+    pub begin: usize,
+    /// Behind the frame.
+    pub end: usize,
+}
+
+/// How long a frame is with which these bytes begin, if they show its end.
+fn frame_len(bytes: &[u8]) -> Option<usize>
+    ensures shows { IfSome result (λ len. EndsAt bytes.now len) }
+    ensures none { IfNone result (IfSome (cut bytes.now) (λ c. c.ended ≡ false)) }
+{
+    if bytes.is_empty() {
+        return None;
+    }
+    let behind = &bytes[1..];
+    if bytes[0] != b'(' {
+        return match stop_in(behind, Until::OrderEnd) {
+            Some(at) => Some(at + 1),
+            None => None,
+        };
+    }
+    match stop_in(behind, Until::Bracket) {
+        Some(at) if behind[at] == b')' => Some(at + 2),
+        Some(at) => Some(at + 1),
+        None => None,
+    }
+}
+
+/// Where the first frame of some bytes stands, if they show its end.
+pub(crate) fn first_frame(bytes: &[u8]) -> Option<Span>
+    ensures shows { IfSome result (λ span. Shows bytes.now span.begin span.end) }
+    ensures none { IfNone result (IfSome (first_cut bytes.now) (λ c. c.ended ≡ false)) }
+{
+    let begin = text_in(bytes)?;
+    let len = frame_len(&bytes[begin..])?;
+    Some(Span {
+        begin,
+        end: begin + len,
+    })
+}

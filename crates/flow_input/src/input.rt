@@ -1,0 +1,225 @@
+//! The bytes of an input in one buffer, and its frames, each shown as a slice of it.
+//!
+//! Frames are taken from the front of the bytes that were read. If these show no end of the first frame, the bytes of
+//! that frame, at most 2,000, move to the front of the buffer, and more are read after them. The bytes of a longer frame
+//! are dropped as they come.
+ghost use Rattle.std.specs.Prelude.{◌≡◌, ◌≢◌, ◌≤◌, ◌<◌, ◌+◌, [], length, drop, false, true, IsTrue, OnOk, IfOk};
+ghost use Rattle.std.specs.Prelude.{IsErrOf, Err, MatchOption, None, Some, slice_range, IfSome, List, Option, ℕ};
+ghost use Rattle.std.specs.Prelude.{◌-◌, ◌++◌, OnErr, MatchResult};
+ghost use Rattle.std.specs.Io.KnownBytes.{Consumes, IsAtEnd};
+ghost use Rattle.flow_input.specs.Frames.{first_cut, kept_of};
+ghost use Rattle.flow_input.specs.NextFrame.{GaveFirst, filing_kept};
+ghost use Rattle.flow_input.specs.Reader.{Agrees, Came, CameTooMuch, Filled};
+ghost use Rattle.flow_input.specs.Source.{counted_up, failures_after};
+ghost use Rattle.flow_input.specs.declared.input.TheConstants.{MAX_INPUT, PIECE};
+ghost use Rattle.fpl_message.specs.declared.filed_text.TheConstants.{MAX_BYTES};
+
+use crate::counted::Counted;
+use crate::fault::IntakeFault;
+use crate::first_frame::{Span, first_frame};
+use fpl_message::MAX_BYTES;
+use std::alloc::{AllocError, Allocator, Global};
+use std::io;
+use std::io::Read;
+use std::marker::Model;
+
+/// The bytes of an input at most.
+pub const MAX_INPUT: u64 = 4_000_000_000;
+
+/// How many bytes are asked for at once.
+const PIECE: usize = 65_536;
+
+/// Moves some bytes of a buffer to its front, and reads more after them. Returns how many came.
+fn read_after<R: Read>(
+    reader: &mut Counted<R>,
+    buffer: &mut [u8],
+    at: usize,
+    end: usize,
+) -> io::Result<usize>
+    requires order { at ≤ end }
+    requires within { end ≤ length buffer.old }
+    requires fits { end - at + PIECE ≤ length buffer.old }
+    ensures len { length buffer.new ≡ length buffer.old }
+    ensures most { IfOk result (λ n. n ≤ PIECE) }
+    ensures came { IfOk result (λ n. (came : List ℕ)
+        × Consumes (R.remaining reader.old.device) (R.remaining reader.new.device) came
+        × (length came ≡ n)
+        × (slice_range buffer.new 0 (end - at + n) ≡ slice_range buffer.old at end ++ came)) }
+    ensures end { IfOk result (λ n. n ≡ 0 → IsAtEnd (R.remaining reader.new.device)) }
+    ensures err { OnErr result ((slice_range buffer.new 0 (end - at) ≡ slice_range buffer.old at end)
+        × Consumes (R.remaining reader.old.device) (R.remaining reader.new.device) []) }
+    ensures failures { MatchResult result (λ _. reader.new.failures ≡ reader.old.failures) (λ _.
+        reader.new.failures ≡ counted_up reader.old.failures) }
+{
+    buffer.copy_within(at..end, 0);
+    let kept = end - at;
+    reader.read(&mut buffer[kept..kept + PIECE])
+}
+
+/// The bytes that were read and not yet taken, after the frame that was taken last.
+#[derive(Drop)]
+pub struct Input<A: Allocator = Global> {
+    buffer: Vec<u8, A>,
+    /// The index of the first byte of the frame that was taken last, which ends at `at`.
+    begin: usize,
+    /// Whether that frame has more than 2,000 bytes.
+    is_long: bool,
+    at: usize,
+    end: usize,
+    total: u64,
+    ended: bool,
+}
+
+impl<A: Allocator> Model for Input<A> {
+    ghost use Rattle.std.specs.Prelude.{◌≡◌, ◌≤◌, ◌-◌, ◌+◌, length, slice_range, false, if◌then◌else◌, None, Some};
+    ghost use Rattle.flow_input.specs.Reader.{Ahead};
+    ghost use Rattle.flow_input.specs.declared.input.TheConstants.{MAX_INPUT, PIECE};
+    ghost use Rattle.fpl_message.specs.declared.filed_text.TheConstants.{MAX_BYTES};
+
+    ghost Value = { Ahead };
+
+    ghost view = { λ p. record {
+      unread = slice_range p.buffer.items p.at p.end;
+      taken = p.total - (p.end - p.at);
+      ended = p.ended;
+      item = if p.is_long then None else Some (slice_range p.buffer.items p.begin p.at);
+    } };
+
+    ghost invariant = { λ p. (p.begin ≤ p.at) × (p.at ≤ p.end) × (p.end ≤ length p.buffer.items)
+        × (length p.buffer.items ≡ MAX_BYTES + PIECE) × (p.end - p.at ≤ p.total) × (p.total ≤ MAX_INPUT)
+        × (p.is_long ≡ false → p.at - p.begin ≤ MAX_BYTES) };
+}
+
+impl<A: Allocator> Input<A> {
+    /// Takes the memory for the buffer.
+    pub fn new(alloc: A) -> Result<Self, AllocError>
+        ensures { IfOk result (λ p. p ≡ record { unread = []; taken = 0; ended = false; item = Some [] }) }
+    {
+        let mut buffer = Vec::with_capacity(alloc, MAX_BYTES + PIECE)?;
+        buffer.resize(MAX_BYTES + PIECE, 0)?;
+        Ok(Input {
+            buffer,
+            begin: 0,
+            is_long: false,
+            at: 0,
+            end: 0,
+            total: 0,
+            ended: false,
+        })
+    }
+
+    /// The bytes of the frame that was taken last, at most 2,000. `None` if it is too long.
+    pub fn frame(&self) -> Option<&[u8]>
+        ensures { MatchOption result (self.now.item ≡ None) (λ bytes. (self.now.item ≡ Some bytes.now)
+            × (length bytes.now ≤ MAX_BYTES)) }
+    {
+        if self.is_long {
+            return None;
+        }
+        Some(&self.buffer[self.begin..self.at])
+    }
+
+    /// Takes the next frame if the bytes that were read show its end. Returns whether they do; else nothing is taken.
+    pub fn take_whole(&mut self) -> bool
+        ensures gave { result ≡ true → (rest : Option (List ℕ)) → Agrees self.old rest
+            → GaveFirst (filing_kept self.new.item) self.old self.new rest rest }
+        ensures agrees { (rest : Option (List ℕ)) → Agrees self.old rest → Agrees self.new rest }
+        ensures nearer { result ≡ true → self.old.taken < self.new.taken }
+        ensures within { self.new.taken ≤ MAX_INPUT }
+        ensures none { result ≡ false → (self.new ≡ self.old)
+            × IfSome (first_cut self.old.unread) (λ c. c.ended ≡ false) }
+    {
+        let _total = &self.total;
+        let Some(span) = first_frame(self.unread()) else {
+            return false;
+        };
+        self.take(span);
+        true
+    }
+
+    /// The bytes that were read and not yet taken.
+    pub(crate) fn unread(&self) -> &[u8]
+        ensures { result.now ≡ self.now.unread }
+    {
+        &self.buffer[self.at..self.end]
+    }
+
+    /// Whether the reader has no more.
+    pub(crate) fn has_ended(&self) -> bool
+        ensures ended { result ≡ self.now.ended }
+        ensures within { self.now.taken ≤ MAX_INPUT }
+    {
+        self.ended
+    }
+
+    /// Takes the unread bytes to the end of this frame, which is the one that was taken last then.
+    pub(crate) fn take(&mut self, span: Span)
+        requires order { span.begin ≤ span.end }
+        requires within { span.end ≤ length self.old.unread }
+        ensures unread { self.new.unread ≡ drop span.end self.old.unread }
+        ensures taken { self.new.taken ≡ self.old.taken + span.end }
+        ensures ended { self.new.ended ≡ self.old.ended }
+        ensures item { self.new.item ≡ kept_of (slice_range self.old.unread span.begin span.end) }
+        ensures within { self.new.taken ≤ MAX_INPUT }
+    {
+        self.begin = self.at + span.begin;
+        self.at += span.end;
+        self.is_long = span.end - span.begin > MAX_BYTES;
+    }
+
+    /// Takes so many of the unread bytes, of no frame that is to be shown.
+    pub(crate) fn skip(&mut self, count: usize)
+        requires { count ≤ length self.old.unread }
+        ensures unread { self.new.unread ≡ drop count self.old.unread }
+        ensures taken { self.new.taken ≡ self.old.taken + count }
+        ensures ended { self.new.ended ≡ self.old.ended }
+        ensures item { self.new.item ≡ None }
+        ensures within { self.new.taken ≤ MAX_INPUT }
+    {
+        self.at += count;
+        self.is_long = true;
+    }
+
+    /// Reads more bytes after the unread ones, which move to the front of the buffer.
+    pub(crate) fn fill<R: Read>(&mut self, reader: &mut Counted<R>) -> Result<(), IntakeFault>
+        requires short { length self.old.unread ≤ MAX_BYTES }
+        requires going { self.old.ended ≡ false }
+        ensures filled { OnOk result (Filled self.old self.new (R.remaining reader.old.device)
+            (R.remaining reader.new.device)) }
+        ensures more { OnOk result (self.new.ended ≡ false → length self.old.unread < length self.new.unread) }
+        ensures end { OnOk result (IsTrue self.new.ended → (self.new.unread ≡ self.old.unread)
+            × IsAtEnd (R.remaining reader.new.device)) }
+        ensures taken { self.new.taken ≡ self.old.taken }
+        ensures within { OnOk result (self.new.taken + length self.new.unread ≤ MAX_INPUT) }
+        ensures err { OnErr result (Came (R.remaining reader.old.device) (R.remaining reader.new.device)) }
+        ensures read { IsErrOf result IntakeFault.Read → (self.new.unread ≡ self.old.unread)
+            × (self.new.ended ≡ false)
+            × (Consumes (R.remaining reader.old.device) (R.remaining reader.new.device) []) }
+        ensures much { IsErrOf result IntakeFault.TooMuch
+            → CameTooMuch self.old (R.remaining reader.old.device) (R.remaining reader.new.device) }
+        ensures memory { result ≢ Err IntakeFault.OutOfMemory }
+        ensures failures { reader.new.failures ≡ failures_after result reader.old.failures }
+    {
+        let kept = self.end - self.at;
+        let read = read_after(reader, self.buffer.as_mut_slice(), self.at, self.end);
+        self.begin = 0;
+        self.at = 0;
+        self.is_long = true;
+        self.end = kept;
+        match read {
+            Err(_) => Err(IntakeFault::Read),
+            Ok(0) => {
+                self.ended = true;
+                Ok(())
+            }
+            Ok(n) => {
+                if n as u64 > MAX_INPUT - self.total {
+                    return Err(IntakeFault::TooMuch);
+                }
+                self.total += n as u64;
+                self.end = kept + n;
+                Ok(())
+            }
+        }
+    }
+}

@@ -1,5 +1,0 @@
-use Rattle.flow_intake.proofs.Texts.{frames-text}
-use Rattle.flow_intake.proofs.laws.no_byte_is_lost.Goals as goal
-
-pub returns : goal.returns
-returns c = frames-text
