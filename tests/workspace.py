@@ -12,6 +12,7 @@ ROOT = pathlib.Path(__file__).resolve().parent.parent
 UNIT_TESTS = {
     "message": ["fpl_text", "fpl_items", "fpl_message", "jiff", "linked_list_allocator"],
     "flow": ["fpl_text", "fpl_message", "flow_plans", "flow_slots", "flow_regulations", "linked_list_allocator"],
+    "log": ["flow_log"],
     "desk": ["fpl_text", "fpl_message", "flow_plans", "flow_input", "flow_core", "linked_list_allocator"],
     "feeder": ["fpl_text", "fpl_message", "flow_plans", "flow_core", "flow_desk", "linked_list_allocator"],
 }
