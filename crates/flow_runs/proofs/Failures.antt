@@ -2,10 +2,10 @@
 use Rattle.std.proofs.Common.{◌≡◌, ◌≢◌, ◌⊎◌, inl, inr, ℕ, List, Option, Result, Ok, Err, IfErr, OnOk, OnErr, refl, ap, subst, sym, ◌∙◌}
 use Rattle.std.specs.Result.{IsErrAnd}
 use Rattle.std.proofs.lemmas.Result.{err_from_is_err_and}
-use Rattle.flow_intake.specs.Source.{counted_up, failures_with}
-use Rattle.flow_intake.specs.declared.fault.IntakeFault.{IntakeFault}
-use Rattle.flow_intake.specs.declared.fault.IntakeFault.TheVariants as intake
-use Rattle.flow_intake.specs.declared.counted.Counted.{Counted}
+use Rattle.flow_input.specs.Source.{counted_up, failures_with}
+use Rattle.flow_input.specs.declared.fault.IntakeFault.{IntakeFault}
+use Rattle.flow_input.specs.declared.fault.IntakeFault.TheVariants as intake
+use Rattle.flow_input.specs.declared.counted.Counted.{Counted}
 use Rattle.flow_core.specs.declared.journal_reading.JournalFault.{JournalFault}
 use Rattle.flow_core.specs.declared.journal_reading.JournalFault.TheVariants as reading
 use Rattle.flow_core.specs.JournalReading.{failures_with as journal_failures}

@@ -3,16 +3,16 @@ use Rattle.std.proofs.Common.{◌≡◌, ◌≢◌, ◌⊎◌, inl, inr, ℕ, �
 use Rattle.std.specs.Io.KnownBytes.{Appends}
 use Rattle.std.proofs.KnownBytes.{Keeps-refl}
 use Rattle.flow_plans.specs.Settings.{Settings}
-use Rattle.flow_intake.specs.Frames.{frames}
-use Rattle.flow_intake.specs.Writes.{AppendsFront, Writes}
-use Rattle.flow_intake.specs.declared.counted.Counted.{Counted}
-use Rattle.flow_intake.proofs.Written.{Appends-both, AppendsFront-both, Writes-then}
+use Rattle.flow_input.specs.Frames.{frames}
+use Rattle.flow_input.specs.Writes.{AppendsFront, Writes}
+use Rattle.flow_input.specs.declared.counted.Counted.{Counted}
+use Rattle.flow_input.proofs.Written.{Appends-both, AppendsFront-both, Writes-then}
 use Rattle.fpl_message.specs.Filings.{FilingText}
 use Rattle.flow_core.specs.State.{State, Input, Record}
 use Rattle.flow_core.specs.Steps.{run}
 use Rattle.flow_core.specs.Journal.{HoldsJournal}
-use Rattle.flow_intake.specs.Cutting.{Overrun}
-use Rattle.flow_intake.specs.declared.input.TheConstants.{MAX_INPUT}
+use Rattle.flow_input.specs.Cutting.{Overrun}
+use Rattle.flow_input.specs.declared.input.TheConstants.{MAX_INPUT}
 use Rattle.flow_desk.specs.Blanks.{first_beyond}
 use Rattle.flow_core.specs.History.{History, state_of}
 use Rattle.flow_desk.specs.Histories.{after}

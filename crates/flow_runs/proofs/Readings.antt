@@ -4,17 +4,17 @@ use Rattle.std.proofs.lemmas.List.{append-nil}
 use Rattle.std.specs.Io.KnownBytes.{Appends}
 use Rattle.std.proofs.KnownBytes.{Appends-nil, Consumes-nil}
 use Rattle.fpl_message.specs.Filings.{FilingText}
-use Rattle.flow_intake.specs.NextFrame.{second, filing_of, filing_kept}
-use Rattle.flow_intake.specs.Writes.{AppendsFront}
-use Rattle.flow_intake.proofs.Written.{Appends-both, Appends-none, AppendsFront-both, AppendsFront-more}
+use Rattle.flow_input.specs.NextFrame.{second, filing_of, filing_kept}
+use Rattle.flow_input.specs.Writes.{AppendsFront}
+use Rattle.flow_input.proofs.Written.{Appends-both, Appends-none, AppendsFront-both, AppendsFront-more}
 use Rattle.flow_runs.specs.Dealing.{AreDealt}
-use Rattle.flow_intake.specs.Reader.{Ahead, Agrees, Came, CameTooMuch}
-use Rattle.flow_intake.specs.NextFrame.{GaveFirst, GaveNone, Starves}
-use Rattle.flow_intake.specs.Cutting.{Overrun, CutFront}
-use Rattle.flow_intake.specs.Frames.{frames, ended_frames, ended_in}
-use Rattle.flow_intake.proofs.Cuttings.{Cutting-start, Cutting-one, Cutting-end, CutFront-came, CutFront-one, CutEnded-read, Overrun-came}
-use Rattle.flow_intake.specs.declared.fault.IntakeFault.{IntakeFault}
-use Rattle.flow_intake.specs.declared.fault.IntakeFault.TheVariants as intake
+use Rattle.flow_input.specs.Reader.{Ahead, Agrees, Came, CameTooMuch}
+use Rattle.flow_input.specs.NextFrame.{GaveFirst, GaveNone, Starves}
+use Rattle.flow_input.specs.Cutting.{Overrun, CutFront}
+use Rattle.flow_input.specs.Frames.{frames, ended_frames, ended_in}
+use Rattle.flow_input.proofs.Cuttings.{Cutting-start, Cutting-one, Cutting-end, CutFront-came, CutFront-one, CutEnded-read, Overrun-came}
+use Rattle.flow_input.specs.declared.fault.IntakeFault.{IntakeFault}
+use Rattle.flow_input.specs.declared.fault.IntakeFault.TheVariants as intake
 use Rattle.flow_runs.specs.declared.fault.RunFault.{RunFault}
 use Rattle.flow_runs.specs.Faults.{fault_of_frame}
 use Rattle.flow_runs.specs.declared.fault.RunFault.TheVariants as fault

@@ -1,8 +1,8 @@
 -- Which fault a run ends with, and how many calls of its devices have failed then.
 use Rattle.std.specs.Prelude.{◌≡◌, ℕ, Result, Ok, Err}
-use Rattle.flow_intake.specs.Source.{counted_up}
-use Rattle.flow_intake.specs.declared.fault.IntakeFault.{IntakeFault}
-use Rattle.flow_intake.specs.declared.fault.IntakeFault.TheVariants as intake
+use Rattle.flow_input.specs.Source.{counted_up}
+use Rattle.flow_input.specs.declared.fault.IntakeFault.{IntakeFault}
+use Rattle.flow_input.specs.declared.fault.IntakeFault.TheVariants as intake
 use Rattle.flow_core.specs.declared.journal_reading.JournalFault.{JournalFault}
 use Rattle.flow_core.specs.declared.journal_reading.JournalFault.TheVariants as reading
 use Rattle.flow_desk.specs.declared.blank.DeskFault.{DeskFault}

@@ -4,11 +4,11 @@ use Rattle.std.specs.List.{All, flat_map}
 use Rattle.std.specs.Io.KnownBytes.{Appends, Keeps}
 use mathlib.Core.List.{IsPrefix}
 use Rattle.flow_plans.specs.Settings.{Settings}
-use Rattle.flow_intake.specs.Frames.{frames}
-use Rattle.flow_intake.specs.Cutting.{Overrun}
-use Rattle.flow_intake.specs.declared.input.TheConstants.{MAX_INPUT}
-use Rattle.flow_intake.specs.Writes.{AppendsFront, Writes}
-use Rattle.flow_intake.specs.declared.counted.Counted.{Counted}
+use Rattle.flow_input.specs.Frames.{frames}
+use Rattle.flow_input.specs.Cutting.{Overrun}
+use Rattle.flow_input.specs.declared.input.TheConstants.{MAX_INPUT}
+use Rattle.flow_input.specs.Writes.{AppendsFront, Writes}
+use Rattle.flow_input.specs.declared.counted.Counted.{Counted}
 use Rattle.flow_core.specs.State.{State, Input, Record}
 use Rattle.flow_core.specs.Steps.{run}
 use Rattle.flow_core.specs.CoreView.{inputs}

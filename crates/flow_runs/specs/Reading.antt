@@ -2,11 +2,11 @@
 use Rattle.std.specs.Prelude.{◌≡◌, ℕ, List, [], ◌∷◌, ◌++◌, length, take, nat_le, if◌then◌else◌, Option, None}
 use Rattle.std.specs.Io.KnownBytes.{Appends, Consumes}
 use Rattle.fpl_message.specs.Filings.{FilingText}
-use Rattle.flow_intake.specs.Frames.{frames, ended_frames}
-use Rattle.flow_intake.specs.Writes.{AppendsFront}
-use Rattle.flow_intake.specs.NextFrame.{second, filing_of}
-use Rattle.flow_intake.specs.Reader.{Ahead}
-use Rattle.flow_intake.specs.Cutting.{Cutting}
+use Rattle.flow_input.specs.Frames.{frames, ended_frames}
+use Rattle.flow_input.specs.Writes.{AppendsFront}
+use Rattle.flow_input.specs.NextFrame.{second, filing_of}
+use Rattle.flow_input.specs.Reader.{Ahead}
+use Rattle.flow_input.specs.Cutting.{Cutting}
 use Rattle.flow_core.specs.Output.{too_long_line}
 use Rattle.flow_runs.specs.declared.fault.RunFault.{RunFault}
 use Rattle.flow_runs.specs.declared.fault.RunFault.TheVariants as fault

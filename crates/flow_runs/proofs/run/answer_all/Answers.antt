@@ -1,7 +1,7 @@
 use Rattle.std.proofs.Common.{◌-◌, ◌∙◌, List, ℕ, length, drop, refl, sym, ap, subst}
 use Rattle.flow_core.specs.State.{State}
 use Rattle.flow_core.specs.History.{state_of}
-use Rattle.flow_intake.proofs.Written.{AppendsFront-more}
+use Rattle.flow_input.proofs.Written.{AppendsFront-more}
 use Rattle.flow_runs.specs.declared.fault.RunFault.{RunFault}
 use Rattle.flow_runs.specs.ManyRuns.{answers, end_lines, answers_and_end, AnsweredUntil}
 use Rattle.flow_runs.proofs.Failures.{err-made, stop-writer, replay-writer}

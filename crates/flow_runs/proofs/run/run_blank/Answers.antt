@@ -1,6 +1,6 @@
 use Rattle.std.proofs.Common.{ℕ, map, sym, ap, subst, ◌∙◌}
 use Rattle.flow_plans.specs.Settings.{Settings}
-use Rattle.flow_intake.proofs.Results.{err_again}
+use Rattle.flow_input.proofs.Results.{err_again}
 use Rattle.flow_runs.specs.Filing.{HasFiled}
 use Rattle.flow_runs.specs.Reading.{ToldUntil}
 use Rattle.flow_runs.specs.declared.fault.RunFault.{RunFault}
