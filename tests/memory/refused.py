@@ -7,7 +7,7 @@ NAME is a worked run in tests/cli/slotdesk; if none is named, some that file by 
 a journal. Where cc isn't there it says so, and refuses nothing.
 The program asks the C library for its memory. A shim, built here with cc and loaded before that library, refuses the request
 number N, so that each N takes one short run; N rises until nothing is refused. A run must end as the worked run does, with its
-output, or with status 2, the line of want of memory and a beginning of that output. With feeders it may also end with the line of
+output, or with status 2, the line of want of memory and a beginning of that output; but never so where the journal is full. With feeders it may also end with the line of
 a thread that wasn't started, and what it has answered are then entries without a gap in their numbers and nothing behind them,
 since the filings of the other feeders go on. What the loader and the C library ask for before the program begins isn't counted.
 Prints for each worked run how many ended in which way, and ends with 1 if one ended in another, or none for want of memory.
@@ -29,8 +29,9 @@ CHOSEN = [
     "feeders-of-two-flights",
     "feeders-and-their-journal",
     "feeders-resumed-write-the-whole-journal",
+    "feeders-resumed-with-the-journal-full",
 ]
-MEMORY, THREAD = b"slotdesk: out of memory\n", b"slotdesk: thread not started\n"
+FULL, MEMORY, THREAD = b"- NO 91 JournalFull\n", b"slotdesk: out of memory\n", b"slotdesk: thread not started\n"
 SHIM = r"""
 #define _GNU_SOURCE
 #include <dlfcn.h>
@@ -107,8 +108,15 @@ def without_gap(output, wanted):
     return numbers == [b"%d" % (first + at) for at in range(len(numbers))] and output.endswith(b"\n")
 
 
+def is_cut_at_full(output, wanted):
+    """Whether all entries that the journal can have are answered, and no filing that finds it full."""
+    return FULL in wanted and output == wanted.split(FULL, 1)[0]
+
+
 def ending(done, wanted, feeders):
     """How a run ended, or None where that is none of the ways in which it may."""
+    if done.returncode == 2 and is_cut_at_full(done.stdout, wanted):
+        return None
     if (done.returncode, done.stdout, done.stderr) == (0, wanted, b""):
         return "as without it"
     if done.returncode == 2 and done.stderr == MEMORY and wanted.startswith(done.stdout):

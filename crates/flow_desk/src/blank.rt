@@ -6,13 +6,14 @@ ghost use Rattle.flow_core.specs.State.{Record};
 ghost use Rattle.flow_core.specs.History.{state_of};
 ghost use Rattle.flow_desk.specs.Locks.{Counts};
 ghost use Rattle.flow_desk.specs.Blanks.{IsFree, IsBlank, first_beyond};
+ghost use Rattle.flow_desk.specs.declared.blank.DeskFault.TheVariants.{OutOfMemory};
 
 use crate::history::{Front, Head, open_history};
 use crate::locked::count_one;
 use crate::seat::{Publisher, Seat};
 use flow_core::{Core, MAX_FEEDERS};
 use flow_plans::Setup;
-use std::alloc::{Allocator, Global};
+use std::alloc::{AllocError, Allocator, Global};
 use std::marker::Model;
 use std::sync::Wait;
 
@@ -28,16 +29,30 @@ pub enum DeskFault {
     OutOfMemory,
 }
 
+impl From<AllocError> for DeskFault {
+    ghost from_gives = { λ _ fault. fault ≡ OutOfMemory };
+
+    fn from(_error: AllocError) -> DeskFault {
+        DeskFault::OutOfMemory
+    }
+}
+
 /// A desk before it is opened: its core, its history, its board and a place for each feeder. Contracts see which desk
 /// it will be.
 #[derive(Drop)]
 pub struct Blank<R: Wait + Drop, A: Allocator + Copy = Global> {
     pub(crate) core: Core<A>,
-    pub(crate) head: Head,
-    pub(crate) front: Front,
-    pub(crate) counts: Vec<u32, A>,
-    pub(crate) publisher: Publisher<R, A>,
-    pub(crate) seats: Vec<Seat<A>, A>,
+    pub(crate) parts: Parts<R, A>,
+}
+
+/// What a blank has beside its core.
+#[derive(Drop)]
+pub(crate) struct Parts<R: Wait + Drop, A: Allocator + Copy = Global> {
+    pub head: Head,
+    pub front: Front,
+    pub counts: Vec<u32, A>,
+    pub publisher: Publisher<R, A>,
+    pub seats: Vec<Seat<A>, A>,
 }
 
 impl<R: Wait + Drop, A: Allocator + Copy> Model for Blank<R, A> {
@@ -50,13 +65,14 @@ impl<R: Wait + Drop, A: Allocator + Copy> Model for Blank<R, A> {
     ghost use Rattle.flow_desk.specs.Blanks.{IsBlank};
 
     ghost view = { λ b. record {
-      book = b.head;
+      book = b.parts.head;
       setup = b.core.setup;
-      feeders = length b.seats.items;
+      feeders = length b.parts.seats.items;
       entries = (state_of b.core).journal;
     } };
 
-    ghost invariant = { λ b. IsBlank b.core b.head b.front b.counts.items b.publisher b.seats.items };
+    ghost invariant = { λ b.
+        IsBlank b.core b.parts.head b.parts.front b.parts.counts.items b.parts.publisher b.parts.seats.items };
 }
 
 /// Whether a desk may have so many feeders.
@@ -81,9 +97,7 @@ fn seats_for<R: Wait + Drop, A: Allocator + Copy>(
     ensures fault { IfErr result (λ e. (e ≡ DeskFault.OutOfMemory) ⊎ (e ≡ DeskFault.NoReader)) }
 {
     let mut seats = Vec::new(alloc);
-    if seats.reserve(feeders).is_err() {
-        return Err(DeskFault::OutOfMemory);
-    }
+    seats.reserve(feeders)?;
     for _ in 0..feeders {
         match publisher.seat() {
             Ok(seat) => seats.push_reserved(seat),
@@ -123,10 +137,7 @@ fn no_counts<A: Allocator + Copy>(alloc: A, feeders: usize) -> Result<Vec<u32, A
     ensures len { IfOk result (λ v. length v.items ≡ feeders) }
     ensures fault { IfErr result (λ e. e ≡ DeskFault.OutOfMemory) }
 {
-    match Vec::from_elem(alloc, 0u32, feeders) {
-        Ok(counts) => Ok(counts),
-        Err(_) => Err(DeskFault::OutOfMemory),
-    }
+    Ok(Vec::from_elem(alloc, 0u32, feeders)?)
 }
 
 /// Counts the entries of each feeder.
@@ -140,15 +151,7 @@ fn count_all<A: Allocator + Copy>(core: &Core<A>, counts: &mut Vec<u32, A>)
     }
 }
 
-/// What a blank has beside its core.
-struct Parts<R: Wait + Drop, A: Allocator + Copy = Global> {
-    head: Head,
-    front: Front,
-    counts: Vec<u32, A>,
-    publisher: Publisher<R, A>,
-    seats: Vec<Seat<A>, A>,
-}
-
+/// What the blank of this core has beside it.
 fn parts_for<R: Wait + Drop, A: Allocator + Copy>(
     rt: R,
     alloc: A,
@@ -164,9 +167,7 @@ fn parts_for<R: Wait + Drop, A: Allocator + Copy>(
     let mut counts = no_counts(alloc, feeders)?;
     count_all(core, &mut counts);
     let (head, front) = open_history(&rt, core);
-    let Ok(publisher) = Publisher::new(rt, alloc, &front, core, feeders) else {
-        return Err(DeskFault::OutOfMemory);
-    };
+    let publisher = Publisher::new(rt, alloc, &front, core, feeders)?;
     let mut publisher = publisher.settle();
     let seats = seats_for(alloc, &mut publisher, feeders)?;
     Ok(Parts {
@@ -193,23 +194,7 @@ fn made_of<R: Wait + Drop, A: Allocator + Copy>(
     ensures fault { IfErr result (λ e. (e.0 ≡ DeskFault.OutOfMemory) ⊎ (e.0 ≡ DeskFault.NoReader)) }
 {
     match parts_for(rt, alloc, &core, feeders) {
-        Ok(parts) => {
-            let Parts {
-                head,
-                front,
-                counts,
-                publisher,
-                seats,
-            } = parts;
-            Ok(Blank {
-                core,
-                head,
-                front,
-                counts,
-                publisher,
-                seats,
-            })
-        }
+        Ok(parts) => Ok(Blank { core, parts }),
         Err(fault) => Err((fault, core)),
     }
 }
@@ -225,9 +210,7 @@ impl<R: Wait + Drop, A: Allocator + Copy> Blank<R, A> {
         if !is_desk_size(feeders) {
             return Err(DeskFault::Feeders);
         }
-        let Ok(core) = Core::new(alloc, setup) else {
-            return Err(DeskFault::OutOfMemory);
-        };
+        let core = Core::new(alloc, setup)?;
         match Blank::resume(rt, alloc, core, feeders) {
             Ok(blank) => Ok(blank),
             Err((fault, _)) => Err(fault),

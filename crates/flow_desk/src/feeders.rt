@@ -132,18 +132,6 @@ fn run_all<
     );
 }
 
-/// Room for a receipt of each filing.
-fn receipts_for<A: Allocator + Copy>(
-    alloc: A,
-    filings: usize,
-) -> Result<Vec<Receipt, A>, AllocError>
-    ensures { IfOk result (λ receipts. (receipts.items ≡ []) × (filings ≤ vec_capacity receipts)) }
-{
-    let mut receipts = Vec::new(alloc);
-    receipts.reserve(filings)?;
-    Ok(receipts)
-}
-
 /// Makes a feed of each pass and its texts. Where memory is refused passes and texts are as they were.
 fn gather<N: Name, A: Allocator + Copy>(
     alloc: A,
@@ -171,7 +159,7 @@ fn gather<N: Name, A: Allocator + Copy>(
     let Some(left) = texts.pop() else {
         unreachable!()
     };
-    let Ok(receipts) = receipts_for(alloc, left.len()) else {
+    let Ok(receipts) = Vec::with_capacity(alloc, left.len()) else {
         passes.push_reserved(pass);
         texts.push_reserved(left);
         return Err(AllocError);

@@ -1,5 +1,5 @@
 -- What the feeders of a closed desk have filed, feeder by feeder.
-use Rattle.std.proofs.Common.{◌≡◌, ℕ, zero, suc, ◌+◌, ◌<◌, ◌==◌, true, List, [], ◌∷◌, ◌++◌, length, Option, None, Some, slice_get, refl, sym, ap, subst, ◌∙◌, inl, inr, arith, length-append}
+use Rattle.std.proofs.Common.{◌≡◌, ◌≢◌, ℕ, zero, suc, ◌+◌, ◌<◌, ◌==◌, true, List, [], ◌∷◌, ◌++◌, length, Option, None, Some, slice_get, refl, sym, ap, subst, ◌∙◌, inl, inr, arith, length-append}
 use Rattle.std.specs.List.{All}
 use Rattle.std.proofs.lemmas.List.{append_cancel_left, append-nil, get_or-append_right}
 use Rattle.std.proofs.lemmas.List.Folds.{list_any_at}
@@ -115,10 +115,10 @@ read-first s E n read journal ps qs k feed r opened =
 
 -- the feeders have filed what the closed desk has
 pub closed : (s : Settings) (n : ℕ) (read : List Record) (ps : List PassView) (fs : List (List FilingText)) (qs qs' : List PassView) (ls : List (List FilingText)) (es : List End) (core : History) (stop : Option RunFault)
-    → 0 < n → length fs ≡ n → AreOpened n read ps → RanFeeds s ps fs qs ls es → (stop ≡ None → All EndsWell es) → qs' ≡ qs
+    → 0 < n → length fs ≡ n → AreOpened n read ps → RanFeeds s ps fs qs ls es → (stop ≡ None → length (state_of core).journal < s.max_entries → All EndsWell es) → (stop ≢ None → length (state_of core).journal < s.max_entries) → qs' ≡ qs
     → core.setup ≡ s → state_of core ≡ after s (state_of core).journal → All (λ (e : Record). e.input.feeder < n) (state_of core).journal → All (Agrees (state_of core).journal) qs'
     → HasFiled s read n fs core stop
-closed s n read ps fs qs qs' ls es core stop some wide opened ran well same setup_is one below agree' =
+closed s n read ps fs qs qs' ls es core stop some wide opened ran well few same setup_is one below agree' =
     let journal : List Record = (state_of core).journal in
     let agree : All (Agrees journal) qs = subst (λ (v : List PassView). All (Agrees journal) v) same agree' in
     let any : End → Type 0 = λ e. Unit {0} in
@@ -134,7 +134,8 @@ closed s n read ps fs qs qs' ls es core stop some wide opened ran well same setu
       one_thread = one ∙ ap (after s) is;
       below = all-behind (λ (e : Record). e.input.feeder < n) read entries (subst (λ (j : List Record). All (λ (e : Record). e.input.feeder < n) j) is below);
       fronts = λ k feed at. (let r = run-at s (Agrees (read ++ entries)) any ps fs qs ls es ran agrees (λ k d lt. tt) k feed at in (r.left, filed-at s any n read entries ps qs k feed r opened));
-      whole = λ none room k feed at. (let r = run-at s (Agrees (read ++ entries)) EndsWell ps fs qs ls es ran agrees (well none) k feed at in whole-at s read entries ps qs k feed r room (filed-at s EndsWell n read entries ps qs k feed r opened));
+      room = λ stopped. subst (λ (j : List Record). length j < s.max_entries) is (few stopped);
+      whole = λ none room k feed at. (let r = run-at s (Agrees (read ++ entries)) EndsWell ps fs qs ls es ran agrees (well none (subst (λ (j : List Record). length j < s.max_entries) front.1 room)) k feed at in whole-at s read entries ps qs k feed r room (filed-at s EndsWell n read entries ps qs k feed r opened));
     }
 
 -- as many passes come back as there were

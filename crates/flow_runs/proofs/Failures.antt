@@ -1,5 +1,7 @@
 -- How many calls of a run's devices have failed.
-use Rattle.std.proofs.Common.{◌≡◌, ◌≢◌, ◌⊎◌, inl, inr, ℕ, List, Option, Result, Ok, Err, IfErr, OnOk, OnErr, refl, subst, sym, ◌∙◌}
+use Rattle.std.proofs.Common.{◌≡◌, ◌≢◌, ◌⊎◌, inl, inr, ℕ, List, Option, Result, Ok, Err, IfErr, OnOk, OnErr, refl, ap, subst, sym, ◌∙◌}
+use Rattle.std.specs.Result.{IsErrAnd}
+use Rattle.std.proofs.lemmas.Result.{err_from_is_err_and}
 use Rattle.flow_input.specs.Source.{counted_up, failures_with}
 use Rattle.flow_input.specs.declared.fault.IntakeFault.{IntakeFault}
 use Rattle.flow_input.specs.declared.fault.IntakeFault.TheVariants as intake
@@ -13,6 +15,10 @@ use Rattle.flow_runs.specs.declared.fault.RunFault.{RunFault}
 use Rattle.flow_runs.specs.declared.fault.RunFault.TheVariants as fault
 use Rattle.flow_runs.specs.ManyRuns.{WritesWithReplay}
 use Rattle.flow_runs.specs.Faults.{fault_of_frame, fault_of_journal, IsFaultOfDesk, reader_failures_with, writer_failures_with, reader_failures, writer_failures}
+
+-- what the exit of a `?` returns, where it is known which fault is made
+pub err-made : {T E : Type 0} {y : E} (r : Result T E) → IsErrAnd r (λ e. e ≡ y) → r ≡ Err y
+err-made r made = let p = err_from_is_err_and r made in p.1 ∙ ap Err p.2
 
 -- where no frame came the reader may have failed, and nothing was written
 pub frame-reader : (e : IntakeFault) (n : ℕ) → failures_with e n ≡ reader_failures_with (fault_of_frame e) n
@@ -38,13 +44,7 @@ frame-others intake.OutOfMemory = (λ e. cc, λ e. cc, λ e. cc)
 -- a call that doesn't read
 pub reader-calm : (e : RunFault) (n : ℕ) → e ≢ fault.Read → reader_failures_with e n ≡ n
 reader-calm fault.Read n other = absurd (other refl)
-reader-calm fault.TooMuch n other = refl
-reader-calm fault.Write n other = refl
-reader-calm fault.OutOfMemory n other = refl
-reader-calm fault.NoReader n other = refl
-reader-calm fault.NotStarted n other = refl
-reader-calm fault.BadJournal n other = refl
-reader-calm fault.BadFeeders n other = refl
+reader-calm _ n other = refl
 
 pub reader-calm-all : {T : Type 0} (r : Result T RunFault) (n : ℕ) → IfErr r (λ e. e ≢ fault.Read) → reader_failures r n ≡ n
 reader-calm-all (Ok x) n other = refl
@@ -127,9 +127,4 @@ pub replay-writer : {D : Type 0} (contents : D → Option (List ℕ)) (r : Resul
 replay-writer contents (Ok x) old new text w = w.calm
 replay-writer contents (Err fault.Write) old new text w = w.failed
 replay-writer contents (Err fault.OutOfMemory) old new text w = w.calm
-replay-writer contents (Err fault.Read) old new text w = absurd w
-replay-writer contents (Err fault.TooMuch) old new text w = absurd w
-replay-writer contents (Err fault.NoReader) old new text w = absurd w
-replay-writer contents (Err fault.NotStarted) old new text w = absurd w
-replay-writer contents (Err fault.BadJournal) old new text w = absurd w
-replay-writer contents (Err fault.BadFeeders) old new text w = absurd w
+replay-writer contents (Err _) old new text w = absurd w

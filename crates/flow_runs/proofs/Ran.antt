@@ -23,7 +23,7 @@ use Rattle.flow_runs.specs.Filing.{HasFiled}
 use Rattle.flow_runs.specs.declared.fault.RunFault.{RunFault}
 use Rattle.flow_runs.specs.declared.fault.RunFault.TheVariants as fault
 use Rattle.flow_runs.specs.ManyRuns.{answers, answered, ended, ended_before_replay, end_lines, end_before_replay, answers_and_end, WritesWithReplay, RanMany, RanOn, OverrunAfter, HoldsBeyond, HoldsSome}
-use Rattle.flow_runs.specs.ManyRuns.{HaveFiled, FiledAll, AnsweredUntil, EndedByMemory, EndedBy, EndedBehind, EndedOnBy}
+use Rattle.flow_runs.specs.ManyRuns.{HaveFiled, FiledAll, IsCutShort, AnsweredUntil, EndedByMemory, EndedBy, EndedBehind, EndedOnBy}
 
 drop-length : {X : Type 0} (xs ys : List X) → drop (length xs) (xs ++ ys) ≡ ys
 drop-length [] ys = refl
@@ -84,19 +84,20 @@ module _ (setup : Settings) (read : List Record) (feeders : ℕ) (journal : Bool
       filed-so (λ entries. AppendsFront begun written (ended setup read journal input entries))
       (AppendsFront-both begun mid written (long_lines input) (answers_and_end (state_of core) r count journal) (ended setup read journal input f.entries) h.told a same)
 
-  its-answers : Appends mid written (answers (state_of core) (drop r (state_of core).journal)) → Appends begun written (answered setup read input f.entries)
-  its-answers a = Appends-both begun mid written (long_lines input) (answers (state_of core) (drop r (state_of core).journal)) (answered setup read input f.entries) h.told a same-answered
+  cut-short : (stop ≢ None) × Appends mid written (answers (state_of core) (drop r (state_of core).journal)) → IsCutShort setup read input begun written f.entries
+  cut-short a =
+      (f.room a.0, Appends-both begun mid written (long_lines input) (answers (state_of core) (drop r (state_of core).journal)) (answered setup read input f.entries) h.told a.1 same-answered)
 
-  pub answers-filed : Appends mid written (answers (state_of core) (drop r (state_of core).journal)) → HaveFiled setup read feeders input (λ entries. Appends begun written (answered setup read input entries))
-  answers-filed a = filed-so (λ entries. Appends begun written (answered setup read input entries)) (its-answers a)
+  pub answers-filed : (stop ≢ None) × Appends mid written (answers (state_of core) (drop r (state_of core).journal)) → HaveFiled setup read feeders input (λ entries. IsCutShort setup read input begun written entries)
+  answers-filed a = filed-so (λ entries. IsCutShort setup read input begun written entries) (cut-short a)
 
-  pub memory-filed : (Appends mid written (answers (state_of core) (drop r (state_of core).journal))
+  pub memory-filed : (((stop ≢ None) × Appends mid written (answers (state_of core) (drop r (state_of core).journal)))
       ⊎ ((stop ≡ None) × Appends mid written (answers (state_of core) (drop r (state_of core).journal) ++ end_before_replay (state_of core) (count - (length (state_of core).journal - r)) journal)))
       → EndedByMemory setup read feeders journal input begun written
   memory-filed (inl a) =
-      inr (filed-so (λ entries. Appends begun written (answered setup read input entries) ⊎ (FiledAll setup read feeders input entries × Appends begun written (ended_before_replay setup read journal input entries))) (inl (its-answers a)))
+      inr (filed-so (λ entries. IsCutShort setup read input begun written entries ⊎ (FiledAll setup read feeders input entries × Appends begun written (ended_before_replay setup read journal input entries))) (inl (cut-short a)))
   memory-filed (inr a) =
-      inr (filed-so (λ entries. Appends begun written (answered setup read input entries) ⊎ (FiledAll setup read feeders input entries × Appends begun written (ended_before_replay setup read journal input entries)))
+      inr (filed-so (λ entries. IsCutShort setup read input begun written entries ⊎ (FiledAll setup read feeders input entries × Appends begun written (ended_before_replay setup read journal input entries)))
       (inr (
         λ few k in_k. f.whole a.0 few k (dealt feeders k (filings input)) (h.dealt.each k in_k),
         Appends-both begun mid written (long_lines input) (answers (state_of core) (drop r (state_of core).journal) ++ end_before_replay (state_of core) (count - (length (state_of core).journal - r)) journal)
@@ -118,12 +119,16 @@ answered-rest (Ok x) new stop s read count journal none told rest = tt
 answered-rest (Err fault.Write) new stop s read count journal none told rest = (Writes-then (Err fault.Write) (answers_and_end s read count journal) told rest refl).err
 answered-rest (Err fault.OutOfMemory) new stop s read count journal none told rest =
     inr (none, (Writes-then (Ok (tt {0})) (answers s (drop read s.journal) ++ end_before_replay s (count - (length s.journal - read)) journal) told rest refl).ok)
-answered-rest (Err fault.Read) new stop s read count journal none told rest = rest
-answered-rest (Err fault.TooMuch) new stop s read count journal none told rest = rest
-answered-rest (Err fault.NoReader) new stop s read count journal none told rest = rest
 answered-rest (Err fault.NotStarted) new stop s read count journal none told rest = absurd rest
-answered-rest (Err fault.BadJournal) new stop s read count journal none told rest = rest
-answered-rest (Err fault.BadFeeders) new stop s read count journal none told rest = rest
+answered-rest (Err _) new stop s read count journal none told rest = rest
+
+-- the answers were written, and a feed ended with this fault
+pub answered-stop : (e : RunFault) (stop : Option RunFault) (s : State) (read count : ℕ) (journal : Bool) (begun written : Option (List ℕ)) → stop ≡ Some e → (e ≡ fault.OutOfMemory) ⊎ (e ≡ fault.NotStarted)
+    → Appends begun written (answers s (drop read s.journal)) → AnsweredUntil e stop s read count journal begun written
+answered-stop e stop s read count journal begun written is (inl memory) told =
+    subst (λ (k : RunFault). AnsweredUntil k stop s read count journal begun written) (sym memory) (inl (λ none. cc (is, none), told))
+answered-stop e stop s read count journal begun written is (inr begun_not) told =
+    subst (λ (k : RunFault). AnsweredUntil k stop s read count journal begun written) (sym begun_not) (λ none. cc (is, none), told)
 
 -- ---- where a run ended with a fault
 
@@ -138,10 +143,7 @@ module _ (setup : Settings) (read : List Record) (feeders : ℕ) (journal : Bool
   ended-told fault.TooMuch begun written input rest t = t
   ended-told fault.Write begun written input rest t = inl t
   ended-told fault.OutOfMemory begun written input rest t = inl t
-  ended-told fault.NoReader begun written input rest t = absurd t
-  ended-told fault.NotStarted begun written input rest t = absurd t
-  ended-told fault.BadJournal begun written input rest t = absurd t
-  ended-told fault.BadFeeders begun written input rest t = absurd t
+  ended-told _ begun written input rest t = absurd t
 
   -- before any frame was read
   pub ended-first : (e : RunFault) (begun input : Option (List ℕ)) → e ≢ fault.NotStarted → EndedBy e setup read feeders journal begun begun input input
@@ -149,10 +151,8 @@ module _ (setup : Settings) (read : List Record) (feeders : ℕ) (journal : Bool
   ended-first fault.TooMuch begun input none = ToldFirst-none begun input
   ended-first fault.Write begun input none = inl (ToldFront-none begun input)
   ended-first fault.OutOfMemory begun input none = inl (ToldFirst-none begun input)
-  ended-first fault.NoReader begun input none = Keeps-refl begun
   ended-first fault.NotStarted begun input none = absurd (none refl)
-  ended-first fault.BadJournal begun input none = Keeps-refl begun
-  ended-first fault.BadFeeders begun input none = Keeps-refl begun
+  ended-first _ begun input none = Keeps-refl begun
 
   -- when all frames were read, for want of memory before a feeder began
   pub ended-all : (e : RunFault) (feeds : List (List FilingText)) (count : ℕ) (begun mid input rest : Option (List ℕ)) → e ≡ fault.OutOfMemory
@@ -171,11 +171,7 @@ module _ (setup : Settings) (read : List Record) (feeders : ℕ) (journal : Bool
   ended-filed fault.OutOfMemory (Some bytes) rest feeds count begun mid written core stop r h f start a = inr (memory-filed setup read feeders journal (frames bytes) feeds count begun mid written core stop r h f start a)
   ended-filed fault.NotStarted None rest feeds count begun mid written core stop r h f start a = tt
   ended-filed fault.NotStarted (Some bytes) rest feeds count begun mid written core stop r h f start a = answers-filed setup read feeders journal (frames bytes) feeds count begun mid written core stop r h f start a
-  ended-filed fault.Read input rest feeds count begun mid written core stop r h f start a = absurd a
-  ended-filed fault.TooMuch input rest feeds count begun mid written core stop r h f start a = absurd a
-  ended-filed fault.NoReader input rest feeds count begun mid written core stop r h f start a = absurd a
-  ended-filed fault.BadJournal input rest feeds count begun mid written core stop r h f start a = absurd a
-  ended-filed fault.BadFeeders input rest feeds count begun mid written core stop r h f start a = absurd a
+  ended-filed _ input rest feeds count begun mid written core stop r h f start a = absurd a
 
 -- before any frame behind the journal text was read
 pub ended-on-first : (e : RunFault) (feeders : ℕ) (journal : Bool) (begun input rest : Option (List ℕ)) → e ≢ fault.TooMuch → e ≢ fault.Write → e ≢ fault.NotStarted → EndedOnBy e feeders journal begun begun input rest
@@ -183,22 +179,18 @@ ended-on-first fault.Read feeders journal begun input rest much write started = 
 ended-on-first fault.TooMuch feeders journal begun input rest much write started = absurd (much refl)
 ended-on-first fault.Write feeders journal begun input rest much write started = absurd (write refl)
 ended-on-first fault.OutOfMemory feeders journal begun input rest much write started = inl (Keeps-refl begun)
-ended-on-first fault.NoReader feeders journal begun input rest much write started = Keeps-refl begun
 ended-on-first fault.NotStarted feeders journal begun input rest much write started = absurd (started refl)
-ended-on-first fault.BadJournal feeders journal begun input rest much write started = Keeps-refl begun
-ended-on-first fault.BadFeeders feeders journal begun input rest much write started = Keeps-refl begun
+ended-on-first _ feeders journal begun input rest much write started = Keeps-refl begun
 
 -- behind it
 pub ended-on : (e : RunFault) (feeders : ℕ) (journal : Bool) (begun written input rest : Option (List ℕ)) → (e ≢ fault.BadJournal) × (e ≢ fault.BadFeeders) × (e ≢ fault.NoReader) → EndedBehind e feeders journal begun written input rest
     → EndedOnBy e feeders journal begun written input rest
 ended-on fault.Read feeders journal begun written input rest others b = inr b
-ended-on fault.TooMuch feeders journal begun written input rest others b = b
-ended-on fault.Write feeders journal begun written input rest others b = b
 ended-on fault.OutOfMemory feeders journal begun written input rest others b = inr b
-ended-on fault.NotStarted feeders journal begun written input rest others b = b
 ended-on fault.NoReader feeders journal begun written input rest others b = absurd (others.2 refl)
 ended-on fault.BadJournal feeders journal begun written input rest others b = absurd (others.0 refl)
 ended-on fault.BadFeeders feeders journal begun written input rest others b = absurd (others.1 refl)
+ended-on _ feeders journal begun written input rest others b = b
 
 -- ---- behind a journal text
 

@@ -162,10 +162,6 @@ front-none (Some xs) bytes = ([], bytes, refl, sym (append-nil xs))
 pub ToldFront-none : (begun input : Option (List ℕ)) → ToldFront begun begun input input
 ToldFront-none begun input = record { read = []; consumed = Consumes-nil input; told = front-none begun (long_lines (frames [])) }
 
--- where memory was refused before anything was read
-pub told-memory : (e : RunFault) (begun input : Option (List ℕ)) → e ≡ fault.OutOfMemory → ToldUntil e begun begun input input
-told-memory e begun input is = subst (λ (k : RunFault). ToldUntil k begun begun input input) (sym is) (ToldFirst-none begun input)
-
 -- where no frame came
 pub told-no_frame : (e : IntakeFault) (begun written input rest : Option (List ℕ)) → (e ≡ intake.Read → ToldEnded begun written input rest) → ToldFirst begun written input rest → ToldUntil (fault_of_frame e) begun written input rest
 told-no_frame intake.Read begun written input rest starved first = starved refl
@@ -217,23 +213,12 @@ module _ (n : ℕ) (feeds : List (List FilingText)) (count : ℕ) (begun written
           consumed = cut.consumed;
           told = AppendsFront-both begun written now (long_lines r.done) (line ++ behind) (long_lines (frames cut.read)) r.has.told (AppendsFront-more written now line behind (line ++ behind) l.1 refl) is;
         }
-    told-part fault.Read now l = absurd l
-    told-part fault.TooMuch now l = absurd l
-    told-part fault.NoReader now l = absurd l
-    told-part fault.NotStarted now l = absurd l
-    told-part fault.BadJournal now l = absurd l
-    told-part fault.BadFeeders now l = absurd l
+    told-part _ now l = absurd l
 
 -- a frame that is too long, whose line was not written whole
 pub left-long : (e : RunFault) (kept : Option (List ℕ)) (before after : Option (List ℕ)) → kept ≡ None → e ≡ fault.Write → AppendsFront before after (codes "- NO 90 TooLong\n") → LeavesNext e (filing_kept kept) before after
 left-long fault.Write kept before after none is a = (ap filing_kept none, a)
-left-long fault.Read kept before after none is a = absurd (cc)
-left-long fault.TooMuch kept before after none is a = absurd (cc)
-left-long fault.OutOfMemory kept before after none is a = absurd (cc)
-left-long fault.NoReader kept before after none is a = absurd (cc)
-left-long fault.NotStarted kept before after none is a = absurd (cc)
-left-long fault.BadJournal kept before after none is a = absurd (cc)
-left-long fault.BadFeeders kept before after none is a = absurd (cc)
+left-long _ kept before after none is a = absurd (cc)
 
 pub left-result : {T : Type 0} (r : Result T RunFault) (kept before after : Option (List ℕ)) → kept ≡ None → IfErr r (λ e. e ≡ fault.Write) → OnErr r (AppendsFront before after (codes "- NO 90 TooLong\n")) → IfErr r (λ e. LeavesNext e (filing_kept kept) before after)
 left-result (Ok x) kept before after none is a = tt

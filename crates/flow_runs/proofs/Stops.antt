@@ -1,6 +1,6 @@
 -- The fault that feeds ended with, if one did.
-use Rattle.std.proofs.Common.{◌≡◌, ℕ, zero, suc, ◌+◌, ◌<◌, List, [], ◌∷◌, length, map, Option, None, Some, Result, Ok, Err, refl, sym, subst, arith}
-use Rattle.std.specs.Prelude.{IfNone, OnOk, is_err, false}
+use Rattle.std.proofs.Common.{◌≡◌, ℕ, zero, suc, ◌+◌, ◌<◌, List, [], ◌∷◌, length, map, Option, None, Some, refl, sym, subst, arith}
+use Rattle.std.specs.Prelude.{IfNone}
 use Rattle.std.specs.List.{All}
 use Rattle.std.proofs.lemmas.Option.{slice_get-get_or}
 use native.Mathlib.Decide.{ℕ_discrete}
@@ -30,8 +30,3 @@ pub all-map : {X Y : Type 0} (v : X → Y) (P : Y → Type 0) (xs : List X) → 
 all-map v P [] all k d lt = absurd (omega (arith, lt))
 all-map v P (x ∷ xs) all zero d lt = all 0 x (omega arith)
 all-map v P (x ∷ xs) all (suc k) d lt = all-map v P xs (λ j e l. all (suc j) e (omega (arith, l))) k d (omega (arith, lt))
-
--- what comes with no error
-pub where-ok : {T E : Type 0} (r : Result T E) (A : Type 0) → OnOk r A → is_err r ≡ false → A
-where-ok (Ok x) A h e = h
-where-ok (Err x) A h e = absurd (cc e)

@@ -32,24 +32,12 @@ IsFaultOfDesk desk.OutOfMemory why = why ≡ fault.OutOfMemory
 -- how many calls of the reader have failed after a run that ended with this fault
 abbrev pub reader_failures_with : RunFault → ℕ → ℕ
 reader_failures_with fault.Read before = counted_up before
-reader_failures_with fault.TooMuch before = before
-reader_failures_with fault.Write before = before
-reader_failures_with fault.OutOfMemory before = before
-reader_failures_with fault.NoReader before = before
-reader_failures_with fault.NotStarted before = before
-reader_failures_with fault.BadJournal before = before
-reader_failures_with fault.BadFeeders before = before
+reader_failures_with _ before = before
 
 -- the same of the writer
 abbrev pub writer_failures_with : RunFault → ℕ → ℕ
 writer_failures_with fault.Write before = counted_up before
-writer_failures_with fault.Read before = before
-writer_failures_with fault.TooMuch before = before
-writer_failures_with fault.OutOfMemory before = before
-writer_failures_with fault.NoReader before = before
-writer_failures_with fault.NotStarted before = before
-writer_failures_with fault.BadJournal before = before
-writer_failures_with fault.BadFeeders before = before
+writer_failures_with _ before = before
 
 -- after a run that ended so: one more only where the device failed
 abbrev pub reader_failures : {T : Type 0} → Result T RunFault → ℕ → ℕ

@@ -1,5 +1,5 @@
 -- What the feeders of a desk have filed, all in all.
-use Rattle.std.specs.Prelude.{◌≡◌, ℕ, ◌<◌, List, [], ◌∷◌, ◌++◌, length, map, Option, Some, None, slice_get}
+use Rattle.std.specs.Prelude.{◌≡◌, ◌≢◌, ℕ, ◌<◌, List, [], ◌∷◌, ◌++◌, length, map, Option, Some, None, slice_get}
 use Rattle.std.specs.List.{All}
 use mathlib.Core.List.{IsPrefix}
 use Rattle.fpl_message.specs.Filings.{FilingText}
@@ -35,7 +35,8 @@ RanFeeds s (p ∷ ps) (feed ∷ feeds) (q ∷ qs) (left ∷ ls) (end ∷ es) = R
 RanFeeds s _ _ _ _ _ = ⊥
 
 -- a desk was closed: behind the entries read stand those of the feeders alone, all in one history of the desk of one thread. Of its feed
--- each feeder has filed a front; where none ended with a fault and the journal isn't full, all of it
+-- each feeder has filed a front; where none ended with a fault and the journal isn't full, all of it. One ended with a fault only where
+-- the journal has room for more: where it is full, each text that is left found it so
 pub record HasFiled (setup : Settings) (read : List Record) (feeders : ℕ) (feeds : List (List FilingText)) (core : History) (stop : Option RunFault) : Type 0 where
   pub entries : List Record
   pub setup_is : core.setup ≡ setup
@@ -43,4 +44,5 @@ pub record HasFiled (setup : Settings) (read : List Record) (feeders : ℕ) (fee
   pub one_thread : state_of core ≡ after setup (read ++ entries)
   pub below : All (λ (e : Record). e.input.feeder < feeders) entries
   pub fronts : (k : ℕ) (feed : List FilingText) → slice_get feeds k ≡ Some feed → IsPrefix (texts (own k entries)) feed
+  pub room : stop ≢ None → length (read ++ entries) < setup.max_entries
   pub whole : stop ≡ None → length (read ++ entries) < setup.max_entries → (k : ℕ) (feed : List FilingText) → slice_get feeds k ≡ Some feed → texts (own k entries) ≡ feed

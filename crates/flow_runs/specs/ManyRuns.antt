@@ -1,5 +1,5 @@
 -- The run of a program with many feeders.
-use Rattle.std.specs.Prelude.{◌≡◌, ◌⊎◌, ℕ, zero, suc, ◌-◌, ◌<◌, ◌≤◌, Bool, true, false, List, [], ◌++◌, length, drop, codes, Option, Some, None, Result, Ok, Err, IfSome}
+use Rattle.std.specs.Prelude.{◌≡◌, ◌≢◌, ◌⊎◌, ℕ, zero, suc, ◌-◌, ◌<◌, ◌≤◌, Bool, true, false, List, [], ◌++◌, length, drop, codes, Option, Some, None, Result, Ok, Err, IfSome}
 use Rattle.std.specs.List.{All, flat_map}
 use Rattle.std.specs.Io.KnownBytes.{Appends, Keeps}
 use mathlib.Core.List.{IsPrefix}
@@ -52,12 +52,7 @@ abbrev pub WritesWithReplay : {D : Type 0} → (D → Option (List ℕ)) → Res
 WritesWithReplay contents (Ok x) old new text = Writes {E = RunFault} contents (Ok x) old new (text ++ codes "REPLAY OK\n")
 WritesWithReplay contents (Err fault.Write) old new text = Writes {T = Unit {0}} contents (Err fault.Write) old new (text ++ codes "REPLAY OK\n")
 WritesWithReplay contents (Err fault.OutOfMemory) old new text = Writes {E = RunFault} contents (Ok (tt {0})) old new text
-WritesWithReplay contents (Err fault.Read) old new text = ⊥
-WritesWithReplay contents (Err fault.TooMuch) old new text = ⊥
-WritesWithReplay contents (Err fault.NoReader) old new text = ⊥
-WritesWithReplay contents (Err fault.NotStarted) old new text = ⊥
-WritesWithReplay contents (Err fault.BadJournal) old new text = ⊥
-WritesWithReplay contents (Err fault.BadFeeders) old new text = ⊥
+WritesWithReplay contents (Err _) old new text = ⊥
 
 -- the answers to the entries behind so many, and what stands after them, where so many filings were dealt
 abbrev pub answers_and_end : State → ℕ → ℕ → Bool → List ℕ
@@ -134,29 +129,30 @@ pub record HaveFiled (setup : Settings) (read : List Record) (feeders : ℕ) (in
 abbrev pub FiledAll : Settings → List Record → ℕ → List (List ℕ) → List Record → Type 0
 FiledAll setup read feeders input entries = length (read ++ entries) < setup.max_entries → (k : ℕ) → k < feeders → texts (own k entries) ≡ dealt feeders k (filings input)
 
+-- where a feed was refused memory or never begun, and the journal has room for more: the answers were written and nothing more
+abbrev pub IsCutShort : Settings → List Record → List (List ℕ) → Option (List ℕ) → Option (List ℕ) → List Record → Type 0
+IsCutShort setup read input begun written entries = (length (read ++ entries) < setup.max_entries) × Appends begun written (answered setup read input entries)
+
 -- The answers to the core's entries behind so many, where so many filings were dealt, and a feed ended with a fault or none did: those
 -- that were written, and what stands after them, where this fault came.
 abbrev pub AnsweredUntil : RunFault → Option RunFault → State → ℕ → ℕ → Bool → Option (List ℕ) → Option (List ℕ) → Type 0
 AnsweredUntil fault.Write stop s read count journal begun written = AppendsFront begun written (answers_and_end s read count journal)
 AnsweredUntil fault.OutOfMemory stop s read count journal begun written =
-    Appends begun written (answers s (drop read s.journal))
+    ((stop ≢ None) × Appends begun written (answers s (drop read s.journal)))
     ⊎ ((stop ≡ None) × Appends begun written (answers s (drop read s.journal) ++ end_before_replay s (count - (length s.journal - read)) journal))
-AnsweredUntil fault.NotStarted stop s read count journal begun written = Appends begun written (answers s (drop read s.journal))
-AnsweredUntil fault.Read stop s read count journal begun written = ⊥
-AnsweredUntil fault.TooMuch stop s read count journal begun written = ⊥
-AnsweredUntil fault.NoReader stop s read count journal begun written = ⊥
-AnsweredUntil fault.BadJournal stop s read count journal begun written = ⊥
-AnsweredUntil fault.BadFeeders stop s read count journal begun written = ⊥
+AnsweredUntil fault.NotStarted stop s read count journal begun written = (stop ≢ None) × Appends begun written (answers s (drop read s.journal))
+AnsweredUntil _ stop s read count journal begun written = ⊥
 
--- where memory was refused when all was read: before a feeder began; to a feed, so that the answers were written and nothing more; or
--- to the replay of the journal, so that its line alone is missing
+-- where memory was refused when all was read: before a feeder began; to a feed, where the journal has room for more; or to the replay of
+-- the journal, so that its line alone is missing
 abbrev pub EndedByMemory : Settings → List Record → ℕ → Bool → List (List ℕ) → Option (List ℕ) → Option (List ℕ) → Type 0
 EndedByMemory setup read feeders journal input begun written =
     Appends begun written (long_lines input)
-    ⊎ HaveFiled setup read feeders input (λ entries. Appends begun written (answered setup read input entries) ⊎ (FiledAll setup read feeders input entries × Appends begun written (ended_before_replay setup read journal input entries)))
+    ⊎ HaveFiled setup read feeders input (λ entries. IsCutShort setup read input begun written entries ⊎ (FiledAll setup read feeders input entries × Appends begun written (ended_before_replay setup read journal input entries)))
 
 -- What was written where a run ended with this fault. Before the feeders begin nothing is filed, and what is written are lines for
--- frames that are too long. Where a feed was never begun the answers follow, and nothing more.
+-- frames that are too long. Once they file, want of memory never stands in place of a full journal: where it is full the run goes on
+-- to its end.
 abbrev pub EndedBy : RunFault → Settings → List Record → ℕ → Bool → Option (List ℕ) → Option (List ℕ) → Option (List ℕ) → Option (List ℕ) → Type 0
 EndedBy fault.Read setup read feeders journal begun written input rest = ToldEnded begun written input rest
 EndedBy fault.TooMuch setup read feeders journal begun written input rest = ToldFirst begun written input rest
@@ -165,7 +161,7 @@ EndedBy fault.Write setup read feeders journal begun written input rest =
 EndedBy fault.OutOfMemory setup read feeders journal begun written input rest =
     ToldFirst begun written input rest ⊎ IfSome input (λ bytes. EndedByMemory setup read feeders journal (frames bytes) begun written)
 EndedBy fault.NotStarted setup read feeders journal begun written input rest =
-    IfSome input (λ bytes. HaveFiled setup read feeders (frames bytes) (λ entries. Appends begun written (answered setup read (frames bytes) entries)))
+    IfSome input (λ bytes. HaveFiled setup read feeders (frames bytes) (λ entries. IsCutShort setup read (frames bytes) begun written entries))
 EndedBy fault.NoReader setup read feeders journal begun written input rest = Keeps begun written
 EndedBy fault.BadJournal setup read feeders journal begun written input rest = Keeps begun written
 EndedBy fault.BadFeeders setup read feeders journal begun written input rest = Keeps begun written

@@ -67,18 +67,10 @@ ToldUntil fault.Read begun written input rest = ToldEnded begun written input re
 ToldUntil fault.TooMuch begun written input rest = ToldFirst begun written input rest
 ToldUntil fault.Write begun written input rest = ToldFront begun written input rest
 ToldUntil fault.OutOfMemory begun written input rest = ToldFirst begun written input rest
-ToldUntil fault.NoReader begun written input rest = ⊥
-ToldUntil fault.NotStarted begun written input rest = ⊥
-ToldUntil fault.BadJournal begun written input rest = ⊥
-ToldUntil fault.BadFeeders begun written input rest = ⊥
+ToldUntil _ begun written input rest = ⊥
 
 -- what was written of one frame, of which this is the filing, where the fault came with it
 abbrev pub LeavesNext : RunFault → Option FilingText → Option (List ℕ) → Option (List ℕ) → Type 0
 LeavesNext fault.Write filing before after = (filing ≡ None) × AppendsFront before after too_long_line
 LeavesNext fault.OutOfMemory filing before after = after ≡ before
-LeavesNext fault.Read filing before after = ⊥
-LeavesNext fault.TooMuch filing before after = ⊥
-LeavesNext fault.NoReader filing before after = ⊥
-LeavesNext fault.NotStarted filing before after = ⊥
-LeavesNext fault.BadJournal filing before after = ⊥
-LeavesNext fault.BadFeeders filing before after = ⊥
+LeavesNext _ filing before after = ⊥

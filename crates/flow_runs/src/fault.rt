@@ -1,9 +1,11 @@
 //! Why a run ends before all is answered.
 ghost use Rattle.std.specs.Prelude.{◌≡◌, ◌≢◌};
 ghost use Rattle.flow_runs.specs.Faults.{fault_of_frame, fault_of_journal, IsFaultOfDesk};
+ghost use Rattle.flow_runs.specs.declared.fault.RunFault.TheVariants.{OutOfMemory, Write};
 
-use flow_core::{IntakeFault, JournalFault};
+use flow_core::{IntakeFault, JournalFault, WriteFault};
 use flow_desk::DeskFault;
+use std::alloc::AllocError;
 
 /// Why a run ended before all was answered.
 #[derive(Clone, Copy, Debug, PartialEq, Eq)]
@@ -25,23 +27,43 @@ pub enum RunFault {
     BadFeeders,
 }
 
-pub(crate) fn why_no_frame(fault: IntakeFault) -> RunFault
-    ensures { result ≡ fault_of_frame fault }
-{
-    match fault {
-        IntakeFault::Read => RunFault::Read,
-        IntakeFault::TooMuch => RunFault::TooMuch,
-        IntakeFault::OutOfMemory => RunFault::OutOfMemory,
+impl From<AllocError> for RunFault {
+    ghost from_gives = { λ _ made. made ≡ OutOfMemory };
+
+    fn from(_error: AllocError) -> RunFault {
+        RunFault::OutOfMemory
     }
 }
 
-pub(crate) fn why_no_journal(fault: JournalFault) -> RunFault
-    ensures { result ≡ fault_of_journal fault }
-{
-    match fault {
-        JournalFault::Read => RunFault::Read,
-        JournalFault::NotAJournal => RunFault::BadJournal,
-        JournalFault::OutOfMemory => RunFault::OutOfMemory,
+impl From<WriteFault> for RunFault {
+    ghost from_gives = { λ _ made. made ≡ Write };
+
+    fn from(_fault: WriteFault) -> RunFault {
+        RunFault::Write
+    }
+}
+
+impl From<IntakeFault> for RunFault {
+    ghost from_gives = { λ fault made. made ≡ fault_of_frame fault };
+
+    fn from(fault: IntakeFault) -> RunFault {
+        match fault {
+            IntakeFault::Read => RunFault::Read,
+            IntakeFault::TooMuch => RunFault::TooMuch,
+            IntakeFault::OutOfMemory => RunFault::OutOfMemory,
+        }
+    }
+}
+
+impl From<JournalFault> for RunFault {
+    ghost from_gives = { λ fault made. made ≡ fault_of_journal fault };
+
+    fn from(fault: JournalFault) -> RunFault {
+        match fault {
+            JournalFault::Read => RunFault::Read,
+            JournalFault::NotAJournal => RunFault::BadJournal,
+            JournalFault::OutOfMemory => RunFault::OutOfMemory,
+        }
     }
 }
 

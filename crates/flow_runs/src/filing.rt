@@ -2,6 +2,7 @@
 ghost use Rattle.std.specs.Prelude.{◌≡◌, ◌≢◌, ◌<◌, ◌≤◌, ◌+◌, ◌++◌, None, Some, length, map, vec_len};
 ghost use Rattle.std.specs.Prelude.{vec_capacity, IfOk, IfErr, IfNone};
 ghost use Rattle.std.specs.List.{All, fold};
+ghost use Rattle.flow_core.specs.History.{state_of};
 ghost use Rattle.flow_desk.specs.Histories.{after};
 ghost use Rattle.flow_runs.specs.Ends.{EndsWell, IsStop, stop_of};
 ghost use Rattle.flow_runs.specs.Filing.{HasFiled};
@@ -15,7 +16,8 @@ use std::alloc::{Allocator, Global};
 use std::sync::Wait;
 use std::thread::Threads;
 
-/// The core of a desk at which feeders have filed, and the fault that a feed ended with, if one did.
+/// The core of a desk at which feeders have filed, and the fault that a feed ended with, if one did and the journal has
+/// room for more.
 #[derive(Drop)]
 pub(crate) struct Filed<A: Allocator + Copy = Global> {
     pub core: Core<A>,
@@ -53,6 +55,19 @@ fn stop_among<N: Name, A: Allocator + Copy>(feeds: &[Feed<N, A>]) -> Option<RunF
     let mut stop = None;
     for feed in feeds {
         stop = stop_with(stop, feed.end);
+    }
+    stop
+}
+
+/// The fault that a run ends with if its feeds ended so: none if the journal is full, since each filing that is left
+/// has found it full then.
+fn stop_with_room<A: Allocator + Copy>(core: &Core<A>, stop: Option<RunFault>) -> Option<RunFault>
+    ensures room { result ≢ None → length (state_of core.now).journal < core.now.setup.max_entries }
+    ensures is { length (state_of core.now).journal < core.now.setup.max_entries → result ≡ stop }
+    ensures kinds { IsStop stop → IsStop result }
+{
+    if core.entries() == core.setup().max_entries() {
+        return None;
     }
     stop
 }
@@ -98,19 +113,18 @@ pub(crate) fn file_all<
     ensures fault { IfErr result (λ e. e ≡ RunFault.OutOfMemory) }
 {
     let mut back = Vec::new(alloc);
-    if back.reserve(texts.len()).is_err() {
-        return Err(RunFault::OutOfMemory);
-    }
+    back.reserve(texts.len())?;
     let Ok((desk, passes)) = Desk::<N, Q, A>::open(alloc, blank) else {
         return Err(RunFault::OutOfMemory);
     };
-    let Ok(mut feeds) = file_texts(rt, wait, alloc, &desk, passes, texts) else {
-        return Err(RunFault::OutOfMemory);
-    };
-    let stop = stop_among(feeds.as_slice());
+    let mut feeds = file_texts(rt, wait, alloc, &desk, passes, texts)?;
+    let ends = stop_among(feeds.as_slice());
     take_passes(&mut feeds, &mut back);
     match desk.close(wait, back) {
-        Ok(core) => Ok(Filed { core, stop }),
+        Ok(core) => {
+            let stop = stop_with_room(&core, ends);
+            Ok(Filed { core, stop })
+        }
         Err(_) => unreachable!(),
     }
 }

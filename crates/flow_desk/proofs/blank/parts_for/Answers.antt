@@ -6,7 +6,7 @@ use Rattle.flow_desk.proofs.blank.parts_for.Goals as goal
 pub returns-clause-made : goal.returns-clause-made
 returns-clause-made g c =
     let h = c.open_history-head.ensures in
-    let p = c.in-Ok.ensures in
+    let p = c.in_ok-publisher.ensures in
     let s = c.settle-publisher.ensures in
     let same = c.seats_for.ensures.publisher in
     let long : length c.in_ok-seats.seats.items ≡ c.args.feeders = c.in_ok-seats.ensures.count in

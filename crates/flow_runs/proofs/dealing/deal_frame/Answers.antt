@@ -11,10 +11,10 @@ returns-in_default-clause-next g c =
     (λ a. ReadsNext-long c.args.input.now.item (map (λ v. v.items) c.args.dealt.now.feeds.items) c.args.dealt.now.count (g.W.Write.contents c.args.writer.now.device) (g.W.Write.contents c.write_out.new.writer.device) none a)
     (rw c.too_long_line.ensures at c.write_out.ensures.writes.ok)
 
-pub returns-in-Ok-deal-clause-next : goal.returns-in-Ok-deal-clause-next
-returns-in-Ok-deal-clause-next g c =
+pub returns-clause-next : goal.returns-clause-next
+returns-clause-next g c =
     ReadsNext-whole c.args.input.now.item c.in-Some.bytes.now c.in-Ok.text (map (λ v. v.items) c.args.dealt.now.feeds.items) (map (λ v. v.items) c.deal.new.dealt.feeds.items) c.args.dealt.now.count c.deal.new.dealt.count (g.W.Write.contents c.args.writer.now.device)
-    c.in-Some.ensures.0 c.in-Ok.ensures.value c.in-Ok-deal.ensures.ok c.in-Ok-deal.ensures.count
+    c.in-Some.ensures.0 c.in-Ok.ensures.value c.in_ok-deal.ensures.ok c.in_ok-deal.ensures.count
 
 pub returns-in_default-clause-left : goal.returns-in_default-clause-left
 returns-in_default-clause-left g c =

@@ -1,26 +1,28 @@
 use Rattle.std.proofs.Common.{◌-◌, ◌∙◌, List, ℕ, length, drop, refl, sym, ap, subst}
-use Rattle.std.proofs.lemmas.Result.{err_from_is_err_and}
 use Rattle.flow_core.specs.State.{State}
 use Rattle.flow_core.specs.History.{state_of}
 use Rattle.flow_input.proofs.Written.{AppendsFront-more}
 use Rattle.flow_runs.specs.declared.fault.RunFault.{RunFault}
 use Rattle.flow_runs.specs.ManyRuns.{answers, end_lines, answers_and_end, AnsweredUntil}
-use Rattle.flow_runs.proofs.Failures.{stop-writer, replay-writer}
+use Rattle.flow_runs.proofs.Failures.{err-made, stop-writer, replay-writer}
 use Rattle.flow_runs.specs.Faults.{writer_failures}
-use Rattle.flow_runs.proofs.Ran.{answered-rest}
+use Rattle.flow_runs.proofs.Ran.{answered-rest, answered-stop}
 use Rattle.flow_runs.proofs.run.answer_all.Goals as goal
 
 pub returns-in_err-write_answers-clause-left : goal.returns-in_err-write_answers-clause-left
 returns-in_err-write_answers-clause-left g c =
-    let p = err_from_is_err_and c.from_residual.result c.from_residual.ensures.1 in
     let s : State = state_of c.args.filed.now.core in
     let old = g.W.Write.contents c.args.writer.now.device in
     let new = g.W.Write.contents c.write_answers.new.writer.device in
     let told : List ℕ = answers s (drop c.args.read s.journal) in
     let rest : List ℕ = end_lines s (c.args.count - (length s.journal - c.args.read)) c.args.journal in
-    rw p.1
-    (subst (λ (k : RunFault). AnsweredUntil k c.args.filed.now.stop s c.args.read c.args.count c.args.journal old new) (sym (p.2 ∙ c.in_err-write_answers.ensures.kind))
-    (AppendsFront-more old new told rest (answers_and_end s c.args.read c.args.count c.args.journal) c.in_err-write_answers.ensures.writes.err refl))
+    rw (err-made c.from_residual.result c.from_residual.ensures.1, c.in_err-write_answers.ensures.kind)
+    (AppendsFront-more old new told rest (answers_and_end s c.args.read c.args.count c.args.journal) c.in_err-write_answers.ensures.writes.err refl)
+
+pub returns-in-Some-clause-left : goal.returns-in-Some-clause-left
+returns-in-Some-clause-left g c =
+    answered-stop c.in-Some.fault c.args.filed.now.stop (state_of c.args.filed.now.core) c.args.read c.args.count c.args.journal (g.W.Write.contents c.args.writer.now.device) (g.W.Write.contents c.write_answers.new.writer.device)
+    c.in-Some.is (rw c.in-Some.is at c.requires.stops) c.in_ok-write_answers.ensures.writes.ok
 
 pub returns-in-None-clause-left : goal.returns-in-None-clause-left
 returns-in-None-clause-left g c =
@@ -29,8 +31,7 @@ returns-in-None-clause-left g c =
 
 pub returns-in_err-write_answers-clause-writer : goal.returns-in_err-write_answers-clause-writer
 returns-in_err-write_answers-clause-writer g c =
-    let p = err_from_is_err_and c.from_residual.result c.from_residual.ensures.1 in
-    rw (p.1, p.2 ∙ c.in_err-write_answers.ensures.kind) c.in_err-write_answers.ensures.writes.failed
+    rw (err-made c.from_residual.result c.from_residual.ensures.1, c.in_err-write_answers.ensures.kind) c.in_err-write_answers.ensures.writes.failed
 
 pub returns-in-Some-clause-writer : goal.returns-in-Some-clause-writer
 returns-in-Some-clause-writer g c = c.in_ok-write_answers.ensures.writes.calm ∙ sym (stop-writer c.in-Some.fault c.args.writer.now.failures (rw c.in-Some.is at c.requires.stops))

@@ -1,24 +1,21 @@
 use Rattle.std.proofs.Common.{ℕ, map, sym, ap, subst, ◌∙◌}
-use Rattle.std.proofs.lemmas.Result.{err_from_is_err_and}
 use Rattle.flow_plans.specs.Settings.{Settings}
 use Rattle.flow_input.proofs.Results.{err_again}
 use Rattle.flow_runs.specs.Filing.{HasFiled}
 use Rattle.flow_runs.specs.Reading.{ToldUntil}
 use Rattle.flow_runs.specs.declared.fault.RunFault.{RunFault}
 use Rattle.flow_runs.specs.Faults.{writer_failures}
-use Rattle.flow_runs.proofs.Failures.{reader-calm-all}
+use Rattle.flow_runs.proofs.Failures.{err-made, reader-calm-all}
 use Rattle.flow_runs.proofs.Ran.{RanMany-all, on_ok, on_ok_two, if_err_map, ended-told, ended-all, ended-filed}
 use Rattle.flow_runs.proofs.run.run_blank.Goals as goal
 
 pub returns-in_err-feeds-clause-much : goal.returns-in_err-feeds-clause-much
 returns-in_err-feeds-clause-much g c =
-    let p = err_from_is_err_and c.from_residual.result c.from_residual.ensures.1 in
-    rw (p.1, p.2) (λ e. c.in_err-feeds.ensures.much (err_again e))
+    rw (err-made c.from_residual.result c.from_residual.ensures.1) (λ e. c.in_err-feeds.ensures.much (err_again e))
 
 pub returns-in_err-feeds-clause-others : goal.returns-in_err-feeds-clause-others
 returns-in_err-feeds-clause-others g c =
-    let p = err_from_is_err_and c.from_residual.result c.from_residual.ensures.1 in
-    rw (p.1, p.2) c.in_err-feeds.ensures.others
+    rw (err-made c.from_residual.result c.from_residual.ensures.1) c.in_err-feeds.ensures.others
 
 pub returns-clause-end : goal.returns-clause-end
 returns-clause-end g c = on_ok c.answer_all.result c.in_ok-feeds.ensures.end
@@ -28,23 +25,19 @@ returns-clause-within g c = on_ok c.answer_all.result c.in_ok-feeds.ensures.with
 
 pub returns-in_err-feeds-clause-reader : goal.returns-in_err-feeds-clause-reader
 returns-in_err-feeds-clause-reader g c =
-    let p = err_from_is_err_and c.from_residual.result c.from_residual.ensures.1 in
-    rw (p.1, p.2) c.in_err-feeds.ensures.reader
+    rw (err-made c.from_residual.result c.from_residual.ensures.1) c.in_err-feeds.ensures.reader
 
 pub returns-in_err-feeds-clause-writer : goal.returns-in_err-feeds-clause-writer
 returns-in_err-feeds-clause-writer g c =
-    let p = err_from_is_err_and c.from_residual.result c.from_residual.ensures.1 in
-    rw (p.1, p.2) c.in_err-feeds.ensures.writer
+    rw (err-made c.from_residual.result c.from_residual.ensures.1) c.in_err-feeds.ensures.writer
 
 pub returns-in_err-filed-clause-reader : goal.returns-in_err-filed-clause-reader
 returns-in_err-filed-clause-reader g c =
-    let p = err_from_is_err_and c.from_residual-in_err-filed.result c.from_residual-in_err-filed.ensures.1 in
-    rw (p.1, p.2 ∙ c.in_err-filed.ensures.fault) c.in_ok-feeds.ensures.reader
+    rw (err-made c.from_residual-in_err-filed.result c.from_residual-in_err-filed.ensures.1, c.in_err-filed.ensures.fault) c.in_ok-feeds.ensures.reader
 
 pub returns-in_err-filed-clause-writer : goal.returns-in_err-filed-clause-writer
 returns-in_err-filed-clause-writer g c =
-    let p = err_from_is_err_and c.from_residual-in_err-filed.result c.from_residual-in_err-filed.ensures.1 in
-    rw (p.1, p.2 ∙ c.in_err-filed.ensures.fault) c.in_ok-feeds.ensures.writer
+    rw (err-made c.from_residual-in_err-filed.result c.from_residual-in_err-filed.ensures.1, c.in_err-filed.ensures.fault) c.in_ok-feeds.ensures.writer
 
 pub returns-clause-reader : goal.returns-clause-reader
 returns-clause-reader g c = c.in_ok-feeds.ensures.reader ∙ sym (reader-calm-all c.answer_all.result c.args.reader.now.failures (if_err_map c.answer_all.result (λ e k. k.0) c.answer_all.ensures.kinds))
@@ -68,20 +61,18 @@ returns-clause-ran g c =
 
 pub returns-in_err-feeds-clause-left : goal.returns-in_err-feeds-clause-left
 returns-in_err-feeds-clause-left g c =
-    let p = err_from_is_err_and c.from_residual.result c.from_residual.ensures.1 in
     let begun = g.W.Write.contents c.args.writer.now.device in
     let written = g.W.Write.contents c.read_all.new.writer.device in
     let input = g.R.Read.remaining c.args.reader.now.device in
     let rest = g.R.Read.remaining c.read_all.new.reader.device in
-    rw p.1
-    (ended-told c.args.blank.setup c.args.blank.entries c.args.feeders c.args.journal p.0 begun written input rest (subst (λ (k : RunFault). ToldUntil k begun written input rest) (sym p.2) c.in_err-feeds.ensures.told))
+    rw (err-made c.from_residual.result c.from_residual.ensures.1)
+    (ended-told c.args.blank.setup c.args.blank.entries c.args.feeders c.args.journal c.in_err-feeds.field-0.0 begun written input rest c.in_err-feeds.ensures.told)
 
 pub returns-in_err-filed-clause-left : goal.returns-in_err-filed-clause-left
 returns-in_err-filed-clause-left g c =
-    let p = err_from_is_err_and c.from_residual-in_err-filed.result c.from_residual-in_err-filed.ensures.1 in
-    rw p.1
-    (ended-all c.args.blank.setup c.args.blank.entries c.args.feeders c.args.journal p.0 (map (λ v. v.items) c.in_ok-feeds.field-0.feeds.items) c.in_ok-feeds.field-0.count
-    (g.W.Write.contents c.args.writer.now.device) (g.W.Write.contents c.read_all.new.writer.device) (g.R.Read.remaining c.args.reader.now.device) (g.R.Read.remaining c.read_all.new.reader.device) (p.2 ∙ c.in_err-filed.ensures.fault) c.in_ok-feeds.ensures.has)
+    rw (err-made c.from_residual-in_err-filed.result c.from_residual-in_err-filed.ensures.1)
+    (ended-all c.args.blank.setup c.args.blank.entries c.args.feeders c.args.journal c.in_err-filed.field-0.0 (map (λ v. v.items) c.in_ok-feeds.field-0.feeds.items) c.in_ok-feeds.field-0.count
+    (g.W.Write.contents c.args.writer.now.device) (g.W.Write.contents c.read_all.new.writer.device) (g.R.Read.remaining c.args.reader.now.device) (g.R.Read.remaining c.read_all.new.reader.device) c.in_err-filed.ensures.fault c.in_ok-feeds.ensures.has)
 
 pub returns-clause-left : goal.returns-clause-left
 returns-clause-left g c =
