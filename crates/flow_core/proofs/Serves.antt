@@ -1,5 +1,7 @@
 -- Answering frames, one after the other.
 use Rattle.std.proofs.Common.{◌≡◌, ◌≤◌, ℕ, ◌⊎◌, inl, inr, Bool, true, false, cond, List, [], ◌∷◌, ◌++◌, length, arith, refl, sym, ap, ◌∙◌, subst, Option, Some, None, append_assoc, ltb, leb, codes, IfSome, Result, Err, IsErrOf}
+use Rattle.std.specs.Result.{IsErrAnd}
+use Rattle.std.proofs.lemmas.Result.{err_from_is_err_and}
 use Rattle.std.proofs.lemmas.Bool.{le-leb}
 use Rattle.std.proofs.lemmas.List.{append-nil}
 use Rattle.std.specs.Io.KnownBytes.{Appends, Keeps}
@@ -287,3 +289,7 @@ pub of-much : (e : IntakeFault) → fault_of e ≡ serve.TooMuch → e ≡ intak
 of-much intake.Read is = absurd (cc)
 of-much intake.TooMuch is = refl
 of-much intake.OutOfMemory is = absurd (cc)
+
+-- the fault that a `?` makes
+pub err-made : {T E : Type 0} {y : E} (r : Result T E) → IsErrAnd r (λ e. e ≡ y) → r ≡ Err y
+err-made r made = let p = err_from_is_err_and r made in p.1 ∙ ap Err p.2

@@ -10,54 +10,54 @@ use Rattle.flow_core.proofs.Undoables.{undoable-same, undoable-entered}
 use Rattle.flow_core.proofs.Serves.{served-whole, said-whole, served-full, said-full, err_is}
 use Rattle.flow_core.proofs.serving.answer_filing.Goals as goal
 
-pub returns-in-Ok-write_answer-clause-ok : goal.returns-in-Ok-write_answer-clause-ok
-returns-in-Ok-write_answer-clause-ok g c = λ frame k.
+pub returns-clause-ok : goal.returns-clause-ok
+returns-clause-ok g c = λ frame k.
     let s = state_of c.args.core.now in
     let room = c.in-Ok.ensures.ok.room in
     let last : c.in-Ok.receipt.number - 1 ≡ length (state_of c.args.core.now).journal = omega (arith, c.in-Ok.ensures.ok.number) in
     let text = ap (λ (t : State). answer_text t (c.in-Ok.receipt.number - 1)) c.in-Ok.ensures.ok.state
     ∙ ap (λ (n : ℕ). answer_text (step s (record { feeder = 0; text = second c.args.bytes.now })) n) last ∙ sym (said-whole s frame (second c.args.bytes.now) k room) in (
       c.in-Ok.ensures.ok.state ∙ sym (served-whole s frame (second c.args.bytes.now) k room),
-      subst (λ (bs : List ℕ). Appends (g.W.Write.contents c.args.writer.now.device) (g.W.Write.contents c.write_answer.new.writer.device) bs) text c.in-Ok-write_answer.ensures.ok,
+      subst (λ (bs : List ℕ). Appends (g.W.Write.contents c.args.writer.now.device) (g.W.Write.contents c.write_answer.new.writer.device) bs) text c.in_ok-write_answer.ensures.ok,
     )
 
-pub returns-in-Err-clause-part : goal.returns-in-Err-clause-part
-returns-in-Err-clause-part g c = λ e frame k.
+pub returns-in_err-write_answer-clause-part : goal.returns-in_err-write_answer-clause-part
+returns-in_err-write_answer-clause-part g c = λ e frame k.
     let s = state_of c.args.core.now in
     let room = c.in-Ok.ensures.ok.room in
     let last : c.in-Ok.receipt.number - 1 ≡ length (state_of c.args.core.now).journal = omega (arith, c.in-Ok.ensures.ok.number) in
     let text = ap (λ (t : State). answer_text t (c.in-Ok.receipt.number - 1)) c.in-Ok.ensures.ok.state
     ∙ ap (λ (n : ℕ). answer_text (step s (record { feeder = 0; text = second c.args.bytes.now })) n) last ∙ sym (said-whole s frame (second c.args.bytes.now) k room) in (
       c.in-Ok.ensures.ok.state ∙ sym (served-whole s frame (second c.args.bytes.now) k room),
-      subst (λ (bs : List ℕ). AppendsFront (g.W.Write.contents c.args.writer.now.device) (g.W.Write.contents c.write_answer.new.writer.device) bs) text c.in-Err.ensures.err,
+      subst (λ (bs : List ℕ). AppendsFront (g.W.Write.contents c.args.writer.now.device) (g.W.Write.contents c.write_answer.new.writer.device) bs) text c.in_err-write_answer.ensures.err,
     )
 
-pub returns-in-Ok-write_bytes-clause-ok : goal.returns-in-Ok-write_bytes-clause-ok
-returns-in-Ok-write_bytes-clause-ok g c = λ frame k.
+pub returns-in-Err-JournalFull-clause-ok : goal.returns-in-Err-JournalFull-clause-ok
+returns-in-Err-JournalFull-clause-ok g c = λ frame k.
     let s = state_of c.args.core.now in
     let full = c.in-Err-JournalFull.ensures.full (err_is c.in-Err-JournalFull.field-0-is) in (
       ap state_of (c.in-Err-JournalFull.ensures.same (err_is c.in-Err-JournalFull.field-0-is)) ∙ sym (served-full s frame (second c.args.bytes.now) k full),
-      rw (said-full s frame (second c.args.bytes.now) k full) (rw c.journal_full_line.ensures at c.in-Ok-write_bytes.ensures.ok),
+      rw (said-full s frame (second c.args.bytes.now) k full) (rw c.journal_full_line.ensures at c.in_ok-write_bytes-in-Err-JournalFull.ensures.ok),
     )
 
-pub returns-in-Err-write_bytes-clause-part : goal.returns-in-Err-write_bytes-clause-part
-returns-in-Err-write_bytes-clause-part g c = λ e frame k.
+pub returns-in_err-write_bytes-in-Err-JournalFull-clause-part : goal.returns-in_err-write_bytes-in-Err-JournalFull-clause-part
+returns-in_err-write_bytes-in-Err-JournalFull-clause-part g c = λ e frame k.
     let full = c.in-Err-JournalFull.ensures.full (err_is c.in-Err-JournalFull.field-0-is) in (
       ap state_of (c.in-Err-JournalFull.ensures.same (err_is c.in-Err-JournalFull.field-0-is)) ∙ sym (served-full (state_of c.args.core.now) frame (second c.args.bytes.now) k full),
-      rw (said-full (state_of c.args.core.now) frame (second c.args.bytes.now) k full) (rw c.journal_full_line.ensures at c.in-Err-write_bytes.ensures.err),
+      rw (said-full (state_of c.args.core.now) frame (second c.args.bytes.now) k full) (rw c.journal_full_line.ensures at c.in_err-write_bytes-in-Err-JournalFull.ensures.err),
     )
 
 pub returns-in-Err-OutOfMemory-clause-nothing : goal.returns-in-Err-OutOfMemory-clause-nothing
 returns-in-Err-OutOfMemory-clause-nothing g c = λ e. (ap state_of (c.in-Err-OutOfMemory.ensures.memory (err_is c.in-Err-OutOfMemory.field-0-is)), refl)
 
-pub returns-in-Ok-write_answer-clause-undoable : goal.returns-in-Ok-write_answer-clause-undoable
-returns-in-Ok-write_answer-clause-undoable g c = λ not. undoable-entered _ _ _ c.in-Ok.ensures.ok
+pub returns-clause-undoable : goal.returns-clause-undoable
+returns-clause-undoable g c = λ not. undoable-entered _ _ _ c.in-Ok.ensures.ok
 
-pub returns-in-Err-clause-undoable : goal.returns-in-Err-clause-undoable
-returns-in-Err-clause-undoable g c = λ not. undoable-entered _ _ _ c.in-Ok.ensures.ok
+pub returns-in_err-write_answer-clause-undoable : goal.returns-in_err-write_answer-clause-undoable
+returns-in_err-write_answer-clause-undoable g c = λ not. undoable-entered _ _ _ c.in-Ok.ensures.ok
 
-pub returns-in-Ok-write_bytes-clause-undoable : goal.returns-in-Ok-write_bytes-clause-undoable
-returns-in-Ok-write_bytes-clause-undoable g c = λ not. undoable-same _ _ (c.in-Err-JournalFull.ensures.same (err_is c.in-Err-JournalFull.field-0-is))
+pub returns-in-Err-JournalFull-clause-undoable : goal.returns-in-Err-JournalFull-clause-undoable
+returns-in-Err-JournalFull-clause-undoable g c = λ not. undoable-same _ _ (c.in-Err-JournalFull.ensures.same (err_is c.in-Err-JournalFull.field-0-is))
 
-pub returns-in-Err-write_bytes-clause-undoable : goal.returns-in-Err-write_bytes-clause-undoable
-returns-in-Err-write_bytes-clause-undoable g c = λ not. undoable-same _ _ (c.in-Err-JournalFull.ensures.same (err_is c.in-Err-JournalFull.field-0-is))
+pub returns-in_err-write_bytes-in-Err-JournalFull-clause-undoable : goal.returns-in_err-write_bytes-in-Err-JournalFull-clause-undoable
+returns-in_err-write_bytes-in-Err-JournalFull-clause-undoable g c = λ not. undoable-same _ _ (c.in-Err-JournalFull.ensures.same (err_is c.in-Err-JournalFull.field-0-is))

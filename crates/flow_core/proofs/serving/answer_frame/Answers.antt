@@ -5,20 +5,20 @@ use Rattle.flow_core.proofs.Serves.{served-long, said-long}
 use Rattle.flow_core.proofs.Undoables.{undoable-same}
 use Rattle.flow_core.proofs.serving.answer_frame.Goals as goal
 
-pub returns-in-Ok-clause-ok : goal.returns-in-Ok-clause-ok
-returns-in-Ok-clause-ok g c = λ frame k.
+pub returns-in_default-clause-ok : goal.returns-in_default-clause-ok
+returns-in_default-clause-ok g c = λ frame k.
     let s = state_of c.args.core.now in
     let k' = sym (ap filing_kept c.in_default.ensures) ∙ k in
-    (sym (served-long s frame k'), rw (said-long s frame k') (rw c.too_long_line.ensures at c.in-Ok.ensures.ok))
+    (sym (served-long s frame k'), rw (said-long s frame k') (rw c.too_long_line.ensures at c.in_ok-write_bytes.ensures.ok))
 
-pub returns-in-Err-clause-part : goal.returns-in-Err-clause-part
-returns-in-Err-clause-part g c = λ e frame k.
+pub returns-in_err-write_bytes-clause-part : goal.returns-in_err-write_bytes-clause-part
+returns-in_err-write_bytes-clause-part g c = λ e frame k.
     let s = state_of c.args.core.now in
     let k' = sym (ap filing_kept c.in_default.ensures) ∙ k in
-    (sym (served-long s frame k'), rw (said-long s frame k') (rw c.too_long_line.ensures at c.in-Err.ensures.err))
+    (sym (served-long s frame k'), rw (said-long s frame k') (rw c.too_long_line.ensures at c.in_err-write_bytes.ensures.err))
 
-pub returns-in-Ok-clause-undoable : goal.returns-in-Ok-clause-undoable
-returns-in-Ok-clause-undoable g c = λ not. undoable-same _ _ refl
+pub returns-in_default-clause-undoable : goal.returns-in_default-clause-undoable
+returns-in_default-clause-undoable g c = λ not. undoable-same _ _ refl
 
-pub returns-in-Err-clause-undoable : goal.returns-in-Err-clause-undoable
-returns-in-Err-clause-undoable g c = λ not. undoable-same _ _ refl
+pub returns-in_err-write_bytes-clause-undoable : goal.returns-in_err-write_bytes-clause-undoable
+returns-in_err-write_bytes-clause-undoable g c = λ not. undoable-same _ _ refl
