@@ -1,4 +1,4 @@
-use Rattle.std.proofs.Common.{◌≡◌, ◌∙◌, refl, sym}
+use Rattle.std.proofs.Common.{◌≡◌, ◌∙◌, refl}
 use Rattle.flow_input.specs.NextFrame.{filing_kept}
 use Rattle.flow_core.specs.declared.serving.ServeFault.TheVariants as serve
 use Rattle.flow_core.specs.History.{state_of}

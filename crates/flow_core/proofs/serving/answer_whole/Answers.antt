@@ -1,6 +1,5 @@
-use Rattle.std.proofs.Common.{◌≡◌, ◌∙◌, sym, arith}
+use Rattle.std.proofs.Common.{◌∙◌, arith}
 use Rattle.flow_input.specs.NextFrame.{filing_kept}
-use Rattle.flow_core.specs.declared.serving.ServeFault.TheVariants as serve
 use Rattle.flow_core.specs.History.{state_of}
 use Rattle.flow_core.proofs.Undoables.{undoable-both}
 use Rattle.flow_core.proofs.Serves.{Serving-one, Answered-not, Stopped-answered, Stopped-part, err_is, err-made, in_both}
