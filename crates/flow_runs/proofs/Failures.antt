@@ -1,7 +1,5 @@
 -- How many calls of a run's devices have failed.
-use Rattle.std.proofs.Common.{◌≡◌, ◌≢◌, ◌⊎◌, inl, inr, ℕ, List, Option, Result, Ok, Err, IfErr, OnOk, OnErr, refl, ap, subst, sym, ◌∙◌}
-use Rattle.std.specs.Result.{IsErrAnd}
-use Rattle.std.proofs.lemmas.Result.{err_from_is_err_and}
+use Rattle.std.proofs.Common.{◌≡◌, ◌≢◌, ◌⊎◌, inl, inr, ℕ, List, Option, Result, Ok, Err, IfErr, OnOk, OnErr, refl, subst, sym, ◌∙◌}
 use Rattle.flow_input.specs.Source.{counted_up, failures_with}
 use Rattle.flow_input.specs.declared.fault.IntakeFault.{IntakeFault}
 use Rattle.flow_input.specs.declared.fault.IntakeFault.TheVariants as intake
@@ -15,10 +13,6 @@ use Rattle.flow_runs.specs.declared.fault.RunFault.{RunFault}
 use Rattle.flow_runs.specs.declared.fault.RunFault.TheVariants as fault
 use Rattle.flow_runs.specs.ManyRuns.{WritesWithReplay}
 use Rattle.flow_runs.specs.Faults.{fault_of_frame, fault_of_journal, IsFaultOfDesk, reader_failures_with, writer_failures_with, reader_failures, writer_failures}
-
--- what the exit of a `?` returns, where it is known which fault is made
-pub err-made : {T E : Type 0} {y : E} (r : Result T E) → IsErrAnd r (λ e. e ≡ y) → r ≡ Err y
-err-made r made = let p = err_from_is_err_and r made in p.1 ∙ ap Err p.2
 
 -- where no frame came the reader may have failed, and nothing was written
 pub frame-reader : (e : IntakeFault) (n : ℕ) → failures_with e n ≡ reader_failures_with (fault_of_frame e) n

@@ -1,14 +1,14 @@
 use Rattle.std.proofs.Common.{◌≡◌, ◌≢◌, ◌<◌, map, arith, ◌∙◌, ap, refl, sym, subst, true}
 use Rattle.flow_input.specs.Reader.{Ahead}
 use Rattle.flow_input.specs.NextFrame.{filing_kept}
-use Rattle.flow_core.proofs.Serves.{err_is}
+use Rattle.flow_core.proofs.Serves.{err-made, err_is}
 use Rattle.flow_runs.specs.declared.fault.RunFault.{RunFault}
 use Rattle.flow_runs.specs.declared.fault.RunFault.TheVariants as fault
 use Rattle.flow_runs.specs.Faults.{fault_of_frame, reader_failures_with, writer_failures_with}
 use Rattle.flow_runs.specs.Reading.{ToldUntil}
 use Rattle.flow_runs.proofs.Dealings.{wide-feeds}
 use Rattle.flow_input.proofs.Cuttings.{Cutting-within}
-use Rattle.flow_runs.proofs.Failures.{err-made, frame-much, frame-others, frame-reader, frame-writer, part-reader}
+use Rattle.flow_runs.proofs.Failures.{frame-much, frame-others, frame-reader, frame-writer, part-reader}
 use Rattle.flow_runs.proofs.Readings.{Reading-start, Reading-one, HasRead-end, Overrun-read, ToldFirst-none, ToldFirst-came, ToldEnded-read, told-no_frame, told-part}
 use Rattle.flow_runs.proofs.dealing.read_all.Goals as goal
 

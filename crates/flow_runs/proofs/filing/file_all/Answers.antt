@@ -9,7 +9,7 @@ use Rattle.flow_desk.specs.Passes.{PassView}
 use Rattle.flow_runs.specs.Ends.{EndsWell}
 use Rattle.flow_runs.specs.declared.feeding.Feed.{Feed}
 use Rattle.flow_runs.proofs.Closed.{closed, as-many, none-missing}
-use Rattle.flow_runs.proofs.Failures.{err-made}
+use Rattle.flow_core.proofs.Serves.{err-made}
 use Rattle.flow_runs.proofs.Stops.{from-none, all-map}
 use Rattle.flow_runs.proofs.filing.file_all.Goals as goal
 

@@ -4,7 +4,8 @@ use Rattle.flow_core.specs.History.{state_of}
 use Rattle.flow_input.proofs.Written.{AppendsFront-more}
 use Rattle.flow_runs.specs.declared.fault.RunFault.{RunFault}
 use Rattle.flow_runs.specs.ManyRuns.{answers, end_lines, answers_and_end, AnsweredUntil}
-use Rattle.flow_runs.proofs.Failures.{err-made, stop-writer, replay-writer}
+use Rattle.flow_core.proofs.Serves.{err-made}
+use Rattle.flow_runs.proofs.Failures.{stop-writer, replay-writer}
 use Rattle.flow_runs.specs.Faults.{writer_failures}
 use Rattle.flow_runs.proofs.Ran.{answered-rest, answered-stop}
 use Rattle.flow_runs.proofs.run.answer_all.Goals as goal

@@ -5,7 +5,8 @@ use Rattle.flow_runs.specs.Filing.{HasFiled}
 use Rattle.flow_runs.specs.Reading.{ToldUntil}
 use Rattle.flow_runs.specs.declared.fault.RunFault.{RunFault}
 use Rattle.flow_runs.specs.Faults.{writer_failures}
-use Rattle.flow_runs.proofs.Failures.{err-made, reader-calm-all}
+use Rattle.flow_core.proofs.Serves.{err-made}
+use Rattle.flow_runs.proofs.Failures.{reader-calm-all}
 use Rattle.flow_runs.proofs.Ran.{RanMany-all, on_ok, on_ok_two, if_err_map, ended-told, ended-all, ended-filed}
 use Rattle.flow_runs.proofs.run.run_blank.Goals as goal
 

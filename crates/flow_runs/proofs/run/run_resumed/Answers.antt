@@ -1,8 +1,8 @@
 use Rattle.std.proofs.Common.{◌≡◌, refl, sym, ap, ◌∙◌}
 use Rattle.flow_runs.specs.declared.fault.RunFault.TheVariants.{TooMuch, BadJournal, BadFeeders, NoReader}
 use Rattle.flow_runs.specs.Faults.{fault_of_journal, reader_failures}
-use Rattle.flow_core.proofs.Serves.{err_is}
-use Rattle.flow_runs.proofs.Failures.{err-made, no-desk, beyond, journal-reader, journal-writer, journal-others, bad-journal}
+use Rattle.flow_core.proofs.Serves.{err-made, err_is}
+use Rattle.flow_runs.proofs.Failures.{no-desk, beyond, journal-reader, journal-writer, journal-others, bad-journal}
 use Rattle.flow_runs.proofs.Ran.{HoldsBeyond-made, HoldsSome-made, RanOn-made, on_ok_two, ended-behind, ended-on-first, no-reader}
 use Rattle.flow_runs.proofs.run.run_resumed.Goals as goal
 
