@@ -14,6 +14,7 @@ UNIT_TESTS = {
     "flow": ["fpl_text", "fpl_message", "flow_plans", "flow_slots", "flow_regulations", "linked_list_allocator"],
     "log": ["flow_log"],
     "desk": ["fpl_text", "fpl_message", "flow_plans", "flow_input", "flow_core", "linked_list_allocator"],
+    "store": ["fpl_text", "flow_plans", "flow_input", "flow_log", "flow_core", "flow_store", "linked_list_allocator"],
     "feeder": ["fpl_text", "fpl_message", "flow_plans", "flow_core", "flow_desk", "linked_list_allocator"],
 }
 

@@ -5,7 +5,6 @@ from checks.code import code_of, crates, module_of, sources, uses
 
 # Rings that are there, and are to go. Whoever breaks one up takes it off this list.
 KNOWN = {
-    ("flow_plans", ("amending", "undo")),
     ("fpl_items", ("estimates", "kept_estimates")),
     ("fpl_message", ("message", "order", "spares")),
 }

@@ -1,6 +1,8 @@
 """Runs the samples by the program."""
 import pathlib
+import shutil
 import subprocess
+import tempfile
 
 from checks.pages import ROOT, name_of
 
@@ -11,11 +13,14 @@ def wrong_run(program, folder):
         return path.read_bytes() if path.exists() else absent
 
     words = read("args").decode().split("\n")[:-1]
-    try:
-        done = subprocess.run([program, *words], input=read("stdin"), capture_output=True, timeout=60)
-    except subprocess.TimeoutExpired:
-        yield "%s: no end within 60 seconds" % name_of(folder)
-        return
+    with tempfile.TemporaryDirectory() as place:
+        if (folder / "store").exists():
+            shutil.copyfile(folder / "store", pathlib.Path(place) / "store")
+        try:
+            done = subprocess.run([program, *words], input=read("stdin"), capture_output=True, timeout=60, cwd=place)
+        except subprocess.TimeoutExpired:
+            yield "%s: no end within 60 seconds" % name_of(folder)
+            return
     if done.stdout != read("stdout"):
         yield "%s: stdout is %r" % (name_of(folder), done.stdout.decode(errors="replace"))
     if done.returncode != int(read("status", b"0")):

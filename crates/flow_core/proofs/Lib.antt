@@ -7,6 +7,7 @@ pub mod Serves
 pub mod JournalTexts
 pub mod Journals
 pub mod ReadBack
+pub mod StartDigits
 pub mod JournalTaken
 pub mod JournalBack
 pub mod JournalShown

@@ -10,7 +10,7 @@ use Rattle.fpl_message.specs.Filings.{FilingText}
 use Rattle.flow_input.specs.Frames.{frames}
 use Rattle.flow_input.specs.Reader.{Ahead, Agrees, Came, CameTooMuch}
 use Rattle.flow_input.specs.NextFrame.{second, filing_of, GaveFirst, GaveNone, Starves}
-use Rattle.flow_input.specs.Cutting.{CutFront, Overrun}
+use Rattle.flow_input.specs.Cutting.{Cutting, CutFront, Overrun}
 use Rattle.flow_input.specs.Writes.{AppendsFront}
 use Rattle.flow_input.proofs.Cuttings.{Cutting-start, Cutting-one, Cutting-end, Cutting-within, CutFront-came, CutFront-one, CutEnded-read, Overrun-came}
 use Rattle.flow_input.proofs.Written.{AppendsFront-both}
@@ -18,7 +18,7 @@ use Rattle.flow_core.specs.State.{State}
 use Rattle.flow_core.specs.Steps.{step}
 use Rattle.flow_core.specs.Output.{answer_text}
 use Rattle.flow_core.specs.Served.{served, said, output, after, as_input}
-use Rattle.flow_core.specs.Serving.{Answered, AnswersFrame, AnswersPart, AppendsMore, Serving, Stopped, Starved, fault_of}
+use Rattle.flow_core.specs.Serving.{Answered, AnswersFrame, AnswersPart, AppendsMore, ServedMore, Serving, Stopped, Starved, fault_of}
 use Rattle.flow_core.specs.declared.serving.ServeFault.TheVariants as serve
 use Rattle.flow_input.specs.declared.fault.IntakeFault.{IntakeFault}
 use Rattle.flow_input.specs.declared.fault.IntakeFault.TheVariants as intake
@@ -141,6 +141,40 @@ Stopped-answered first now begun written input rest a =
       front = AppendsFront-whole begun written (output first a.answered) [] (output first (a.answered ++ [])) a.appended (append-nil (output first a.answered) ∙ ap (output first) (sym (append-nil a.answered)));
     }
 
+-- ---- frames that were served
+
+-- none
+pub Served-none : (s : State) (written : Option (List ℕ)) (ahead : Ahead) (rest : Option (List ℕ)) → ServedMore s s written written ahead ahead rest rest
+Served-none s written ahead rest =
+    record {
+      frames = [];
+      cutting = λ done input cut. subst (λ (fs : List (List ℕ)). Cutting fs ahead input rest) (sym (append-nil done)) cut;
+      state = sym (after-nil s);
+      appended = subst (λ (bs : List ℕ). Appends written written bs) (sym (output-nil s)) (Appends-nil written);
+    }
+
+-- one that came
+pub Served-one : (s next : State) (written then : Option (List ℕ)) (old new : Ahead) (mid rest : Option (List ℕ)) (filing : Option FilingText) → GaveFirst filing old new mid rest → AnswersFrame filing s next written then → ServedMore s next written then old new mid rest
+Served-one s next written then old new mid rest filing f a =
+    let did = a f.whole.frame f.filed in
+    record {
+      frames = f.whole.frame ∷ [];
+      cutting = λ done input cut. Cutting-one done old input mid cut new rest filing f;
+      state = did.0 ∙ sym (after-one s f.whole.frame);
+      appended = subst (λ (bs : List ℕ). Appends written then bs) (sym (output-one s f.whole.frame)) did.1;
+    }
+
+-- some, and then others
+pub Served-both : (s next last : State) (written then now : Option (List ℕ)) (old mid new : Ahead) (input some rest : Option (List ℕ)) → ServedMore s next written then old mid input some → ServedMore next last then now mid new some rest → ServedMore s last written now old new input rest
+Served-both s next last written then now old mid new input some rest a b =
+    record {
+      frames = a.frames ++ b.frames;
+      cutting = λ done whole cut. subst (λ (fs : List (List ℕ)). Cutting fs new whole rest) (append_assoc done a.frames b.frames) (b.cutting (done ++ a.frames) whole (a.cutting done whole cut));
+      state = b.state ∙ ap (λ (t : State). after t b.frames) a.state ∙ sym (after-append s a.frames b.frames);
+      appended = subst (λ (bs : List ℕ). Appends written now bs) (ap (λ (t : State). output s a.frames ++ output t b.frames) a.state ∙ sym (output-append s a.frames b.frames))
+          (Appends-trans written then now (output s a.frames) (output next b.frames) a.appended b.appended);
+    }
+
 -- ---- in the middle
 
 -- nothing was read yet
@@ -158,6 +192,17 @@ Appends-kept None written kept bytes a k = tt
 Appends-kept (Some b) None kept bytes a k = absurd a
 Appends-kept (Some b) (Some w) None bytes a k = absurd k
 Appends-kept (Some b) (Some w) (Some v) bytes a k = k ∙ a
+
+-- and it comes on by the frames that were served
+pub Serving-more : (first now next : State) (begun written then : Option (List ℕ)) (old new : Ahead) (input mid rest : Option (List ℕ)) → Serving first now begun written old input mid → ServedMore now next written then old new mid rest → Serving first next begun then new input rest
+Serving-more first now next begun written then old new input mid rest s more =
+    record {
+      done = s.done ++ more.frames;
+      cutting = more.cutting s.done input s.cutting;
+      state = more.state ∙ ap (λ (t : State). after t more.frames) s.state ∙ sym (after-append first s.done more.frames);
+      appended = subst (λ (bs : List ℕ). Appends begun then bs) (ap (λ (t : State). output first s.done ++ output t more.frames) s.state ∙ sym (output-append first s.done more.frames))
+          (Appends-trans begun written then (output first s.done) (output now more.frames) s.appended more.appended);
+    }
 
 -- what was written is handed on
 pub Serving-kept : (first now : State) (begun written kept : Option (List ℕ)) (ahead : Ahead) (input mid : Option (List ℕ))
@@ -215,18 +260,7 @@ module _ (first now : State) (begun written : Option (List ℕ)) (old : Ahead) (
     front-one : CutFront (s.done ++ f.whole.frame ∷ []) input rest
     front-one = CutFront-one s.done old input mid s.cutting new rest filing f
 
-    -- and was answered
-    pub Serving-one : (next : State) (then : Option (List ℕ)) → AnswersFrame filing now next written then → Serving first next begun then new input rest
-    Serving-one next then a =
-        let did = a f.whole.frame f.filed in
-        record {
-          done = s.done ++ f.whole.frame ∷ [];
-          cutting = Cutting-one s.done old input mid s.cutting new rest filing f;
-          state = did.0 ∙ served-one;
-          appended = subst (λ (bs : List ℕ). Appends begun then bs) (sym said-one) (Appends-trans begun written then (output first s.done) (said now f.whole.frame) s.appended did.1);
-        }
-
-    -- or its answer wasn't written whole
+    -- its answer wasn't written whole
     pub Stopped-part : (next : State) (then : Option (List ℕ)) → AnswersPart filing now next written then → Stopped first next begun then input rest
     Stopped-part next then a =
         let did = a f.whole.frame f.filed in

@@ -11,3 +11,4 @@ pub mod Served
 pub mod Serving
 pub mod Journal
 pub mod JournalReading
+pub mod Stored

@@ -4,7 +4,7 @@ use Rattle.std.specs.Io.KnownBytes.{Appends, Consumes}
 use Rattle.fpl_message.specs.Filings.{FilingText}
 use Rattle.flow_input.specs.Frames.{frames, ended_frames}
 use Rattle.flow_input.specs.Reader.{Ahead, Agrees}
-use Rattle.flow_input.specs.NextFrame.{filing_of}
+use Rattle.flow_input.specs.NextFrame.{GaveFirst, filing_of, filing_kept}
 use Rattle.flow_input.specs.Cutting.{Cutting}
 use Rattle.flow_input.specs.Writes.{AppendsFront}
 use Rattle.flow_input.specs.Source.{counted_up}
@@ -90,9 +90,16 @@ pub record Serving (first now : State) (begun written : Option (List ℕ)) (ahea
   pub state : now ≡ after first done
   pub appended : Appends begun written (output first done)
 
--- serving that has come so far here has come on there, and what is left of the input is the same
+-- frames were cut from the front of what is unread, they were served, and what is said of them was appended
+pub record ServedMore (old new : State) (before now : Option (List ℕ)) (ahead left : Ahead) (mid rest : Option (List ℕ)) : Type 0 where
+  pub frames : List (List ℕ)
+  pub cutting : (done : List (List ℕ)) (input : Option (List ℕ)) → Cutting done ahead input mid → Cutting (done ++ frames) left input rest
+  pub state : new ≡ after old frames
+  pub appended : Appends before now (output old frames)
+
+-- serving has come on so far, and what is left of the input is the same
 abbrev pub ComesOn : State → State → Option (List ℕ) → Option (List ℕ) → Ahead → Ahead → Type 0
-ComesOn old new before now ahead left = (first : State) (begun input rest : Option (List ℕ)) → Agrees ahead rest → Serving first old begun before ahead input rest → Serving first new begun now left input rest
+ComesOn old new before now ahead left = (rest : Option (List ℕ)) → Agrees ahead rest → ServedMore old new before now ahead left rest rest
 
 -- or it has stopped there
 abbrev pub StopsOn : State → State → Option (List ℕ) → Option (List ℕ) → Ahead → Type 0
@@ -101,3 +108,20 @@ StopsOn old new before now ahead = (first : State) (begun input rest : Option (L
 -- but not since the writer failed
 abbrev pub IsAnsweredOn : State → State → Option (List ℕ) → Option (List ℕ) → Ahead → Type 0
 IsAnsweredOn old new before now ahead = (first : State) (begun input rest : Option (List ℕ)) → Agrees ahead rest → Serving first old begun before ahead input rest → Answered first new begun now input rest
+
+-- ---- after a frame was taken
+
+-- serving has come on: that frame was served, and others that were there
+abbrev pub AnswersTaken : State → State → Option (List ℕ) → Option (List ℕ) → Ahead → Ahead → Type 0
+AnswersTaken old new before now taken left = (ahead : Ahead) (mid rest : Option (List ℕ)) → GaveFirst (filing_kept taken.item) ahead taken mid rest → Agrees taken rest
+    → ServedMore old new before now ahead left mid rest
+
+-- or it has stopped
+abbrev pub StopsTaken : State → State → Option (List ℕ) → Option (List ℕ) → Ahead → Type 0
+StopsTaken old new before now taken = (ahead : Ahead) (mid rest : Option (List ℕ)) → GaveFirst (filing_kept taken.item) ahead taken mid rest → Agrees taken rest
+    → (first : State) (begun input : Option (List ℕ)) → Serving first old begun before ahead input mid → Stopped first new begun now input rest
+
+-- but not since the writer failed
+abbrev pub IsAnsweredTaken : State → State → Option (List ℕ) → Option (List ℕ) → Ahead → Type 0
+IsAnsweredTaken old new before now taken = (ahead : Ahead) (mid rest : Option (List ℕ)) → GaveFirst (filing_kept taken.item) ahead taken mid rest → Agrees taken rest
+    → (first : State) (begun input : Option (List ℕ)) → Serving first old begun before ahead input mid → Answered first new begun now input rest

@@ -16,6 +16,8 @@
 //!   may have to wait. Its contract speaks of bytes alone: what was written is the output of what was read.
 //! - *The journal as a text* (`Core::write_journal`, `read_journal`) names one history. A core that is read from it
 //!   has come to the same as the one that wrote it, and goes on from there.
+//! - *The text of a store* (`read_stored`) is a journal text that can be appended to: a gate stands in the place of its
+//!   last line, and what stands after that counts for nothing.
 //!
 //! `desk` has the calls and the ledger, `entry` and `entry_list` the journal, `journal_item` and `journal_reading` read its text,
 //! `answer` and `line` have the texts of answers, `change` and `row` what readers see, `laws` and `journal_laws` what follows from
@@ -44,7 +46,7 @@ pub use entry::{Entry, MAX_FEEDERS};
 pub use flow_input::{Counted, Frame, Intake, IntakeFault, MAX_INPUT, WriteFault};
 pub use flow_regulations::{Notice, Said, Told, Window};
 pub use flow_traffic::{Kind, Verdict};
-pub use journal_reading::{JournalFault, read_journal};
+pub use journal_reading::{JournalFault, read_journal, read_stored};
 pub use receipt::{Receipt, StepFault};
 pub use row::Row;
-pub use serving::{ServeFault, serve};
+pub use serving::{ServeFault, answer_frames, serve};

@@ -165,12 +165,11 @@ impl<R: Wait + Drop, A: Allocator + Copy> Publisher<R, A> {
         let mut writer = Writer::new(alloc, first, second, readers)?;
         let one = writer.append(idle).is_ok();
         let two = writer.append(further).is_ok();
-        let publisher = Publisher { writer, rt };
         if one && two {
-            Ok(publisher)
-        } else {
-            Err(AllocError)
+            return Ok(Publisher { writer, rt });
         }
+        drop(writer.take(&rt));
+        Err(AllocError)
     }
 
     /// Publishes what is pending, which changes nothing, so that both boards have absorbed it and the list of operations

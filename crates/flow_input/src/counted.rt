@@ -38,6 +38,13 @@ impl<D> Counted<D> {
         self.failures
     }
 
+    /// The device. The count is dropped.
+    pub fn into_device(self) -> D
+        ensures { result ≡ self.device }
+    {
+        self.device
+    }
+
     /// Counts a call that failed.
     fn count(&mut self, failed: bool)
         ensures failures { self.new.failures

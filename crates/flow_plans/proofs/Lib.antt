@@ -19,3 +19,4 @@ pub mod Previous
 pub mod ChainMoves
 pub mod ChainWalks
 pub mod ChainChanges
+pub mod FirstMoments

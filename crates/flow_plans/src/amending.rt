@@ -1,9 +1,9 @@
 //! What a CHG makes of a plan.
 ghost use Rattle.std.specs.Prelude.{◌≡◌, ◌≤◌, ◌<◌, Ok, true, IfOk, IfErr, IfSome, length, option_copied, ◌+◌, ◌-◌};
-ghost use Rattle.std.specs.Prelude.{Err, Some, None, OnOk, OnErr};
+ghost use Rattle.std.specs.Prelude.{Err, Some, None, IsOk, OnOk, OnErr};
 ghost use Rattle.flow_plans.specs.Settings.{IsDeskTime};
-ghost use Rattle.flow_plans.specs.Plans.{Plan as Held, is_held, plan_at, with_plan, changed_at};
-ghost use Rattle.flow_plans.specs.Chains.{AreChained, flight_of_key, HasRoomFor, StayChained};
+ghost use Rattle.flow_plans.specs.Plans.{is_held, plan_at, changed_at};
+ghost use Rattle.flow_plans.specs.Chains.{AreChained, flight_of_key, StayChained};
 ghost use Rattle.flow_plans.specs.Changes.{moved_to, key_after, amended_plan, amended, Answers, IsRefusal};
 ghost use Rattle.flow_plans.specs.Changes.{IsJustRefusal};
 ghost use Rattle.flow_plans.specs.Matching.{matching};
@@ -89,6 +89,7 @@ pub(crate) fn amend_plan<A: Allocator + Copy>(
     ensures change { OnOk result (IsOf last.new plans.new) }
     ensures room { OnOk result (CanReturn chains.new last.new plans.new) }
     ensures refused { IfErr result (λ e. IsRefusal e (amended now plans.old message.now)) }
+    ensures memory { IfErr result (λ e. e ≡ PlanFault.OutOfMemory → IsOk (amended now plans.old message.now)) }
     ensures count { length plans.new ≡ length plans.old }
     ensures err { OnErr result (plans.new ≡ plans.old) }
     ensures last { OnErr result (last.new ≡ last.old) }
@@ -103,32 +104,8 @@ pub(crate) fn amend_plan<A: Allocator + Copy>(
     let Ok(()) = chains.reserve(2) else {
         return Err(PlanFault::OutOfMemory);
     };
-    change_chain(plans.as_slice(), chains, number, name);
+    chains.rename(plans.as_slice(), number, name);
     let former = plans.amend(number, message, off_block, texts);
     *last = LastChange::Amended { number, former };
     Ok(number)
-}
-
-/// Takes the plan of this number out of the chain of its flight, and puts it into that of the flight with this name,
-/// which has room for it. It takes no memory.
-pub(crate) fn change_chain<A: Allocator + Copy>(
-    plans: &[Plan<A>],
-    chains: &mut Chains<A>,
-    number: u32,
-    name: FlightName,
-)
-    requires number { (0 < number) × (number ≤ length plans.now) }
-    requires held { IfSome (plan_at plans.now number) (λ p. is_held p.state ≡ true) }
-    requires room { HasRoomFor chains.old name }
-    requires chained { AreChained chains.old plans.now }
-    ensures chained { (p : Held) → is_held p.state ≡ true → flight_of_key p.key ≡ name
-        → AreChained chains.new (with_plan plans.now number p) }
-    ensures room { chains.old.room ≤ chains.new.room + 1 }
-{
-    let before = FlightName::of_key(plans[(number - 1) as usize].key());
-    if name == before {
-        return;
-    }
-    chains.withdraw(&before, number);
-    chains.join(name, number);
 }

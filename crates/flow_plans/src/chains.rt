@@ -1,9 +1,9 @@
 //! Finding plans by identification, departure and destination, without a walk over all plans.
 ghost use Rattle.std.specs.Prelude.{◌≡◌, ◌≤◌, ◌<◌, ◌+◌, ◌-◌, ◌++◌, ◌∷◌, [], ℕ, Bool, true, false, None, OnOk};
-ghost use Rattle.std.specs.Prelude.{OnErr, length, max, take, slice_index, fold, ◌*◌};
+ghost use Rattle.std.specs.Prelude.{OnErr, IfSome, length, max, take, slice_index, fold, ◌*◌};
 ghost use Rattle.std.specs.Map.{lookup};
 ghost use Rattle.indexmap.specs.IndexMap.{spare};
-ghost use Rattle.flow_plans.specs.Plans.{is_held};
+ghost use Rattle.flow_plans.specs.Plans.{Plan as Held, is_held, plan_at, with_plan};
 ghost use Rattle.flow_plans.specs.Chains.{base_256, flight_named, flight_of_key, flight_of_parts, same_flight, newest};
 ghost use Rattle.flow_plans.specs.Chains.{GoDown, AreLinks, IsNewest, AreChained, HasRoomFor, IsUpdated, KeepNames};
 ghost use Rattle.flow_plans.specs.Chains.{IsForgotten, StayChained, IsApart, LeaveOut, TakeIn};
@@ -203,6 +203,25 @@ impl<A: Allocator + Copy> Chains<A> {
         let later = later_than(&self.older, newest, number);
         self.older[place] = self.older[later];
         self.older[later] = number;
+    }
+
+    /// Takes the plan of this number out of the chain of its flight, and puts it into that of the flight with this name,
+    /// which has room for it. It takes no memory.
+    pub(crate) fn rename(&mut self, plans: &[Plan<A>], number: u32, name: FlightName)
+        requires number { (0 < number) × (number ≤ length plans.now) }
+        requires held { IfSome (plan_at plans.now number) (λ p. is_held p.state ≡ true) }
+        requires room { HasRoomFor self.old name }
+        requires chained { AreChained self.old plans.now }
+        ensures chained { (p : Held) → is_held p.state ≡ true → flight_of_key p.key ≡ name
+            → AreChained self.new (with_plan plans.now number p) }
+        ensures room { self.old.room ≤ self.new.room + 1 }
+    {
+        let before = FlightName::of_key(plans[(number - 1) as usize].key());
+        if name == before {
+            return;
+        }
+        self.withdraw(&before, number);
+        self.join(name, number);
     }
 
     /// Takes the last of these plans out of its chain, and forgets its flight where no other plan is held under that

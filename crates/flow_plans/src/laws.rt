@@ -2,7 +2,7 @@
 //! the plan that it was given to. Plans are found by chains that have held plans alone. The plans are those before a
 //! message and after it, and those of whole runs.
 
-ghost use Rattle.std.specs.Prelude.{◌≡◌, ◌<◌, ◌+◌, ◌↔◌, ℕ, true, List, [], ◌∷◌, length, Ok, Some, None};
+ghost use Rattle.std.specs.Prelude.{◌≡◌, ◌<◌, ◌≤◌, ◌+◌, ◌%◌, ◌↔◌, ℕ, true, List, [], ◌∷◌, length, Ok, Some, None};
 ghost use Rattle.fpl_message.specs.declared.short_message.Dla.{Dla};
 ghost use Rattle.fpl_message.specs.declared.short_message.Cnl.{Cnl};
 ghost use Rattle.fpl_message.specs.declared.short_message.Dep.{Dep};
@@ -15,6 +15,10 @@ ghost use Rattle.flow_plans.specs.Changes.{Changed, plan_of, moment_of, filed, d
 ghost use Rattle.flow_plans.specs.Distinct.{AreDistinct, KeepKeys, KeepFlights};
 ghost use Rattle.flow_plans.specs.Runs.{Change, change_of, changed_all, Turn, changes, takes_back, Held, after_turns};
 ghost use Rattle.flow_plans.specs.Runs.{nothing_held};
+ghost use Rattle.flow_plans.specs.Times.{first_from};
+ghost use Rattle.flow_plans.specs.declared.setup.TheConstants.{MAX_TAXI, MAX_PLANS, MAX_ENTRIES};
+ghost use Rattle.flow_plans.specs.declared.times.TheConstants.{FURTHEST_AHEAD, LONGEST_DELAY};
+ghost use Rattle.fpl_text.specs.declared.minute.TheConstants.{YEAR_2000, YEAR_2099};
 
 /// Keys that the desk takes for the same are equal.
 pub fn same_keys_are_equal()
@@ -116,4 +120,24 @@ pub fn what_is_taken_back_is_gone()
 pub fn chains_have_held_plans_alone()
     ensures { (chains : Chained) (plans : List Plan) (name : FlightName) → AreChained chains plans
         → chain_from (length plans) chains.older (newest chains.heads name) ≡ held_numbers name plans (length plans) }
+{}
+
+/// A moment found for a time of day is the first at that time that is not before the given one: a flight plan without a
+/// day gets the first from the desk's time on, a delay the first after the moment that is held.
+pub fn first_from_is_first()
+    ensures from { (moment time : ℕ) → moment ≤ first_from moment time }
+    ensures time { (moment time : ℕ) → time < 1_440 → first_from moment time % 1_440 ≡ time }
+    ensures first { (moment time m : ℕ) → moment ≤ m → m % 1_440 ≡ time → first_from moment time ≤ m }
+{}
+
+/// The numbers of the limits: minutes of a delay and of an off-block moment after the desk's time, minutes of taxi time,
+/// flight plans, entries of a journal, and the moments 2000-01-01 00:00 and 2099-01-01 00:00.
+pub fn limits_are()
+    ensures delay { LONGEST_DELAY ≡ 720 }
+    ensures ahead { FURTHEST_AHEAD ≡ 7_200 }
+    ensures taxi { MAX_TAXI ≡ 120 }
+    ensures plans { MAX_PLANS ≡ 20_000 }
+    ensures entries { MAX_ENTRIES ≡ 1_000_000 }
+    ensures start { YEAR_2000 ≡ 15_778_080 }
+    ensures end { YEAR_2099 ≡ 67_848_480 }
 {}

@@ -1,6 +1,6 @@
 //! The plans by number.
 ghost use Rattle.std.specs.Prelude.{◌≡◌, ◌≢◌, ◌≤◌, ◌<◌, ◌+◌, ◌-◌, ◌++◌, ◌∷◌, ℕ, [], Ok, Err, Some, None, IfOk};
-ghost use Rattle.std.specs.Prelude.{IfErr, OnOk, OnErr, IfSome, IsSome, IsTrue, ◌↔◌, true, length};
+ghost use Rattle.std.specs.Prelude.{IfErr, IsOk, OnOk, OnErr, IfSome, IsSome, IsTrue, ◌↔◌, true, length};
 ghost use Rattle.std.specs.Prelude.{slice_get, option_copied};
 ghost use Rattle.flow_plans.specs.Settings.{IsDeskTime};
 ghost use Rattle.flow_plans.specs.Entries.{take_off, entry_at, subject};
@@ -110,6 +110,8 @@ impl<A: Allocator + Copy> PlanStore<A> {
             × (n ≡ length self.new.plans)) }
         ensures next { IfOk result (λ n. n ≡ length self.old.plans + 1) }
         ensures refused { IfErr result (λ e. IsRefusal e (filed self.old.max_plans now self.old.plans message.now)) }
+        ensures memory { IfErr result (λ e. e ≡ PlanFault.OutOfMemory
+            → IsOk (filed self.old.max_plans now self.old.plans message.now)) }
         ensures before { OnOk result (self.new.before ≡ Some self.old.plans) }
         ensures err { OnErr result (self.new.plans ≡ self.old.plans) }
         ensures kept { OnErr result (self.new.before ≡ self.old.before) }
@@ -230,6 +232,8 @@ impl<A: Allocator + Copy> PlanStore<A> {
             ≡ Ok (record { plans = self.new.plans; number = n })) }
         ensures within { IfOk result (λ n. (0 < n) × (n ≤ length self.new.plans)) }
         ensures refused { IfErr result (λ e. IsRefusal e (amended now self.old.plans message.now)) }
+        ensures memory { IfErr result (λ e. e ≡ PlanFault.OutOfMemory
+            → IsOk (amended now self.old.plans message.now)) }
         ensures before { OnOk result (self.new.before ≡ Some self.old.plans) }
         ensures err { OnErr result (self.new ≡ self.old) }
         ensures count { length self.new.plans ≡ length self.old.plans }
@@ -429,8 +433,7 @@ fn why_refused<A: Allocator + Copy>(
         ≡ Ok (plans.now ++ plan_of moment message.now ∷ [])) }
     ensures room { OnOk result (length plans.now < max_plans) }
     ensures bound { IfOk result (λ moment. moment < off_blocks_end) }
-    ensures refused { IfErr result (λ e. IsRefusal e (filed max_plans now plans.now message.now)) }
-    ensures memory { result ≢ Err PlanFault.OutOfMemory }
+    ensures refused { IfErr result (λ e. IsJustRefusal e (filed max_plans now plans.now message.now)) }
 {
     let Some(off_block) = moment_of(message, now) else {
         return Err(PlanFault::TooEarly);

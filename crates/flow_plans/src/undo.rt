@@ -5,7 +5,6 @@ ghost use Rattle.flow_plans.specs.Chains.{flight_of_key, AreChained, HasRoomFor}
 ghost use Rattle.flow_plans.specs.Plans.{is_held, plan_at, status_at, changed_at, with_state};
 ghost use Rattle.flow_plans.specs.declared.setup.TheConstants.{MAX_PLANS};
 
-use crate::amending::change_chain;
 use crate::chains::{Chains, FlightName};
 use crate::plan::{Former, Plan, PlanState, Status};
 use crate::plan_list::PlanList;
@@ -57,7 +56,7 @@ pub(crate) fn undo<A: Allocator + Copy>(
         }
         LastChange::Amended { number, former } => {
             let name = FlightName::of_key(former.key());
-            change_chain(plans.as_slice(), chains, number, name);
+            chains.rename(plans.as_slice(), number, name);
             plans.restore(number, former);
         }
     }

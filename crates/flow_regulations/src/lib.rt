@@ -50,5 +50,6 @@ pub use due::{ISSUE_LEAD, due_until};
 pub use due_queue::{Awaited, DueQueue};
 pub use notice::{Notice, Said, Told, Window};
 pub use places::Place;
+pub use regulation::Regulation;
 pub use regulations::Regulations;
 pub use window::window_of;

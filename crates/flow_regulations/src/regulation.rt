@@ -33,7 +33,7 @@ use std::marker::Model;
 
 /// An open regulation with its slot list.
 #[derive(Drop)]
-pub(crate) struct Regulation<A: Allocator + Copy = Global> {
+pub struct Regulation<A: Allocator + Copy = Global> {
     pub(crate) id: Text<8>,
     pub(crate) spot: Spot,
     pub(crate) list: SlotList<A>,
@@ -91,8 +91,22 @@ impl<A: Allocator + Copy> Regulation<A> {
         row_of(&self.spot)
     }
 
-    /// Its slot list.
-    pub(crate) fn list(&self) -> &SlotList<A>
+    /// Its name.
+    pub fn id(&self) -> &Text<8>
+        ensures { result.now ≡ self.now.id }
+    {
+        &self.id
+    }
+
+    /// The aerodrome or route point whose flow is regulated.
+    pub fn spot(&self) -> &Spot
+        ensures { result.now ≡ self.now.spot }
+    {
+        &self.spot
+    }
+
+    /// Its slot list, which has its period and rates.
+    pub fn list(&self) -> &SlotList<A>
         ensures { result.now.lineup ≡ self.now.lineup }
     {
         &self.list

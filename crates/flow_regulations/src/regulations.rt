@@ -108,6 +108,13 @@ impl<A: Allocator + Copy> Regulations<A> {
         self.regulations.len()
     }
 
+    /// The open regulations, in order of opening.
+    pub fn all(&self) -> &[Regulation<A>]
+        ensures { result.now ≡ self.now.lists }
+    {
+        self.regulations.as_slice()
+    }
+
     /// Whether the same regulations are open, of the same names and places and with the same slot lists, in the same
     /// order. It takes no memory.
     pub fn same(&self, other: &Regulations<A>) -> bool

@@ -219,6 +219,20 @@ impl Shape {
         (self.start, self.end)
     }
 
+    /// How many slots an hour the period begins with.
+    pub fn rate(&self) -> u32
+        ensures { result ≡ self.now.rate }
+    {
+        self.rate
+    }
+
+    /// The further sub-periods, in their order.
+    pub fn parts(&self) -> &[Part]
+        ensures { result.now ≡ self.now.parts }
+    {
+        &self.parts[..self.count]
+    }
+
     /// Whether a moment lies in the period.
     pub fn contains(&self, moment: Minute) -> bool
         ensures { IsTrue result ↔ IsWithin self.now moment }

@@ -1,8 +1,9 @@
 //! The traffic of a desk: plans, open regulations, and what each plan was told.
 ghost use Rattle.std.specs.Prelude.{◌≡◌, ◌≤◌, ◌<◌, ◌+◌, ◌-◌, IfOk, IsSome, OnErr, OnOk, Some, None, IsTrue, ◌↔◌};
-ghost use Rattle.std.specs.Prelude.{MatchOption, length, slice_get, option_copied};
+ghost use Rattle.std.specs.Prelude.{MatchOption, length, map, slice_get, option_copied};
 ghost use Rattle.fpl_message.specs.Said.{said};
 ghost use Rattle.flow_plans.specs.Settings.{IsDeskTime};
+ghost use Rattle.flow_regulations.specs.Listing.{IsListed, regulation_of};
 ghost use Rattle.flow_traffic.specs.Traffic.{no_traffic, slots_of};
 ghost use Rattle.flow_traffic.specs.Answers.{Answers, HasDeskMoments};
 ghost use Rattle.flow_traffic.specs.Memory.{MayTakeMemory};
@@ -12,7 +13,7 @@ ghost use Rattle.flow_plans.specs.declared.setup.TheConstants.{MAX_PLANS};
 use crate::undo::{Last, Undoing};
 use crate::verdict::Verdict;
 use flow_plans::{Plan, PlanStore, Setup};
-use flow_regulations::{DueQueue, Notice, Regulations, Told};
+use flow_regulations::{DueQueue, Notice, Regulation, Regulations, Told};
 use flow_slots::SlotList;
 use fpl_message::{Order, Reading};
 use fpl_text::{Minute, Text};
@@ -102,6 +103,14 @@ impl<A: Allocator + Copy> Traffic<A> {
         ensures { result.now ≡ self.now.traffic.notices }
     {
         self.notices.as_slice()
+    }
+
+    /// The open regulations, in order of opening, each with its slot list.
+    pub fn regulations(&self) -> &[Regulation<A>]
+        ensures open { map regulation_of result.now ≡ self.now.traffic.regulations }
+        ensures lists { IsListed self.now.traffic.taxi self.now.traffic.max_plans self.now.traffic.plans result.now }
+    {
+        self.regulations.all()
     }
 
     /// The slot list of the open regulation of this name. None where none is open.

@@ -18,7 +18,7 @@ use Rattle.flow_core.specs.Steps.{step, steps, run, answered}
 use Rattle.flow_core.specs.History.{History, state_of}
 use Rattle.flow_view.specs.declared.slot_row.SlotRow.{SlotRow}
 use Rattle.flow_view.specs.declared.table.Line.{Line}
-use Rattle.flow_view.specs.Opened.{Opening}
+use Rattle.flow_regulations.specs.Listing.{Listed}
 use Rattle.flow_view.specs.Shown.{row_of, held_before, held, shown}
 use Rattle.flow_view.specs.Table.{line_of, lines, listed, HaveFlights}
 use Rattle.flow_view.proofs.Planned.{AllFlights, HasPlan, IsPlanned, ArePlanned, found, joined, settle-planned, assigned-planned, named-planned}
@@ -101,7 +101,7 @@ in-list h spot r a =
     let l : Lineup = lineup_of t.taxi t.max_plans t.plans r in
     lines-flown None _ (rows-flown h.setup.taxi t spot l (held l) (all-held (HasPlan t.plans) (len_of l) l (assigned-planned t.taxi t.max_plans t.plans r a)))
 
-pub all-flown : (h : History) (o : Opening) → HaveFlights (listed h o)
+pub all-flown : (h : History) (o : Listed) → HaveFlights (listed h o)
 all-flown h o = cases (regulation_named o.id (state_of h).traffic.regulations) (named-planned (state_of h).traffic.plans o.id (state_of h).traffic.regulations (run-planned h.setup h.filed)) where
   cases : (m : Option Regulation) → IfSome m (IsPlanned (state_of h).traffic.plans)
       → HaveFlights (option_map_or (λ l. lines (map (row_of h.setup.taxi (state_of h).traffic o.spot l) (held l))) (option_map (lineup_of (state_of h).traffic.taxi (state_of h).traffic.max_plans (state_of h).traffic.plans) m) [])
@@ -109,7 +109,7 @@ all-flown h o = cases (regulation_named o.id (state_of h).traffic.regulations) (
   cases (Some r) a = in-list h o.spot r a
 
 -- and so have the lines that are made of what is shown of an open regulation
-pub flown-lines : (h : History) (o : Opening) (l : Lineup) (rows : List SlotRow) (ls : List Line)
+pub flown-lines : (h : History) (o : Listed) (l : Lineup) (rows : List SlotRow) (ls : List Line)
     → slots_of (state_of h).traffic o.id ≡ Some l → rows ≡ shown h o.spot l → ls ≡ lines rows → HaveFlights ls
 flown-lines h o l rows ls is are made =
     let all : listed h o ≡ lines (shown h o.spot l) = ap (λ (m : Option Lineup). option_map_or (λ k. lines (shown h o.spot k)) m []) is in

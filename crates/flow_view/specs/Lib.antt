@@ -1,6 +1,4 @@
 pub mod Load
-pub mod Opened
-pub mod Opening
 pub mod Scale
 pub mod Shown
 pub mod Table

@@ -9,7 +9,7 @@ use Rattle.flow_view.specs.declared.slot_row.SlotRow.{SlotRow}
 use Rattle.flow_view.specs.declared.table.Line.{Line}
 use Rattle.flow_view.specs.declared.table.Holding.{Holding}
 use Rattle.flow_view.specs.declared.table.Holding.TheVariants.{Waiting, Frozen, Departed}
-use Rattle.flow_view.specs.Opened.{Opening}
+use Rattle.flow_regulations.specs.Listing.{Listed}
 use Rattle.flow_view.specs.Shown.{shown}
 use Rattle.flow_view.specs.Totals.{delay_of}
 
@@ -41,7 +41,7 @@ abbrev pub lines : List SlotRow → List Line
 lines rows = map line_of (zip (None ∷ map (λ r. Some r.slot) rows) rows)
 
 -- the table of a regulation of a desk: the lines of what is shown of its slot list, and none where it isn't open
-abbrev pub listed : History → Opening → List Line
+abbrev pub listed : History → Listed → List Line
 listed h o = option_map_or (λ l. lines (shown h o.spot l)) (slots_of (state_of h).traffic o.id) []
 
 -- each of these lines has a flight

@@ -3,8 +3,6 @@
 
 mod flight;
 mod load;
-mod opened;
-mod past;
 mod rounds;
 mod scale;
 mod slot_row;
@@ -13,8 +11,6 @@ mod totals;
 
 pub use flight::{Flight, entry_at};
 pub use load::{Load, held_later, loads_of};
-pub use opened::{Opened, open_regulations};
-pub use past::core_after;
 pub use rounds::PANEL_WIDTH;
 pub use scale::{PANEL_HEIGHT, Scale};
 pub use slot_row::{SlotRow, row_at, rows_of};

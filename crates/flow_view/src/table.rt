@@ -2,10 +2,10 @@
 ghost use Rattle.std.specs.Prelude.{◌≡◌, IfOk};
 ghost use Rattle.flow_view.specs.Table.{holding_of, ctot_of, empty_between, line_of, lines, listed, HaveFlights};
 
-use crate::opened::Opened;
 use crate::slot_row::{SlotRow, rows_of};
 use flow_core::Core;
 use flow_plans::PlanState;
+use flow_regulations::Regulation;
 use fpl_text::Minute;
 use std::alloc::{AllocError, Allocator};
 
@@ -108,13 +108,13 @@ fn lines_with<A: Allocator + Copy>(
 pub fn lines_of<A: Allocator + Copy>(
     alloc: A,
     core: &Core<A>,
-    opened: &Opened<A>,
+    regulation: &Regulation<A>,
 ) -> Result<Vec<Line, A>, AllocError>
-    ensures lines { IfOk result (λ made. made.items ≡ listed core.now opened.now) }
+    ensures lines { IfOk result (λ made. made.items ≡ listed core.now regulation.now) }
     ensures flights { IfOk result (λ made. HaveFlights made.items) }
 {
-    let Some(list) = core.slots(opened.id()) else {
+    let Some(list) = core.slots(regulation.id()) else {
         return Ok(Vec::new(alloc));
     };
-    lines_with(alloc, rows_of(alloc, core, opened.place(), list)?)
+    lines_with(alloc, rows_of(alloc, core, regulation.spot(), list)?)
 }

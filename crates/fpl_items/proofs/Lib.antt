@@ -9,3 +9,4 @@ pub mod KindsLemmas
 pub mod PlaceLemmas
 pub mod Notes
 pub mod Longest
+pub mod SpeedLawsProofs

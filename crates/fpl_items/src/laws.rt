@@ -1,11 +1,12 @@
 //! Laws over the definitions that the contracts cite.
 
-ghost use Rattle.std.specs.Prelude.{◌≡◌, ◌⊎◌, ℕ, List, [], Ok, codes, drop};
+ghost use Rattle.std.specs.Prelude.{◌≡◌, ◌⊎◌, ℕ, List, [], Ok, true, codes, take, drop};
 ghost use Rattle.fpl_text.specs.Words.{words_of};
 ghost use Rattle.fpl_items.specs.ItemLaws.{BeginWithItem, SpellItems};
 ghost use Rattle.fpl_items.specs.Items.{Item, items_of, items_or_fault};
 ghost use Rattle.fpl_items.specs.Routes.{Path, path_or_fault};
-ghost use Rattle.fpl_items.specs.RouteLaws.{AreElements, AreInOrder};
+ghost use Rattle.fpl_items.specs.RouteLaws.{AreElements, AreInOrder, IsSpeedThenLevel};
+ghost use Rattle.fpl_items.specs.Speeds.{is_speed_and_level, speed_len};
 
 /// The elements of a route are the words behind its first one, each with its place in the field and the first kind that
 /// fits, in the order in which they stand.
@@ -22,4 +23,14 @@ pub fn items_are_words()
     ensures only { (items : List Item) (words : List (List ℕ)) → SpellItems items words → items_of words ≡ items }
     ensures field { (field : List ℕ) (items : List Item) → items_or_fault field ≡ Ok items
         → ((field ≡ codes "0") × (items ≡ [])) ⊎ SpellItems items (words_of field) }
+{}
+
+/// The first word of field 15 is cut in just one way: it is a speed and then a level if and only if both stand there one
+/// after the other, and no other speed and level make up the same word.
+pub fn speed_and_level_have_one_cut()
+    ensures found { (word : List ℕ) → is_speed_and_level word ≡ true
+        → IsSpeedThenLevel word (take (speed_len word) word) (drop (speed_len word) word) }
+    ensures only { (word speed level : List ℕ) → IsSpeedThenLevel word speed level
+        → (is_speed_and_level word ≡ true) × (speed ≡ take (speed_len word) word)
+        × (level ≡ drop (speed_len word) word) }
 {}

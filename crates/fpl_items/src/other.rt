@@ -1,7 +1,8 @@
 //! Field 18: other information.
 
 ghost use Rattle.std.specs.Prelude.{◌≡◌, ◌≢◌, ◌≤◌, ◌<◌, ◌+◌, ◌-◌, true, false, is_some, slice_index_or, length, drop};
-ghost use Rattle.std.specs.Prelude.{[], None, Some, IfSome, IfOk, IfErr, List};
+ghost use Rattle.std.specs.Prelude.{[], None, Some, IfSome, IfOk, IfErr, List, MatchOption, pos};
+ghost use Rattle.jiff_core.specs.Date.{epoch_day};
 ghost use Rattle.std.specs.List.{list_all, list_any, prefix_len};
 ghost use Rattle.fpl_text.specs.Bytes.{is_letter_or_digit};
 ghost use Rattle.fpl_text.specs.Times.{elapsed_time};
@@ -22,6 +23,7 @@ use crate::estimates::Estimates;
 use crate::fault::ItemFault;
 use crate::item::{Item, ItemWords, Items, begins_item};
 use fpl_text::{Day, Measured, Words, all_letters_or_digits, read_elapsed};
+use jiff::civil::Date;
 use std::alloc::{Allocator, Global};
 use std::marker::Model;
 
@@ -341,6 +343,25 @@ impl<A: Allocator + Copy> Other18<A> {
         ensures items { (items : List Entry) → TellsOf items self.now → result ≡ day_of_items items }
     {
         self.day
+    }
+
+    /// The date of that day.
+    pub fn date(&self) -> Option<Date>
+        ensures { MatchOption result (self.now.day ≡ None) (λ date. IfSome self.now.day (λ day. epoch_day date ≡ pos day)
+            × (is_some self.now.day ≡ true)) }
+    {
+        match self.day {
+            Some(day) => Some(day.date()),
+            None => None,
+        }
+    }
+
+    /// The items, in order, over the text from which this was read, which isn't kept here.
+    pub fn items<'a>(&self, field: &'a [u8]) -> Items<'a>
+        requires { TellsOf (items_of (words_of field.now)) self.now }
+        ensures { result ≡ items_of (words_of field.now) }
+    {
+        Items::new(field)
     }
 
     /// The estimates of the EET items, which are told without a look at these.

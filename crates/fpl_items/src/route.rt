@@ -1,7 +1,9 @@
 //! Field 15: the route.
 
-ghost use Rattle.std.specs.Prelude.{◌≡◌, ◌≤◌, ◌<◌, ◌+◌, [], None, Some, length, vec_capacity, MatchOption};
-ghost use Rattle.std.specs.List.{list_all, prefix_len};
+ghost use Rattle.std.specs.Prelude.{◌≡◌, ◌≤◌, ◌<◌, ◌+◌, ◌==◌, [], true, None, Some, length, slice_index_or, vec_capacity, MatchOption, IfErr};
+ghost use Rattle.std.specs.List.{count_by, list_all, prefix_len};
+ghost use Rattle.fpl_text.specs.Words.{words_of};
+ghost use Rattle.fpl_items.specs.Speeds.{is_speed_and_level};
 ghost use Rattle.fpl_text.specs.Bytes.{is_letter, is_letter_or_digit};
 ghost use Rattle.fpl_items.specs.Routes.{path_or_fault, is_route, elements_of, total_len, Gives};
 ghost use Rattle.fpl_items.specs.Kinds.{is_name, is_coordinate, is_point, is_change, is_climb_range, is_climb_speed};
@@ -299,10 +301,14 @@ pub fn is_route(field: &[u8]) -> bool
 }
 
 impl<A: Allocator + Copy> Route<A> {
-    /// Reads field 15. It is OutOfMemory only where there is no memory for as many elements as the field has spaces.
+    /// Reads field 15. It takes memory for as many elements as the field has spaces, if the field has any and its first
+    /// word is a speed and a level, and only then can allocation fail.
     #[tactic(auto, unfolding(crate::specs::Routes::path_or_fault))]
     pub fn read(alloc: A, field: &[u8]) -> Result<Self, ItemFault>
-        ensures { Gives (λ route. route) result (path_or_fault field.now) }
+        ensures value { Gives (λ route. route) result (path_or_fault field.now) }
+        ensures memory { IfErr result (λ fault. fault ≡ ItemFault.OutOfMemory
+            → (is_speed_and_level (slice_index_or (words_of field.now) 0 []) ≡ true)
+            × (0 < count_by (λ b. b == 32) field.now)) }
     {
         let mut words = Words::new(field);
         let Some(first) = words.next() else {

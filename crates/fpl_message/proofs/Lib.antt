@@ -4,3 +4,4 @@ pub mod OrderLemmas
 pub mod EditionLemmas
 pub mod OrderYears
 pub mod PlaceLemmas
+pub mod HeadingLemmas

@@ -11,3 +11,4 @@ pub mod Orders
 pub mod SaidOrders
 pub mod Reads
 pub mod Said
+pub mod NinthEstimates

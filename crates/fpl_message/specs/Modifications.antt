@@ -6,7 +6,7 @@ use Rattle.fpl_text.specs.Craft.{rules_of, craft_of}
 use Rattle.fpl_items.specs.Items.{items_or_fault}
 use Rattle.fpl_message.specs.declared.refusal.Refusal.{Refusal}
 use Rattle.fpl_message.specs.declared.refusal.Refusal.TheVariants as refusal
-use Rattle.fpl_message.specs.declared.parts.Parts.{Parts}
+use Rattle.fpl_message.specs.declared.parts.Opening.{Opening}
 use Rattle.fpl_message.specs.Refusals.{◌>>=◌, by_items, in_field}
 use Rattle.fpl_message.specs.Messages.{field, Chg}
 use Rattle.fpl_message.specs.FlightPlans.{equipment_of, route_of}
@@ -80,9 +80,9 @@ amended [] m = Ok m
 amended (field ∷ fields) m = amend field m >>= amended fields
 
 -- a modification of a plan that amends nothing yet
-abbrev pub unamended : Parts → Chg
-unamended parts = record {
-  parts = parts;
+abbrev pub unamended : Opening → Chg
+unamended opening = record {
+  parts = opening.parts;
   rules = None;
   departure = None;
   destination = None;
@@ -99,4 +99,4 @@ unfoldable pub chg_of : List (List ℕ) → Result Chg Refusal
 chg_of fields =
     let has_other = not (begins_amendment (field fields 4)) in
     opening_of has_other fields
-    >>= (λ opening. amended (drop (if has_other then 5 else 4) fields) (unamended opening.parts))
+    >>= (λ opening. amended (drop (if has_other then 5 else 4) fields) (unamended opening))

@@ -2,6 +2,8 @@
 use Rattle.std.specs.Prelude.{ℕ, Bool, ◌==◌, if◌then◌else◌, List, [], slice_index_or, codes, Option, Some, None, Result, Ok, Err}
 use Rattle.fpl_text.specs.Squeezing.{squeezed, squeezed_or_fault}
 use Rattle.fpl_text.specs.Fields.{fields_or_fault, first_field, title_of}
+use Rattle.fpl_text.specs.Headings.{heading_of}
+use Rattle.fpl_text.specs.declared.heading.Heading.{Heading}
 use Rattle.fpl_text.specs.Words.{words_of}
 use Rattle.fpl_items.specs.Kinds.{is_text}
 use Rattle.fpl_text.specs.declared.fields.Title.{Title}
@@ -57,6 +59,15 @@ or_bad (Err refusal) = bad refusal
 -- the reading of a filing: what it says, or that it is refused
 unfoldable pub reading_of : FilingText → Reading
 reading_of filing = or_bad (reading_or_refusal filing)
+
+-- field 3 of a text that has fields, where the first has that form, whether the text is refused or not
+abbrev pub heading_of_fields : Result (List (List ℕ)) Refusal → Option Heading
+heading_of_fields (Ok fields) = heading_of (field fields 0)
+heading_of_fields (Err refusal) = None
+
+abbrev pub heading_of_bytes : List ℕ → Option Heading
+heading_of_bytes bytes =
+    heading_of_fields (by_text (squeezed_or_fault bytes) >>= (λ text. by_text (fields_or_fault text)))
 
 -- the first word of a filing is OPEN
 abbrev pub is_open : List ℕ → Bool

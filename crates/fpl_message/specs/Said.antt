@@ -9,10 +9,10 @@ use Rattle.fpl_message.specs.SaidOrders.{said_order}
 
 abbrev pub said_message : {A : Type 0} → kept_message.Message A → Message
 said_message (message.Fpl m) = fpl m.value
-said_message (message.Dla m) = dla m.value
+said_message (message.Dla m) = dla m
 said_message (message.Chg m) = chg m.value
-said_message (message.Cnl m) = cnl m.value
-said_message (message.Dep m) = dep m.value
+said_message (message.Cnl m) = cnl m
+said_message (message.Dep m) = dep m
 
 abbrev pub said : {A : Type 0} → kept_reading.Reading A → Reading
 said (reading.Msg m) = msg (said_message m)

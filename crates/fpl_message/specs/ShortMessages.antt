@@ -4,7 +4,7 @@ use Rattle.fpl_text.specs.Headings.{heading_of}
 use Rattle.fpl_text.specs.Places.{ident_of, departure_of, destination_of}
 use Rattle.fpl_items.specs.Items.{items_or_fault, day_of_items}
 use Rattle.fpl_message.specs.declared.refusal.Refusal.{Refusal}
-use Rattle.fpl_message.specs.declared.parts.Parts.{Parts}
+use Rattle.fpl_message.specs.declared.parts.Opening.{Opening}
 use Rattle.fpl_message.specs.declared.short_message.Dla.{Dla}
 use Rattle.fpl_message.specs.declared.short_message.Cnl.{Cnl}
 use Rattle.fpl_message.specs.declared.short_message.Dep.{Dep}
@@ -15,14 +15,6 @@ use Rattle.fpl_message.specs.Messages.{field}
 abbrev pub other_day : Bool → List (List ℕ) → Result (Option ℕ) Refusal
 other_day has_other fields =
     if has_other then by_items (items_or_fault (field fields 4)) >>= (λ items. Ok (day_of_items items)) else Ok None
-
--- the fields with which a message about a held plan begins: what names the plan, and the time of field 13
-pub record Opening : Type 0 where
-  pub parts : Parts
-  pub time : ℕ
-
-abbrev pub opening : Parts → ℕ → Opening
-opening parts time = record { parts = parts; time = time }
 
 -- fields 3, 7, 13 and 16, and then field 18 or none, read from the left
 unfoldable pub opening_of : Bool → List (List ℕ) → Result Opening Refusal

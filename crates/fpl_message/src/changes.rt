@@ -1,12 +1,13 @@
 //! The amended fields of a modification, field type 22.
 ghost use Rattle.std.specs.Prelude.{◌≡◌, ◌≢◌, Err, ◌≤◌, ◌<◌, drop, length, true, IfOk};
 ghost use Rattle.fpl_text.specs.Fields.{begins_amendment};
-ghost use Rattle.fpl_message.specs.Refusals.{Gives};
+ghost use Rattle.fpl_message.specs.Refusals.{Gives, RunsOutOnlyIf, IsPastTheEighth};
 ghost use Rattle.fpl_message.specs.Messages.{field};
 ghost use Rattle.fpl_message.specs.Modifications.{amended_number, amended_text, amend_rules, amend_craft};
 ghost use Rattle.fpl_message.specs.Modifications.{amend_equipment, amend_departure, amend_route, amend_destination};
 ghost use Rattle.fpl_message.specs.Modifications.{amend_other, amend_numbered, amend, amended, chg_of};
 ghost use Rattle.fpl_message.specs.KeptChanges.{kept, StandAmong};
+ghost use Rattle.fpl_message.specs.NinthEstimates.{NotesNine, ChgNotesNine};
 
 use crate::fault::Fault;
 use crate::parts::{Parts, read_opening};
@@ -169,6 +170,8 @@ impl<A: Allocator + Copy> Changes<A> {
         requires { place < length fields.now }
         ensures change { Gives (λ _. kept fields.now self.new) result
             (amend_other (amended_text (field fields.now place)) (kept fields.now self.old)) }
+        ensures memory { RunsOutOnlyIf result (IsPastTheEighth (amended_text (field fields.now place))
+            (amend_other (amended_text (field fields.now place)) (kept fields.now self.old))) }
         ensures stand { StandAmong fields.now self.old → StandAmong fields.now self.new }
     {
         if self.field18.is_some() {
@@ -186,6 +189,8 @@ impl<A: Allocator + Copy> Changes<A> {
         requires { place < length fields.now }
         ensures change { Gives (λ _. kept fields.now self.new) result
             (amend (field fields.now place) (kept fields.now self.old)) }
+        ensures memory { RunsOutOnlyIf result (IsPastTheEighth (amended_text (field fields.now place))
+            (amend (field fields.now place) (kept fields.now self.old))) }
         ensures stand { StandAmong fields.now self.old → StandAmong fields.now self.new }
     {
         let field = fields.field(place);
@@ -210,6 +215,7 @@ impl<A: Allocator + Copy> Changes<A> {
         requires { first ≤ length fields.now }
         ensures change { Gives (λ _. kept fields.now self.new) result
             (amended (drop first fields.now) (kept fields.now self.old)) }
+        ensures memory { RunsOutOnlyIf result (NotesNine (drop first fields.now) (kept fields.now self.old)) }
         ensures stand { StandAmong fields.now self.old → StandAmong fields.now self.new }
     {
         for place in first..fields.count() {
@@ -239,6 +245,7 @@ impl<A: Allocator + Copy> Changes<A> {
     pub(crate) fn read(&mut self, alloc: A, fields: &Fields<A>) -> Result<(), Fault>
         requires { 5 ≤ length fields.now }
         ensures change { Gives (λ _. kept fields.now self.new) result (chg_of fields.now) }
+        ensures memory { RunsOutOnlyIf result (ChgNotesNine fields.now) }
         ensures stand { StandAmong fields.now self.new }
     {
         self.rules = None;
@@ -251,7 +258,8 @@ impl<A: Allocator + Copy> Changes<A> {
         self.field15 = None;
         self.field18 = None;
         let has_other = !begins_amendment(fields.field(4));
-        let _time = read_opening(alloc, has_other, fields, &mut self.parts)?;
+        let opening = read_opening(alloc, has_other, fields)?;
+        self.parts = opening.parts;
         let first = if has_other { 5 } else { 4 };
         self.amend_from(alloc, fields, first)
     }

@@ -1,6 +1,6 @@
 //! A filing: its bytes, and the reading of them.
 ghost use Rattle.std.specs.Prelude.{◌≡◌, ◌≤◌, ◌<◌, ◌↔◌, length, IfOk, IfErr, IsErrOf};
-ghost use Rattle.fpl_message.specs.Reads.{reading_of};
+ghost use Rattle.fpl_message.specs.Reads.{reading_of, heading_of_bytes};
 ghost use Rattle.fpl_message.specs.Said.{said};
 ghost use Rattle.fpl_message.specs.declared.filed_text.TheConstants.{MAX_BYTES};
 
@@ -8,6 +8,8 @@ use crate::edition::Edition;
 use crate::filed_text::{FiledText, FilingFault, MAX_BYTES};
 use crate::filing_reader::FilingReader;
 use crate::message::Reading;
+use crate::reading::heading_of;
+use fpl_text::Heading;
 use std::alloc::{AllocError, Allocator, Global};
 use std::marker::Model;
 
@@ -116,6 +118,14 @@ impl<A: Allocator + Copy> Filing<A> {
         ensures { result ≡ self.now.edition }
     {
         self.text.edition()
+    }
+
+    /// Field 3 of a message, with its number and its reference, which have no effect: read anew at each call, in memory of
+    /// the caller. It is `None` if the text has no fields or its first one does not have the form.
+    pub fn heading<B: Allocator + Copy>(&self, alloc: B) -> Result<Option<Heading>, AllocError>
+        ensures { IfOk result (λ heading. heading ≡ heading_of_bytes self.now.bytes) }
+    {
+        heading_of(alloc, self.text())
     }
 
     /// What they say, or their first refusal.

@@ -8,7 +8,7 @@ use crate::edition::Edition;
 use crate::message::Reading;
 use crate::reading::read;
 use crate::refusal::Refusal;
-use crate::spares::{Spares, keep};
+use crate::spares::Spares;
 use std::alloc::{AllocError, Allocator, Global};
 use std::marker::Model;
 use std::mem::replace;
@@ -20,7 +20,7 @@ pub struct FilingReader<A: Allocator + Copy = Global> {
     /// Where the last text was squeezed, for the next one.
     room: Vec<u8, A>,
     /// Where messages lay, for the next ones.
-    spares: Option<Box<Spares<A>, A>>,
+    spares: Spares<A>,
     reading: Reading<A>,
 }
 
@@ -33,24 +33,6 @@ impl<A: Allocator + Copy> Model for FilingReader<A> {
     ghost view = { λ r. said r.reading };
 }
 
-/// Reads bytes as `read` does, with these spares or none.
-fn read_over<A: Allocator + Copy>(
-    alloc: A,
-    room: &mut Vec<u8, A>,
-    spares: &mut Option<Box<Spares<A>, A>>,
-    reading: &mut Reading<A>,
-    edition: Edition,
-    bytes: &[u8],
-) -> Result<(), AllocError>
-    requires { length bytes.now ≤ MAX_BYTES }
-    ensures { OnOk result (said reading.new ≡ reading_of (record { edition = edition; bytes = bytes.now })) }
-{
-    match spares {
-        Some(spares) => read(alloc, room, &mut **spares, reading, edition, bytes),
-        None => read(alloc, room, &mut Spares::none(), reading, edition, bytes),
-    }
-}
-
 impl<A: Allocator + Copy> FilingReader<A> {
     /// A reader that has read no bytes, and has no memory.
     pub fn new(alloc: A) -> Self
@@ -58,7 +40,7 @@ impl<A: Allocator + Copy> FilingReader<A> {
     {
         FilingReader {
             room: Vec::new(alloc),
-            spares: None,
+            spares: Spares::none(),
             reading: Reading::Bad(Refusal::Empty),
         }
     }
@@ -75,7 +57,7 @@ impl<A: Allocator + Copy> FilingReader<A> {
         ensures { IfOk result (λ reader. reader ≡ reading_of (record { edition = edition; bytes = bytes.now })) }
     {
         let mut reader = FilingReader::new(alloc);
-        read_over(
+        read(
             alloc,
             room,
             &mut reader.spares,
@@ -93,8 +75,8 @@ impl<A: Allocator + Copy> FilingReader<A> {
         ensures ok { OnOk result (self.new ≡ reading_of (record { edition = edition; bytes = bytes.now })) }
         ensures err { OnErr result (self.new ≡ bad Refusal.Empty) }
     {
-        self.clear(alloc);
-        let Ok(()) = read_over(
+        self.clear();
+        let Ok(()) = read(
             alloc,
             &mut self.room,
             &mut self.spares,
@@ -102,19 +84,18 @@ impl<A: Allocator + Copy> FilingReader<A> {
             edition,
             bytes,
         ) else {
-            self.clear(alloc);
+            self.clear();
             return Err(AllocError);
         };
         Ok(())
     }
 
-    /// Lets go of what the last bytes said, and keeps its memory.
-    #[inline(always)]
-    pub(crate) fn clear(&mut self, alloc: A)
+    /// Releases what the last bytes said, and keeps its box.
+    fn clear(&mut self)
         ensures { self.new ≡ bad Refusal.Empty }
     {
         let last = replace(&mut self.reading, Reading::Bad(Refusal::Empty));
-        keep(alloc, &mut self.spares, last);
+        self.spares.keep(last);
     }
 
     /// What the last bytes say, or their first refusal.

@@ -1,6 +1,6 @@
 //! The filed flight plan message, FPL.
 ghost use Rattle.std.specs.Prelude.{◌≡◌, ◌<◌, length, Some, Ok, IfOk, IfErr};
-ghost use Rattle.fpl_message.specs.Refusals.{Gives};
+ghost use Rattle.fpl_message.specs.Refusals.{Gives, RunsOutOnlyIf, IsPastTheEighth};
 ghost use Rattle.fpl_items.specs.Routes.{is_route, path_or_fault};
 ghost use Rattle.fpl_text.specs.Words.{words_of};
 ghost use Rattle.fpl_items.specs.Items.{items_of};
@@ -57,7 +57,8 @@ impl<A: Allocator + Copy> Model for Fpl<A> {
 }
 
 impl<A: Allocator + Copy> Fpl<A> {
-    /// Reads the fields of an FPL, from the left.
+    /// Reads the fields of an FPL, from the left. It takes memory only for a ninth estimate of field 18, and for a flight
+    /// plan if there is no spare.
     #[tactic(auto, unfolding(crate::specs::FlightPlans::fpl_of))]
     pub(crate) fn read(
         alloc: A,
@@ -66,7 +67,9 @@ impl<A: Allocator + Copy> Fpl<A> {
         fields: Fields<A>,
     ) -> Result<Box<Fpl<A>, A>, Fault>
         requires { length fields ≡ 9 }
-        ensures { Gives (λ b. b.value) result (fpl_of fields) }
+        ensures value { Gives (λ b. b.value) result (fpl_of fields) }
+        ensures memory { RunsOutOnlyIf result
+            (IfErr (fpl_of fields) (λ _. IsPastTheEighth (field fields 8) (fpl_of fields))) }
     {
         let _heading = Heading::read(fields.field(0))?;
         let ident = Ident::read(fields.field(1))?;
@@ -101,7 +104,8 @@ impl<A: Allocator + Copy> Fpl<A> {
         Ok(last)
     }
 
-    /// Makes it another plan. The room of its text is left for the next one.
+    /// Makes it another plan. The room of its text is left for the next one. It is inlined, since the plan would be
+    /// copied once more to be passed.
     #[inline(always)]
     fn renew(&mut self, room: &mut Vec<u8, A>, plan: Fpl<A>)
         ensures { self.new ≡ plan }

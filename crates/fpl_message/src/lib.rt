@@ -37,7 +37,9 @@ pub use filed_text::{FiledText, FilingFault, MAX_BYTES};
 pub use filing::Filing;
 pub use filing_reader::FilingReader;
 pub use flight_plan::Fpl;
-pub use laws::{amendments_are_their_parts, editions_differ_in_open};
+pub use laws::{
+    amendments_are_their_parts, editions_differ_in_open, limits_are, messages_have_headings,
+};
 pub use message::{Message, Reading};
 pub use modification::Chg;
 pub use order::{OpenReg, Order, Spot};

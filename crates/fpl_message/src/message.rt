@@ -6,19 +6,19 @@ use crate::refusal::Refusal;
 use crate::short_message::{Cnl, Dep, Dla};
 use std::alloc::{Allocator, Global};
 
-/// What a message says (ICAO Doc 4444, appendix 2). Each kind lies in memory of its own size.
+/// What a message says (ICAO Doc 4444, appendix 2). The two that keep their text are boxed.
 #[derive(Drop)]
 pub enum Message<A: Allocator + Copy = Global> {
     /// A filed flight plan.
     Fpl(Box<Fpl<A>, A>),
     /// A delay.
-    Dla(Box<Dla, A>),
+    Dla(Dla),
     /// A modification.
     Chg(Box<Chg<A>, A>),
     /// A cancellation.
-    Cnl(Box<Cnl, A>),
+    Cnl(Cnl),
     /// A departure.
-    Dep(Box<Dep, A>),
+    Dep(Dep),
 }
 
 /// What the bytes of a filing say, or why they are refused.
@@ -29,5 +29,5 @@ pub enum Reading<A: Allocator + Copy = Global> {
     Bad(Refusal),
 }
 
-// What lies in memory of its own, as a message, comes on top.
-const _: () = prove!(size_of::<Reading>() <= 32);
+// What is boxed comes on top.
+const _: () = prove!(size_of::<Reading>() <= 48);

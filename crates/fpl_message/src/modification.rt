@@ -1,9 +1,10 @@
 //! The modification message, CHG.
-ghost use Rattle.std.specs.Prelude.{◌≡◌, ◌≤◌, ◌<◌, length, option_copied, IfSome};
+ghost use Rattle.std.specs.Prelude.{◌≡◌, ◌≤◌, ◌<◌, length, option_copied, IfErr, IfSome};
 ghost use Rattle.std.specs.Option.{ForSome};
 ghost use Rattle.fpl_items.specs.Told.{TellsOfAny};
-ghost use Rattle.fpl_message.specs.Refusals.{Gives};
+ghost use Rattle.fpl_message.specs.Refusals.{Gives, RunsOutOnlyIf};
 ghost use Rattle.fpl_message.specs.Modifications.{chg_of};
+ghost use Rattle.fpl_message.specs.NinthEstimates.{ChgNotesNine};
 ghost use Rattle.fpl_message.specs.KeptChanges.{text_at, items_at};
 ghost use Rattle.fpl_text.specs.declared.time.TheConstants.{ELAPSED_LIMIT};
 
@@ -45,7 +46,8 @@ impl<A: Allocator + Copy> Chg<A> {
         fields: Fields<A>,
     ) -> Result<Box<Chg<A>, A>, Fault>
         requires { 5 ≤ length fields }
-        ensures { Gives (λ b. b.value) result (chg_of fields) }
+        ensures value { Gives (λ b. b.value) result (chg_of fields) }
+        ensures memory { RunsOutOnlyIf result (IfErr (chg_of fields) (λ _. ChgNotesNine fields)) }
     {
         let Some(mut last) = spare.take() else {
             return Chg::first(alloc, fields);
@@ -64,7 +66,8 @@ impl<A: Allocator + Copy> Chg<A> {
     #[inline(never)]
     fn first(alloc: A, fields: Fields<A>) -> Result<Box<Chg<A>, A>, Fault>
         requires { 5 ≤ length fields }
-        ensures { Gives (λ b. b.value) result (chg_of fields) }
+        ensures value { Gives (λ b. b.value) result (chg_of fields) }
+        ensures memory { RunsOutOnlyIf result (IfErr (chg_of fields) (λ _. ChgNotesNine fields)) }
     {
         let mut changes = Changes::none();
         changes.read(alloc, &fields)?;
@@ -74,7 +77,8 @@ impl<A: Allocator + Copy> Chg<A> {
     /// Reads other fields in the place of these. The room of its text is left for the next one.
     fn renew(&mut self, alloc: A, room: &mut Vec<u8, A>, fields: Fields<A>) -> Result<(), Fault>
         requires { 5 ≤ length fields }
-        ensures { Gives (λ _. self.new) result (chg_of fields) }
+        ensures value { Gives (λ _. self.new) result (chg_of fields) }
+        ensures memory { RunsOutOnlyIf result (ChgNotesNine fields) }
     {
         *room = replace(&mut self.fields, fields).into_room();
         self.changes.read(alloc, &self.fields)

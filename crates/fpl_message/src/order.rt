@@ -1,9 +1,11 @@
 //! Orders: to open and to close a regulation, and to set the desk's time.
-ghost use Rattle.std.specs.Prelude.{◌≡◌, codes};
+ghost use Rattle.std.specs.Prelude.{◌≡◌, Ok, codes};
 ghost use Rattle.fpl_items.specs.Kinds.{is_text};
-ghost use Rattle.fpl_message.specs.Refusals.{Gives};
+ghost use Rattle.fpl_message.specs.Refusals.{Gives, RunsOutOnlyIf};
+ghost use Rattle.fpl_message.specs.Messages.{open_reg};
 ghost use Rattle.fpl_message.specs.Orders.{is_regulation, is_way_point, regulation_of, way_point_of, aerodrome_of};
 ghost use Rattle.fpl_message.specs.Orders.{spot_of, open_of, shut_of, time_of, order_or_refusal};
+ghost use Rattle.fpl_message.specs.declared.order.OpenReg.{OpenReg};
 ghost use Rattle.fpl_message.specs.SaidOrders.{said_order};
 
 use crate::edition::Edition;
@@ -175,14 +177,16 @@ fn says_time(word: &[u8]) -> bool
 
 const BAD_ORDER: Fault = Fault::Refused(Refusal::BadOrder);
 
-/// Reads an order by the rules of an edition.
+/// Reads an order by the rules of an edition. Only an OPEN takes memory, if there is no spare.
 pub(crate) fn read_order<A: Allocator + Copy>(
     alloc: A,
     spare: &mut Option<Box<OpenReg, A>>,
     edition: Edition,
     text: &[u8],
 ) -> Result<Order<A>, Fault>
-    ensures { Gives said_order result (order_or_refusal edition text.now) }
+    ensures value { Gives said_order result (order_or_refusal edition text.now) }
+    ensures memory { RunsOutOnlyIf result
+        ((order : OpenReg) × (order_or_refusal edition text.now ≡ Ok (open_reg order))) }
 {
     let mut words = Words::new(text);
     let Some(verb) = words.next() else {

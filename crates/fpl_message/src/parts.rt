@@ -1,7 +1,10 @@
 //! What names the plan that a message is about.
 ghost use Rattle.std.specs.Prelude.{◌≤◌, ◌<◌, length, IsTrue};
-ghost use Rattle.fpl_message.specs.Refusals.{Gives};
-ghost use Rattle.fpl_message.specs.ShortMessages.{opening, opening_of, other_day};
+ghost use Rattle.std.specs.Prelude.{◌≡◌, true};
+ghost use Rattle.fpl_items.specs.Estimates.{noted_of_field};
+ghost use Rattle.fpl_message.specs.Messages.{field};
+ghost use Rattle.fpl_message.specs.Refusals.{Gives, RunsOutOnlyIf, IsPastTheEighth};
+ghost use Rattle.fpl_message.specs.ShortMessages.{opening_of, other_day};
 
 use crate::fault::Fault;
 use fpl_items::Other18;
@@ -33,41 +36,52 @@ impl Parts {
     }
 }
 
-/// Reads fields 3, 7, 13 and 16, and the field 18 that may stand behind them, from the left: what names the plan, in the
-/// place of other parts, and the time of field 13.
+/// The fields with which a message about a held plan begins.
+#[derive(Debug, Drop, PartialEq, Eq)]
+pub struct Opening {
+    pub parts: Parts,
+    /// The time of field 13.
+    pub time: TimeOfDay,
+}
+
+/// Reads fields 3, 7, 13 and 16, and the field 18 that may come after them, from the left.
 #[tactic(auto, unfolding(crate::specs::ShortMessages::opening_of))]
 pub(crate) fn read_opening<A: Allocator + Copy>(
     alloc: A,
     has_other: bool,
     fields: &Fields<A>,
-    parts: &mut Parts,
-) -> Result<TimeOfDay, Fault>
+) -> Result<Opening, Fault>
     requires four { 4 ≤ length fields.now }
     requires other { IsTrue has_other → 4 < length fields.now }
-    ensures { Gives (opening parts.new) result (opening_of has_other fields.now) }
+    ensures value { Gives (λ opening. opening) result (opening_of has_other fields.now) }
+    ensures memory { RunsOutOnlyIf result
+        ((has_other ≡ true) × IsPastTheEighth (field fields.now 4) (opening_of has_other fields.now)) }
 {
     let _heading = Heading::read(fields.field(0))?;
     let ident = Ident::read(fields.field(1))?;
     let departure = Departure::read(fields.field(2))?;
     let destination = Destination::read(fields.field(3))?;
     let day = read_day(alloc, has_other, fields)?;
-    *parts = Parts {
-        ident: ident.name,
-        dep: departure.place,
-        dest: destination.place,
-        day,
-    };
-    Ok(departure.time)
+    Ok(Opening {
+        parts: Parts {
+            ident: ident.name,
+            dep: departure.place,
+            dest: destination.place,
+            day,
+        },
+        time: departure.time,
+    })
 }
 
-/// Reads the day of field 18, the fifth field, where there is one.
+/// Reads the day of field 18, the fifth field, if there is one.
 fn read_day<A: Allocator + Copy>(
     alloc: A,
     has_other: bool,
     fields: &Fields<A>,
 ) -> Result<Option<Day>, Fault>
     requires { IsTrue has_other → 4 < length fields.now }
-    ensures { Gives (λ day. day) result (other_day has_other fields.now) }
+    ensures value { Gives (λ day. day) result (other_day has_other fields.now) }
+    ensures memory { RunsOutOnlyIf result ((has_other ≡ true) × (8 < noted_of_field (field fields.now 4))) }
 {
     if !has_other {
         return Ok(None);

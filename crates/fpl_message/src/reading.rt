@@ -1,10 +1,10 @@
 //! The reading of bytes.
-ghost use Rattle.std.specs.Prelude.{◌≡◌, ◌≢◌, ◌≤◌, Err, length, OnOk};
+ghost use Rattle.std.specs.Prelude.{◌≡◌, ◌≢◌, ◌≤◌, Err, length, IfOk, OnOk};
 ghost use Rattle.fpl_text.specs.Squeezing.{squeezed_or_fault};
 ghost use Rattle.fpl_text.specs.Fields.{fields_or_fault};
 ghost use Rattle.fpl_message.specs.Refusals.{Gives, by_text};
-ghost use Rattle.fpl_message.specs.Said.{said, said_message};
-ghost use Rattle.fpl_message.specs.Reads.{reading_of, reading_or_refusal, message_of, begins_message, msg};
+ghost use Rattle.fpl_message.specs.Said.{said};
+ghost use Rattle.fpl_message.specs.Reads.{reading_of, reading_or_refusal, message_of, begins_message, heading_of_bytes};
 ghost use Rattle.fpl_message.specs.declared.filed_text.TheConstants.{MAX_BYTES};
 
 use crate::edition::Edition;
@@ -13,9 +13,10 @@ use crate::flight_plan::Fpl;
 use crate::message::{Message, Reading};
 use crate::modification::Chg;
 use crate::order::read_order;
-use crate::short_message::{Cnl, Dep, Dla};
+use crate::parts::Opening;
+use crate::short_message::{Cnl, Dep, Dla, read_short};
 use crate::spares::Spares;
-use fpl_text::{Fields, Squeezed, Title};
+use fpl_text::{Fields, Heading, Squeezed, Title};
 use std::alloc::{AllocError, Allocator};
 use std::mem::replace;
 
@@ -64,8 +65,7 @@ fn read_filed<A: Allocator + Copy>(
         *reading = Reading::Ord(order?);
         return Ok(());
     }
-    *reading = Reading::Msg(read_message(alloc, room, spares, fields_of(squeezed)?)?);
-    Ok(())
+    read_message(alloc, room, spares, reading, fields_of(squeezed)?)
 }
 
 /// The squeezed text of bytes in this room, or why there is none.
@@ -90,6 +90,28 @@ fn fields_of<A: Allocator + Copy>(squeezed: Squeezed<A>) -> Result<Fields<A>, Fa
     }
 }
 
+/// Field 3 of a text, if the text has fields and the first has that form.
+pub(crate) fn heading_of<A: Allocator + Copy>(
+    alloc: A,
+    bytes: &[u8],
+) -> Result<Option<Heading>, AllocError>
+    requires { length bytes.now ≤ MAX_BYTES }
+    ensures { IfOk result (λ heading. heading ≡ heading_of_bytes bytes.now) }
+{
+    let squeezed = match squeezed(Vec::new(alloc), bytes) {
+        Ok(squeezed) => squeezed,
+        Err(Fault::Refused(_)) => return Ok(None),
+        Err(Fault::OutOfMemory) => return Err(AllocError),
+    };
+    let Ok(fields) = fields_of(squeezed) else {
+        return Ok(None);
+    };
+    match Heading::read(fields.field(0)) {
+        Ok(heading) => Ok(Some(heading)),
+        Err(_) => Ok(None),
+    }
+}
+
 /// Whether a squeezed text begins as a message does.
 #[tactic(auto, unfolding(crate::specs::Reads::begins_message))]
 fn begins_message(text: &[u8]) -> bool
@@ -101,33 +123,33 @@ fn begins_message(text: &[u8]) -> bool
     }
 }
 
-/// Reads the fields of a message. Those of a FPL and of a CHG stay in the message, and the room of the spare in which it
-/// lies is left for the next text; the room of the others is left too.
+/// Reads the fields of a message in the place of another reading. Those of an FPL and of a CHG stay in the message, and
+/// the buffer of the spare that it takes is left for the next text; that of the others is left too.
 fn read_message<A: Allocator + Copy>(
     alloc: A,
     room: &mut Vec<u8, A>,
     spares: &mut Spares<A>,
+    reading: &mut Reading<A>,
     fields: Fields<A>,
-) -> Result<Message<A>, Fault>
-    ensures { Gives (λ message. msg (said_message message)) result (message_of fields) }
+) -> Result<(), Fault>
+    ensures { Gives (λ _. said reading.new) result (message_of fields) }
 {
-    Ok(match fields.title() {
+    let message = match fields.title() {
         Title::Fpl => Message::Fpl(Fpl::read(alloc, room, &mut spares.fpl, fields)?),
         Title::Chg => Message::Chg(Chg::read(alloc, room, &mut spares.chg, fields)?),
         Title::Dla => {
-            let delay = Dla::read(alloc, &mut spares.dla, &fields);
-            *room = fields.into_room();
-            Message::Dla(delay?)
+            let Opening { parts, time } = read_short(alloc, room, fields)?;
+            Message::Dla(Dla { parts, time })
         }
         Title::Cnl => {
-            let cancellation = Cnl::read(alloc, &mut spares.cnl, &fields);
-            *room = fields.into_room();
-            Message::Cnl(cancellation?)
+            let Opening { parts, .. } = read_short(alloc, room, fields)?;
+            Message::Cnl(Cnl { parts })
         }
         Title::Dep => {
-            let departure = Dep::read(alloc, &mut spares.dep, &fields);
-            *room = fields.into_room();
-            Message::Dep(departure?)
+            let Opening { parts, time } = read_short(alloc, room, fields)?;
+            Message::Dep(Dep { parts, time })
         }
-    })
+    };
+    *reading = Reading::Msg(message);
+    Ok(())
 }

@@ -15,7 +15,9 @@ ghost use Rattle.fpl_text.specs.declared.craft.Craft.{Craft};
 ghost use Rattle.fpl_text.specs.declared.heading.Heading.{Heading};
 ghost use Rattle.fpl_text.specs.declared.ident.Ident.{Ident};
 ghost use Rattle.fpl_text.specs.Moments.{IsYymmdd, moment_of, day_digits, hhmm_of};
-ghost use Rattle.fpl_text.specs.declared.minute.TheConstants.{YEAR_2000, YEAR_2099};
+ghost use Rattle.fpl_text.specs.declared.minute.TheConstants.{GREATEST_MINUTE, YEAR_2000, YEAR_2099};
+ghost use Rattle.fpl_text.specs.declared.part.TheConstants.{MOST_PARTS};
+ghost use Rattle.fpl_text.specs.declared.time.TheConstants.{ELAPSED_LIMIT};
 
 /// The fields of a text are the one list whose join by hyphens stands in its brackets.
 pub fn one_list_of_fields()
@@ -70,4 +72,13 @@ pub fn idents_are_their_parts()
 /// And field 9: a number or nothing, a type, a stroke and a wake category.
 pub fn crafts_are_their_parts()
     ensures { (text : List ℕ) (craft : Craft) → (craft_of text ≡ Some craft) ↔ IsCraft text craft }
+{}
+
+/// The limits of times and sub-periods, which other clauses and definitions cite by their names.
+pub fn limits_are()
+    ensures greatest { GREATEST_MINUTE ≡ 100000000 }
+    ensures first { YEAR_2000 ≡ 15778080 }
+    ensures end { YEAR_2099 ≡ 67848480 }
+    ensures elapsed { ELAPSED_LIMIT ≡ 6000 }
+    ensures parts { MOST_PARTS ≡ 7 }
 {}

@@ -1,15 +1,21 @@
 //! The flight plan desk as a program: filings on standard input, answers on standard output.
 #![tactic(auto)]
 
+mod desk_file;
+mod fault;
 mod options;
 mod run;
+mod start;
+mod stored;
+mod stores;
 #[cfg(test)]
 mod tests;
 
 use command_line::read_words;
-use run::{run_words, tell_no_memory, tell_words};
+use run::{run_kept, tell_no_memory, tell_words};
 use std::io;
 use std::process::ExitCode;
+use stores::SystemStores;
 
 /// How many bytes of the answers are collected before they are written.
 const WRITTEN_AT_ONCE: usize = 65_536;
@@ -23,6 +29,7 @@ fn main(rt: HostRuntime) -> ExitCode {
     let Ok(answers) = io::BufWriter::with_capacity(rt.alloc(), WRITTEN_AT_ONCE, rt.stdout()) else {
         return ExitCode::from(tell_no_memory(&mut errors));
     };
-    let status = run_words(&rt, &rt, &words, rt.stdin(), answers, &mut errors);
+    let stores = SystemStores { rt: &rt };
+    let status = run_kept(&rt, &rt, &stores, &words, rt.stdin(), answers, &mut errors);
     ExitCode::from(status)
 }

@@ -34,10 +34,12 @@ const AFTER: &str =
 #[derive(Clone, Copy)]
 pub struct Options<'a> {
     /// The desk's time at the start, as it was given.
-    pub start: &'a str,
+    pub start: Option<&'a str>,
     /// Whether the input begins with the journal of the desk that goes on. The start, the taxi time and the number of
     /// plans are then those of that journal.
     pub resume: bool,
+    /// The name of the file in which the desk is kept, if one was given.
+    pub store: Option<&'a str>,
     /// Whether the journal is written at the end.
     pub journal: bool,
     /// How many feeders file.
@@ -48,12 +50,20 @@ pub struct Options<'a> {
     pub plans: u32,
 }
 
+impl Options<'_> {
+    /// Whether the words say how a new desk starts.
+    pub fn is_new(&self) -> bool {
+        self.resume || self.start.is_some()
+    }
+}
+
 fn start_argument<'a>(alloc: Global) -> Result<Arg<'a>, AllocError> {
     Arg::new(alloc, "start")
         .long("start")
         .value_name("yymmddhhmm")
         .help("The desk's time at the start, UTC, 2000 to 2098")
-        .required_unless_present("resume")
+        .required_unless_present("resume")?
+        .required_unless_present("store")
 }
 
 fn taxi_argument<'a>(alloc: Global) -> Arg<'a> {
@@ -98,6 +108,14 @@ fn resume_argument<'a>(alloc: Global) -> Result<Arg<'a>, AllocError> {
         .conflicts_with("start")
 }
 
+fn store_argument<'a>(alloc: Global) -> Result<Arg<'a>, AllocError> {
+    Arg::new(alloc, "store")
+        .long("store")
+        .value_name("FILE")
+        .help("Keeps the desk in FILE, or resumes it")
+        .conflicts_with("feeders")
+}
+
 fn command<'a>(alloc: Global) -> Result<Command<'a>, AllocError> {
     Command::new(alloc, "slotdesk")
         .about(ABOUT)
@@ -109,15 +127,17 @@ fn command<'a>(alloc: Global) -> Result<Command<'a>, AllocError> {
         .arg(plans_argument(alloc))?
         .arg(feeders_argument(alloc))?
         .arg(journal_argument(alloc))?
-        .arg(resume_argument(alloc)?)
+        .arg(resume_argument(alloc)?)?
+        .arg(store_argument(alloc)?)
 }
 
 /// Reads the words of the command line, of which the first is the program's name.
 pub fn read_options<'a>(alloc: Global, words: &'a [String]) -> Result<Options<'a>, Error> {
     let matches = command(alloc)?.try_get_matches_from(words)?;
     Ok(Options {
-        start: matches.get_str("start").unwrap_or(""),
+        start: matches.get_str("start"),
         resume: matches.get_flag("resume"),
+        store: matches.get_str("store"),
         journal: matches.get_flag("journal"),
         feeders: matches.get_one::<u32>("feeders").unwrap_or(1),
         taxi: matches.get_one::<u32>("taxi").unwrap_or(10),

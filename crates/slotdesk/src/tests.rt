@@ -1,5 +1,6 @@
 //! Runs of the program with words, readers and writers that tests make.
-use crate::run::{Fault, run_words, tell};
+use crate::fault::Fault;
+use crate::run::{run_words, tell};
 use flow_runs::RunFault;
 use std::alloc::Global;
 use std::io;

@@ -3,7 +3,8 @@ use crate::chart_text::{Clock, Pixels, heading_of, rates_of};
 use crate::fault::{Fault, unwritten};
 use crate::load::greatest_of;
 use flow_core::Core;
-use flow_view::{Load, Opened, PANEL_HEIGHT, PANEL_WIDTH, Scale, held_later, loads_of, rows_of};
+use flow_regulations::Regulation;
+use flow_view::{Load, PANEL_HEIGHT, PANEL_WIDTH, Scale, held_later, loads_of, rows_of};
 use std::alloc::{AllocError, Global};
 use std::io::Write;
 
@@ -232,9 +233,9 @@ fn put_rates<W: Write>(writer: &mut W, rates: &str, more: &str) -> Result<(), Fa
 }
 
 /// Writes the names of a picture, and what its colours stand for.
-fn put_head<W: Write>(alloc: Global, writer: &mut W, opened: &Opened) -> Result<(), Fault> {
-    let heading = heading_of(alloc, opened)?;
-    let (rates, more) = rates_of(alloc, opened)?;
+fn put_head<W: Write>(alloc: Global, writer: &mut W, regulation: &Regulation) -> Result<(), Fault> {
+    let heading = heading_of(alloc, regulation)?;
+    let (rates, more) = rates_of(alloc, regulation)?;
     writer.write_all(HEAD.as_bytes()).map_err(unwritten)?;
     write!(
         writer,
@@ -269,20 +270,18 @@ pub fn put_chart<W: Write>(
     alloc: Global,
     writer: &mut W,
     core: &Core,
-    opened: &Opened,
+    regulation: &Regulation,
     step: u32,
 ) -> Result<(), Fault> {
-    let Some(list) = core.slots(opened.id()) else {
-        return Ok(());
-    };
+    let list = regulation.list();
     let step = step.clamp(1, 1440);
-    let rows = rows_of(alloc, core, opened.place(), list)?;
+    let rows = rows_of(alloc, core, regulation.spot(), list)?;
     let loads = loads_of(alloc, list.shape(), rows.as_slice(), step)?;
     let greatest = u32::try_from(greatest_of(loads.as_slice())).unwrap_or(u32::MAX);
     let (start, end) = list.shape().period();
     let scale = Scale::new(start, end, greatest);
     let path = path_of(alloc, &scale, loads.as_slice())?;
-    put_head(alloc, writer, opened)?;
+    put_head(alloc, writer, regulation)?;
     for counted in [Counted::Demand, Counted::Held] {
         put_caption(writer, counted, step.min(scale.minutes))?;
         put_panel(writer, &scale, counted, loads.as_slice(), path.as_str())?;

@@ -1,6 +1,6 @@
 //! The words and numbers of a picture.
 use crate::summary::place_text;
-use flow_view::Opened;
+use flow_regulations::Regulation;
 use fpl_text::{Minute, Part};
 use std::alloc::{AllocError, Global};
 use std::fmt;
@@ -46,11 +46,11 @@ impl fmt::Display for DateOf {
 }
 
 /// The name of a regulation, its place and its period.
-pub fn heading_of(alloc: Global, opened: &Opened) -> Result<String, AllocError> {
-    let place = place_text(alloc, opened.place())?;
+pub fn heading_of(alloc: Global, regulation: &Regulation) -> Result<String, AllocError> {
+    let place = place_text(alloc, regulation.spot())?;
     let place = str::from_utf8(place.as_slice()).unwrap_or("");
-    let name = str::from_utf8(opened.id().as_bytes()).unwrap_or("");
-    let (start, end) = opened.period();
+    let name = str::from_utf8(regulation.id().as_bytes()).unwrap_or("");
+    let (start, end) = regulation.list().shape().period();
     let date = DateOf(start);
     let from = Clock(start);
     let to = Clock(end);
@@ -67,13 +67,13 @@ pub fn heading_of(alloc: Global, opened: &Opened) -> Result<String, AllocError> 
 const IN_FIRST_LINE: usize = 4;
 
 /// The hourly rates of the sub-periods, in two lines.
-pub fn rates_of(alloc: Global, opened: &Opened) -> Result<(String, String), AllocError> {
-    let (start, _) = opened.period();
-    let rate = opened.rate();
+pub fn rates_of(alloc: Global, regulation: &Regulation) -> Result<(String, String), AllocError> {
+    let (start, _) = regulation.list().shape().period();
+    let rate = regulation.list().shape().rate();
     let from = Clock(start);
     let mut first = format!(in alloc; "Slots an hour: {rate} from {from}")?;
     let mut second = String::new(alloc);
-    for (index, part) in opened.parts().iter().enumerate() {
+    for (index, part) in regulation.list().shape().parts().iter().enumerate() {
         if index + 1 < IN_FIRST_LINE {
             add_rate(&mut first, part)?;
         } else {

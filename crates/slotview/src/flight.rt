@@ -5,7 +5,8 @@ use crate::sheet::{Cell, Column, Sheet, Side};
 use crate::summary::place_text;
 use flow_core::{Core, Entry, Kind, Notice, Receipt, Said, Told, Verdict};
 use flow_plans::{Plan, PlanState};
-use flow_view::{Opened, entry_at, row_at};
+use flow_regulations::Regulation;
+use flow_view::{entry_at, row_at};
 use fpl_message::{Filing, Order, Reading};
 use fpl_text::Minute;
 use std::alloc::{AllocError, Global};
@@ -111,24 +112,22 @@ fn put_slot<W: Write + Drop>(
     alloc: Global,
     sheet: &mut Sheet<W>,
     core: &Core,
-    opened: &Opened,
+    regulation: &Regulation,
     number: u32,
 ) -> Result<(), Fault> {
     let Some(plan) = core.plan(number) else {
         return Ok(());
     };
-    let Some(list) = core.slots(opened.id()) else {
-        return Ok(());
-    };
-    let entry = entry_at(plan, core.setup().taxi(), opened.place());
+    let list = regulation.list();
+    let entry = entry_at(plan, core.setup().taxi(), regulation.spot());
     let row = match list.slot_of(number) {
-        Some(slot) => row_at(core, opened.place(), list, slot),
+        Some(slot) => row_at(core, regulation.spot(), list, slot),
         None => None,
     };
     if entry.is_none() && row.is_none() {
         return Ok(());
     }
-    let place = place_text(alloc, opened.place())?;
+    let place = place_text(alloc, regulation.spot())?;
     let (slot, time, delay, state) = match &row {
         Some(row) => (
             Cell::number(row.slot),
@@ -140,7 +139,7 @@ fn put_slot<W: Write + Drop>(
     };
     sheet.put(&[
         Cell::number(number),
-        Cell::text(opened.id().as_bytes()),
+        Cell::text(regulation.id().as_bytes()),
         Cell::text(place.as_slice()),
         Cell::moment_or_blank(entry),
         slot,
@@ -293,7 +292,7 @@ pub fn put_flight<W: Write + Drop>(
     alloc: Global,
     sheet: &mut Sheet<W>,
     core: &Core,
-    regulations: &[Opened],
+    regulations: &[Regulation],
     ident: &[u8],
 ) -> Result<bool, Fault> {
     let numbers = plans_of(alloc, core, ident)?;
@@ -306,8 +305,8 @@ pub fn put_flight<W: Write + Drop>(
     }
     sheet.begin("slots", &SLOTS)?;
     for number in &numbers {
-        for opened in regulations {
-            put_slot(alloc, sheet, core, opened, *number)?;
+        for regulation in regulations {
+            put_slot(alloc, sheet, core, regulation, *number)?;
         }
     }
     sheet.begin("said", &SAID)?;

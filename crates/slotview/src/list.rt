@@ -6,7 +6,8 @@ ghost use Rattle.slotview.specs.Rows.{with_more};
 use crate::fault::Fault;
 use crate::sheet::{Cell, Column, Sheet, Side};
 use flow_core::Core;
-use flow_view::{Holding, Line, Opened, lines_of};
+use flow_regulations::Regulation;
+use flow_view::{Holding, Line, lines_of};
 use std::alloc::Global;
 use std::io::Write;
 
@@ -35,7 +36,7 @@ pub fn holding_name(holding: Holding) -> &'static [u8] {
 }
 
 /// The cells of a line. Those of the flight are blank where there is none.
-fn cells_of(opened: &Opened, line: &Line) -> [Cell; 12] {
+fn cells_of(regulation: &Regulation, line: &Line) -> [Cell; 12] {
     let (ident, dep, dest, off_block, entry) = match &line.row.flight {
         Some(flight) => (
             Cell::text(flight.ident.as_bytes()),
@@ -53,7 +54,7 @@ fn cells_of(opened: &Opened, line: &Line) -> [Cell; 12] {
         ),
     };
     [
-        Cell::text(opened.id().as_bytes()),
+        Cell::text(regulation.id().as_bytes()),
         Cell::number(line.row.slot),
         Cell::number(line.empty),
         Cell::moment(line.row.time),
@@ -73,13 +74,13 @@ fn put_list<W: Write + Drop>(
     alloc: Global,
     sheet: &mut Sheet<W>,
     core: &Core,
-    opened: &Opened,
+    regulation: &Regulation,
 ) -> Result<(), Fault>
-    ensures { OnOk result (sheet.new.rows ≡ with_more sheet.old.rows (length (listed core.now opened.now))) }
+    ensures { OnOk result (sheet.new.rows ≡ with_more sheet.old.rows (length (listed core.now regulation.now))) }
 {
-    let lines = lines_of(alloc, core, opened)?;
+    let lines = lines_of(alloc, core, regulation)?;
     for line in &lines {
-        sheet.put(&cells_of(opened, line))?;
+        sheet.put(&cells_of(regulation, line))?;
     }
     Ok(())
 }
@@ -89,13 +90,13 @@ pub fn put_lists<W: Write + Drop>(
     alloc: Global,
     sheet: &mut Sheet<W>,
     core: &Core,
-    regulations: &[Opened],
+    regulations: &[Regulation],
 ) -> Result<(), Fault>
     ensures { OnOk result (sheet.new.rows ≡ with_more 0 (sum_by (λ o. length (listed core.now o)) regulations.now)) }
 {
     sheet.begin("slots", &COLUMNS)?;
-    for opened in regulations {
-        put_list(alloc, sheet, core, opened)?;
+    for regulation in regulations {
+        put_list(alloc, sheet, core, regulation)?;
     }
     Ok(())
 }

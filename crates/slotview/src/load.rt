@@ -2,7 +2,8 @@
 use crate::fault::Fault;
 use crate::sheet::{Cell, Column, Sheet, Side};
 use flow_core::Core;
-use flow_view::{Load, Opened, held_later, loads_of, rows_of};
+use flow_regulations::Regulation;
+use flow_view::{Load, held_later, loads_of, rows_of};
 use std::alloc::{AllocError, Global};
 use std::io::Write;
 
@@ -104,14 +105,12 @@ pub fn put_loads<W: Write + Drop>(
     alloc: Global,
     sheet: &mut Sheet<W>,
     core: &Core,
-    opened: &Opened,
+    regulation: &Regulation,
     step: u32,
 ) -> Result<(), Fault> {
-    let Some(list) = core.slots(opened.id()) else {
-        return Ok(());
-    };
+    let list = regulation.list();
     let step = step.clamp(1, 1440);
-    let rows = rows_of(alloc, core, opened.place(), list)?;
+    let rows = rows_of(alloc, core, regulation.spot(), list)?;
     let loads = loads_of(alloc, list.shape(), rows.as_slice(), step)?;
     let each = greatest_of(loads.as_slice()).div_ceil(LONGEST).max(1);
     if sheet.is_text() {

@@ -9,14 +9,14 @@ use crate::list::put_lists;
 use crate::load::put_loads;
 use crate::options::{Options, Shown, read_options};
 use crate::sheet::Sheet;
-use crate::source::Source;
+use crate::source::{Held, Source};
 use crate::summary::put_summary;
 use clap::Error;
 use clap::error::ErrorKind;
-use flow_core::{Core, Counted, JournalFault, read_journal};
-use flow_view::{Opened, core_after, open_regulations};
+use flow_core::{Core, Counted, JournalFault, read_journal, read_stored};
+use flow_regulations::Regulation;
 use std::alloc::Global;
-use std::io::{BufReader, Read, Write};
+use std::io::{BufRead, BufReader, Read, Write};
 use std::mem::ManuallyDrop;
 
 /// Shows what the words of the command line ask for, of which the first is the program's name, and answers the exit
@@ -75,29 +75,44 @@ fn show_past<W: Write + Drop, E: Write>(
         let _told = writeln!(errors, "slotview: no entry {count}, there are {entries}");
         return Err(Fault::NotThere);
     }
-    let past = core_after(alloc, core, count)?;
+    let past = core.replay_to(alloc, count)?;
     show_desk(alloc, options, &past, writer, errors)
 }
 
-/// The desk of the journal in the input.
+/// The desk of the journal or the store in the input.
 fn read_desk<R: Read + Drop>(alloc: Global, reader: R) -> Result<Core, Fault> {
     let Ok(reader) = BufReader::new(alloc, reader) else {
         return Err(Fault::OutOfMemory);
     };
     let mut source = Source::new(reader);
-    match source.find() {
-        Ok(true) => {}
-        Ok(false) => {
+    let held = match source.find() {
+        Ok(Some(held)) => held,
+        Ok(None) => {
             return Err(Fault::BadJournal { at: source.place() });
         }
         Err(_) => return Err(Fault::Read),
-    }
-    let read = read_journal(alloc, &mut Counted::new(&mut source));
-    match read {
+    };
+    match read_held(alloc, held, &mut source) {
         Ok(core) => Ok(core),
         Err(JournalFault::Read) => Err(Fault::Read),
         Err(JournalFault::NotAJournal) => Err(Fault::BadJournal { at: source.place() }),
         Err(JournalFault::OutOfMemory) => Err(Fault::OutOfMemory),
+    }
+}
+
+/// The desk of a journal text, or of the text of a store up to its gate.
+fn read_held<R: BufRead>(
+    alloc: Global,
+    held: Held,
+    source: &mut Source<R>,
+) -> Result<Core, JournalFault> {
+    let mut reader = Counted::new(source);
+    match held {
+        Held::Journal => read_journal(alloc, &mut reader),
+        Held::Store => {
+            let (core, _end) = read_stored(alloc, &mut reader)?;
+            Ok(core)
+        }
     }
 }
 
@@ -109,8 +124,7 @@ fn show_desk<W: Write + Drop, E: Write>(
     writer: W,
     errors: &mut E,
 ) -> Result<(), Fault> {
-    let regulations = open_regulations(alloc, core)?;
-    let all = regulations.as_slice();
+    let all = core.regulations();
     if let Shown::Chart { id, step } = options.shown {
         return show_chart(alloc, core, named(all, id, errors)?, step, writer);
     }
@@ -122,8 +136,8 @@ fn show_desk<W: Write + Drop, E: Write>(
             put_lists(alloc, &mut sheet, core, named(all, id, errors)?)?;
         }
         Shown::Load { id, step } => {
-            for opened in named(all, id, errors)? {
-                put_loads(alloc, &mut sheet, core, opened, step)?;
+            for regulation in named(all, id, errors)? {
+                put_loads(alloc, &mut sheet, core, regulation, step)?;
             }
         }
         Shown::Chart { .. } => {}
@@ -140,12 +154,12 @@ fn show_desk<W: Write + Drop, E: Write>(
 fn show_chart<W: Write + Drop>(
     alloc: Global,
     core: &Core,
-    regulations: &[Opened],
+    regulations: &[Regulation],
     step: u32,
     mut writer: W,
 ) -> Result<(), Fault> {
-    for opened in regulations {
-        put_chart(alloc, &mut writer, core, opened, step)?;
+    for regulation in regulations {
+        put_chart(alloc, &mut writer, core, regulation, step)?;
     }
     Ok(())
 }
@@ -171,18 +185,18 @@ fn tell_flights<E: Write>(alloc: Global, core: &Core, ident: &str, errors: &mut 
 
 /// The open regulation of this name, alone. Where there is none, a line names those there are.
 fn named<'a, E: Write>(
-    regulations: &'a [Opened],
+    regulations: &'a [Regulation],
     id: &str,
     errors: &mut E,
-) -> Result<&'a [Opened], Fault> {
-    for (index, opened) in regulations.iter().enumerate() {
-        if opened.is_named(id.as_bytes()) {
+) -> Result<&'a [Regulation], Fault> {
+    for (index, regulation) in regulations.iter().enumerate() {
+        if regulation.id().as_bytes() == id.as_bytes() {
             return Ok(&regulations[index..index + 1]);
         }
     }
     let _told = write!(errors, "slotview: no regulation {id}, open are:");
-    for opened in regulations {
-        let name = str::from_utf8(opened.id().as_bytes()).unwrap_or("");
+    for regulation in regulations {
+        let name = str::from_utf8(regulation.id().as_bytes()).unwrap_or("");
         let _named = write!(errors, " {name}");
     }
     let _ended = errors.write_all(b"\n");

@@ -3,7 +3,8 @@ use crate::fault::Fault;
 use crate::sheet::{Cell, Column, Sheet, Side};
 use flow_core::Core;
 use flow_plans::PlanState;
-use flow_view::{Opened, Totals, rows_of, totals_of};
+use flow_regulations::Regulation;
+use flow_view::{Totals, rows_of, totals_of};
 use fpl_message::Spot;
 use std::alloc::{AllocError, Global};
 use std::io::Write;
@@ -89,10 +90,10 @@ pub fn place_text(alloc: Global, spot: &Spot) -> Result<Vec<u8>, AllocError> {
 }
 
 /// The hourly rates of the sub-periods, with strokes between them.
-fn rates_text(alloc: Global, opened: &Opened) -> Result<String, AllocError> {
-    let rate = opened.rate();
+fn rates_text(alloc: Global, regulation: &Regulation) -> Result<String, AllocError> {
+    let rate = regulation.list().shape().rate();
     let mut text = format!(in alloc; "{rate}")?;
-    for part in opened.parts() {
+    for part in regulation.list().shape().parts() {
         let rate = part.rate;
         write!(text, "/{rate}")?;
     }
@@ -113,18 +114,16 @@ fn put_regulation<W: Write + Drop>(
     alloc: Global,
     sheet: &mut Sheet<W>,
     core: &Core,
-    opened: &Opened,
+    regulation: &Regulation,
 ) -> Result<(), Fault> {
-    let Some(list) = core.slots(opened.id()) else {
-        return Ok(());
-    };
-    let rows = rows_of(alloc, core, opened.place(), list)?;
+    let list = regulation.list();
+    let rows = rows_of(alloc, core, regulation.spot(), list)?;
     let totals = totals_of(&rows[..rows.len().min(MOST_ROWS)]);
-    let (from, to) = opened.period();
-    let place = place_text(alloc, opened.place())?;
-    let rates = rates_text(alloc, opened)?;
+    let (from, to) = regulation.list().shape().period();
+    let place = place_text(alloc, regulation.spot())?;
+    let rates = rates_text(alloc, regulation)?;
     sheet.put(&[
-        Cell::text(opened.id().as_bytes()),
+        Cell::text(regulation.id().as_bytes()),
         Cell::text(place.as_slice()),
         Cell::moment(from),
         Cell::moment(to),
@@ -143,12 +142,12 @@ pub fn put_summary<W: Write + Drop>(
     alloc: Global,
     sheet: &mut Sheet<W>,
     core: &Core,
-    regulations: &[Opened],
+    regulations: &[Regulation],
 ) -> Result<(), Fault> {
     put_desk(sheet, core)?;
     sheet.begin("regulations", &REGULATIONS)?;
-    for opened in regulations {
-        put_regulation(alloc, sheet, core, opened)?;
+    for regulation in regulations {
+        put_regulation(alloc, sheet, core, regulation)?;
     }
     Ok(())
 }

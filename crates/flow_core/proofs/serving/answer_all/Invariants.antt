@@ -1,5 +1,5 @@
 use Rattle.std.proofs.Common.{◌≡◌, ◌-◌}
-use Rattle.flow_core.specs.History.{state_of, KeepsUndoable}
+use Rattle.flow_core.specs.History.{state_of, HasMore, KeepsUndoable}
 use Rattle.flow_input.specs.Reader.{Agrees}
 use Rattle.flow_core.specs.Serving.{Serving}
 use Rattle.flow_core.proofs.serving.answer_all.Given as goal
@@ -8,7 +8,7 @@ abbrev pub invariant-frames : goal.invariant-frames
 invariant-frames g l = record {
   agrees : Agrees l.input (g.R.Read.remaining l.reader.device);
   serving : Serving (state_of l.fn.core) (state_of l.core) (g.W.Write.contents l.fn.writer.device) (g.W.Write.contents l.writer.device) l.input (g.R.Read.remaining l.fn.reader.device) (g.R.Read.remaining l.reader.device);
-  setup : l.core.setup ≡ l.fn.core.setup;
+  more : HasMore l.fn.core l.core;
   undoable : KeepsUndoable l.fn.core l.core;
   reader_calm : l.reader.failures ≡ l.fn.reader.failures;
   writer_calm : l.writer.failures ≡ l.fn.writer.failures;

@@ -2,11 +2,11 @@ use Rattle.std.proofs.Common.{sym, ap, ◌∙◌, subst, List, ℕ, arith, ◌�
 use Rattle.std.specs.Io.KnownBytes.{Appends}
 use Rattle.flow_input.specs.NextFrame.{second}
 use Rattle.flow_input.specs.Writes.{AppendsFront}
-use Rattle.flow_core.specs.History.{state_of}
+use Rattle.flow_core.specs.History.{History, state_of}
 use Rattle.flow_core.specs.Output.{answer_text}
 use Rattle.flow_core.specs.State.{State}
 use Rattle.flow_core.specs.Steps.{step}
-use Rattle.flow_core.proofs.Undoables.{undoable-same, undoable-entered}
+use Rattle.flow_core.proofs.Undoables.{undoable-same, undoable-entered, more-none, more-same, more-entered}
 use Rattle.flow_core.proofs.Serves.{served-whole, said-whole, served-full, said-full, err_is}
 use Rattle.flow_core.proofs.serving.answer_filing.Goals as goal
 
@@ -61,3 +61,20 @@ returns-in-Err-JournalFull-clause-undoable g c = λ not. undoable-same _ _ (c.in
 
 pub returns-in_err-write_bytes-in-Err-JournalFull-clause-undoable : goal.returns-in_err-write_bytes-in-Err-JournalFull-clause-undoable
 returns-in_err-write_bytes-in-Err-JournalFull-clause-undoable g c = λ not. undoable-same _ _ (c.in-Err-JournalFull.ensures.same (err_is c.in-Err-JournalFull.field-0-is))
+
+pub returns-clause-more : goal.returns-clause-more
+returns-clause-more g c = more-entered _ _ _ c.in-Ok.ensures.ok
+
+pub returns-in_err-write_answer-clause-more : goal.returns-in_err-write_answer-clause-more
+returns-in_err-write_answer-clause-more g c = more-entered _ _ _ c.in-Ok.ensures.ok
+
+pub returns-in-Err-JournalFull-clause-more : goal.returns-in-Err-JournalFull-clause-more
+returns-in-Err-JournalFull-clause-more g c = more-same _ _ (c.in-Err-JournalFull.ensures.same (err_is c.in-Err-JournalFull.field-0-is))
+
+pub returns-in_err-write_bytes-in-Err-JournalFull-clause-more : goal.returns-in_err-write_bytes-in-Err-JournalFull-clause-more
+returns-in_err-write_bytes-in-Err-JournalFull-clause-more g c = more-same _ _ (c.in-Err-JournalFull.ensures.same (err_is c.in-Err-JournalFull.field-0-is))
+
+pub returns-in-Err-OutOfMemory-clause-more : goal.returns-in-Err-OutOfMemory-clause-more
+returns-in-Err-OutOfMemory-clause-more g c =
+    let left = c.in-Err-OutOfMemory.ensures.memory (err_is c.in-Err-OutOfMemory.field-0-is) in
+    more-none _ _ (ap (λ (h : History). h.setup) left) (ap (λ (h : History). h.filed) left)

@@ -1,5 +1,5 @@
 use Rattle.std.proofs.Common.{◌≡◌, ◌-◌, ◌≤◌, List, ℕ, Option}
-use Rattle.flow_core.specs.History.{state_of, KeepsUndoable}
+use Rattle.flow_core.specs.History.{state_of, HasMore, KeepsUndoable}
 use Rattle.flow_input.specs.Reader.{Agrees}
 use Rattle.flow_core.specs.Serving.{ComesOn}
 use Rattle.flow_core.proofs.serving.answer_whole.Given as goal
@@ -8,7 +8,7 @@ abbrev pub invariant-frames : goal.invariant-frames
 invariant-frames g l = record {
   serving : ComesOn (state_of l.fn.core) (state_of l.core) (g.W.Write.contents l.fn.writer.device) (g.W.Write.contents l.writer.device) l.fn.input l.input;
   agrees : (rest : Option (List ℕ)) → Agrees l.fn.input rest → Agrees l.input rest;
-  setup : l.core.setup ≡ l.fn.core.setup;
+  more : HasMore l.fn.core l.core;
   undoable : KeepsUndoable l.fn.core l.core;
   nearer : l.fn.input.taken ≤ l.input.taken;
   writer_calm : l.writer.failures ≡ l.fn.writer.failures;

@@ -8,8 +8,8 @@ use Rattle.flow_plans.proofs.Keepings.{plan-stood, chained-stay}
 use Rattle.flow_plans.proofs.ChainChanges.{changed-chained, changed-stands}
 use Rattle.flow_plans.proofs.amending.amend_plan.Goals as goal
 
-pub change_chain-requires-clause-chained : goal.change_chain-requires-clause-chained
-change_chain-requires-clause-chained g c =
+pub rename-requires-clause-chained : goal.rename-requires-clause-chained
+rename-requires-clause-chained g c =
     rw c.as_slice-3.ensures (chained-stay c.args.chains.now c.reserve.new.self c.args.plans.now c.in-Ok-reserve.ensures.kept c.requires.chained)
 
 pub amend-former-requires-clause-texts : goal.amend-former-requires-clause-texts
@@ -28,8 +28,8 @@ returns-clause-chained g c =
     let named = rw c.as_slice.ensures at c.in_ok-number.ensures.named in
     rw c.amend-former.ensures.changed
     (changed-chained (amended_plan moment m) (amended-state moment m) c.args.plans.now c.in_ok-number.number within.0 within.1
-    (rw c.as_slice.ensures at c.in_ok-number.ensures.held) c.change_chain.new.chains c.in_ok-number.name
-    (rw c.as_slice-3.ensures at c.change_chain.ensures.chained)
+    (rw c.as_slice.ensures at c.in_ok-number.ensures.held) c.rename.new.self c.in_ok-number.name
+    (rw c.as_slice-3.ensures at c.rename.ensures.chained)
     (λ p there. ap (λ (k : Key). flight_of_key k) (amended-key moment m p) ∙ (rw there at named)))
 
 pub returns-clause-change : goal.returns-clause-change

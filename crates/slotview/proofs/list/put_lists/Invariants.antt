@@ -4,5 +4,5 @@ use Rattle.flow_view.specs.Table.{listed}
 use Rattle.slotview.specs.Rows.{with_more}
 use Rattle.slotview.proofs.list.put_lists.Given as goal
 
-abbrev pub invariant-loop-opened : goal.invariant-loop-opened
-invariant-loop-opened g l = l.sheet.rows ≡ with_more 0 (sum_by (λ o. length (listed l.core o)) (take l.opened-index l.regulations))
+abbrev pub invariant-loop-regulation : goal.invariant-loop-regulation
+invariant-loop-regulation g l = l.sheet.rows ≡ with_more 0 (sum_by (λ o. length (listed l.core o)) (take l.regulation-index l.regulations))

@@ -1,0 +1,69 @@
+#!/usr/bin/env python3
+"""A store that may not grow, and a full disk: what was answered is kept, and the store opens again.
+
+    tests/store/full.py PROGRAM [--long]
+
+The file is limited to each size in turn; with --long to each byte, and a file system of 64 KiB is filled, where one can be
+mounted.
+"""
+import os
+import resource
+import signal
+import subprocess
+import sys
+import tempfile
+
+import stores
+
+
+def limited(size):
+    def limit():
+        signal.signal(signal.SIGXFSZ, signal.SIG_IGN)
+        if size is not None:
+            resource.setrlimit(resource.RLIMIT_FSIZE, (size, size))
+    return limit
+
+
+def fill(slotdesk, path, size):
+    """Files until the store may not grow any more. Returns the status and how many lines were answered."""
+    process = stores.begin(slotdesk, path, preexec_fn=limited(size))
+    sent = stores.filings(size or 7, 2000)
+    got = stores.file_by_threes(process, sent)
+    status = process.wait()
+    if not os.path.exists(path):
+        assert not got, "answered without a store"
+        return status
+    kept, _ = stores.entries(open(path, "rb").read())
+    assert [entry[2] for entry in kept] == [filing.strip(b"\n") for filing in sent][:len(kept)]
+    assert stores.told(slotdesk, kept).startswith(got), "answered and not kept"
+    return status
+
+
+def main():
+    slotdesk, is_long = os.path.abspath(sys.argv[1]), "--long" in sys.argv
+    sizes = list(range(1, 400)) if is_long else list(range(1, 60, 7)) + [len(stores.HEAD) + 1, 100, 333]
+    with tempfile.TemporaryDirectory() as folder:
+        path = os.path.join(folder, "store")
+        for size in sizes + [1000, 4096, 5000]:
+            status = fill(slotdesk, path, size)
+            assert status == 1, (size, status)
+            again = stores.store(slotdesk, path, input=b"TIME 2409012300\n")
+            assert again.returncode == 0 and again.stdout, (size, again)
+            os.remove(path)
+        print("full: a file limited to each of %d sizes keeps what was answered" % (len(sizes) + 3))
+        disk = os.path.join(folder, "disk")
+        os.mkdir(disk)
+        mounted = subprocess.run(["mount", "-t", "tmpfs", "-o", "size=64k", "tmpfs", disk], capture_output=True)
+        if mounted.returncode != 0:
+            print("full: no file system could be mounted, so none was filled")
+            return
+        try:
+            status = fill(slotdesk, os.path.join(disk, "store"), None)
+            assert status == 1, status
+            print("full: a file system of 64 KiB was filled")
+        finally:
+            subprocess.run(["umount", disk], check=True)
+
+
+if __name__ == "__main__":
+    main()

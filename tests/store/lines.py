@@ -1,0 +1,140 @@
+#!/usr/bin/env python3
+"""The lines, statuses and files of a desk with a store, each in its order.
+
+    tests/store/lines.py PROGRAM
+"""
+import fcntl
+import os
+import pathlib
+import subprocess
+import sys
+import tempfile
+
+START = ["--start", "2409010500"]
+HEAD = b"SLOTDESK STORE 1\nSETUP 2409010500 10 1000 1000000\n"
+FPL = b"(FPL-AAA1-IS-A320/M-SDFG/LB1-LIML0800-N0450F350 DCT-EDDF0150-0)"
+ENTRY = b"E 0 2 63\n" + FPL + b"\n"
+TIME = b"E 0 2 15\nTIME 2409010501\n"
+JOURNAL = b"SLOTDESK JOURNAL 2\nSETUP 2409010500 10 1000 1000000\n" + ENTRY + b"END 1\n"
+
+
+class Folder:
+    """A folder of its own for one row."""
+
+    def __init__(self, program, folder):
+        self.program, self.folder, self.failed = program, pathlib.Path(folder), []
+
+    def clear(self):
+        for path in self.folder.iterdir():
+            path.rmdir() if path.is_dir() else path.unlink()
+
+    def files(self):
+        return sorted(path.name for path in self.folder.iterdir())
+
+    def run(self, words, given=b"", status=0, output=b"", line=b"", name="", **after):
+        """One run, and what it has to leave: `files` that are there, and the bytes of `store`."""
+        done = subprocess.run([self.program, *words], input=given, capture_output=True, cwd=self.folder, timeout=60)
+        told = (done.returncode, done.stdout, done.stderr)
+        if told != (status, output, line):
+            self.failed.append("%s: %r, wanted %r" % (name, told, (status, output, line)))
+        for what, wanted in after.items():
+            found = self.files() if what == "files" else (self.folder / "store").read_bytes()
+            if found != wanted:
+                self.failed.append("%s: %s %r, wanted %r" % (name, what, found, wanted))
+
+
+def makes_and_goes_on(f):
+    """A new store, its bytes, going on, and its journal."""
+    f.run(["--store", "store", *START], name="no filing", store=HEAD + b"-", files=["store"])
+    f.run(["--store", "store"], FPL, output=b"1 OK FPL 1\n", name="goes on", store=HEAD + ENTRY + b"-")
+    f.run(["--store", "store"], b"TIME 2409010501\n", output=b"2 OK TIME\n", name="numbers go on", store=HEAD + ENTRY + TIME + b"-")
+    f.run(["--store", "store", "--journal"], name="the journal of a store",
+          output=JOURNAL.replace(b"END 1\n", TIME + b"END 2\n"))
+    f.run(["--store", "store", "--taxi", "5", "--plans", "7"], FPL, output=b"3 NO 20 AlreadyHeld\n",
+          name="taxi and plans are those of the store", store=HEAD + ENTRY + TIME + ENTRY + b"-")
+    f.run(["--store", "store"], b"x" * 2001 + b"\n", output=b"- NO 90 TooLong\n", name="a line without an entry",
+          store=HEAD + ENTRY + TIME + ENTRY + b"-")
+
+
+def resumes(f):
+    """A store of a journal."""
+    f.run(["--store", "store", "--resume"], JOURNAL + b"TIME 2409010501\n", output=b"2 OK TIME\n", name="of a journal",
+          store=HEAD + ENTRY + TIME + b"-", files=["store"])
+    (f.folder / "store").unlink()
+    f.run(["--store", "store", "--resume"], JOURNAL[:-1], 1, line=b"slotdesk: bad journal\n", name="bad journal", files=[])
+
+
+def damaged(f):
+    """A store cut off at each byte, what stands after its gate, and what is no store."""
+    whole, path = HEAD + ENTRY + TIME + b"-", f.folder / "store"
+    for size in range(len(whole)):
+        path.write_bytes(whole[:size])
+        f.run(["--store", "store"], b"X\n", 1, line=b"slotdesk: bad store\n", name="cut at %d" % size, store=whole[:size])
+    for after in (b"\n", b"-", b"E 0 2 1\nX\n-", b"\0" * 70):
+        path.write_bytes(whole + after)
+        kept = whole[:-1] + b"E 0 2 1\nX\n-"
+        f.run(["--store", "store"], b"X\n", output=b"3 NO 30 BadOrder\n", name="after the gate %r" % after,
+              store=kept + (whole + after)[len(kept):])
+    for text in (whole.replace(b"STORE 1", b"STORE 2"), JOURNAL, b"-", b"\n" + whole, whole.replace(b"E 0 2 63", b"E 0 3 63"),
+                 whole.replace(b"2 63", b"2 64"), whole.replace(b"1000000", b"1"), whole.replace(b"E 0", b"E 64"),
+                 whole.replace(b"2409010500", b"2409310500"), whole[:-1] + b"END 2\n"):
+        path.write_bytes(text)
+        f.run(["--store", "store"], b"X\n", 1, line=b"slotdesk: bad store\n", name="no store: %r" % text[:60], store=text)
+
+
+def refused(f):
+    """Each line in its order: the command line, the start, what is at the name, the journal."""
+    path, new = f.folder / "store", f.folder / "store.new"
+    f.run(["--store", "store"], b"X\n", 2, line=b"slotdesk: no store\n", name="no store", files=[])
+    f.run(["--store", "none/store"], b"X\n", 2, line=b"slotdesk: no store\n", name="no folder", files=[])
+    f.run(["--store", "none/store", *START], b"X\n", 1, line=b"slotdesk: store fault\n", name="no folder for a new one", files=[])
+    f.run(["--store", "none/store", "--resume"], b"X\n", 1, line=b"slotdesk: store fault\n", name="before the journal", files=[])
+    path.write_bytes(HEAD + b"-")
+    f.run(["--store", "store", "--start", "2409310500"], b"", 2, line=b"slotdesk: bad start\n", name="the start is first")
+    f.run(["--store", "store", "--start", ""], b"", 2, line=b"slotdesk: bad start\n", name="an empty start")
+    f.run(["--store", "store", *START], b"X\n", 2, line=b"slotdesk: store exists\n", name="exists", store=HEAD + b"-", files=["store"])
+    f.run(["--store", "store", "--resume"], b"X\n", 2, line=b"slotdesk: store exists\n", name="exists before the journal")
+    with open(path, "rb") as held:
+        fcntl.flock(held, fcntl.LOCK_EX)
+        f.run(["--store", "store"], b"X\n", 2, line=b"slotdesk: store in use\n", name="in use", store=HEAD + b"-")
+    path.unlink()
+    path.mkdir()
+    f.run(["--store", "store"], b"X\n", 1, line=b"slotdesk: bad store\n", name="a folder")
+    path.rmdir()
+    os.mkfifo(path)
+    f.run(["--store", "store"], b"X\n", 1, line=b"slotdesk: bad store\n", name="a pipe")
+    path.unlink()
+    for begun in (b"", HEAD[:7], HEAD[:30], HEAD, HEAD + b"-", HEAD + b"-junk"):
+        new.write_bytes(begun)
+        f.run(["--store", "store", *START], b"", name="made anew after %r" % begun, store=HEAD + b"-", files=["store"])
+        path.unlink()
+    for other in (b"mine", HEAD + ENTRY + b"-", HEAD + b"E", b"SLOTDESK STORE 2\n", HEAD[:-2] + b"x\n-"):
+        new.write_bytes(other)
+        f.run(["--store", "store", *START], b"X\n", 2, line=b"slotdesk: store exists\n", name="FILE.new %r" % other, files=["store.new"])
+        assert new.read_bytes() == other, other
+    new.unlink()
+    with open(new, "wb") as held:
+        fcntl.flock(held, fcntl.LOCK_EX)
+        f.run(["--store", "store", *START], b"X\n", 2, line=b"slotdesk: store in use\n", name="FILE.new in use", files=["store.new"])
+    new.unlink()
+    path.write_bytes(HEAD + b"-")
+    os.link(path, new)
+    f.run(["--store", "store"], b"X\n", output=b"1 NO 30 BadOrder\n", name="a name that a crash has left", files=["store"])
+
+
+def main():
+    program, failed, count = os.path.abspath(sys.argv[1]), [], 0
+    for rows in (makes_and_goes_on, resumes, damaged, refused):
+        with tempfile.TemporaryDirectory() as folder:
+            f = Folder(program, folder)
+            rows(f)
+            failed += f.failed
+            count += 1
+    for line in failed:
+        print(line)
+    print("lines: %d kinds of rows, %d rows failed" % (count, len(failed)))
+    return 1 if failed else 0
+
+
+if __name__ == "__main__":
+    sys.exit(main())
