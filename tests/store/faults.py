@@ -23,7 +23,6 @@ CALLS = {
     "unlinkat,unlink": ["error=EIO", "signal=KILL"],
     "ftruncate": ["error=EIO", "signal=KILL"],
     "flock": ["error=ENOLCK", "error=EAGAIN", "signal=KILL"],
-    "fadvise64": ["error=EIO", "signal=KILL"],
     "pread64": ["error=EIO", "signal=KILL"],
 }
 LINES = [b"", b"slotdesk: store fault\n", b"slotdesk: write fault\n", b"slotdesk: store exists\n", b"slotdesk: store in use\n"]
