@@ -7,3 +7,4 @@ pub mod Delays
 pub mod Histories
 pub mod Openings
 pub mod Entrants
+pub mod Advised

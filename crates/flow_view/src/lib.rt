@@ -13,6 +13,7 @@
 mod count;
 mod delay;
 mod flight;
+pub mod laws;
 mod load;
 mod opening;
 mod past;
