@@ -8,3 +8,5 @@ pub mod Histories
 pub mod Openings
 pub mod Entrants
 pub mod Advised
+pub mod Frozen
+pub mod AdvisedAt
