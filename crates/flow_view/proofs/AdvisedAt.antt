@@ -1,25 +1,24 @@
 -- What is shown of the open regulations of a desk gives frozen flights the slots of the advice.
-use Rattle.std.proofs.Common.{◌≡◌, ◌⊎◌, inl, inr, ◌<◌, ◌+◌, ◌-◌, ◌∙◌, ◌++◌, ℕ, List, [], ◌∷◌, Option, None, Some, map, refl, ap, sym, subst}
+use Rattle.std.proofs.Common.{◌≡◌, inl, inr, ◌<◌, ◌+◌, ◌-◌, ◌∙◌, ℕ, List, [], ◌∷◌, Option, None, Some, refl, ap, sym, subst}
 use Rattle.std.specs.Prelude.{IsSome, IfSome, fold}
 use Rattle.std.specs.List.{AllZip, AllByRecursion}
 use Rattle.std.specs.Option.{option_map, option_map_or, option_and_then}
 use Rattle.fpl_message.specs.declared.order.Spot.{Spot}
 use Rattle.flow_plans.specs.Plans.{Plan, plan_at}
 use Rattle.flow_plans.specs.Entries.{entry_at, take_off}
-use Rattle.flow_slots.specs.Assignment.{Placed}
 use Rattle.flow_slots.specs.Period.{slot_time}
-use Rattle.flow_slots.specs.Lineup.{Lineup, len_of, assigned, slot_in, held_slot, held_flight, fixed_slot}
+use Rattle.flow_slots.specs.Lineup.{Lineup, len_of, assigned, slot_in, held_flight, fixed_slot}
 use Rattle.flow_slots.specs.LineupLaws.{IsSound, NoneTwice}
 use Rattle.flow_regulations.specs.declared.notice.Told.{Told}
 use Rattle.flow_regulations.specs.Regulations.{Regulation, lineup_of}
 use Rattle.flow_regulations.specs.Advice.{advice}
-use Rattle.flow_traffic.specs.Traffic.{Traffic, slots_of, regulation_named, told_of}
+use Rattle.flow_traffic.specs.Traffic.{Traffic, slots_of, told_of}
 use Rattle.flow_core.specs.History.{History, state_of}
 use Rattle.flow_core.proofs.SlotRuns.{slots-sound}
 use Rattle.flow_view.specs.declared.delay.FlightDelay.{FlightDelay}
 use Rattle.flow_view.specs.declared.slot_row.SlotRow.{SlotRow}
-use Rattle.flow_view.specs.Openings.{Opened, rows_at}
-use Rattle.flow_view.specs.Shown.{flight_of, row_of, held, shown}
+use Rattle.flow_view.specs.Openings.{Opened}
+use Rattle.flow_view.specs.Shown.{flight_of, row_of, shown}
 use Rattle.flow_view.specs.Totals.{delay_of}
 use Rattle.flow_view.specs.Delays.{delay_in, worse_by, worse_in, delay_of_flight}
 use Rattle.flow_view.specs.Advised.{slot_with, GivesAdvised, IsShownOf, IsFrozenOrOut, list_of}

@@ -1,22 +1,22 @@
 -- Frozen slots as they are shown.
-use Rattle.std.proofs.Common.{◌≡◌, ◌≢◌, ◌⊎◌, inl, inr, ◌<◌, ◌≤◌, ◌+◌, ◌-◌, ◌∙◌, ◌++◌, ℕ, zero, suc, Bool, true, false, List, [], ◌∷◌, Option, None, Some, map, refl, ap, sym, subst, arith, eqb, cond}
-use Rattle.std.specs.Prelude.{IsSome, IfSome, if◌then◌else◌, fold}
-use Rattle.std.specs.List.{AllZip, AllByRecursion}
-use Rattle.std.specs.Option.{option_map, option_map_or, option_to_list}
+use Rattle.std.proofs.Common.{◌≡◌, ◌≢◌, ◌<◌, ◌+◌, ◌-◌, ◌∙◌, ◌++◌, ℕ, zero, suc, Bool, true, false, List, [], ◌∷◌, Option, None, Some, map, refl, ap, sym, subst, arith, eqb, cond}
+use Rattle.std.specs.Prelude.{if◌then◌else◌, fold}
+use Rattle.std.specs.List.{AllByRecursion}
+use Rattle.std.specs.Option.{option_map, option_to_list}
 use Rattle.std.proofs.lemmas.Bool.{eqb-true, eqb-false, eq-eqb, ne_eqb}
 use Rattle.std.proofs.lemmas.List.Sums.{fold-append}
 use Rattle.fpl_message.specs.declared.order.Spot.{Spot}
-use Rattle.flow_plans.specs.Plans.{Plan, plan_at}
+use Rattle.flow_plans.specs.Plans.{Plan}
 use Rattle.flow_plans.specs.Entries.{entry_at, take_off}
 use Rattle.flow_slots.specs.Assignment.{Placed}
 use Rattle.flow_slots.specs.Period.{slot_time, first_slot}
-use Rattle.flow_slots.specs.Lineup.{Lineup, len_of, assigned, slot_in, flight_in, held_slot, held_flight, fixed_slot}
+use Rattle.flow_slots.specs.Lineup.{Lineup, assigned, slot_in, flight_in, held_flight}
 use Rattle.flow_slots.specs.LineupLaws.{IsSound, NoneTwice}
 use Rattle.flow_slots.proofs.Served.{NoneTwice-assigned}
 use Rattle.flow_regulations.specs.Regulations.{Regulation}
 use Rattle.flow_regulations.specs.Advice.{delay_among, caused_by, advice}
 use Rattle.flow_regulations.specs.Advice as by_advice
-use Rattle.flow_view.specs.Shown.{row_of, held_before, held}
+use Rattle.flow_view.specs.Shown.{row_of, held_before}
 use Rattle.flow_view.specs.declared.delay.FlightDelay.{FlightDelay}
 use Rattle.flow_view.specs.Openings.{Opened}
 use Rattle.flow_view.specs.Delays.{delay_in, worse, worse_by}
