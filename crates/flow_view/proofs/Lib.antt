@@ -1,4 +1,12 @@
+pub mod Lists
 pub mod Told
 pub mod Loads
 pub mod Planned
 pub mod Tables
+pub mod Delays
+pub mod Histories
+pub mod Openings
+pub mod Entrants
+pub mod Advised
+pub mod Frozen
+pub mod AdvisedAt
