@@ -1,7 +1,8 @@
 //! Demand and slots of a regulation by steps of time, as a picture.
-use crate::chart_text::{Clock, Pixels, heading_of, rates_of};
+use crate::chart_text::{Pixels, heading_of, rates_of};
 use crate::fault::{Fault, unwritten};
 use crate::load::greatest_of;
+use crate::moments::Clock;
 use flow_core::Core;
 use flow_regulations::Regulation;
 use flow_view::{Load, PANEL_HEIGHT, PANEL_WIDTH, Scale, held_later, loads_of, rows_of};

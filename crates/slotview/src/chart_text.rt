@@ -1,7 +1,8 @@
 //! The words and numbers of a picture.
+use crate::moments::{Clock, DateOf};
 use crate::summary::place_text;
 use flow_regulations::Regulation;
-use fpl_text::{Minute, Part};
+use fpl_text::Part;
 use std::alloc::{AllocError, Global};
 use std::fmt;
 
@@ -15,33 +16,6 @@ impl fmt::Display for Pixels {
         let whole = tenths / 10;
         let rest = tenths % 10;
         write!(f, "{whole}.{rest}")
-    }
-}
-
-/// The time of day of a moment, with a colon.
-#[derive(Clone, Copy)]
-pub struct Clock(pub Minute);
-
-impl fmt::Display for Clock {
-    fn fmt<W: fmt::Write>(&self, f: &mut fmt::Formatter<W>) -> fmt::Result {
-        let minute = self.0.minutes() % 1440;
-        let hours = minute / 60;
-        let minutes = minute % 60;
-        write!(f, "{hours:02}:{minutes:02}")
-    }
-}
-
-/// The date of a moment: its year, month and day.
-#[derive(Clone, Copy)]
-struct DateOf(Minute);
-
-impl fmt::Display for DateOf {
-    fn fmt<W: fmt::Write>(&self, f: &mut fmt::Formatter<W>) -> fmt::Result {
-        let date = self.0.day().date();
-        let year = date.year();
-        let month = date.month();
-        let day = date.day();
-        write!(f, "{year:04}-{month:02}-{day:02}")
     }
 }
 

@@ -1,14 +1,14 @@
 //! A flight: its plans, its slots, and what was filed and said about it.
+use crate::course::{Course, Times, about, window_name};
 use crate::fault::Fault;
 use crate::list::holding_name;
 use crate::sheet::{Cell, Column, Sheet, Side};
 use crate::summary::place_text;
-use flow_core::{Core, Entry, Kind, Notice, Receipt, Said, Told, Verdict};
+use flow_core::{Core, Notice, Receipt, Said, Told};
 use flow_plans::{Plan, PlanState};
 use flow_regulations::Regulation;
 use flow_view::{entry_at, row_at};
-use fpl_message::{Filing, Order, Reading};
-use fpl_text::Minute;
+use fpl_text::{Minute, Text, TimeOfDay};
 use std::alloc::{AllocError, Global};
 use std::io::Write;
 
@@ -17,9 +17,9 @@ static PLANS: [Column; 8] = [
     Column("flight", 7, Side::Left),
     Column("dep", 4, Side::Left),
     Column("dest", 4, Side::Left),
-    Column("off-block", 10, Side::Left),
+    Column("off-block", 10, Side::Time),
     Column("state", 9, Side::Left),
-    Column("told", 10, Side::Left),
+    Column("told", 10, Side::Time),
     Column("cause", 8, Side::Left),
 ];
 
@@ -27,20 +27,22 @@ static SLOTS: [Column; 8] = [
     Column("plan", 5, Side::Right),
     Column("regul", 8, Side::Left),
     Column("place", 15, Side::Left),
-    Column("entry", 10, Side::Left),
+    Column("entry", 10, Side::Time),
     Column("slot", 5, Side::Right),
-    Column("time", 10, Side::Left),
+    Column("time", 10, Side::Time),
     Column("delay", 5, Side::Right),
     Column("state", 8, Side::Left),
 ];
 
-static SAID: [Column; 7] = [
+static SAID: [Column; 9] = [
     Column("entry", 7, Side::Right),
-    Column("time", 10, Side::Left),
+    Column("time", 10, Side::Time),
     Column("what", 4, Side::Left),
     Column("plan", 5, Side::Right),
-    Column("off-block", 10, Side::Left),
-    Column("told", 10, Side::Left),
+    Column("off-block", 10, Side::Time),
+    Column("actual", 6, Side::Left),
+    Column("window", 8, Side::Left),
+    Column("told", 10, Side::Time),
     Column("cause", 8, Side::Left),
 ];
 
@@ -80,14 +82,18 @@ fn ctot_of(told: &Option<Told>) -> Option<Minute> {
 }
 
 /// The regulation that causes the take-off time that was told.
-fn cause_of(told: &Option<Told>) -> Cell {
+pub fn cause_of(told: &Option<Told>) -> Cell {
     match told {
         Some(told) => Cell::text(told.regulation.as_bytes()),
         None => Cell::Blank,
     }
 }
 
-fn put_plan<W: Write + Drop>(sheet: &mut Sheet<W>, core: &Core, number: u32) -> Result<(), Fault> {
+fn put_plan<W: Write + Drop>(
+    sheet: &mut Sheet<'_, W>,
+    core: &Core,
+    number: u32,
+) -> Result<(), Fault> {
     let Some(plan) = core.plan(number) else {
         return Ok(());
     };
@@ -100,7 +106,7 @@ fn put_plan<W: Write + Drop>(sheet: &mut Sheet<W>, core: &Core, number: u32) -> 
         Cell::text(plan.key().ident.as_bytes()),
         Cell::text(plan.key().dep.as_bytes()),
         Cell::text(plan.key().dest.as_bytes()),
-        Cell::moment(plan.off_block()),
+        Cell::Moment(plan.off_block()),
         Cell::text(state_name(plan.state())),
         Cell::moment_or_blank(ctot_of(&told)),
         cause_of(&told),
@@ -110,7 +116,7 @@ fn put_plan<W: Write + Drop>(sheet: &mut Sheet<W>, core: &Core, number: u32) -> 
 /// Writes where a plan's flight enters a regulation, and the slot that it has there.
 fn put_slot<W: Write + Drop>(
     alloc: Global,
-    sheet: &mut Sheet<W>,
+    sheet: &mut Sheet<'_, W>,
     core: &Core,
     regulation: &Regulation,
     number: u32,
@@ -131,7 +137,7 @@ fn put_slot<W: Write + Drop>(
     let (slot, time, delay, state) = match &row {
         Some(row) => (
             Cell::number(row.slot),
-            Cell::moment(row.time),
+            Cell::Moment(row.time),
             Cell::number(row.delay()),
             Cell::text(holding_name(row.holding())),
         ),
@@ -149,51 +155,14 @@ fn put_slot<W: Write + Drop>(
     ])
 }
 
-/// The title of an accepted message, and the plan that it is about.
-fn about(verdict: Verdict) -> Option<(&'static str, u32)> {
-    match verdict {
-        Verdict::Accepted {
-            kind: Kind::Fpl,
-            plan,
-        } => Some(("FPL", plan)),
-        Verdict::Accepted {
-            kind: Kind::Dla,
-            plan,
-        } => Some(("DLA", plan)),
-        Verdict::Accepted {
-            kind: Kind::Chg,
-            plan,
-        } => Some(("CHG", plan)),
-        Verdict::Accepted {
-            kind: Kind::Cnl,
-            plan,
-        } => Some(("CNL", plan)),
-        Verdict::Departed { plan, .. } => Some(("DEP", plan)),
-        _ => None,
-    }
-}
-
-/// The desk's time after an entry: that of an accepted TIME.
-fn time_after(alloc: Global, entry: &Entry<'_>, time: Minute) -> Result<Minute, AllocError> {
-    let Verdict::Accepted {
-        kind: Kind::Time,
-        ..
-    } = entry.receipt().verdict
-    else {
-        return Ok(time);
-    };
-    let Ok(filing) = Filing::read_as(alloc, entry.edition(), entry.text()) else {
-        return Err(AllocError);
-    };
-    match filing.reading() {
-        Reading::Ord(Order::SetTime { at }) => Ok(*at),
-        _ => Ok(time),
-    }
+/// A time of day in four digits.
+fn hhmm_of(time: TimeOfDay) -> Text<4> {
+    Minute::from_minutes(u32::from(time.minutes())).hhmm()
 }
 
 /// Writes a notice that an entry caused.
 fn put_notice<W: Write + Drop>(
-    sheet: &mut Sheet<W>,
+    sheet: &mut Sheet<'_, W>,
     entry: u32,
     time: Minute,
     notice: &Notice,
@@ -201,22 +170,24 @@ fn put_notice<W: Write + Drop>(
     let (title, ctot, cause) = match &notice.says {
         Said::Sam(told) => (
             "SAM",
-            Cell::moment(told.ctot),
+            Cell::Moment(told.ctot),
             Cell::text(told.regulation.as_bytes()),
         ),
         Said::Srm(told) => (
             "SRM",
-            Cell::moment(told.ctot),
+            Cell::Moment(told.ctot),
             Cell::text(told.regulation.as_bytes()),
         ),
         Said::Slc => ("SLC", Cell::Blank, Cell::Blank),
     };
     sheet.put(&[
         Cell::number(entry),
-        Cell::moment(time),
+        Cell::Moment(time),
         Cell::text(title.as_bytes()),
         Cell::Blank,
-        Cell::moment(notice.off_block),
+        Cell::Moment(notice.off_block),
+        Cell::Blank,
+        Cell::Blank,
         ctot,
         cause,
     ])
@@ -224,40 +195,38 @@ fn put_notice<W: Write + Drop>(
 
 /// Writes an accepted message about a plan.
 fn put_message<W: Write + Drop>(
-    sheet: &mut Sheet<W>,
+    sheet: &mut Sheet<'_, W>,
     entry: u32,
     time: Minute,
-    title: &str,
-    plan: u32,
+    (title, plan): (&str, u32),
+    times: Times,
 ) -> Result<(), Fault> {
+    let window = times.window.and_then(window_name).unwrap_or("");
+    let actual = match times.actual {
+        Some(actual) => Cell::text(hhmm_of(actual).as_bytes()),
+        None => Cell::Blank,
+    };
     sheet.put(&[
         Cell::number(entry),
-        Cell::moment(time),
+        Cell::Moment(time),
         Cell::text(title.as_bytes()),
         Cell::number(plan),
-        Cell::Blank,
+        Cell::moment_or_blank(times.off_block),
+        actual,
+        Cell::text(window.as_bytes()),
         Cell::Blank,
         Cell::Blank,
     ])
 }
 
-/// Writes what an entry filed about a flight, and the notices to it that it caused.
-fn put_entry<W: Write + Drop>(
-    sheet: &mut Sheet<W>,
+/// Writes the notices to a flight that an entry caused.
+fn put_notices<W: Write + Drop>(
+    sheet: &mut Sheet<'_, W>,
     core: &Core,
     receipt: Receipt,
     time: Minute,
     ident: &[u8],
 ) -> Result<(), Fault> {
-    if let Some((title, number)) = about(receipt.verdict) {
-        let is_its = match core.plan(number) {
-            Some(plan) => is_of(plan, ident),
-            None => false,
-        };
-        if is_its {
-            put_message(sheet, receipt.number, time, title, number)?;
-        }
-    }
     for index in 0..receipt.notices {
         let number = receipt.first_notice.saturating_add(u64::from(index));
         match core.notice(number) {
@@ -273,16 +242,26 @@ fn put_entry<W: Write + Drop>(
 /// Writes all that was filed and said about a flight, with the entries and the desk's times.
 fn put_said<W: Write + Drop>(
     alloc: Global,
-    sheet: &mut Sheet<W>,
+    sheet: &mut Sheet<'_, W>,
     core: &Core,
     ident: &[u8],
 ) -> Result<(), Fault> {
-    let mut time = core.setup().start();
+    let mut course = Course::new(alloc, core);
     for index in 0..core.entries() {
-        if let Some(entry) = core.entry(index + 1) {
-            time = time_after(alloc, &entry, time)?;
-            put_entry(sheet, core, entry.receipt(), time, ident)?;
+        let Some(entry) = core.entry(index + 1) else {
+            break;
+        };
+        course.pass(&entry)?;
+        let receipt = entry.receipt();
+        if let Some((title, number)) = about(receipt.verdict) {
+            let is_its = core.plan(number).is_some_and(|plan| is_of(plan, ident));
+            if is_its {
+                let times = course.message(&entry, number)?;
+                let time = course.time();
+                put_message(sheet, receipt.number, time, (title, number), times)?;
+            }
         }
+        put_notices(sheet, core, receipt, course.time(), ident)?;
     }
     Ok(())
 }
@@ -290,7 +269,7 @@ fn put_said<W: Write + Drop>(
 /// Writes the plans of the flight of this identification. Whether there is one.
 pub fn put_flight<W: Write + Drop>(
     alloc: Global,
-    sheet: &mut Sheet<W>,
+    sheet: &mut Sheet<'_, W>,
     core: &Core,
     regulations: &[Regulation],
     ident: &[u8],

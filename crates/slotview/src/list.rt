@@ -3,27 +3,47 @@ ghost use Rattle.std.specs.Prelude.{◌≡◌, OnOk, length, sum_by};
 ghost use Rattle.flow_view.specs.Table.{listed};
 ghost use Rattle.slotview.specs.Rows.{with_more};
 
+use crate::chart_text::heading_of;
 use crate::fault::Fault;
+use crate::flight::cause_of;
 use crate::sheet::{Cell, Column, Sheet, Side};
 use flow_core::Core;
 use flow_regulations::Regulation;
 use flow_view::{Holding, Line, lines_of};
+use fpl_text::Text;
 use std::alloc::Global;
 use std::io::Write;
 
-static COLUMNS: [Column; 12] = [
+static COLUMNS: [Column; 13] = [
     Column("regul", 8, Side::Left),
     Column("slot", 5, Side::Right),
     Column("empty", 5, Side::Right),
-    Column("time", 10, Side::Left),
+    Column("time", 10, Side::Time),
     Column("flight", 7, Side::Left),
     Column("dep", 4, Side::Left),
     Column("dest", 4, Side::Left),
-    Column("off-block", 10, Side::Left),
-    Column("entry", 10, Side::Left),
+    Column("off-block", 10, Side::Time),
+    Column("entry", 10, Side::Time),
     Column("delay", 5, Side::Right),
     Column("state", 8, Side::Left),
-    Column("told", 10, Side::Left),
+    Column("told", 10, Side::Time),
+    Column("cause", 8, Side::Left),
+];
+
+/// Those of a table of text, in 80 signs. The name of the regulation is in a line above its slots.
+static IN_TEXT: [Column; 12] = [
+    Column("slot", 4, Side::Right),
+    Column("empty", 5, Side::Right),
+    Column("time", 6, Side::Time),
+    Column("flight", 7, Side::Left),
+    Column("dep", 4, Side::Left),
+    Column("dest", 4, Side::Left),
+    Column("eobt", 6, Side::Time),
+    Column("entry", 6, Side::Time),
+    Column("delay", 5, Side::Right),
+    Column("state", 8, Side::Left),
+    Column("told", 6, Side::Time),
+    Column("cause", 8, Side::Left),
 ];
 
 /// The name of how a flight holds its slot.
@@ -35,29 +55,37 @@ pub fn holding_name(holding: Holding) -> &'static [u8] {
     }
 }
 
-/// The cells of a line. Those of the flight are blank where there is none.
-fn cells_of(regulation: &Regulation, line: &Line) -> [Cell; 12] {
-    let (ident, dep, dest, off_block, entry) = match &line.row.flight {
-        Some(flight) => (
-            Cell::text(flight.ident.as_bytes()),
-            Cell::text(flight.dep.as_bytes()),
-            Cell::text(flight.dest.as_bytes()),
-            Cell::moment(flight.off_block),
-            Cell::moment_or_blank(flight.entry),
-        ),
-        None => (
+/// The cells of the flight of a line: its names, its off-block time, its planned entry, and the regulation that causes
+/// the take-off time that it was told. They are blank where there is none.
+fn flight_cells(line: &Line) -> [Cell; 6] {
+    let Some(flight) = &line.row.flight else {
+        return [
             Cell::Blank,
             Cell::Blank,
             Cell::Blank,
             Cell::Blank,
             Cell::Blank,
-        ),
+            Cell::Blank,
+        ];
     };
     [
-        Cell::text(regulation.id().as_bytes()),
+        Cell::text(flight.ident.as_bytes()),
+        Cell::text(flight.dep.as_bytes()),
+        Cell::text(flight.dest.as_bytes()),
+        Cell::Time(flight.off_block),
+        Cell::time_or_blank(flight.entry),
+        cause_of(&flight.told),
+    ]
+}
+
+/// The cells of a line.
+fn cells_of(id: &Text<8>, line: &Line) -> [Cell; 13] {
+    let [ident, dep, dest, off_block, entry, cause] = flight_cells(line);
+    [
+        Cell::text(id.as_bytes()),
         Cell::number(line.row.slot),
         Cell::number(line.empty),
-        Cell::moment(line.row.time),
+        Cell::Time(line.row.time),
         ident,
         dep,
         dest,
@@ -65,22 +93,39 @@ fn cells_of(regulation: &Regulation, line: &Line) -> [Cell; 12] {
         entry,
         Cell::number(line.delay),
         Cell::text(holding_name(line.holding)),
-        Cell::moment_or_blank(line.ctot),
+        Cell::time_or_blank(line.ctot),
+        cause,
     ]
+}
+
+/// Writes a line. In a table of text it has no name of the regulation.
+fn put_line<W: Write + Drop>(sheet: &mut Sheet<'_, W>, cells: &[Cell; 13]) -> Result<(), Fault>
+    ensures { OnOk result (sheet.new.rows ≡ with_more sheet.old.rows 1) }
+{
+    if sheet.is_text() {
+        sheet.put(&cells[1..])
+    } else {
+        sheet.put(cells)
+    }
 }
 
 /// Writes the lines of the slot list of a regulation, a row for each.
 fn put_list<W: Write + Drop>(
     alloc: Global,
-    sheet: &mut Sheet<W>,
+    sheet: &mut Sheet<'_, W>,
     core: &Core,
     regulation: &Regulation,
 ) -> Result<(), Fault>
     ensures { OnOk result (sheet.new.rows ≡ with_more sheet.old.rows (length (listed core.now regulation.now))) }
 {
     let lines = lines_of(alloc, core, regulation)?;
+    let heading = heading_of(alloc, regulation)?;
+    let (start, _) = regulation.list().shape().period();
+    sheet.set_day(start);
+    sheet.note(heading.as_str())?;
+    sheet.note("\n")?;
     for line in &lines {
-        sheet.put(&cells_of(regulation, line))?;
+        put_line(sheet, &cells_of(regulation.id(), line))?;
     }
     Ok(())
 }
@@ -88,13 +133,17 @@ fn put_list<W: Write + Drop>(
 /// Writes the slot lists of these regulations, one behind the other as one table: a row for each of their lines.
 pub fn put_lists<W: Write + Drop>(
     alloc: Global,
-    sheet: &mut Sheet<W>,
+    sheet: &mut Sheet<'_, W>,
     core: &Core,
     regulations: &[Regulation],
 ) -> Result<(), Fault>
     ensures { OnOk result (sheet.new.rows ≡ with_more 0 (sum_by (λ o. length (listed core.now o)) regulations.now)) }
 {
-    sheet.begin("slots", &COLUMNS)?;
+    if sheet.is_text() {
+        sheet.begin("slots", &IN_TEXT)?;
+    } else {
+        sheet.begin("slots", &COLUMNS)?;
+    }
     for regulation in regulations {
         put_list(alloc, sheet, core, regulation)?;
     }

@@ -9,8 +9,8 @@ use std::io::Write;
 
 /// The columns. In a table of text the two last ones have bars.
 static COLUMNS: [Column; 7] = [
-    Column("from", 10, Side::Left),
-    Column("to", 10, Side::Left),
+    Column("from", 10, Side::Time),
+    Column("to", 10, Side::Time),
     Column("demand", 6, Side::Right),
     Column("slots", 5, Side::Right),
     Column("held", 5, Side::Right),
@@ -19,8 +19,8 @@ static COLUMNS: [Column; 7] = [
 ];
 
 static COUNTS: [Column; 5] = [
-    Column("from", 10, Side::Left),
-    Column("to", 10, Side::Left),
+    Column("from", 10, Side::Time),
+    Column("to", 10, Side::Time),
     Column("demand", 6, Side::Right),
     Column("slots", 5, Side::Right),
     Column("held", 5, Side::Right),
@@ -61,7 +61,7 @@ fn bar_of(alloc: Global, count: u64, slots: u64, each: u64) -> Result<Vec<u8>, A
 
 fn put_load<W: Write + Drop>(
     alloc: Global,
-    sheet: &mut Sheet<W>,
+    sheet: &mut Sheet<'_, W>,
     load: &Load,
     each: u64,
 ) -> Result<(), Fault> {
@@ -69,8 +69,8 @@ fn put_load<W: Write + Drop>(
     let demand = bar_of(alloc, load.demand, slots, each)?;
     let held = bar_of(alloc, load.held, slots, each)?;
     let cells = [
-        Cell::moment(load.from),
-        Cell::moment(load.to),
+        Cell::Moment(load.from),
+        Cell::Moment(load.to),
         Cell::Number(load.demand),
         Cell::Number(slots),
         Cell::Number(load.held),
@@ -87,7 +87,7 @@ fn put_load<W: Write + Drop>(
 /// Says what stands behind the period, and what the signs of the bars are.
 fn put_key<W: Write + Drop>(
     alloc: Global,
-    sheet: &mut Sheet<W>,
+    sheet: &mut Sheet<'_, W>,
     later: u64,
     each: u64,
 ) -> Result<(), Fault> {
@@ -103,7 +103,7 @@ fn put_key<W: Write + Drop>(
 /// Writes demand and slots of a regulation in steps of so many minutes.
 pub fn put_loads<W: Write + Drop>(
     alloc: Global,
-    sheet: &mut Sheet<W>,
+    sheet: &mut Sheet<'_, W>,
     core: &Core,
     regulation: &Regulation,
     step: u32,

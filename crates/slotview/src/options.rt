@@ -1,29 +1,22 @@
-//! The words of the command line.
-use clap::builder::ValueParser;
+//! What the words of the command line ask for.
+use crate::commands::command;
 use clap::error::ErrorKind;
 use clap::parser::ValueSource;
-use clap::{Arg, ArgAction, ArgMatches, Command, Error};
+use clap::{ArgMatches, Error};
 use flow_plans::MAX_ENTRIES;
 use std::alloc::{AllocError, Global};
 
-const ABOUT: &str = "Shows a flight plan desk as its journal tells it.\n\n\
-    Reads the journal from standard input, as slotdesk --journal writes it after\n\
-    its answers: what comes before the journal is skipped, and what follows its END\n\
-    isn't read. Without a command it shows a summary.";
-
-const AFTER: &str =
-    "Exit status: 0 if it was shown, or its reader has gone; 1 if reading or writing\n\
-    fails, the input has no journal, or there is no such regulation, flight or\n\
-    entry; 2 for a bad command line, or if memory is refused.\n\n\
-    Times are UTC. The desk of a day, and a slot list after entry 12:\n  \
-    slotdesk --start 2409010500 --journal < day.txt | slotview\n  \
-    slotview --at 12 list RMZ01 < journal.txt";
-
-/// What is said where a picture is asked for in a format of tables.
+/// What is said where a picture or a page is asked for in a format of tables.
 const SVG_WITH_FORMAT: &str = "the argument '--svg' cannot be used with '--format <FORMAT>'";
 
-/// The version of the program.
-const VERSION: &str = "0.1.0";
+const SVG_WITH_TABLE: &str = "the argument '--svg' cannot be used with '--table <NAME>'";
+
+const PAGE_WITH_FORMAT: &str = "'page' cannot be used with '--format <FORMAT>'";
+
+const PAGE_WITH_TABLE: &str = "'page' cannot be used with '--table <NAME>'";
+
+/// What is said of a word that is no entry.
+const NO_ENTRY: &str = "it isn't in 0..=1000000";
 
 /// How a table is written.
 #[derive(Clone, Copy)]
@@ -45,96 +38,55 @@ pub enum Shown<'a> {
     Load { id: &'a str, step: u32 },
     /// The same as a picture.
     Chart { id: &'a str, step: u32 },
+    /// The refused filings.
+    Refused,
+    /// All of it as a page.
+    Page,
+}
+
+impl Shown<'_> {
+    /// The names of its tables.
+    fn tables(&self) -> &'static [&'static str] {
+        match self {
+            Shown::Summary => &["desk", "regulations"],
+            Shown::List { .. } => &["slots"],
+            Shown::Flight { .. } => &["plans", "slots", "said"],
+            Shown::Load { .. } => &["load"],
+            Shown::Refused => &["refused"],
+            Shown::Chart { .. } | Shown::Page => &[],
+        }
+    }
+
+    /// Why it isn't shown as tables of a format, if it isn't.
+    fn without_format(&self) -> Option<&'static str> {
+        match self {
+            Shown::Chart { .. } => Some(SVG_WITH_FORMAT),
+            Shown::Page => Some(PAGE_WITH_FORMAT),
+            _ => None,
+        }
+    }
+
+    /// Why it has no table of a name, if it has none.
+    fn without_table(&self) -> Option<&'static str> {
+        match self {
+            Shown::Chart { .. } => Some(SVG_WITH_TABLE),
+            Shown::Page => Some(PAGE_WITH_TABLE),
+            _ => None,
+        }
+    }
 }
 
 /// What the words of the command line ask for.
 #[derive(Clone, Copy)]
 pub struct Options<'a> {
     pub shown: Shown<'a>,
+    /// What is read. None is standard input.
+    pub file: Option<&'a str>,
     /// After which entry the desk is shown. None is the last one.
     pub at: Option<u32>,
     pub format: Format,
-}
-
-fn at_argument<'a>(alloc: Global) -> Arg<'a> {
-    Arg::new(alloc, "at")
-        .long("at")
-        .value_name("N")
-        .value_parser(ValueParser::unsigned(0, MAX_ENTRIES as u64))
-        .global(true)
-        .help("Shows the desk as it stood after entry N, from 0")
-}
-
-fn format_argument<'a>(alloc: Global) -> Arg<'a> {
-    Arg::new(alloc, "format")
-        .long("format")
-        .value_name("FORMAT")
-        .default_value("table")
-        .value_parser(["table", "csv", "json"].as_slice())
-        .global(true)
-        .hide_possible_values(true)
-        .help("Format of tables: table, csv or json")
-}
-
-fn list_command<'a>(alloc: Global) -> Result<Command<'a>, AllocError> {
-    Command::new(alloc, "list")
-        .about("Slot lists: the held slots of one regulation, or of all")
-        .arg(
-            Arg::new(alloc, "regulation")
-                .value_name("REGULATION")
-                .help("The name of an open regulation"),
-        )
-}
-
-fn flight_command<'a>(alloc: Global) -> Result<Command<'a>, AllocError> {
-    Command::new(alloc, "flight")
-        .about("A flight: its plans, its slots, and what was filed and said about it")
-        .arg(
-            Arg::new(alloc, "identification")
-                .value_name("IDENTIFICATION")
-                .required(true)
-                .help("The identification, as AAA1"),
-        )
-}
-
-fn svg_argument<'a>(alloc: Global) -> Arg<'a> {
-    Arg::new(alloc, "svg")
-        .long("svg")
-        .action(ArgAction::SetTrue)
-        .help("Draws them as an SVG document, without --format")
-}
-
-fn load_command<'a>(alloc: Global) -> Result<Command<'a>, AllocError> {
-    Command::new(alloc, "load")
-        .about("Demand and slots of a regulation, by steps of time")
-        .arg(
-            Arg::new(alloc, "regulation")
-                .value_name("REGULATION")
-                .required(true)
-                .help("The name of an open regulation"),
-        )?
-        .arg(
-            Arg::new(alloc, "step")
-                .long("step")
-                .value_name("MIN")
-                .default_value("20")
-                .value_parser(ValueParser::unsigned(1, 1440))
-                .help("The minutes of a step, 1 to 1440"),
-        )?
-        .arg(svg_argument(alloc))
-}
-
-fn command<'a>(alloc: Global) -> Result<Command<'a>, AllocError> {
-    Command::new(alloc, "slotview")
-        .about(ABOUT)
-        .version(VERSION)
-        .after_help(AFTER)
-        .disable_help_subcommand(true)
-        .arg(at_argument(alloc))?
-        .arg(format_argument(alloc))?
-        .subcommand(list_command(alloc)?)?
-        .subcommand(flight_command(alloc)?)?
-        .subcommand(load_command(alloc)?)
+    /// The table that alone is written.
+    pub table: Option<&'a str>,
 }
 
 fn format_of(word: Option<&str>) -> Format {
@@ -155,16 +107,69 @@ fn load_by<'a>(matches: &ArgMatches<'a>) -> Shown<'a> {
     }
 }
 
-fn shown_by<'a>(matches: &ArgMatches<'a>) -> Shown<'a> {
-    match matches.subcommand() {
-        Some(("list", inner)) => Shown::List {
-            id: inner.get_str("regulation"),
-        },
-        Some(("flight", inner)) => Shown::Flight {
-            ident: inner.get_str("identification").unwrap_or(""),
-        },
-        Some(("load", inner)) => load_by(inner),
-        _ => Shown::Summary,
+/// Whether a word may name a regulation: it has no other characters than letters and digits.
+fn may_be_name(word: &str) -> bool {
+    word.bytes().all(|byte| byte.is_ascii_alphanumeric())
+}
+
+/// What `list` asks for, and what is read. One word alone is a file where it can't be the name of a regulation.
+fn list_by<'a>(matches: &ArgMatches<'a>) -> (Shown<'a>, Option<&'a str>) {
+    let id = matches.get_str("regulation");
+    let file = matches.get_str("file");
+    match (id, file) {
+        (Some(word), None) if !may_be_name(word) => (Shown::List { id: None }, Some(word)),
+        (id, file) => (Shown::List { id }, file),
+    }
+}
+
+/// What is asked for, and what is read.
+fn shown_by<'a>(matches: &ArgMatches<'a>) -> (Shown<'a>, Option<&'a str>) {
+    let Some((name, inner)) = matches.subcommand() else {
+        return (Shown::Summary, matches.get_str("file"));
+    };
+    let file = inner.get_str("file");
+    match name {
+        "list" => list_by(inner),
+        "flight" => {
+            let ident = inner.get_str("identification").unwrap_or("");
+            (Shown::Flight { ident }, file)
+        }
+        "load" => (load_by(inner), file),
+        "refused" => (Shown::Refused, file),
+        "page" => (Shown::Page, file),
+        _ => (Shown::Summary, file),
+    }
+}
+
+/// Why a table or a format that is asked for isn't there, if it isn't.
+fn unfit(matches: &ArgMatches<'_>, shown: &Shown<'_>) -> Option<&'static str> {
+    let formatted = matches.value_source("format") == Some(ValueSource::CommandLine);
+    match shown.without_format() {
+        Some(text) if formatted => return Some(text),
+        _ => {}
+    }
+    match shown.without_table() {
+        Some(text) if matches.contains_id("table") => Some(text),
+        _ => None,
+    }
+}
+
+/// The text of the fault of a table that isn't there.
+fn no_table(alloc: Global, shown: &Shown<'_>, name: &str) -> Result<String, AllocError> {
+    let mut text = format!(in alloc; "invalid value '{name}' for '--table <NAME>'\n  [tables:")?;
+    for (index, table) in shown.tables().iter().enumerate() {
+        text.push_str(if index == 0 { " " } else { ", " })?;
+        text.push_str(table)?;
+    }
+    text.push_str("]")?;
+    Ok(text)
+}
+
+/// The number of an entry, if a word is one.
+fn entry_of(word: &str) -> Option<u32> {
+    match word.parse::<u32>() {
+        Ok(number) if number <= MAX_ENTRIES => Some(number),
+        _ => None,
     }
 }
 
@@ -172,14 +177,32 @@ fn shown_by<'a>(matches: &ArgMatches<'a>) -> Shown<'a> {
 pub fn read_options<'a>(alloc: Global, words: &'a [String]) -> Result<Options<'a>, Error> {
     let mut command = command(alloc)?;
     let matches = command.try_get_matches_from_mut(words)?;
-    let shown = shown_by(&matches);
-    let formatted = matches.value_source("format") == Some(ValueSource::CommandLine);
-    if formatted && matches!(shown, Shown::Chart { .. }) {
-        return Err(command.error(ErrorKind::ArgumentConflict, SVG_WITH_FORMAT)?);
+    let (shown, file) = shown_by(&matches);
+    if let Some(text) = unfit(&matches, &shown) {
+        return Err(command.error(ErrorKind::ArgumentConflict, text)?);
     }
+    let table = matches.get_str("table");
+    if let Some(name) = table {
+        if !shown.tables().contains(&name) {
+            let text = no_table(alloc, &shown, name)?;
+            return Err(command.error(ErrorKind::InvalidValue, text.as_str())?);
+        }
+    }
+    let at = match matches.get_str("at") {
+        Some(word) => {
+            let Some(at) = entry_of(word) else {
+                let text = format!(in alloc; "invalid value '{word}' for '--at <N>': {NO_ENTRY}")?;
+                return Err(command.error(ErrorKind::ValueValidation, text.as_str())?);
+            };
+            Some(at)
+        }
+        None => None,
+    };
     Ok(Options {
         shown,
-        at: matches.get_one::<u32>("at"),
+        file,
+        at,
         format: format_of(matches.get_str("format")),
+        table,
     })
 }

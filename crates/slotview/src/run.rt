@@ -5,9 +5,11 @@ use crate::alike::most_alike;
 use crate::chart::put_chart;
 use crate::fault::{DONE, Fault, NOT_RUN, tell, unwritten};
 use crate::flight::put_flight;
+use crate::input::open_input;
 use crate::list::put_lists;
 use crate::load::put_loads;
 use crate::options::{Options, Shown, read_options};
+use crate::refused::put_all_refused;
 use crate::sheet::Sheet;
 use crate::source::{Held, Source};
 use crate::summary::put_summary;
@@ -16,15 +18,17 @@ use clap::error::ErrorKind;
 use flow_core::{Core, Counted, JournalFault, read_journal, read_stored};
 use flow_regulations::Regulation;
 use std::alloc::Global;
+use std::fs::Files;
 use std::io::{BufRead, BufReader, Read, Write};
 use std::mem::ManuallyDrop;
 
 /// Shows what the words of the command line ask for, of which the first is the program's name, and answers the exit
 /// status: 0 where it was shown, 1 where a device failed or it isn't there, 2 where nothing could be run.
 ///
-/// What is shown goes to `writer`, one line of a fault and the text of a bad command line to `errors`. The command line
-/// is checked before a byte is read.
-pub fn run_words<R: Read + Drop, W: Write + Drop, E: Write>(
+/// What is read is the file that they name, or `reader`. What is shown goes to `writer`, one line of a fault and the text
+/// of a bad command line to `errors`. The command line is checked before a byte is read.
+pub fn run_words<F: Files, R: Read + Drop, W: Write + Drop, E: Write>(
+    files: &F,
     alloc: Global,
     words: &[String],
     reader: R,
@@ -37,7 +41,11 @@ pub fn run_words<R: Read + Drop, W: Write + Drop, E: Write>(
         Ok(options) => options,
         Err(error) => return tell_usage(&error, &mut writer, errors),
     };
-    match show(alloc, options, reader, writer, errors) {
+    let input = match open_input(files, options.file, reader, errors) {
+        Ok(input) => input,
+        Err(fault) => return tell(fault, errors),
+    };
+    match show(alloc, options, input, writer, errors) {
         Ok(()) => DONE,
         Err(fault) => tell(fault, errors),
     }
@@ -128,7 +136,7 @@ fn show_desk<W: Write + Drop, E: Write>(
     if let Shown::Chart { id, step } = options.shown {
         return show_chart(alloc, core, named(all, id, errors)?, step, writer);
     }
-    let mut sheet = Sheet::new(alloc, options.format, writer);
+    let mut sheet = Sheet::new(alloc, options.format, options.table, writer);
     match options.shown {
         Shown::Summary => put_summary(alloc, &mut sheet, core, all)?,
         Shown::List { id: None } => put_lists(alloc, &mut sheet, core, all)?,
@@ -140,7 +148,8 @@ fn show_desk<W: Write + Drop, E: Write>(
                 put_loads(alloc, &mut sheet, core, regulation, step)?;
             }
         }
-        Shown::Chart { .. } => {}
+        Shown::Refused => put_all_refused(alloc, &mut sheet, core)?,
+        Shown::Chart { .. } | Shown::Page => {}
         Shown::Flight { ident } => {
             if !put_flight(alloc, &mut sheet, core, all, ident.as_bytes())? {
                 return Err(tell_flights(alloc, core, ident, errors));
@@ -203,9 +212,6 @@ fn named<'a, E: Write>(
     Err(Fault::NotThere)
 }
 
-/// What is said beside the parser's text to a word that is no command or option, such as the name of a file.
-const INPUT_HINT: &[u8] = b"\nThe journal comes on standard input: slotview .. < FILE\n";
-
 /// Writes what the command line parser says, the help to `writer` and a fault to `errors`.
 fn tell_usage<W: Write, E: Write>(error: &Error, writer: &mut W, errors: &mut E) -> u8
     ensures { result ≤ 2 }
@@ -215,12 +221,6 @@ fn tell_usage<W: Write, E: Write>(error: &Error, writer: &mut W, errors: &mut E)
     }
     if error.use_stderr() {
         let _told = write!(errors, "{error}");
-        if matches!(
-            error.kind(),
-            ErrorKind::UnknownArgument | ErrorKind::InvalidSubcommand
-        ) {
-            let _hinted = errors.write_all(INPUT_HINT);
-        }
         let _flushed = errors.flush();
         return NOT_RUN;
     }

@@ -10,7 +10,7 @@ use std::alloc::{AllocError, Global};
 use std::io::Write;
 
 static DESK: [Column; 6] = [
-    Column("time", 10, Side::Left),
+    Column("time", 10, Side::Time),
     Column("entries", 7, Side::Right),
     Column("plans", 5, Side::Right),
     Column("filed", 5, Side::Right),
@@ -21,8 +21,8 @@ static DESK: [Column; 6] = [
 static REGULATIONS: [Column; 11] = [
     Column("regul", 8, Side::Left),
     Column("place", 15, Side::Left),
-    Column("from", 10, Side::Left),
-    Column("to", 10, Side::Left),
+    Column("from", 10, Side::Time),
+    Column("to", 10, Side::Time),
     Column("rates", 11, Side::Left),
     Column("flights", 7, Side::Right),
     Column("frozen", 6, Side::Right),
@@ -63,12 +63,12 @@ fn states_of(core: &Core) -> States {
     states
 }
 
-fn put_desk<W: Write + Drop>(sheet: &mut Sheet<W>, core: &Core) -> Result<(), Fault> {
+fn put_desk<W: Write + Drop>(sheet: &mut Sheet<'_, W>, core: &Core) -> Result<(), Fault> {
     let states = states_of(core);
     let plans = u64::from(states.filed) + u64::from(states.departed) + u64::from(states.cancelled);
     sheet.begin("desk", &DESK)?;
     sheet.put(&[
-        Cell::moment(core.now()),
+        Cell::Moment(core.now()),
         Cell::number(core.entries()),
         Cell::Number(plans),
         Cell::number(states.filed),
@@ -112,7 +112,7 @@ fn mean_of(totals: Totals) -> u32 {
 
 fn put_regulation<W: Write + Drop>(
     alloc: Global,
-    sheet: &mut Sheet<W>,
+    sheet: &mut Sheet<'_, W>,
     core: &Core,
     regulation: &Regulation,
 ) -> Result<(), Fault> {
@@ -125,8 +125,8 @@ fn put_regulation<W: Write + Drop>(
     sheet.put(&[
         Cell::text(regulation.id().as_bytes()),
         Cell::text(place.as_slice()),
-        Cell::moment(from),
-        Cell::moment(to),
+        Cell::Moment(from),
+        Cell::Moment(to),
         Cell::text(rates.as_bytes()),
         Cell::Number(totals.flights),
         Cell::Number(totals.frozen),
@@ -140,7 +140,7 @@ fn put_regulation<W: Write + Drop>(
 /// Writes the desk and its open regulations.
 pub fn put_summary<W: Write + Drop>(
     alloc: Global,
-    sheet: &mut Sheet<W>,
+    sheet: &mut Sheet<'_, W>,
     core: &Core,
     regulations: &[Regulation],
 ) -> Result<(), Fault> {
