@@ -45,9 +45,9 @@ fn table_argument<'a>(alloc: Global) -> Arg<'a> {
 fn at_argument<'a>(alloc: Global) -> Arg<'a> {
     Arg::new(alloc, "at")
         .long("at")
-        .value_name("N")
+        .value_name("WHEN")
         .global(true)
-        .help("Shows the desk as it stood after entry N, from 0")
+        .help("The desk after entry N, from 0, or at a moment yymmddhhmm")
 }
 
 fn file_argument<'a>(alloc: Global) -> Arg<'a> {
@@ -59,7 +59,7 @@ fn file_argument<'a>(alloc: Global) -> Arg<'a> {
 fn regulation_argument<'a>(alloc: Global) -> Arg<'a> {
     Arg::new(alloc, "regulation")
         .value_name("REGULATION")
-        .help("The name of an open regulation")
+        .help("Its name, or NAME@ENTRY as that entry opened it")
 }
 
 fn svg_argument<'a>(alloc: Global) -> Arg<'a> {
@@ -106,6 +106,78 @@ fn load_command<'a>(alloc: Global) -> Result<Command<'a>, AllocError> {
         .arg(svg_argument(alloc))
 }
 
+fn kind_argument<'a>(alloc: Global) -> Arg<'a> {
+    Arg::new(alloc, "kind")
+        .value_name("KIND")
+        .required(true)
+        .help("DEP or ARR for an aerodrome, VIA for a route point")
+}
+
+fn place_argument<'a>(alloc: Global) -> Arg<'a> {
+    Arg::new(alloc, "place")
+        .value_name("PLACE")
+        .required(true)
+        .help("The aerodrome or the route point")
+}
+
+fn count_command<'a>(alloc: Global) -> Result<Command<'a>, AllocError> {
+    Command::new(alloc, "count")
+        .about("How many flights enter a place, regulated or not, by steps of time")
+        .arg(kind_argument(alloc))?
+        .arg(place_argument(alloc))?
+        .arg(file_argument(alloc))?
+        .arg(
+            Arg::new(alloc, "from")
+                .long("from")
+                .value_name("MOMENT")
+                .help("When it begins, without it with the desk's day"),
+        )?
+        .arg(
+            Arg::new(alloc, "to")
+                .long("to")
+                .value_name("MOMENT")
+                .requires_arg("from")?
+                .help("When it ends, without it a day later"),
+        )?
+        .arg(step_argument(alloc, "60"))?
+        .arg(
+            Arg::new(alloc, "slide")
+                .long("slide")
+                .value_name("MIN")
+                .value_parser(ValueParser::unsigned(1, 1440))
+                .help("From one step to the next, without it a step"),
+        )?
+        .arg(svg_argument(alloc))
+}
+
+fn sweep_command<'a>(alloc: Global) -> Result<Command<'a>, AllocError> {
+    Command::new(alloc, "sweep")
+        .about("What a regulation would do at several rates, without opening it")
+        .arg(kind_argument(alloc))?
+        .arg(place_argument(alloc))?
+        .arg(
+            Arg::new(alloc, "from")
+                .value_name("FROM")
+                .required(true)
+                .help("The start of its period, yymmddhhmm"),
+        )?
+        .arg(
+            Arg::new(alloc, "to")
+                .value_name("TO")
+                .required(true)
+                .help("Its end, yymmddhhmm"),
+        )?
+        .arg(file_argument(alloc))?
+        .arg(
+            Arg::new(alloc, "rates")
+                .long("rates")
+                .value_name("FIRST..LAST")
+                .required(true)
+                .help("The rates, flights an hour"),
+        )?
+        .arg(svg_argument(alloc))
+}
+
 fn refused_command<'a>(alloc: Global) -> Result<Command<'a>, AllocError> {
     Command::new(alloc, "refused")
         .about("Refused filings: why, the word at fault, and the text")
@@ -132,6 +204,8 @@ pub fn command<'a>(alloc: Global) -> Result<Command<'a>, AllocError> {
         .subcommand(list_command(alloc)?)?
         .subcommand(flight_command(alloc)?)?
         .subcommand(load_command(alloc)?)?
+        .subcommand(count_command(alloc)?)?
+        .subcommand(sweep_command(alloc)?)?
         .subcommand(refused_command(alloc)?)?
         .subcommand(page_command(alloc)?)
 }

@@ -1,12 +1,12 @@
 //! What was filed about a flight, with its times.
-use flow_core::{Core, Entry, Kind, Verdict, Window};
+use flow_core::{Core, Entry, Kind, Notice, Said, Told, Verdict, Window};
 use fpl_message::{Filing, Message, Order, Reading};
-use fpl_text::{Minute, TimeOfDay};
+use fpl_text::{Minute, Text, TimeOfDay};
 use std::alloc::{AllocError, Global};
 use std::collections::HashMap;
 
 /// The title of an accepted message, and the plan that it is about.
-pub fn about(verdict: Verdict) -> Option<(&'static str, u32)> {
+fn about(verdict: Verdict) -> Option<(&'static str, u32)> {
     match verdict {
         Verdict::Accepted {
             kind: Kind::Fpl,
@@ -29,15 +29,25 @@ pub fn about(verdict: Verdict) -> Option<(&'static str, u32)> {
     }
 }
 
-/// What a message says of the times of its flight.
+/// An accepted message about a flight, or a notice to it.
 #[derive(Clone, Copy)]
-pub struct Times {
-    /// The off-block time that it gives.
+pub struct Event {
+    /// The number of the entry.
+    pub entry: u32,
+    /// The desk's time then.
+    pub time: Minute,
+    /// The title of the message or of the notice.
+    pub what: &'static str,
+    /// The plan that a message is about.
+    pub plan: Option<u32>,
+    /// The off-block time that a message gives, or that the plan of a notice had.
     pub off_block: Option<Minute>,
-    /// The time of day at which the flight departed.
+    /// The time of day of a departure.
     pub actual: Option<TimeOfDay>,
     /// How a departure is to the take-off time that was told.
     pub window: Option<Window>,
+    /// The take-off time that a notice tells.
+    pub told: Option<Told>,
 }
 
 /// The name of a window, as answers have it. None where no take-off time was told.
@@ -119,34 +129,155 @@ impl<'a> Course<'a> {
         first_from(*held, time)
     }
 
-    /// What an accepted message about this plan says. All earlier ones about it were asked for.
-    pub fn message(&mut self, entry: &Entry<'_>, plan: u32) -> Result<Times, AllocError> {
-        let filing = self.filing_of(entry)?;
-        let mut times = Times {
-            off_block: None,
-            actual: None,
-            window: None,
+    /// The off-block time that an accepted message about this plan gives, and the time of day of a departure. All earlier
+    /// ones about it were asked for.
+    fn times_of(
+        &mut self,
+        filing: &Filing,
+        plan: u32,
+    ) -> Result<(Option<Minute>, Option<TimeOfDay>), AllocError> {
+        let Reading::Msg(message) = filing.reading() else {
+            return Ok((None, None));
         };
-        if let Reading::Msg(message) = filing.reading() {
-            times.off_block = match message {
-                Message::Fpl(filed) => self.first_off_block(plan, filed.departure().time),
-                Message::Dla(delay) => self.delayed(plan, delay.time),
-                Message::Chg(change) => match change.departure() {
-                    Some(departure) => self.delayed(plan, departure.time),
-                    None => None,
-                },
-                _ => None,
-            };
-            if let Message::Dep(departure) = message {
-                times.actual = Some(departure.time);
-            }
-        }
-        if let Verdict::Departed { window, .. } = entry.receipt().verdict {
-            times.window = Some(window);
-        }
-        if let Some(moment) = times.off_block {
+        let off_block = match message {
+            Message::Fpl(filed) => self.first_off_block(plan, filed.departure().time),
+            Message::Dla(delay) => self.delayed(plan, delay.time),
+            Message::Chg(change) => match change.departure() {
+                Some(departure) => self.delayed(plan, departure.time),
+                None => None,
+            },
+            _ => None,
+        };
+        if let Some(moment) = off_block {
             self.off_blocks.insert(plan, moment)?;
         }
-        Ok(times)
+        match message {
+            Message::Dep(departure) => Ok((off_block, Some(departure.time))),
+            _ => Ok((off_block, None)),
+        }
     }
+
+    /// What an accepted message about this plan says.
+    fn message(
+        &mut self,
+        entry: &Entry<'_>,
+        what: &'static str,
+        plan: u32,
+    ) -> Result<Event, AllocError> {
+        let filing = self.filing_of(entry)?;
+        let (off_block, actual) = self.times_of(&filing, plan)?;
+        let receipt = entry.receipt();
+        let window = match receipt.verdict {
+            Verdict::Departed { window, .. } => Some(window),
+            _ => None,
+        };
+        Ok(Event {
+            entry: receipt.number,
+            time: self.time,
+            what,
+            plan: Some(plan),
+            off_block,
+            actual,
+            window,
+            told: None,
+        })
+    }
+}
+
+/// What a notice says, that an entry caused.
+fn notice_event(entry: u32, time: Minute, notice: &Notice) -> Event {
+    let (what, told) = match &notice.says {
+        Said::Sam(told) => ("SAM", Some(*told)),
+        Said::Srm(told) => ("SRM", Some(*told)),
+        Said::Slc => ("SLC", None),
+    };
+    Event {
+        entry,
+        time,
+        what,
+        plan: None,
+        off_block: Some(notice.off_block),
+        actual: None,
+        window: None,
+        told,
+    }
+}
+
+/// Adds an event to those of a flight, by its place.
+fn add(courses: &mut Vec<Vec<Event>>, place: usize, event: Event) -> Result<(), AllocError> {
+    if let Some(events) = courses.get_mut(place) {
+        events.push(event)?;
+    }
+    Ok(())
+}
+
+/// The courses of flights: all that was filed and said about each, in the order of the journal. Each flight has its place
+/// among them, by its identification.
+pub fn courses_of(
+    alloc: Global,
+    core: &Core,
+    places: &HashMap<Text<7>, usize>,
+) -> Result<Vec<Vec<Event>>, AllocError> {
+    let mut courses = Vec::new(alloc);
+    for _ in 0..places.len() {
+        courses.push(Vec::new(alloc))?;
+    }
+    let mut course = Course::new(alloc, core);
+    for index in 0..core.entries() {
+        let Some(entry) = core.entry(index + 1) else {
+            break;
+        };
+        course.pass(&entry)?;
+        course.add_message(&mut courses, &entry, places)?;
+        add_notices(&mut courses, core, &entry, course.time(), places)?;
+    }
+    Ok(courses)
+}
+
+impl Course<'_> {
+    /// Adds what an entry filed about one of these flights.
+    fn add_message(
+        &mut self,
+        courses: &mut Vec<Vec<Event>>,
+        entry: &Entry<'_>,
+        places: &HashMap<Text<7>, usize>,
+    ) -> Result<(), AllocError> {
+        let Some((what, number)) = about(entry.receipt().verdict) else {
+            return Ok(());
+        };
+        let Some(plan) = self.core.plan(number) else {
+            return Ok(());
+        };
+        if let Some(place) = places.get(&plan.key().ident) {
+            let event = self.message(entry, what, number)?;
+            add(courses, *place, event)?;
+        }
+        Ok(())
+    }
+}
+
+/// Adds the notices to these flights that an entry caused.
+fn add_notices(
+    courses: &mut Vec<Vec<Event>>,
+    core: &Core,
+    entry: &Entry<'_>,
+    time: Minute,
+    places: &HashMap<Text<7>, usize>,
+) -> Result<(), AllocError> {
+    let receipt = entry.receipt();
+    for index in 0..receipt.notices {
+        let number = receipt.first_notice.saturating_add(u64::from(index));
+        let Some(notice) = core.notice(number) else {
+            continue;
+        };
+        if let Some(place) = places.get(&notice.ident) {
+            add(courses, *place, notice_event(receipt.number, time, notice))?;
+        }
+    }
+    Ok(())
+}
+
+/// A time of day in four digits.
+pub fn hhmm_of(time: TimeOfDay) -> Text<4> {
+    Minute::from_minutes(u32::from(time.minutes())).hhmm()
 }

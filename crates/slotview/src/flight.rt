@@ -1,15 +1,17 @@
 //! A flight: its plans, its slots, and what was filed and said about it.
-use crate::course::{Course, Times, about, window_name};
+use crate::course::{Event, courses_of, hhmm_of, window_name};
 use crate::fault::Fault;
 use crate::list::holding_name;
+use crate::named::is_of;
 use crate::sheet::{Cell, Column, Sheet, Side};
 use crate::summary::place_text;
-use flow_core::{Core, Notice, Receipt, Said, Told};
-use flow_plans::{Plan, PlanState};
+use flow_core::{Core, Told};
+use flow_plans::PlanState;
 use flow_regulations::Regulation;
 use flow_view::{entry_at, row_at};
-use fpl_text::{Minute, Text, TimeOfDay};
+use fpl_text::{Minute, Text};
 use std::alloc::{AllocError, Global};
+use std::collections::HashMap;
 use std::io::Write;
 
 static PLANS: [Column; 8] = [
@@ -46,11 +48,6 @@ static SAID: [Column; 9] = [
     Column("cause", 8, Side::Left),
 ];
 
-/// Whether a plan is of the flight of this identification.
-fn is_of(plan: &Plan, ident: &[u8]) -> bool {
-    plan.key().ident.as_bytes() == ident
-}
-
 fn state_name(state: PlanState) -> &'static [u8] {
     match state {
         PlanState::Filed => b"filed",
@@ -60,7 +57,7 @@ fn state_name(state: PlanState) -> &'static [u8] {
 }
 
 /// The numbers of the plans of a flight.
-fn plans_of(alloc: Global, core: &Core, ident: &[u8]) -> Result<Vec<u32>, AllocError> {
+fn plans_of(alloc: Global, core: &Core, ident: &str) -> Result<Vec<u32>, AllocError> {
     let mut numbers = Vec::new(alloc);
     for index in 0..core.setup().max_plans() {
         let number = index + 1;
@@ -82,7 +79,7 @@ fn ctot_of(told: &Option<Told>) -> Option<Minute> {
 }
 
 /// The regulation that causes the take-off time that was told.
-pub fn cause_of(told: &Option<Told>) -> Cell {
+fn cause_of(told: &Option<Told>) -> Cell {
     match told {
         Some(told) => Cell::text(told.regulation.as_bytes()),
         None => Cell::Blank,
@@ -146,7 +143,7 @@ fn put_slot<W: Write + Drop>(
     sheet.put(&[
         Cell::number(number),
         Cell::text(regulation.id().as_bytes()),
-        Cell::text(place.as_slice()),
+        Cell::text(place.as_bytes()),
         Cell::moment_or_blank(entry),
         slot,
         time,
@@ -155,88 +152,28 @@ fn put_slot<W: Write + Drop>(
     ])
 }
 
-/// A time of day in four digits.
-fn hhmm_of(time: TimeOfDay) -> Text<4> {
-    Minute::from_minutes(u32::from(time.minutes())).hhmm()
-}
-
-/// Writes a notice that an entry caused.
-fn put_notice<W: Write + Drop>(
-    sheet: &mut Sheet<'_, W>,
-    entry: u32,
-    time: Minute,
-    notice: &Notice,
-) -> Result<(), Fault> {
-    let (title, ctot, cause) = match &notice.says {
-        Said::Sam(told) => (
-            "SAM",
-            Cell::Moment(told.ctot),
-            Cell::text(told.regulation.as_bytes()),
-        ),
-        Said::Srm(told) => (
-            "SRM",
-            Cell::Moment(told.ctot),
-            Cell::text(told.regulation.as_bytes()),
-        ),
-        Said::Slc => ("SLC", Cell::Blank, Cell::Blank),
+/// Writes a message about a flight, or a notice to it.
+fn put_event<W: Write + Drop>(sheet: &mut Sheet<'_, W>, event: &Event) -> Result<(), Fault> {
+    let window = event.window.and_then(window_name).unwrap_or("");
+    let plan = match event.plan {
+        Some(number) => Cell::number(number),
+        None => Cell::Blank,
     };
-    sheet.put(&[
-        Cell::number(entry),
-        Cell::Moment(time),
-        Cell::text(title.as_bytes()),
-        Cell::Blank,
-        Cell::Moment(notice.off_block),
-        Cell::Blank,
-        Cell::Blank,
-        ctot,
-        cause,
-    ])
-}
-
-/// Writes an accepted message about a plan.
-fn put_message<W: Write + Drop>(
-    sheet: &mut Sheet<'_, W>,
-    entry: u32,
-    time: Minute,
-    (title, plan): (&str, u32),
-    times: Times,
-) -> Result<(), Fault> {
-    let window = times.window.and_then(window_name).unwrap_or("");
-    let actual = match times.actual {
+    let actual = match event.actual {
         Some(actual) => Cell::text(hhmm_of(actual).as_bytes()),
         None => Cell::Blank,
     };
     sheet.put(&[
-        Cell::number(entry),
-        Cell::Moment(time),
-        Cell::text(title.as_bytes()),
-        Cell::number(plan),
-        Cell::moment_or_blank(times.off_block),
+        Cell::number(event.entry),
+        Cell::Moment(event.time),
+        Cell::text(event.what.as_bytes()),
+        plan,
+        Cell::moment_or_blank(event.off_block),
         actual,
         Cell::text(window.as_bytes()),
-        Cell::Blank,
-        Cell::Blank,
+        Cell::moment_or_blank(ctot_of(&event.told)),
+        cause_of(&event.told),
     ])
-}
-
-/// Writes the notices to a flight that an entry caused.
-fn put_notices<W: Write + Drop>(
-    sheet: &mut Sheet<'_, W>,
-    core: &Core,
-    receipt: Receipt,
-    time: Minute,
-    ident: &[u8],
-) -> Result<(), Fault> {
-    for index in 0..receipt.notices {
-        let number = receipt.first_notice.saturating_add(u64::from(index));
-        match core.notice(number) {
-            Some(notice) if notice.ident.as_bytes() == ident => {
-                put_notice(sheet, receipt.number, time, notice)?;
-            }
-            _ => {}
-        }
-    }
-    Ok(())
 }
 
 /// Writes all that was filed and said about a flight, with the entries and the desk's times.
@@ -244,24 +181,14 @@ fn put_said<W: Write + Drop>(
     alloc: Global,
     sheet: &mut Sheet<'_, W>,
     core: &Core,
-    ident: &[u8],
+    ident: Text<7>,
 ) -> Result<(), Fault> {
-    let mut course = Course::new(alloc, core);
-    for index in 0..core.entries() {
-        let Some(entry) = core.entry(index + 1) else {
-            break;
-        };
-        course.pass(&entry)?;
-        let receipt = entry.receipt();
-        if let Some((title, number)) = about(receipt.verdict) {
-            let is_its = core.plan(number).is_some_and(|plan| is_of(plan, ident));
-            if is_its {
-                let times = course.message(&entry, number)?;
-                let time = course.time();
-                put_message(sheet, receipt.number, time, (title, number), times)?;
-            }
+    let mut places = HashMap::new(alloc);
+    places.insert(ident, 0)?;
+    for events in &courses_of(alloc, core, &places)? {
+        for event in events {
+            put_event(sheet, event)?;
         }
-        put_notices(sheet, core, receipt, course.time(), ident)?;
     }
     Ok(())
 }
@@ -271,24 +198,23 @@ pub fn put_flight<W: Write + Drop>(
     alloc: Global,
     sheet: &mut Sheet<'_, W>,
     core: &Core,
-    regulations: &[Regulation],
-    ident: &[u8],
+    ident: &str,
 ) -> Result<bool, Fault> {
     let numbers = plans_of(alloc, core, ident)?;
-    if numbers.is_empty() {
+    let Some(first) = numbers.first().and_then(|number| core.plan(*number)) else {
         return Ok(false);
-    }
+    };
     sheet.begin("plans", &PLANS)?;
     for number in &numbers {
         put_plan(sheet, core, *number)?;
     }
     sheet.begin("slots", &SLOTS)?;
     for number in &numbers {
-        for regulation in regulations {
+        for regulation in core.regulations() {
             put_slot(alloc, sheet, core, regulation, *number)?;
         }
     }
     sheet.begin("said", &SAID)?;
-    put_said(alloc, sheet, core, ident)?;
+    put_said(alloc, sheet, core, first.key().ident)?;
     Ok(true)
 }

@@ -1,20 +1,16 @@
 //! The slot list of a regulation.
 ghost use Rattle.std.specs.Prelude.{◌≡◌, OnOk, length, sum_by};
-ghost use Rattle.flow_view.specs.Table.{listed};
+ghost use Rattle.flow_view.specs.Table.{lines};
 ghost use Rattle.slotview.specs.Rows.{with_more};
 
 use crate::chart_text::heading_of;
 use crate::fault::Fault;
-use crate::flight::cause_of;
 use crate::sheet::{Cell, Column, Sheet, Side};
-use flow_core::Core;
-use flow_regulations::Regulation;
-use flow_view::{Holding, Line, lines_of};
-use fpl_text::Text;
+use flow_view::{Holding, Line, Opening, lines_with};
 use std::alloc::Global;
 use std::io::Write;
 
-static COLUMNS: [Column; 13] = [
+static COLUMNS: [Column; 15] = [
     Column("regul", 8, Side::Left),
     Column("slot", 5, Side::Right),
     Column("empty", 5, Side::Right),
@@ -28,6 +24,8 @@ static COLUMNS: [Column; 13] = [
     Column("state", 8, Side::Left),
     Column("told", 10, Side::Time),
     Column("cause", 8, Side::Left),
+    Column("opened", 7, Side::Right),
+    Column("shut", 7, Side::Right),
 ];
 
 /// Those of a table of text, in 80 signs. The name of the regulation is in a line above its slots.
@@ -55,12 +53,11 @@ pub fn holding_name(holding: Holding) -> &'static [u8] {
     }
 }
 
-/// The cells of the flight of a line: its names, its off-block time, its planned entry, and the regulation that causes
-/// the take-off time that it was told. They are blank where there is none.
-fn flight_cells(line: &Line) -> [Cell; 6] {
+/// The cells of the flight of a line: its names, its off-block time and its planned entry. They are blank where there is
+/// none.
+fn flight_cells(line: &Line) -> [Cell; 5] {
     let Some(flight) = &line.row.flight else {
         return [
-            Cell::Blank,
             Cell::Blank,
             Cell::Blank,
             Cell::Blank,
@@ -74,15 +71,22 @@ fn flight_cells(line: &Line) -> [Cell; 6] {
         Cell::text(flight.dest.as_bytes()),
         Cell::Time(flight.off_block),
         Cell::time_or_blank(flight.entry),
-        cause_of(&flight.told),
     ]
 }
 
 /// The cells of a line.
-fn cells_of(id: &Text<8>, line: &Line) -> [Cell; 13] {
-    let [ident, dep, dest, off_block, entry, cause] = flight_cells(line);
+fn cells_of(opening: &Opening, line: &Line) -> [Cell; 15] {
+    let [ident, dep, dest, off_block, entry] = flight_cells(line);
+    let cause = match &line.cause {
+        Some(cause) => Cell::text(cause.as_bytes()),
+        None => Cell::Blank,
+    };
+    let shut = match opening.shut_by() {
+        Some(entry) => Cell::number(entry),
+        None => Cell::Blank,
+    };
     [
-        Cell::text(id.as_bytes()),
+        Cell::text(opening.id().as_bytes()),
         Cell::number(line.row.slot),
         Cell::number(line.empty),
         Cell::Time(line.row.time),
@@ -95,15 +99,17 @@ fn cells_of(id: &Text<8>, line: &Line) -> [Cell; 13] {
         Cell::text(holding_name(line.holding)),
         Cell::time_or_blank(line.ctot),
         cause,
+        Cell::number(opening.opened_by()),
+        shut,
     ]
 }
 
 /// Writes a line. In a table of text it has no name of the regulation.
-fn put_line<W: Write + Drop>(sheet: &mut Sheet<'_, W>, cells: &[Cell; 13]) -> Result<(), Fault>
+fn put_line<W: Write + Drop>(sheet: &mut Sheet<'_, W>, cells: &[Cell; 15]) -> Result<(), Fault>
     ensures { OnOk result (sheet.new.rows ≡ with_more sheet.old.rows 1) }
 {
     if sheet.is_text() {
-        sheet.put(&cells[1..])
+        sheet.put(&cells[1..13])
     } else {
         sheet.put(cells)
     }
@@ -113,39 +119,37 @@ fn put_line<W: Write + Drop>(sheet: &mut Sheet<'_, W>, cells: &[Cell; 13]) -> Re
 fn put_list<W: Write + Drop>(
     alloc: Global,
     sheet: &mut Sheet<'_, W>,
-    core: &Core,
-    regulation: &Regulation,
+    opening: &Opening,
 ) -> Result<(), Fault>
-    ensures { OnOk result (sheet.new.rows ≡ with_more sheet.old.rows (length (listed core.now regulation.now))) }
+    ensures { OnOk result (sheet.new.rows ≡ with_more sheet.old.rows (length (lines opening.now.rows))) }
 {
-    let lines = lines_of(alloc, core, regulation)?;
-    let heading = heading_of(alloc, regulation)?;
-    let (start, _) = regulation.list().shape().period();
+    let heading = heading_of(alloc, opening)?;
+    let (start, _) = opening.shape().period();
     sheet.set_day(start);
     sheet.note(heading.as_str())?;
     sheet.note("\n")?;
+    let lines = lines_with(alloc, opening.rows())?;
     for line in &lines {
-        put_line(sheet, &cells_of(regulation.id(), line))?;
+        put_line(sheet, &cells_of(opening, line))?;
     }
     Ok(())
 }
 
-/// Writes the slot lists of these regulations, one behind the other as one table: a row for each of their lines.
+/// Writes the slot lists of these regulations, one after the other as one table: a row for each of their lines.
 pub fn put_lists<W: Write + Drop>(
     alloc: Global,
     sheet: &mut Sheet<'_, W>,
-    core: &Core,
-    regulations: &[Regulation],
+    openings: &[Opening],
 ) -> Result<(), Fault>
-    ensures { OnOk result (sheet.new.rows ≡ with_more 0 (sum_by (λ o. length (listed core.now o)) regulations.now)) }
+    ensures { OnOk result (sheet.new.rows ≡ with_more 0 (sum_by (λ o. length (lines o.rows)) openings.now)) }
 {
     if sheet.is_text() {
         sheet.begin("slots", &IN_TEXT)?;
     } else {
         sheet.begin("slots", &COLUMNS)?;
     }
-    for regulation in regulations {
-        put_list(alloc, sheet, core, regulation)?;
+    for opening in openings {
+        put_list(alloc, sheet, opening)?;
     }
     Ok(())
 }

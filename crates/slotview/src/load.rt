@@ -1,9 +1,7 @@
 //! Demand and slots of a regulation by steps of time.
 use crate::fault::Fault;
 use crate::sheet::{Cell, Column, Sheet, Side};
-use flow_core::Core;
-use flow_regulations::Regulation;
-use flow_view::{Load, held_later, loads_of, rows_of};
+use flow_view::{Load, Opening, held_later, loads_of};
 use std::alloc::{AllocError, Global};
 use std::io::Write;
 
@@ -104,14 +102,11 @@ fn put_key<W: Write + Drop>(
 pub fn put_loads<W: Write + Drop>(
     alloc: Global,
     sheet: &mut Sheet<'_, W>,
-    core: &Core,
-    regulation: &Regulation,
+    opening: &Opening,
     step: u32,
 ) -> Result<(), Fault> {
-    let list = regulation.list();
     let step = step.clamp(1, 1440);
-    let rows = rows_of(alloc, core, regulation.spot(), list)?;
-    let loads = loads_of(alloc, list.shape(), rows.as_slice(), step)?;
+    let loads = loads_of(alloc, opening.shape(), opening.rows(), step)?;
     let each = greatest_of(loads.as_slice()).div_ceil(LONGEST).max(1);
     if sheet.is_text() {
         sheet.begin("load", &COLUMNS)?;
@@ -121,6 +116,6 @@ pub fn put_loads<W: Write + Drop>(
     for load in &loads {
         put_load(alloc, sheet, load, each)?;
     }
-    let later = held_later(list.shape(), rows.as_slice());
+    let later = held_later(opening.shape(), opening.rows());
     put_key(alloc, sheet, later, each)
 }

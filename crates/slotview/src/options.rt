@@ -1,12 +1,14 @@
 //! What the words of the command line ask for.
 use crate::commands::command;
+use crate::words::{entry_of, may_be_name, moment_of, rates_of, spot_of};
 use clap::error::ErrorKind;
 use clap::parser::ValueSource;
-use clap::{ArgMatches, Error};
-use flow_plans::MAX_ENTRIES;
+use clap::{ArgMatches, Command, Error};
+use fpl_message::Spot;
+use fpl_text::Minute;
 use std::alloc::{AllocError, Global};
 
-/// What is said where a picture or a page is asked for in a format of tables.
+/// What is said where a picture or a page is asked for as a table.
 const SVG_WITH_FORMAT: &str = "the argument '--svg' cannot be used with '--format <FORMAT>'";
 
 const SVG_WITH_TABLE: &str = "the argument '--svg' cannot be used with '--table <NAME>'";
@@ -15,8 +17,8 @@ const PAGE_WITH_FORMAT: &str = "'page' cannot be used with '--format <FORMAT>'";
 
 const PAGE_WITH_TABLE: &str = "'page' cannot be used with '--table <NAME>'";
 
-/// What is said of a word that is no entry.
-const NO_ENTRY: &str = "it isn't in 0..=1000000";
+/// The longest period that is counted, in minutes.
+const LONGEST: u32 = 1440;
 
 /// How a table is written.
 #[derive(Clone, Copy)]
@@ -24,6 +26,38 @@ pub enum Format {
     Table,
     Csv,
     Json,
+}
+
+/// When a desk is shown.
+#[derive(Clone, Copy)]
+pub enum At {
+    /// After the entry of this number.
+    Entry(u32),
+    /// When its time was last not after this moment.
+    Moment(Minute),
+}
+
+/// The period of counts, and its windows.
+#[derive(Clone, Copy)]
+pub struct Asked {
+    pub spot: Spot,
+    /// None is the midnight before the desk's time.
+    pub from: Option<Minute>,
+    /// None is a day after the beginning.
+    pub to: Option<Minute>,
+    pub step: u32,
+    pub slide: u32,
+}
+
+/// A regulation that isn't opened, and the first and the last of its rates.
+#[derive(Clone, Copy)]
+pub struct WhatIf<'a> {
+    pub kind: &'a str,
+    pub place: &'a str,
+    pub from: &'a str,
+    pub to: &'a str,
+    pub first: u32,
+    pub last: u32,
 }
 
 /// What is to be shown.
@@ -38,6 +72,10 @@ pub enum Shown<'a> {
     Load { id: &'a str, step: u32 },
     /// The same as a picture.
     Chart { id: &'a str, step: u32 },
+    /// How many flights enter a place, as a table or as a picture.
+    Count { asked: Asked, svg: bool },
+    /// What a regulation would do at several rates, as a table or as a picture.
+    Sweep { what_if: WhatIf<'a>, svg: bool },
     /// The refused filings.
     Refused,
     /// All of it as a page.
@@ -48,30 +86,24 @@ impl Shown<'_> {
     /// The names of its tables.
     fn tables(&self) -> &'static [&'static str] {
         match self {
-            Shown::Summary => &["desk", "regulations"],
+            Shown::Summary => &["desk", "regulations", "delays", "histogram", "delayed"],
             Shown::List { .. } => &["slots"],
             Shown::Flight { .. } => &["plans", "slots", "said"],
             Shown::Load { .. } => &["load"],
+            Shown::Count { .. } => &["counts"],
+            Shown::Sweep { .. } => &["sweep"],
             Shown::Refused => &["refused"],
             Shown::Chart { .. } | Shown::Page => &[],
         }
     }
 
-    /// Why it isn't shown as tables of a format, if it isn't.
-    fn without_format(&self) -> Option<&'static str> {
+    /// Whether it is a picture.
+    fn is_picture(&self) -> bool {
         match self {
-            Shown::Chart { .. } => Some(SVG_WITH_FORMAT),
-            Shown::Page => Some(PAGE_WITH_FORMAT),
-            _ => None,
-        }
-    }
-
-    /// Why it has no table of a name, if it has none.
-    fn without_table(&self) -> Option<&'static str> {
-        match self {
-            Shown::Chart { .. } => Some(SVG_WITH_TABLE),
-            Shown::Page => Some(PAGE_WITH_TABLE),
-            _ => None,
+            Shown::Chart { .. } => true,
+            Shown::Count { svg, .. } => *svg,
+            Shown::Sweep { svg, .. } => *svg,
+            _ => false,
         }
     }
 }
@@ -82,11 +114,29 @@ pub struct Options<'a> {
     pub shown: Shown<'a>,
     /// What is read. None is standard input.
     pub file: Option<&'a str>,
-    /// After which entry the desk is shown. None is the last one.
-    pub at: Option<u32>,
+    /// When the desk is shown. None is after the last entry.
+    pub at: Option<At>,
     pub format: Format,
     /// The table that alone is written.
     pub table: Option<&'a str>,
+}
+
+/// Why the words ask for nothing that can be shown.
+#[derive(Drop)]
+enum Wrong<'a> {
+    /// A value, the argument that has it, and why it can't be.
+    Value {
+        value: &'a str,
+        argument: &'static str,
+        why: &'static str,
+    },
+    OutOfMemory,
+}
+
+impl From<AllocError> for Wrong<'_> {
+    fn from(_: AllocError) -> Self {
+        Wrong::OutOfMemory
+    }
 }
 
 fn format_of(word: Option<&str>) -> Format {
@@ -107,11 +157,6 @@ fn load_by<'a>(matches: &ArgMatches<'a>) -> Shown<'a> {
     }
 }
 
-/// Whether a word may name a regulation: it has no other characters than letters and digits.
-fn may_be_name(word: &str) -> bool {
-    word.bytes().all(|byte| byte.is_ascii_alphanumeric())
-}
-
 /// What `list` asks for, and what is read. One word alone is a file where it can't be the name of a regulation.
 fn list_by<'a>(matches: &ArgMatches<'a>) -> (Shown<'a>, Option<&'a str>) {
     let id = matches.get_str("regulation");
@@ -122,36 +167,146 @@ fn list_by<'a>(matches: &ArgMatches<'a>) -> (Shown<'a>, Option<&'a str>) {
     }
 }
 
+/// The moment that an argument gives, if it is there.
+fn moment_by<'a>(
+    matches: &ArgMatches<'a>,
+    id: &str,
+    argument: &'static str,
+) -> Result<Option<Minute>, Wrong<'a>> {
+    let Some(word) = matches.get_str(id) else {
+        return Ok(None);
+    };
+    match moment_of(word) {
+        Some(moment) => Ok(Some(moment)),
+        None => Err(Wrong::Value {
+            value: word,
+            argument,
+            why: "it is no moment yymmddhhmm",
+        }),
+    }
+}
+
+/// What `count` asks for.
+fn count_by<'a>(alloc: Global, matches: &ArgMatches<'a>) -> Result<Shown<'a>, Wrong<'a>> {
+    let kind = matches.get_str("kind").unwrap_or("");
+    let place = matches.get_str("place").unwrap_or("");
+    let Some(spot) = spot_of(alloc, kind, place)? else {
+        return Err(Wrong::Value {
+            value: place,
+            argument: "<PLACE>",
+            why: "no OPEN has it after that kind",
+        });
+    };
+    let from = moment_by(matches, "from", "--from <MOMENT>")?;
+    let to = moment_by(matches, "to", "--to <MOMENT>")?;
+    if let (Some(from), Some(to)) = (from, to) {
+        let minutes = to.minutes().saturating_sub(from.minutes());
+        if minutes == 0 || minutes > LONGEST {
+            return Err(Wrong::Value {
+                value: matches.get_str("to").unwrap_or(""),
+                argument: "--to <MOMENT>",
+                why: "it isn't 1 to 1440 minutes after the beginning",
+            });
+        }
+    }
+    let step = matches.get_one::<u32>("step").unwrap_or(60);
+    let asked = Asked {
+        spot,
+        from,
+        to,
+        step,
+        slide: matches.get_one::<u32>("slide").unwrap_or(step),
+    };
+    let svg = matches.get_flag("svg");
+    Ok(Shown::Count { asked, svg })
+}
+
+/// What `sweep` asks for.
+fn sweep_by<'a>(matches: &ArgMatches<'a>) -> Result<Shown<'a>, Wrong<'a>> {
+    let rates = matches.get_str("rates").unwrap_or("");
+    let Some((first, last)) = rates_of(rates) else {
+        return Err(Wrong::Value {
+            value: rates,
+            argument: "--rates <FIRST..LAST>",
+            why: "it is no FIRST..LAST of 0 to 999 that doesn't fall",
+        });
+    };
+    let what_if = WhatIf {
+        kind: matches.get_str("kind").unwrap_or(""),
+        place: matches.get_str("place").unwrap_or(""),
+        from: matches.get_str("from").unwrap_or(""),
+        to: matches.get_str("to").unwrap_or(""),
+        first,
+        last,
+    };
+    let svg = matches.get_flag("svg");
+    Ok(Shown::Sweep { what_if, svg })
+}
+
 /// What is asked for, and what is read.
-fn shown_by<'a>(matches: &ArgMatches<'a>) -> (Shown<'a>, Option<&'a str>) {
+fn shown_by<'a>(
+    alloc: Global,
+    matches: &ArgMatches<'a>,
+) -> Result<(Shown<'a>, Option<&'a str>), Wrong<'a>> {
     let Some((name, inner)) = matches.subcommand() else {
-        return (Shown::Summary, matches.get_str("file"));
+        return Ok((Shown::Summary, matches.get_str("file")));
     };
     let file = inner.get_str("file");
     match name {
-        "list" => list_by(inner),
+        "list" => Ok(list_by(inner)),
         "flight" => {
             let ident = inner.get_str("identification").unwrap_or("");
-            (Shown::Flight { ident }, file)
+            Ok((Shown::Flight { ident }, file))
         }
-        "load" => (load_by(inner), file),
-        "refused" => (Shown::Refused, file),
-        "page" => (Shown::Page, file),
-        _ => (Shown::Summary, file),
+        "load" => Ok((load_by(inner), file)),
+        "count" => Ok((count_by(alloc, inner)?, file)),
+        "sweep" => Ok((sweep_by(inner)?, file)),
+        "refused" => Ok((Shown::Refused, file)),
+        "page" => Ok((Shown::Page, file)),
+        _ => Ok((Shown::Summary, file)),
+    }
+}
+
+/// When the desk is shown.
+fn at_by<'a>(matches: &ArgMatches<'a>) -> Result<Option<At>, Wrong<'a>> {
+    let Some(word) = matches.get_str("at") else {
+        return Ok(None);
+    };
+    if let Some(moment) = moment_of(word) {
+        return Ok(Some(At::Moment(moment)));
+    }
+    match entry_of(word) {
+        Some(number) => Ok(Some(At::Entry(number))),
+        None => Err(Wrong::Value {
+            value: word,
+            argument: "--at <WHEN>",
+            why: "it is no entry, 0 to 1000000, and no moment yymmddhhmm",
+        }),
     }
 }
 
 /// Why a table or a format that is asked for isn't there, if it isn't.
 fn unfit(matches: &ArgMatches<'_>, shown: &Shown<'_>) -> Option<&'static str> {
     let formatted = matches.value_source("format") == Some(ValueSource::CommandLine);
-    match shown.without_format() {
-        Some(text) if formatted => return Some(text),
-        _ => {}
+    let is_page = matches!(shown, Shown::Page);
+    if !is_page && !shown.is_picture() {
+        return None;
     }
-    match shown.without_table() {
-        Some(text) if matches.contains_id("table") => Some(text),
-        _ => None,
+    if formatted {
+        return Some(if is_page {
+            PAGE_WITH_FORMAT
+        } else {
+            SVG_WITH_FORMAT
+        });
     }
+    if matches.contains_id("table") {
+        return Some(if is_page {
+            PAGE_WITH_TABLE
+        } else {
+            SVG_WITH_TABLE
+        });
+    }
+    None
 }
 
 /// The text of the fault of a table that isn't there.
@@ -165,19 +320,36 @@ fn no_table(alloc: Global, shown: &Shown<'_>, name: &str) -> Result<String, Allo
     Ok(text)
 }
 
-/// The number of an entry, if a word is one.
-fn entry_of(word: &str) -> Option<u32> {
-    match word.parse::<u32>() {
-        Ok(number) if number <= MAX_ENTRIES => Some(number),
-        _ => None,
-    }
+/// The fault of words that ask for nothing that can be shown.
+fn error_of(
+    alloc: Global,
+    command: &mut Command<'_>,
+    wrong: Wrong<'_>,
+) -> Result<Error, AllocError> {
+    let Wrong::Value {
+        value,
+        argument,
+        why,
+    } = wrong
+    else {
+        return Err(AllocError);
+    };
+    let text = format!(in alloc; "invalid value '{value}' for '{argument}': {why}")?;
+    command.error(ErrorKind::ValueValidation, text.as_str())
 }
 
 /// Reads the words of the command line, of which the first is the program's name.
 pub fn read_options<'a>(alloc: Global, words: &'a [String]) -> Result<Options<'a>, Error> {
     let mut command = command(alloc)?;
     let matches = command.try_get_matches_from_mut(words)?;
-    let (shown, file) = shown_by(&matches);
+    let (shown, file) = match shown_by(alloc, &matches) {
+        Ok(shown) => shown,
+        Err(wrong) => return Err(error_of(alloc, &mut command, wrong)?),
+    };
+    let at = match at_by(&matches) {
+        Ok(at) => at,
+        Err(wrong) => return Err(error_of(alloc, &mut command, wrong)?),
+    };
     if let Some(text) = unfit(&matches, &shown) {
         return Err(command.error(ErrorKind::ArgumentConflict, text)?);
     }
@@ -188,16 +360,6 @@ pub fn read_options<'a>(alloc: Global, words: &'a [String]) -> Result<Options<'a
             return Err(command.error(ErrorKind::InvalidValue, text.as_str())?);
         }
     }
-    let at = match matches.get_str("at") {
-        Some(word) => {
-            let Some(at) = entry_of(word) else {
-                let text = format!(in alloc; "invalid value '{word}' for '--at <N>': {NO_ENTRY}")?;
-                return Err(command.error(ErrorKind::ValueValidation, text.as_str())?);
-            };
-            Some(at)
-        }
-        None => None,
-    };
     Ok(Options {
         shown,
         file,
