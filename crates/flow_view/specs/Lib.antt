@@ -1,5 +1,10 @@
+pub mod Counts
+pub mod Delays
 pub mod Load
+pub mod Openings
+pub mod Past
 pub mod Scale
 pub mod Shown
+pub mod Sweeps
 pub mod Table
 pub mod Totals

@@ -10,6 +10,7 @@ use Rattle.flow_view.specs.declared.table.Line.{Line}
 use Rattle.flow_view.specs.declared.table.Holding.{Holding}
 use Rattle.flow_view.specs.declared.table.Holding.TheVariants.{Waiting, Frozen, Departed}
 use Rattle.flow_regulations.specs.Listing.{Listed}
+use Rattle.flow_regulations.specs.declared.notice.Told.{Told}
 use Rattle.flow_view.specs.Shown.{shown}
 use Rattle.flow_view.specs.Totals.{delay_of}
 
@@ -17,13 +18,21 @@ use Rattle.flow_view.specs.Totals.{delay_of}
 abbrev pub holding_of : SlotRow → Holding
 holding_of r = if option_map_or (λ f. is_departed f.state) r.flight false then Departed else if r.frozen then Frozen else Waiting
 
--- the take-off time that it was told
-abbrev pub ctot_of : SlotRow → Option ℕ
-ctot_of r = option_map (λ t. t.ctot) (option_and_then (λ f. f.told) r.flight)
+-- the slot last issued to it
+abbrev pub told_in : SlotRow → Option Told
+told_in r = option_and_then (λ f. f.told) r.flight
 
--- how many empty slots lie between a held slot and the held one before it, if there is one
+-- its take-off time
+abbrev pub ctot_of : SlotRow → Option ℕ
+ctot_of r = option_map (λ t. t.ctot) (told_in r)
+
+-- and the regulation that causes it
+abbrev pub cause_of : SlotRow → Option (List ℕ)
+cause_of r = option_map (λ t. t.regulation) (told_in r)
+
+-- how many empty slots are between a held slot and the held one before it, or before it if there is none
 abbrev pub empty_between : Option ℕ → ℕ → ℕ
-empty_between before slot = option_map_or (λ b. slot - b - 1) before 0
+empty_between before slot = option_map_or (λ b. slot - b - 1) before slot
 
 -- the line of a row behind the held slot before it
 abbrev pub line_of : Option ℕ × SlotRow → Line
@@ -34,6 +43,7 @@ line_of (before, r) =
       delay = delay_of r;
       holding = holding_of r;
       ctot = ctot_of r;
+      cause = cause_of r;
     }
 
 -- the lines of rows: that of each row with the slot of the row before it

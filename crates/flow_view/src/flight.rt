@@ -14,7 +14,7 @@ use fpl_text::{Minute, Text};
 use std::alloc::Allocator;
 
 /// A flight as it comes to a place, by its plan.
-#[derive(Drop)]
+#[derive(Clone, Copy)]
 pub struct Flight {
     pub ident: Text<7>,
     pub dep: Text<4>,

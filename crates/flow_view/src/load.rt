@@ -26,7 +26,7 @@ pub struct Load {
 }
 
 /// Whether a moment lies from one to before another.
-fn is_from_to(from: Minute, to: Minute, moment: Minute) -> bool
+pub(crate) fn is_from_to(from: Minute, to: Minute, moment: Minute) -> bool
     ensures { result ≡ is_from_to from to moment }
 {
     from <= moment && moment < to

@@ -1,8 +1,9 @@
 //! The rows of a slot list.
-ghost use Rattle.std.specs.Prelude.{◌≡◌, IfOk};
+ghost use Rattle.std.specs.Prelude.{◌≡◌, ◌≤◌, IfOk, length};
 ghost use Rattle.std.specs.Option.{option_map};
 ghost use Rattle.flow_core.specs.History.{state_of};
 ghost use Rattle.flow_slots.specs.Lineup.{held_flight};
+ghost use Rattle.flow_slots.specs.Period.{most_slots};
 ghost use Rattle.flow_view.specs.Shown.{row_of, shown};
 
 use crate::flight::{Flight, flight_at};
@@ -13,7 +14,7 @@ use fpl_text::Minute;
 use std::alloc::{AllocError, Allocator};
 
 /// A held slot of a regulation with its flight.
-#[derive(Drop)]
+#[derive(Clone, Copy)]
 pub struct SlotRow {
     /// The number of the slot, from 0.
     pub slot: u32,
@@ -56,7 +57,8 @@ pub fn rows_of<A: Allocator + Copy>(
     spot: &Spot,
     list: &SlotList<A>,
 ) -> Result<Vec<SlotRow, A>, AllocError>
-    ensures { IfOk result (λ rows. rows.items ≡ shown core.now spot.now list.now.lineup) }
+    ensures rows { IfOk result (λ rows. rows.items ≡ shown core.now spot.now list.now.lineup) }
+    ensures few { IfOk result (λ rows. length rows.items ≤ most_slots) }
 {
     let mut rows = Vec::new(alloc);
     for slot in 0..list.len() {

@@ -1,12 +1,12 @@
 //! The table of a slot list.
 ghost use Rattle.std.specs.Prelude.{◌≡◌, IfOk};
-ghost use Rattle.flow_view.specs.Table.{holding_of, ctot_of, empty_between, line_of, lines, listed, HaveFlights};
+ghost use Rattle.flow_view.specs.Table.{holding_of, told_in, ctot_of, cause_of, empty_between, line_of, lines, listed, HaveFlights};
 
 use crate::slot_row::{SlotRow, rows_of};
-use flow_core::Core;
+use flow_core::{Core, Told};
 use flow_plans::PlanState;
 use flow_regulations::Regulation;
-use fpl_text::Minute;
+use fpl_text::{Minute, Text};
 use std::alloc::{AllocError, Allocator};
 
 /// How a flight holds its slot.
@@ -21,18 +21,20 @@ pub enum Holding {
 }
 
 /// A line of the table of a slot list.
-#[derive(Drop)]
+#[derive(Clone, Copy)]
 pub struct Line {
     /// The held slot with its flight.
     pub row: SlotRow,
-    /// How many empty slots lie between it and the held one before it. 0 where it is the first.
+    /// How many empty slots are between it and the held one before it, or before it if it is the first.
     pub empty: u32,
     /// The minutes from the planned entry to the slot. 0 where there is no such entry.
     pub delay: u32,
     /// How the flight holds the slot.
     pub holding: Holding,
-    /// The take-off time that the flight was last told.
+    /// The calculated take-off time (CTOT) last issued to the flight.
     pub ctot: Option<Minute>,
+    /// The name of the regulation that causes it.
+    pub cause: Option<Text<8>>,
 }
 
 impl SlotRow {
@@ -53,23 +55,42 @@ impl SlotRow {
         }
     }
 
-    /// The take-off time that the flight was last told.
+    /// The take-off time last issued to the flight, with the regulation that causes it.
+    pub fn told(&self) -> Option<Told>
+        ensures { result ≡ told_in self.now }
+    {
+        let flight = self.flight.as_ref()?;
+        flight.told
+    }
+
+    /// The take-off time last issued to the flight.
     fn ctot(&self) -> Option<Minute>
         ensures { result ≡ ctot_of self.now }
     {
-        let flight = self.flight.as_ref()?;
-        let told = flight.told.as_ref()?;
-        Some(told.ctot)
+        match self.told() {
+            Some(told) => Some(told.ctot),
+            None => None,
+        }
+    }
+
+    /// The name of the regulation that causes it.
+    fn cause(&self) -> Option<Text<8>>
+        ensures { result ≡ cause_of self.now }
+    {
+        match self.told() {
+            Some(told) => Some(told.regulation),
+            None => None,
+        }
     }
 }
 
-/// How many empty slots lie between a held slot and the held one before it.
+/// How many empty slots are between a held slot and the held one before it, or before it if it is the first.
 fn empty_between(before: Option<u32>, slot: u32) -> u32
     ensures { result ≡ empty_between before slot }
 {
     match before {
         Some(before) => slot.saturating_sub(before).saturating_sub(1),
-        None => 0,
+        None => slot,
     }
 }
 
@@ -82,22 +103,23 @@ fn line_of(before: Option<u32>, row: SlotRow) -> Line
         delay: row.delay(),
         holding: row.holding(),
         ctot: row.ctot(),
+        cause: row.cause(),
         row,
     }
 }
 
-/// The lines of rows.
-fn lines_with<A: Allocator + Copy>(
+/// The lines of the rows of a slot list, one for each, in order.
+pub fn lines_with<A: Allocator + Copy>(
     alloc: A,
-    rows: Vec<SlotRow, A>,
+    rows: &[SlotRow],
 ) -> Result<Vec<Line, A>, AllocError>
-    ensures { IfOk result (λ made. made.items ≡ lines rows.items) }
+    ensures { IfOk result (λ made. made.items ≡ lines rows.now) }
 {
     let mut made = Vec::new(alloc);
     let mut before = None;
     for row in rows {
         let slot = row.slot;
-        made.push(line_of(before, row))?;
+        made.push(line_of(before, *row))?;
         before = Some(slot);
     }
     Ok(made)
@@ -116,5 +138,6 @@ pub fn lines_of<A: Allocator + Copy>(
     let Some(list) = core.slots(regulation.id()) else {
         return Ok(Vec::new(alloc));
     };
-    lines_with(alloc, rows_of(alloc, core, regulation.spot(), list)?)
+    let rows = rows_of(alloc, core, regulation.spot(), list)?;
+    lines_with(alloc, rows.as_slice())
 }

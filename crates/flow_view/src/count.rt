@@ -1,0 +1,237 @@
+//! Entry counts: how many flights are planned to enter a place, regulated or not.
+ghost use Rattle.std.specs.Prelude.{◌≡◌, ◌≤◌, ◌<◌, ◌+◌, ◌-◌, ◌*◌, ◌↔◌, IfOk, IsSome, IfSome, min, codes};
+ghost use Rattle.std.specs.Str.{bytes_eq};
+ghost use Rattle.flow_view.specs.Counts.{is_regulated, standing_of, entrant_of, entrants, same_standing, entering};
+ghost use Rattle.flow_view.specs.Counts.{count_in, counts, IsWindows};
+ghost use Rattle.fpl_text.specs.declared.minute.TheConstants.{GREATEST_MINUTE};
+ghost use Rattle.flow_plans.specs.declared.setup.TheConstants.{MAX_TAXI};
+
+use crate::flight::entry_at;
+use crate::load::is_from_to;
+use flow_core::Core;
+use flow_plans::{Plan, PlanState};
+use flow_slots::LONGEST_PERIOD;
+use fpl_message::Spot;
+use fpl_text::{FlightRules, GREATEST_MINUTE, Minute};
+use std::alloc::{AllocError, Allocator};
+
+/// How a held flight stands to a place that it is planned to enter.
+#[derive(Clone, Copy, Debug, PartialEq, Eq)]
+pub enum Standing {
+    /// Filed, and a regulation there may apply to it.
+    Subject,
+    /// Filed, and none applies to it: it is flown by visual flight rules, filed in the air or exempt.
+    Exempt,
+    /// Departed, and on its way: its planned entry is after the desk's time.
+    Departed,
+    /// Departed, and there: its planned entry isn't after the desk's time.
+    Entered,
+}
+
+/// A flight that is planned to enter a place.
+#[derive(Clone, Copy)]
+struct Entrant {
+    entry: Minute,
+    standing: Standing,
+}
+
+/// How many flights are planned to enter a place in a window.
+#[derive(Clone, Copy)]
+pub struct Count {
+    pub from: Minute,
+    /// The first minute after the window.
+    pub to: Minute,
+    pub subject: u64,
+    pub exempt: u64,
+    pub departed: u64,
+    pub entered: u64,
+}
+
+/// Windows of time: each has `step` minutes, the first begins with the period, each further one `slide` minutes after the
+/// one before it, and the last is the last that begins before the period ends. They overlap if the slide is shorter than
+/// the step.
+#[derive(Clone, Copy)]
+pub struct Windows {
+    pub from: Minute,
+    pub to: Minute,
+    pub step: u32,
+    pub slide: u32,
+    ghost some: { 0 < slide },
+    ghost most: { slide ≤ 1440 },
+    ghost step_most: { step ≤ 1440 },
+    ghost day: { to - from ≤ 1440 },
+}
+
+impl Windows {
+    /// The windows of a period. `None` if it has more than 1,440 minutes, or the step or the slide isn't 1 to 1,440 minutes.
+    pub fn new(from: Minute, to: Minute, step: u32, slide: u32) -> Option<Windows>
+        ensures limits { IsSome result ↔ IsWindows from to step slide }
+        ensures value { IfSome result (λ w. (w.from ≡ from) × (w.to ≡ to) × (w.step ≡ step) × (w.slide ≡ slide)) }
+    {
+        if to.minutes().saturating_sub(from.minutes()) > LONGEST_PERIOD {
+            return None;
+        }
+        if step < 1 || step > LONGEST_PERIOD {
+            return None;
+        }
+        if slide < 1 || slide > LONGEST_PERIOD {
+            return None;
+        }
+        Some(Windows {
+            from,
+            to,
+            step,
+            slide,
+        })
+    }
+}
+
+/// Whether a flight plan with this departure was filed in the air.
+fn is_filed_in_the_air(departure: &[u8]) -> bool
+    ensures { result ≡ bytes_eq departure.now (codes "AFIL") }
+{
+    matches!(departure, b"AFIL")
+}
+
+/// Whether a regulation may apply to the flight of a filed plan.
+fn is_regulated<A: Allocator + Copy>(plan: &Plan<A>) -> bool
+    ensures { result ≡ is_regulated plan.now }
+{
+    if plan.rules() == FlightRules::Visual {
+        return false;
+    }
+    if is_filed_in_the_air(plan.key().dep.as_bytes()) {
+        return false;
+    }
+    !plan.exempt()
+}
+
+/// How the flight of a held plan stands to a place that it is planned to enter then.
+fn standing_of<A: Allocator + Copy>(now: Minute, plan: &Plan<A>, entry: Minute) -> Standing
+    ensures { result ≡ standing_of now plan.now entry }
+{
+    if plan.state() == PlanState::Departed {
+        if entry <= now {
+            return Standing::Entered;
+        }
+        return Standing::Departed;
+    }
+    if is_regulated(plan) {
+        Standing::Subject
+    } else {
+        Standing::Exempt
+    }
+}
+
+/// The flight of a plan, if it is held and enters the place.
+fn entrant_of<A: Allocator + Copy>(
+    taxi: u32,
+    now: Minute,
+    spot: &Spot,
+    plan: &Plan<A>,
+) -> Option<Entrant>
+    requires { taxi ≤ MAX_TAXI }
+    ensures { result ≡ entrant_of taxi now spot.now plan.now }
+{
+    if !plan.is_held() {
+        return None;
+    }
+    let entry = entry_at(plan, taxi, spot)?;
+    Some(Entrant {
+        entry,
+        standing: standing_of(now, plan, entry),
+    })
+}
+
+/// The flights that enter a place, by plan.
+fn entrants_of<A: Allocator + Copy>(
+    alloc: A,
+    core: &Core<A>,
+    spot: &Spot,
+) -> Result<Vec<Entrant, A>, AllocError>
+    ensures entrants { IfOk result (λ made. made.items ≡ entrants core.now spot.now) }
+{
+    let (taxi, now) = (core.setup().taxi(), core.now());
+    let mut entrants = Vec::new(alloc);
+    for index in 0..core.setup().max_plans() {
+        let Some(plan) = core.plan(index + 1) else {
+            return Ok(entrants);
+        };
+        if let Some(entrant) = entrant_of(taxi, now, spot, plan) {
+            entrants.push(entrant)?;
+        }
+    }
+    Ok(entrants)
+}
+
+/// Whether a standing is this one.
+fn same_standing(standing: Standing, other: Standing) -> bool
+    ensures { result ≡ same_standing standing other }
+{
+    match standing {
+        Standing::Subject => matches!(other, Standing::Subject),
+        Standing::Exempt => matches!(other, Standing::Exempt),
+        Standing::Departed => matches!(other, Standing::Departed),
+        Standing::Entered => matches!(other, Standing::Entered),
+    }
+}
+
+/// How many flights enter from one time to before another and stand so.
+fn entering(entrants: &[Entrant], from: Minute, to: Minute, standing: Standing) -> u64
+    ensures { result ≡ entering from to standing entrants.now }
+{
+    let mut count = 0;
+    for entrant in entrants {
+        let enters = is_from_to(from, to, entrant.entry);
+        count += u64::from(enters && same_standing(entrant.standing, standing));
+    }
+    count
+}
+
+/// The entry counts from one time to before another.
+fn count_in(entrants: &[Entrant], from: Minute, to: Minute) -> Count
+    ensures { result ≡ count_in from to entrants.now }
+{
+    Count {
+        from,
+        to,
+        subject: entering(entrants, from, to, Standing::Subject),
+        exempt: entering(entrants, from, to, Standing::Exempt),
+        departed: entering(entrants, from, to, Standing::Departed),
+        entered: entering(entrants, from, to, Standing::Entered),
+    }
+}
+
+/// The entry counts of the window at this index, from 0.
+fn count_at(entrants: &[Entrant], windows: &Windows, index: u32) -> Count
+    requires { windows.now.slide * index < windows.now.to - windows.now.from }
+    ensures { result ≡ count_in (windows.now.from + windows.now.slide * index)
+        (min (windows.now.from + windows.now.slide * index + windows.now.step) GREATEST_MINUTE) entrants.now }
+{
+    let from = windows.from.minutes() + windows.slide * index;
+    let to = (from + windows.step).min(GREATEST_MINUTE);
+    count_in(
+        entrants,
+        Minute::from_minutes(from),
+        Minute::from_minutes(to),
+    )
+}
+
+/// The entry counts of a place in each of these windows, from all plans but cancelled ones. It goes over the plans once.
+pub fn counts_of<A: Allocator + Copy>(
+    alloc: A,
+    core: &Core<A>,
+    spot: &Spot,
+    windows: &Windows,
+) -> Result<Vec<Count, A>, AllocError>
+    ensures { IfOk result (λ made. made.items ≡ counts windows.now (entrants core.now spot.now)) }
+{
+    let entrants = entrants_of(alloc, core, spot)?;
+    let minutes = windows.to.minutes().saturating_sub(windows.from.minutes());
+    let count = (minutes + windows.slide - 1) / windows.slide;
+    let mut counts = Vec::new(alloc);
+    for index in 0..count {
+        counts.push(count_at(entrants.as_slice(), windows, index))?;
+    }
+    Ok(counts)
+}
