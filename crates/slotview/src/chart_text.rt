@@ -7,19 +7,21 @@ use flow_view::Opening;
 use fpl_text::{Minute, Part};
 use std::alloc::{AllocError, Global};
 
-/// The name of a regulation, its place and its period, and of one that was shut the entries that opened and shut it.
+/// The name of a regulation, its place and its period. One that was shut has the entry that opened it with its name, and
+/// the one that shut it at the end.
 pub fn heading_of(alloc: Global, opening: &Opening) -> Result<String, AllocError> {
     let (kind, place) = words_of(opening.spot());
     let name = id_of(opening);
     let (start, end) = opening.shape().period();
     let period = period_text(alloc, start, end)?;
     let period = period.as_str();
-    let mut text = format!(in alloc; "{name}, {kind} {place}, {period}")?;
-    if let Some(shut) = opening.shut_by() {
-        let opened = opening.opened_by();
-        write!(text, ", opened by entry {opened}, shut by entry {shut}")?;
+    match opening.shut_by() {
+        Some(shut) => {
+            let opened = opening.opened_by();
+            format!(in alloc; "{name}@{opened}, {kind} {place}, {period}, shut by entry {shut}")
+        }
+        None => format!(in alloc; "{name}, {kind} {place}, {period}"),
     }
-    Ok(text)
 }
 
 /// A period in words.

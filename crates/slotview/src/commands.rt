@@ -5,10 +5,10 @@ use std::alloc::{AllocError, Global};
 
 const ABOUT: &str = "Shows a flight plan desk as its journal or its store tells it.\n\n\
     Reads FILE, or standard input without one: a journal, as slotdesk --journal\n\
-    writes it after its answers, or a store, as slotdesk --store keeps it. What comes\n\
-    before it is skipped, and what follows it isn't read. Without a command it shows\n\
-    a summary. A word that is the name of a command is the command; a file of such a\n\
-    name is ./NAME.";
+    writes it after its answers, or a store, as slotdesk --store keeps it. What\n\
+    comes before it is skipped, and what follows it isn't read. Without a command it\n\
+    shows a summary. A word that is the name of a command is the command; a file of\n\
+    such a name is ./NAME.";
 
 const AFTER: &str =
     "Exit status: 0 if it was shown, or its reader has gone; 1 if reading or writing\n\
@@ -39,7 +39,7 @@ fn table_argument<'a>(alloc: Global) -> Arg<'a> {
         .long("table")
         .value_name("NAME")
         .global(true)
-        .help("Writes the table of this name alone, by its name in JSON")
+        .help("Writes the table of this name alone")
 }
 
 fn at_argument<'a>(alloc: Global) -> Arg<'a> {
@@ -47,7 +47,7 @@ fn at_argument<'a>(alloc: Global) -> Arg<'a> {
         .long("at")
         .value_name("WHEN")
         .global(true)
-        .help("The desk after entry N, from 0, or at a moment yymmddhhmm")
+        .help("The desk after entry N, from 0, or at yymmddhhmm")
 }
 
 fn file_argument<'a>(alloc: Global) -> Arg<'a> {
@@ -171,9 +171,9 @@ fn sweep_command<'a>(alloc: Global) -> Result<Command<'a>, AllocError> {
         .arg(
             Arg::new(alloc, "rates")
                 .long("rates")
-                .value_name("FIRST..LAST")
+                .value_name("A..B")
                 .required(true)
-                .help("The rates, flights an hour"),
+                .help("The rates, flights an hour, both included"),
         )?
         .arg(svg_argument(alloc))
 }

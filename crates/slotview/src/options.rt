@@ -227,8 +227,8 @@ fn sweep_by<'a>(matches: &ArgMatches<'a>) -> Result<Shown<'a>, Wrong<'a>> {
     let Some((first, last)) = rates_of(rates) else {
         return Err(Wrong::Value {
             value: rates,
-            argument: "--rates <FIRST..LAST>",
-            why: "it is no FIRST..LAST of 0 to 999 that doesn't fall",
+            argument: "--rates <A..B>",
+            why: "it is no A..B with A at most B, and B at most 999",
         });
     };
     let what_if = WhatIf {

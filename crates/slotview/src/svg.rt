@@ -50,7 +50,7 @@ pub fn put_frame<W: Write>(writer: &mut W, frame: Frame<'_>) -> Result<(), Fault
     write!(
         writer,
         "<rect class=\"paper\" width=\"800\" height=\"{height}\" fill=\"#FFFFFF\"/>\n\
-            <text x=\"20\" y=\"28\" font-size=\"16\" font-weight=\"bold\">{title}</text>\n"
+            <text x=\"20\" y=\"28\" font-size=\"14\" font-weight=\"bold\">{title}</text>\n"
     )
     .map_err(unwritten)
 }

@@ -29,7 +29,7 @@ pub fn may_be_name(word: &str) -> bool {
     id.bytes().all(|byte| byte.is_ascii_alphanumeric())
 }
 
-/// The first and the last of the rates that a word gives: FIRST..LAST, or one rate.
+/// The first and the last of the rates that a word gives: A..B, or one rate.
 pub fn rates_of(word: &str) -> Option<(u32, u32)> {
     let (first, last) = word.split_once("..").unwrap_or((word, word));
     let first = first.parse::<u32>().ok()?;
