@@ -1,6 +1,6 @@
 -- Lines of rows, one by one, and their flights.
 use Rattle.std.proofs.Common.{◌≡◌, ℕ, zero, suc, List, [], ◌∷◌, ◌++◌, map, refl, ap, sym, subst, ◌∙◌, Option, None, Some}
-use Rattle.std.specs.Prelude.{zip, IsSome, IfSome, IfOk, Result, Ok, Err}
+use Rattle.std.specs.Prelude.{zip, IsSome, IfSome, Result, Ok, Err}
 use Rattle.std.specs.List.{AllByRecursion}
 use Rattle.std.specs.Option.{option_map, option_map_or, option_to_list}
 use Rattle.fpl_message.specs.declared.order.Spot.{Spot}
@@ -115,8 +115,3 @@ flown-lines h o l rows ls is are made =
     let all : listed h o ≡ lines (shown h o.spot l) = ap (λ (m : Option Lineup). option_map_or (λ k. lines (shown h o.spot k)) m []) is in
     let same : ls ≡ listed h o = made ∙ (ap lines are ∙ sym all) in
     subst HaveFlights (sym same) (all-flown h o)
-
--- what holds of a result holds of what follows from it
-pub ok-also : {T E : Type 0} (r : Result T E) (P Q : T → Type 0) → ((x : T) → P x → Q x) → IfOk r P → IfOk r Q
-ok-also (Ok x) P Q f h = f x h
-ok-also (Err e) P Q f h = tt

@@ -1,5 +1,5 @@
 -- How many flights enter a place, of all plans, regulated or not: entry counts (EUROCONTROL ATFCM Users Manual), by planned entry.
-use Rattle.std.specs.Prelude.{◌≤◌, ◌<◌, ℕ, zero, suc, ◌+◌, ◌-◌, ◌*◌, ◌/◌, Bool, true, false, ◌&&◌, not, nat_le, if◌then◌else◌, List, [], ◌∷◌, ◌++◌, count_by, flat_map, min, Option, None, codes}
+use Rattle.std.specs.Prelude.{ℕ, zero, suc, ◌+◌, ◌-◌, ◌*◌, ◌/◌, Bool, true, false, ◌&&◌, not, nat_le, if◌then◌else◌, List, [], ◌∷◌, ◌++◌, count_by, flat_map, min, Option, None, codes}
 use Rattle.std.specs.Option.{option_map, option_to_list}
 use Rattle.std.specs.Str.{bytes_eq}
 use Rattle.fpl_text.specs.declared.minute.TheConstants.{GREATEST_MINUTE}
@@ -11,8 +11,7 @@ use Rattle.flow_view.specs.declared.count.Standing.{Standing}
 use Rattle.flow_view.specs.declared.count.Standing.TheVariants.{Subject, Exempt, Departed, Entered}
 use Rattle.flow_view.specs.declared.count.Entrant.{Entrant}
 use Rattle.flow_view.specs.declared.count.Count.{Count}
-use Rattle.flow_view.specs.declared.count.Windows.{Windows}
-use Rattle.flow_slots.specs.declared.shape.TheConstants.{LONGEST_PERIOD}
+use Rattle.flow_view.specs.declared.windows.Windows.{Windows}
 use Rattle.flow_view.specs.Load.{is_from_to}
 
 -- a regulation may apply to the flight: it isn't flown by visual flight rules, filed in the air or exempt
@@ -57,14 +56,6 @@ count_in from to es =
       departed = entering from to Departed es;
       entered = entering from to Entered es;
     }
-
--- a period of at most a day, and windows of 1 to 1,440 minutes that begin 1 to 1,440 minutes apart
-pub record IsWindows (from to step slide : ℕ) : Type 0 where
-  pub day : to - from ≤ LONGEST_PERIOD
-  pub some : 0 < step
-  pub most : step ≤ LONGEST_PERIOD
-  pub apart : 0 < slide
-  pub near : slide ≤ LONGEST_PERIOD
 
 -- those of the first windows: each begins so many minutes after the one before it
 abbrev pub counts_before : ℕ → Windows → List Entrant → List Count

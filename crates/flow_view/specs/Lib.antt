@@ -8,3 +8,4 @@ pub mod Shown
 pub mod Sweeps
 pub mod Table
 pub mod Totals
+pub mod Windows

@@ -1,5 +1,5 @@
 -- Sums and counts of the rows of a slot list.
-use Rattle.std.specs.Prelude.{ℕ, ◌-◌, nat_lt, List, map, length, count_by, sum, max, fold, Option}
+use Rattle.std.specs.Prelude.{ℕ, ◌+◌, ◌-◌, ◌*◌, ◌/◌, ◌==◌, if◌then◌else◌, min, nat_lt, List, map, length, count_by, sum, max, fold, Option}
 use Rattle.std.specs.Option.{option_map_or, option_and_then}
 use Rattle.flow_view.specs.declared.slot_row.SlotRow.{SlotRow}
 use Rattle.flow_view.specs.declared.totals.Totals.{Totals}
@@ -24,3 +24,11 @@ totals_of rows =
       total = sum (map delay_of rows);
       greatest = greatest_of rows;
     }
+
+-- as far as a number of 64 bits counts
+abbrev pub counted : ℕ → ℕ
+counted n = min n 18_446_744_073_709_551_615
+
+-- the mean of a sum of delays over so many flights, in tenths of a minute, rounded, and 0 over none
+abbrev pub mean_tenths : ℕ → ℕ → ℕ
+mean_tenths total flights = if flights == 0 then 0 else counted (counted (total * 10) + flights / 2) / flights

@@ -1,16 +1,16 @@
 //! Entry counts: how many flights are planned to enter a place, regulated or not.
-ghost use Rattle.std.specs.Prelude.{◌≡◌, ◌≤◌, ◌<◌, ◌+◌, ◌-◌, ◌*◌, ◌↔◌, IfOk, IsSome, IfSome, min, codes};
+ghost use Rattle.std.specs.Prelude.{◌≡◌, ◌≤◌, ◌<◌, ◌+◌, ◌-◌, ◌*◌, IfOk, min, codes};
 ghost use Rattle.std.specs.Str.{bytes_eq};
 ghost use Rattle.flow_view.specs.Counts.{is_regulated, standing_of, entrant_of, entrants, same_standing, entering};
-ghost use Rattle.flow_view.specs.Counts.{count_in, counts, IsWindows};
+ghost use Rattle.flow_view.specs.Counts.{count_in, counts};
 ghost use Rattle.fpl_text.specs.declared.minute.TheConstants.{GREATEST_MINUTE};
 ghost use Rattle.flow_plans.specs.declared.setup.TheConstants.{MAX_TAXI};
 
 use crate::flight::entry_at;
 use crate::load::is_from_to;
+use crate::windows::Windows;
 use flow_core::Core;
 use flow_plans::{Plan, PlanState};
-use flow_slots::LONGEST_PERIOD;
 use fpl_message::Spot;
 use fpl_text::{FlightRules, GREATEST_MINUTE, Minute};
 use std::alloc::{AllocError, Allocator};
@@ -45,45 +45,6 @@ pub struct Count {
     pub exempt: u64,
     pub departed: u64,
     pub entered: u64,
-}
-
-/// Windows of time: each has `step` minutes, the first begins with the period, each further one `slide` minutes after the
-/// one before it, and the last is the last that begins before the period ends. They overlap if the slide is shorter than
-/// the step.
-#[derive(Clone, Copy)]
-pub struct Windows {
-    pub from: Minute,
-    pub to: Minute,
-    pub step: u32,
-    pub slide: u32,
-    ghost some: { 0 < slide },
-    ghost most: { slide ≤ 1440 },
-    ghost step_most: { step ≤ 1440 },
-    ghost day: { to - from ≤ 1440 },
-}
-
-impl Windows {
-    /// The windows of a period. `None` if it has more than 1,440 minutes, or the step or the slide isn't 1 to 1,440 minutes.
-    pub fn new(from: Minute, to: Minute, step: u32, slide: u32) -> Option<Windows>
-        ensures limits { IsSome result ↔ IsWindows from to step slide }
-        ensures value { IfSome result (λ w. (w.from ≡ from) × (w.to ≡ to) × (w.step ≡ step) × (w.slide ≡ slide)) }
-    {
-        if to.minutes().saturating_sub(from.minutes()) > LONGEST_PERIOD {
-            return None;
-        }
-        if step < 1 || step > LONGEST_PERIOD {
-            return None;
-        }
-        if slide < 1 || slide > LONGEST_PERIOD {
-            return None;
-        }
-        Some(Windows {
-            from,
-            to,
-            step,
-            slide,
-        })
-    }
 }
 
 /// Whether a flight plan with this departure was filed in the air.
@@ -204,7 +165,7 @@ fn count_in(entrants: &[Entrant], from: Minute, to: Minute) -> Count
 
 /// The entry counts of the window at this index, from 0.
 fn count_at(entrants: &[Entrant], windows: &Windows, index: u32) -> Count
-    requires { windows.now.slide * index < windows.now.to - windows.now.from }
+    requires { windows.now.from + windows.now.slide * index ≤ GREATEST_MINUTE }
     ensures { result ≡ count_in (windows.now.from + windows.now.slide * index)
         (min (windows.now.from + windows.now.slide * index + windows.now.step) GREATEST_MINUTE) entrants.now }
 {

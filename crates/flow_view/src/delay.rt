@@ -1,5 +1,5 @@
 //! The delay of flights, each by its most penalising regulation.
-ghost use Rattle.std.specs.Prelude.{◌≡◌, ◌≤◌, ◌+◌, ℕ, IfOk, length, flat_map, slice_get};
+ghost use Rattle.std.specs.Prelude.{◌≡◌, ◌≤◌, ◌+◌, ◌-◌, ◌*◌, ℕ, IfOk, length, flat_map, slice_get};
 ghost use Rattle.std.specs.Option.{option_map, option_to_list};
 ghost use Rattle.std.specs.List.Sorted.{IsPermutation, IsNonDecreasingBy};
 ghost use Rattle.flow_view.specs.Delays.{delay_in, worse, worse_by, worse_in, delays, flights_from_to, flights_over};
@@ -192,9 +192,9 @@ fn total_delay(delays: &[FlightDelay]) -> u64
 fn greatest_delay(delays: &[FlightDelay]) -> u32
     ensures { result ≡ greatest_delay delays.now }
 {
-    let mut most = 0;
+    let mut most: u32 = 0;
     for delay in delays {
-        most = delay.minutes.max(most);
+        most = most.max(delay.minutes);
     }
     most
 }
@@ -214,11 +214,12 @@ pub fn delay_totals(delays: &[FlightDelay]) -> DelayTotals
     }
 }
 
-/// The rank of a delay among the greatest: the greater comes first, of equal ones that of the first plan.
-fn rank_of(delay: &FlightDelay) -> u64
-    ensures { result ≡ rank_of delay.now }
+/// The place of a flight among the most delayed, as one number: the greater delay comes first, of equal ones that of the
+/// first plan.
+fn rank(minutes: u32, plan: u32) -> u64
+    ensures { result ≡ 4_294_967_296 * (4_294_967_295 - minutes) + plan }
 {
-    4_294_967_296 * u64::from(u32::MAX - delay.minutes) + u64::from(delay.plan)
+    4_294_967_296 * u64::from(u32::MAX - minutes) + u64::from(plan)
 }
 
 /// Puts the delays of flights in order, the greatest first and equal ones by plan.
@@ -226,5 +227,5 @@ pub fn most_delayed_first(delays: &mut [FlightDelay])
     ensures permutation { IsPermutation delays.old delays.new }
     ensures order { IsNonDecreasingBy rank_of delays.new }
 {
-    delays.sort_unstable_by_key(|delay| rank_of(delay));
+    delays.sort_unstable_by_key(|delay| rank(delay.minutes, delay.plan));
 }

@@ -22,8 +22,9 @@ mod slot_row;
 mod sweep;
 mod table;
 mod totals;
+mod windows;
 
-pub use count::{Count, Standing, Windows, counts_of};
+pub use count::{Count, Standing, counts_of};
 pub use delay::{DelayTotals, FlightDelay, Spread, delay_totals, delays_of, most_delayed_first};
 pub use flight::{Flight, entry_at};
 pub use load::{Load, held_later, loads_of};
@@ -34,4 +35,5 @@ pub use scale::{PANEL_HEIGHT, Scale};
 pub use slot_row::{SlotRow, row_at, rows_of};
 pub use sweep::{SweepFault, Swept, sweep};
 pub use table::{Holding, Line, lines_of, lines_with};
-pub use totals::{Totals, totals_of};
+pub use totals::{Totals, mean_tenths, totals_of};
+pub use windows::Windows;

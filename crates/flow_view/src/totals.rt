@@ -1,6 +1,6 @@
 //! Sums and counts of the rows of a slot list.
 ghost use Rattle.std.specs.Prelude.{◌≡◌, ◌≤◌, ◌<◌, length};
-ghost use Rattle.flow_view.specs.Totals.{entry_of, delay_of, totals_of};
+ghost use Rattle.flow_view.specs.Totals.{entry_of, delay_of, totals_of, mean_tenths};
 ghost use Rattle.fpl_text.specs.declared.minute.TheConstants.{GREATEST_MINUTE};
 ghost use Rattle.flow_plans.specs.declared.setup.TheConstants.{MAX_ENTRIES};
 
@@ -68,4 +68,14 @@ pub fn totals_of(rows: &[SlotRow]) -> Totals
         };
     }
     totals
+}
+
+/// The mean of a sum of delays over so many flights, in tenths of a minute, rounded. 0 over none.
+pub fn mean_tenths(total: u64, flights: u64) -> u64
+    ensures { result ≡ mean_tenths total flights }
+{
+    if flights == 0 {
+        return 0;
+    }
+    total.saturating_mul(10).saturating_add(flights / 2) / flights
 }
