@@ -3,7 +3,8 @@ use crate::fault::Fault;
 use crate::sheet::{Cell, Column, Sheet, Side};
 use flow_core::Core;
 use flow_view::{
-    DelayTotals, FlightDelay, Opening, Spread, delay_totals, delays_of, most_delayed_first,
+    DelayTotals, FlightDelay, Opening, Spread, delay_totals, delays_of, mean_tenths,
+    most_delayed_first,
 };
 use std::alloc::{AllocError, Global};
 use std::io::Write;
@@ -51,13 +52,9 @@ pub fn delays_in(alloc: Global, core: &Core, openings: &[Opening]) -> Result<Del
     Ok(Delays { flights, totals })
 }
 
-/// A mean in tenths, rounded.
-pub fn mean_of(total: u64, count: u64) -> u32 {
-    if count == 0 {
-        return 0;
-    }
-    let mean = total.saturating_mul(10).saturating_add(count / 2) / count;
-    u32::try_from(mean).unwrap_or(u32::MAX)
+/// A mean delay in tenths of a minute, rounded.
+pub fn mean_of(total: u64, flights: u64) -> u32 {
+    u32::try_from(mean_tenths(total, flights)).unwrap_or(u32::MAX)
 }
 
 /// How many flights have which delay in minutes, by the names of the classes.

@@ -30,16 +30,17 @@ pub fn word_at_fault(alloc: Global, text: &[u8], refusal: Refusal) -> Result<Vec
     }
 }
 
-fn is_blank(byte: u8) -> bool {
-    matches!(byte, b' ' | b'\r' | b'\n')
+/// Whether a byte is outside of words: a blank, a bracket or a hyphen.
+fn is_outside(byte: u8) -> bool {
+    matches!(byte, b' ' | b'\r' | b'\n' | b'(' | b')' | b'-')
 }
 
-/// The bytes round a place, up to blanks.
+/// The bytes round a place, up to blanks, brackets and hyphens.
 fn word_around(text: &[u8], place: usize) -> &[u8] {
     let mut start = 0usize;
     let mut end = text.len();
     for (index, byte) in text.iter().enumerate() {
-        if is_blank(*byte) {
+        if is_outside(*byte) {
             if index < place {
                 start = index.saturating_add(1);
             } else {
