@@ -47,7 +47,7 @@ pub fn begin_page<W: Write>(writer: &mut W, title: &str) -> Result<(), Fault> {
 
 /// Ends a page.
 pub fn end_page<W: Write>(writer: &mut W) -> Result<(), Fault> {
-    put(writer, "</body>\n</html>\n")
+    put(writer, "</main>\n</body>\n</html>\n")
 }
 
 /// The heading of a column, and whether its cells are numbers.

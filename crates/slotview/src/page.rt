@@ -46,15 +46,16 @@ fn put_links<W: Write>(writer: &mut W, openings: &[Opening]) -> Result<(), Fault
     for opening in openings {
         let id = id_of(opening);
         let entry = opening.opened_by();
+        let note = if opening.shut_by().is_some() { ", shut" } else { "" };
         write!(
             writer,
-            "<li><a href=\"#regulation-{id}-{entry}\">{id}</a></li>\n"
+            "<li><a href=\"#regulation-{id}-{entry}\">{id}{note}</a></li>\n"
         )
         .map_err(unwritten)?;
     }
     put(
         writer,
-        "<li><a href=\"#counts\">Counts</a></li>\n<li><a href=\"#flights\">Flights</a></li>\n</ul></nav>\n",
+        "<li><a href=\"#counts\">Counts</a></li>\n<li><a href=\"#flights\">Flights</a></li>\n</ul></nav>\n<main>\n",
     )
 }
 
