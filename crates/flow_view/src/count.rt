@@ -178,6 +178,23 @@ fn count_at(entrants: &[Entrant], windows: &Windows, index: u32) -> Count
     )
 }
 
+/// The entry counts in each of these windows.
+fn counts_with<A: Allocator + Copy>(
+    alloc: A,
+    entrants: &[Entrant],
+    windows: &Windows,
+) -> Result<Vec<Count, A>, AllocError>
+    ensures { IfOk result (λ made. made.items ≡ counts windows.now entrants.now) }
+{
+    let minutes = windows.to.minutes().saturating_sub(windows.from.minutes());
+    let count = (minutes + windows.slide - 1) / windows.slide;
+    let mut counts = Vec::new(alloc);
+    for index in 0..count {
+        counts.push(count_at(entrants, windows, index))?;
+    }
+    Ok(counts)
+}
+
 /// The entry counts of a place in each of these windows, from all plans but cancelled ones. It goes over the plans once.
 pub fn counts_of<A: Allocator + Copy>(
     alloc: A,
@@ -188,11 +205,5 @@ pub fn counts_of<A: Allocator + Copy>(
     ensures { IfOk result (λ made. made.items ≡ counts windows.now (entrants core.now spot.now)) }
 {
     let entrants = entrants_of(alloc, core, spot)?;
-    let minutes = windows.to.minutes().saturating_sub(windows.from.minutes());
-    let count = (minutes + windows.slide - 1) / windows.slide;
-    let mut counts = Vec::new(alloc);
-    for index in 0..count {
-        counts.push(count_at(entrants.as_slice(), windows, index))?;
-    }
-    Ok(counts)
+    counts_with(alloc, entrants.as_slice(), windows)
 }

@@ -6,7 +6,7 @@
 //!   and a SHUT shows what it closes. `desk_at` is the desk at an earlier time.
 //! - *Delays* (`delay`, `totals`): of slot lists, and of flights by their most penalising regulations.
 //! - *Counts* (`count`, `load`): how many flights enter a place, regulated or not, and demand against slots.
-//! - *Sweeps* (`sweep`): what a regulation would do at other rates.
+//! - *Sweeps* (`what_if`): what a regulation would do at other rates.
 //! - *Charts* (`scale`, `rounds`): where times and counts are in them.
 #![tactic(auto)]
 
@@ -19,9 +19,9 @@ mod past;
 mod rounds;
 mod scale;
 mod slot_row;
-mod sweep;
 mod table;
 mod totals;
+mod what_if;
 mod windows;
 
 pub use count::{Count, Standing, counts_of};
@@ -33,7 +33,7 @@ pub use past::desk_at;
 pub use rounds::PANEL_WIDTH;
 pub use scale::{PANEL_HEIGHT, Scale};
 pub use slot_row::{SlotRow, row_at, rows_of};
-pub use sweep::{SweepFault, Swept, sweep};
 pub use table::{Holding, Line, lines_of, lines_with};
 pub use totals::{Totals, mean_tenths, totals_of};
+pub use what_if::{SweepFault, Swept, sweep};
 pub use windows::Windows;
