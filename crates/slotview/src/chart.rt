@@ -195,8 +195,10 @@ fn path_of(alloc: Global, panel: &Panel, shape: &Shape, step: u32) -> Result<Str
 fn put_path<W: Write>(writer: &mut W, path: &str) -> Result<(), Fault> {
     write!(
         writer,
-        "<path class=\"edge\" d=\"{path}\" fill=\"none\" stroke=\"#FFFFFF\" stroke-width=\"4\"/>\n\
-            <path class=\"rate\" d=\"{path}\" fill=\"none\" stroke=\"#222222\" stroke-width=\"2\"/>\n"
+        "<path class=\"edge\" d=\"{path}\" \
+            fill=\"none\" stroke=\"#FFFFFF\" stroke-width=\"4\"/>\n\
+            <path class=\"rate\" d=\"{path}\" \
+            fill=\"none\" stroke=\"#222222\" stroke-width=\"2\"/>\n"
     )
     .map_err(unwritten)
 }

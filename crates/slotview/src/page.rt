@@ -46,7 +46,11 @@ fn put_links<W: Write>(writer: &mut W, openings: &[Opening]) -> Result<(), Fault
     for opening in openings {
         let id = id_of(opening);
         let entry = opening.opened_by();
-        let note = if opening.shut_by().is_some() { ", shut" } else { "" };
+        let note = if opening.shut_by().is_some() {
+            ", shut"
+        } else {
+            ""
+        };
         write!(
             writer,
             "<li><a href=\"#regulation-{id}-{entry}\">{id}{note}</a></li>\n"

@@ -72,7 +72,7 @@ impl Measure {
 
     /// How many rates go to a label.
     fn each(&self) -> usize {
-        (self.rates as usize).div_ceil(MOST_LABELS).max(1)
+        (self.rates as usize).div_ceil(MOST_LABELS)
     }
 }
 
@@ -106,6 +106,7 @@ fn path_of(alloc: Global, measure: &Measure, lines: &[Swept]) -> Result<String, 
 
 /// Writes the points of the rates, with what is said of each, and their labels.
 fn put_points<W: Write>(writer: &mut W, measure: &Measure, lines: &[Swept]) -> Result<(), Fault> {
+    let each = measure.each().max(1);
     for (place, line) in lines.iter().enumerate() {
         let rate = line.rate;
         let total = line.totals.total;
@@ -118,7 +119,7 @@ fn put_points<W: Write>(writer: &mut W, measure: &Measure, lines: &[Swept]) -> R
                 <title>{rate} an hour: {total} min, {delayed} flights delayed</title></circle>\n"
         )
         .map_err(unwritten)?;
-        if place % measure.each() == 0 {
+        if place % each == 0 {
             write!(
                 writer,
                 "<text x=\"{x}\" y=\"178\" text-anchor=\"middle\">{rate}</text>\n"
