@@ -8,24 +8,26 @@ use std::io::Write;
 /// How the page is drawn: light or dark as its reader has it, narrow on a phone, and unfolded in print.
 const STYLE: &str = "\
 :root{color-scheme:light dark;--paper:#fff;--ink:#222;--faint:#ddd;--link:#0050a0}
-@media (prefers-color-scheme:dark){:root{--paper:#16181c;--ink:#e6e6e6;--faint:#454a52;--link:#8cc4ff}}
-body{margin:0 auto;max-width:62rem;padding:0 1rem 3rem;font:1rem/1.5 system-ui,sans-serif;background:var(--paper);\
-color:var(--ink)}
+@media (prefers-color-scheme:dark){:root{--paper:#16181c;--ink:#e6e6e6;\
+--faint:#454a52;--link:#8cc4ff}}
+body{margin:0 auto;max-width:62rem;padding:0 1rem 3rem;font:1rem/1.5 system-ui,sans-serif;\
+background:var(--paper);color:var(--ink)}
 a{color:var(--link)}
 nav ul{display:flex;flex-wrap:wrap;gap:.2rem 1rem;list-style:none;padding:0}
 summary{cursor:pointer}
 .wide{overflow-x:auto;margin:.5rem 0}
 table{border-collapse:collapse;font-variant-numeric:tabular-nums}
 caption{text-align:left;padding:.5rem 0}
-th,td{padding:.15rem .6rem .15rem 0;border-bottom:1px solid var(--faint);text-align:left;white-space:nowrap}
+th,td{padding:.15rem .6rem .15rem 0;border-bottom:1px solid var(--faint);\
+text-align:left;white-space:nowrap}
 .n{text-align:right}
 .chart{display:block;width:100%;min-width:36rem;max-width:800px;height:auto;fill:var(--ink)}
 .paper{fill:var(--paper)}
 .grid{stroke:var(--faint)}
 .edge{stroke:var(--paper)}
 .rate{stroke:var(--ink)}
-@media print{body{max-width:none;font-size:9pt}nav{display:none}.wide{overflow:visible}.chart{min-width:0}\
-tr,.chart{break-inside:avoid}details::details-content{content-visibility:visible;block-size:auto}}
+@media print{body{max-width:none;font-size:9pt}nav{display:none}.wide{overflow:visible}\
+.chart{min-width:0}tr,.chart{break-inside:avoid}details::details-content{content-visibility:visible;block-size:auto}}
 ";
 
 /// Writes a text.

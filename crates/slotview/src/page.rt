@@ -30,8 +30,8 @@ fn put_counts<W: Write>(writer: &mut W, core: &Core, openings: &[Opening]) -> Re
     write!(
         writer,
         "<p>{entries} entries. Plans: {filed} filed, {departed} departed, {cancelled} cancelled. \
-            Regulations: {regulations}, of which {shut} were shut. All times are UTC, hhmm, and ddhhmm where \
-            it is another day.</p>\n"
+            Regulations: {regulations}, of which {shut} were shut. All times are UTC, hhmm, and \
+            ddhhmm where it is another day.</p>\n"
     )
     .map_err(unwritten)
 }
@@ -59,7 +59,8 @@ fn put_links<W: Write>(writer: &mut W, openings: &[Opening]) -> Result<(), Fault
     }
     put(
         writer,
-        "<li><a href=\"#counts\">Counts</a></li>\n<li><a href=\"#flights\">Flights</a></li>\n</ul></nav>\n<main>\n",
+        "<li><a href=\"#counts\">Counts</a></li>\n<li><a href=\"#flights\">Flights</a></li>\n\
+            </ul></nav>\n<main>\n",
     )
 }
 

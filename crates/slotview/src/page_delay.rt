@@ -45,8 +45,10 @@ fn put_totals<W: Write>(writer: &mut W, totals: &DelayTotals) -> Result<(), Faul
     let most = totals.greatest;
     write!(
         writer,
-        "<tbody><tr><td class=\"n\">{flights}</td><td class=\"n\">{delayed}</td><td class=\"n\">{over_15}</td>\
-            <td class=\"n\">{total}</td><td class=\"n\">{mean}</td><td class=\"n\">{most}</td></tr></tbody>\n"
+        "<tbody><tr><td class=\"n\">{flights}</td><td class=\"n\">{delayed}</td>\
+            <td class=\"n\">{over_15}</td>\
+            <td class=\"n\">{total}</td><td class=\"n\">{mean}</td><td class=\"n\">{most}</td>\
+            </tr></tbody>\n"
     )
     .map_err(unwritten)?;
     end_table(writer)
@@ -124,7 +126,8 @@ fn put_delayed<W: Write>(writer: &mut W, core: &Core, delay: &FlightDelay) -> Re
     let entry = delay.opened_by;
     write!(
         writer,
-        "<tr><th scope=\"row\"><a href=\"#flight-{ident}\">{ident}</a></th><td>{dep}</td><td>{dest}</td>\
+        "<tr><th scope=\"row\"><a href=\"#flight-{ident}\">{ident}</a></th><td>{dep}</td>\
+            <td>{dest}</td>\
             <td>{eobt}</td><td>{ctot}</td><td class=\"n\">{minutes}</td>\
             <td><a href=\"#regulation-{cause}-{entry}\">{cause}</a></td></tr>\n"
     )

@@ -90,7 +90,8 @@ fn put_event<W: Write>(writer: &mut W, event: &Event, day: u32) -> Result<(), Fa
     };
     write!(
         writer,
-        "<tr><td class=\"n\">{entry}</td><td>{time}</td><td>{what}</td><td>{eobt}</td><td>{actual}</td>\
+        "<tr><td class=\"n\">{entry}</td><td>{time}</td><td>{what}</td><td>{eobt}</td>\
+            <td>{actual}</td>\
             <td>{window}</td><td>{ctot}</td><td>{cause}</td></tr>\n"
     )
     .map_err(unwritten)
@@ -110,8 +111,8 @@ fn put_course<W: Write>(
     let regulation = str::from_utf8(flight.regulation.as_bytes()).unwrap_or("");
     write!(
         writer,
-        "<tbody id=\"flight-{ident}\">\n<tr><th scope=\"rowgroup\" colspan=\"8\">{ident}, {dep} to {dest}: \
-            {minutes} min by {regulation}</th></tr>\n"
+        "<tbody id=\"flight-{ident}\">\n<tr><th scope=\"rowgroup\" colspan=\"8\">{ident}, \
+            {dep} to {dest}: {minutes} min by {regulation}</th></tr>\n"
     )
     .map_err(unwritten)?;
     for event in events {

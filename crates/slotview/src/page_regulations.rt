@@ -89,7 +89,8 @@ fn put_row<W: Write>(alloc: Global, writer: &mut W, opening: &Opening) -> Result
     let shut = Number(opening.shut_by());
     write!(
         writer,
-        "<tr><th scope=\"row\"><a href=\"#regulation-{id}-{entry}\">{id}</a></th><td>{kind} {place}</td>\
+        "<tr><th scope=\"row\"><a href=\"#regulation-{id}-{entry}\">{id}</a></th>\
+            <td>{kind} {place}</td>\
             <td>{from}</td><td>{to}</td><td>{rates}</td><td class=\"n\">{flights}</td>\
             <td class=\"n\">{delayed}</td><td class=\"n\">{total}</td><td class=\"n\">{mean}</td>\
             <td class=\"n\">{most}</td><td class=\"n\">{shut}</td></tr>\n"
@@ -131,8 +132,10 @@ fn put_line<W: Write>(writer: &mut W, line: &Line, day: u32) -> Result<(), Fault
     write!(
         writer,
         "<tr><td class=\"n\">{slot}</td><td>{time}</td>\
-            <th scope=\"row\"><a href=\"#flight-{ident}\">{ident}</a></th><td>{dep}</td><td>{dest}</td>\
-            <td>{eobt}</td><td>{entry}</td><td class=\"n\">{delay}</td><td>{state}</td><td>{ctot}</td>\
+            <th scope=\"row\"><a href=\"#flight-{ident}\">{ident}</a></th><td>{dep}</td>\
+            <td>{dest}</td>\
+            <td>{eobt}</td><td>{entry}</td><td class=\"n\">{delay}</td><td>{state}</td>\
+            <td>{ctot}</td>\
             <td>{cause}</td></tr>\n"
     )
     .map_err(unwritten)
@@ -239,8 +242,10 @@ fn put_count<W: Write>(writer: &mut W, count: &Count, day: u32) -> Result<(), Fa
     let entered = count.entered;
     write!(
         writer,
-        "<tr><th scope=\"row\">{from} to {to}</th><td class=\"n\">{flights}</td><td class=\"n\">{subject}</td>\
-            <td class=\"n\">{exempt}</td><td class=\"n\">{departed}</td><td class=\"n\">{entered}</td></tr>\n"
+        "<tr><th scope=\"row\">{from} to {to}</th><td class=\"n\">{flights}</td>\
+            <td class=\"n\">{subject}</td>\
+            <td class=\"n\">{exempt}</td><td class=\"n\">{departed}</td>\
+            <td class=\"n\">{entered}</td></tr>\n"
     )
     .map_err(unwritten)
 }
