@@ -26,8 +26,10 @@ text-align:left;white-space:nowrap}
 .grid{stroke:var(--faint)}
 .edge{stroke:var(--paper)}
 .rate{stroke:var(--ink)}
-@media print{body{max-width:none;font-size:9pt}nav{display:none}.wide{overflow:visible}\
-.chart{min-width:0}tr,.chart{break-inside:avoid}details::details-content{content-visibility:visible;block-size:auto}}
+@media print{:root{--paper:#fff;--ink:#222;--faint:#ddd;--link:#222}\
+body{max-width:none;font-size:9pt}nav{display:none}.wide{overflow:visible}\
+.chart{min-width:0}tr,.chart{break-inside:avoid}\
+details::details-content{content-visibility:visible;block-size:auto}}
 ";
 
 /// Writes a text.

@@ -42,7 +42,8 @@ pub fn put_frame<W: Write>(writer: &mut W, frame: Frame<'_>) -> Result<(), Fault
     write!(
         writer,
         "<svg xmlns=\"http://www.w3.org/2000/svg\" class=\"chart\" width=\"800\" \
-            height=\"{height}\" viewBox=\"0 0 800 {height}\" role=\"img\" aria-labelledby=\"title-{id} text-{id}\" \
+            height=\"{height}\" viewBox=\"0 0 800 {height}\" \
+            role=\"img\" aria-labelledby=\"title-{id} text-{id}\" \
             font-family=\"sans-serif\" font-size=\"12\" fill=\"#222222\">\n\
             <title id=\"title-{id}\">{title}</title>\n<desc id=\"text-{id}\">{text}</desc>\n"
     )
