@@ -4,8 +4,8 @@
     tests/cli/page.py PROGRAM
 
 A page must be well-formed XML without scripts and without anything from elsewhere; each id is there once, each link leads to
-one, each table has a caption and headings, each picture a title. Prints each fault, then 'N pages, M findings'. The status is 1
-where there are any.
+one, each table has a caption and headings, each picture a title. Where a sample has a page.html, it is the page of its stdout.
+Prints each fault, then 'N pages, M findings'. The status is 1 where there are any.
 """
 import pathlib
 import re
@@ -92,6 +92,10 @@ def main():
         if text is None:
             continue
         pages += 1
+        kept = path.with_name("page.html")
+        if path.name == "stdout" and kept.exists() and kept.read_text() != text:
+            findings += 1
+            print("%s: another page" % kept.relative_to(HOME.parent.parent))
         for finding in findings_in(text):
             findings += 1
             print("%s: %s" % (path.relative_to(HOME.parent.parent), finding))

@@ -5,27 +5,47 @@ use fpl_text::{Minute, Text, TimeOfDay};
 use std::alloc::{AllocError, Global};
 use std::collections::HashMap;
 
-/// The title of an accepted message, and the plan that it is about.
-fn about(verdict: Verdict) -> Option<(&'static str, u32)> {
+/// What an event is.
+#[derive(Clone, Copy)]
+pub enum What {
+    Fpl,
+    Dla,
+    Chg,
+    Cnl,
+    Dep,
+    Sam,
+    Srm,
+    Slc,
+}
+
+impl What {
+    /// The title of the message or of the notice.
+    pub fn title(self) -> &'static str {
+        match self {
+            What::Fpl => "FPL",
+            What::Dla => "DLA",
+            What::Chg => "CHG",
+            What::Cnl => "CNL",
+            What::Dep => "DEP",
+            What::Sam => "SAM",
+            What::Srm => "SRM",
+            What::Slc => "SLC",
+        }
+    }
+}
+
+/// What an accepted message is, and the plan that it is about.
+fn about(verdict: Verdict) -> Option<(What, u32)> {
     match verdict {
-        Verdict::Accepted {
-            kind: Kind::Fpl,
-            plan,
-        } => Some(("FPL", plan)),
-        Verdict::Accepted {
-            kind: Kind::Dla,
-            plan,
-        } => Some(("DLA", plan)),
-        Verdict::Accepted {
-            kind: Kind::Chg,
-            plan,
-        } => Some(("CHG", plan)),
-        Verdict::Accepted {
-            kind: Kind::Cnl,
-            plan,
-        } => Some(("CNL", plan)),
-        Verdict::Departed { plan, .. } => Some(("DEP", plan)),
-        _ => None,
+        Verdict::Accepted { kind, plan } => match kind {
+            Kind::Fpl => Some((What::Fpl, plan)),
+            Kind::Dla => Some((What::Dla, plan)),
+            Kind::Chg => Some((What::Chg, plan)),
+            Kind::Cnl => Some((What::Cnl, plan)),
+            _ => None,
+        },
+        Verdict::Departed { plan, .. } => Some((What::Dep, plan)),
+        Verdict::Refused(_) => None,
     }
 }
 
@@ -36,8 +56,7 @@ pub struct Event {
     pub entry: u32,
     /// The desk's time then.
     pub time: Minute,
-    /// The title of the message or of the notice.
-    pub what: &'static str,
+    pub what: What,
     /// The plan that a message is about.
     pub plan: Option<u32>,
     /// The off-block time that a message gives, or that the plan of a notice had.
@@ -158,12 +177,7 @@ impl<'a> Course<'a> {
     }
 
     /// What an accepted message about this plan says.
-    fn message(
-        &mut self,
-        entry: &Entry<'_>,
-        what: &'static str,
-        plan: u32,
-    ) -> Result<Event, AllocError> {
+    fn message(&mut self, entry: &Entry<'_>, what: What, plan: u32) -> Result<Event, AllocError> {
         let filing = self.filing_of(entry)?;
         let (off_block, actual) = self.times_of(&filing, plan)?;
         let receipt = entry.receipt();
@@ -187,9 +201,9 @@ impl<'a> Course<'a> {
 /// What a notice says, that an entry caused.
 fn notice_event(entry: u32, time: Minute, notice: &Notice) -> Event {
     let (what, told) = match &notice.says {
-        Said::Sam(told) => ("SAM", Some(*told)),
-        Said::Srm(told) => ("SRM", Some(*told)),
-        Said::Slc => ("SLC", None),
+        Said::Sam(told) => (What::Sam, Some(*told)),
+        Said::Srm(told) => (What::Srm, Some(*told)),
+        Said::Slc => (What::Slc, None),
     };
     Event {
         entry,

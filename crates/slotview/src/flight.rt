@@ -166,7 +166,7 @@ fn put_event<W: Write + Drop>(sheet: &mut Sheet<'_, W>, event: &Event) -> Result
     sheet.put(&[
         Cell::number(event.entry),
         Cell::Moment(event.time),
-        Cell::text(event.what.as_bytes()),
+        Cell::text(event.what.title().as_bytes()),
         plan,
         Cell::moment_or_blank(event.off_block),
         actual,

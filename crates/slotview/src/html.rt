@@ -1,7 +1,7 @@
 //! The parts of a page: its head, and tables.
 use crate::fault::{Fault, unwritten};
 use crate::moments::Short;
-use fpl_text::Minute;
+use fpl_text::{Minute, TimeOfDay};
 use std::fmt;
 use std::io::Write;
 
@@ -93,6 +93,21 @@ impl fmt::Display for When {
             day: self.day,
         };
         write!(f, "{short}")
+    }
+}
+
+/// What may be a time of day, in four digits.
+#[derive(Clone, Copy)]
+pub struct OfDay(pub Option<TimeOfDay>);
+
+impl fmt::Display for OfDay {
+    fn fmt<W: fmt::Write>(&self, f: &mut fmt::Formatter<W>) -> fmt::Result {
+        let Some(time) = self.0 else {
+            return Ok(());
+        };
+        let hour = time.hour();
+        let minute = time.minute();
+        write!(f, "{hour:02}{minute:02}")
     }
 }
 

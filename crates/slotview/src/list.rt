@@ -108,6 +108,7 @@ fn cells_of(opening: &Opening, line: &Line) -> [Cell; 15] {
 fn put_line<W: Write + Drop>(sheet: &mut Sheet<'_, W>, cells: &[Cell; 15]) -> Result<(), Fault>
     ensures { OnOk result (sheet.new.rows ≡ with_more sheet.old.rows 1) }
 {
+    let cells = &cells[..];
     if sheet.is_text() {
         sheet.put(&cells[1..13])
     } else {

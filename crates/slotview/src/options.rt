@@ -121,16 +121,46 @@ pub struct Options<'a> {
     pub table: Option<&'a str>,
 }
 
-/// Why the words ask for nothing that can be shown.
+/// Why the words ask for nothing that can be shown: the value that can't be.
 #[derive(Drop)]
 enum Wrong<'a> {
-    /// A value, the argument that has it, and why it can't be.
-    Value {
-        value: &'a str,
-        argument: &'static str,
-        why: &'static str,
-    },
+    Place(&'a str),
+    /// The beginning or the end of a period.
+    Begin(&'a str),
+    End(&'a str),
+    /// An end that the beginning doesn't allow.
+    Period(&'a str),
+    Rates(&'a str),
+    When(&'a str),
     OutOfMemory,
+}
+
+impl<'a> Wrong<'a> {
+    /// The value, the argument that has it, and why it can't be.
+    fn parts(&self) -> Option<(&'a str, &'static str, &'static str)> {
+        let no_moment = "it is no moment yymmddhhmm";
+        match self {
+            Wrong::Place(value) => Some((*value, "<PLACE>", "no OPEN has it after that kind")),
+            Wrong::Begin(value) => Some((*value, "--from <MOMENT>", no_moment)),
+            Wrong::End(value) => Some((*value, "--to <MOMENT>", no_moment)),
+            Wrong::Period(value) => Some((
+                *value,
+                "--to <MOMENT>",
+                "it isn't 1 to 1440 minutes after the beginning",
+            )),
+            Wrong::Rates(value) => Some((
+                *value,
+                "--rates <A..B>",
+                "it is no A..B with A at most B, and B at most 999",
+            )),
+            Wrong::When(value) => Some((
+                *value,
+                "--at <WHEN>",
+                "it is no entry, 0 to 1000000, and no moment yymmddhhmm",
+            )),
+            Wrong::OutOfMemory => None,
+        }
+    }
 }
 
 impl From<AllocError> for Wrong<'_> {
@@ -167,23 +197,34 @@ fn list_by<'a>(matches: &ArgMatches<'a>) -> (Shown<'a>, Option<&'a str>) {
     }
 }
 
-/// The moment that an argument gives, if it is there.
-fn moment_by<'a>(
-    matches: &ArgMatches<'a>,
-    id: &str,
-    argument: &'static str,
-) -> Result<Option<Minute>, Wrong<'a>> {
+/// The moment that an argument gives, if it is there, or the word that is none.
+fn moment_by<'a>(matches: &ArgMatches<'a>, id: &str) -> Result<Option<Minute>, &'a str> {
     let Some(word) = matches.get_str(id) else {
         return Ok(None);
     };
     match moment_of(word) {
         Some(moment) => Ok(Some(moment)),
-        None => Err(Wrong::Value {
-            value: word,
-            argument,
-            why: "it is no moment yymmddhhmm",
-        }),
+        None => Err(word),
     }
+}
+
+/// The period that `count` asks for.
+fn period_by<'a>(matches: &ArgMatches<'a>) -> Result<(Option<Minute>, Option<Minute>), Wrong<'a>> {
+    let from = match moment_by(matches, "from") {
+        Ok(from) => from,
+        Err(word) => return Err(Wrong::Begin(word)),
+    };
+    let to = match moment_by(matches, "to") {
+        Ok(to) => to,
+        Err(word) => return Err(Wrong::End(word)),
+    };
+    if let (Some(from), Some(to)) = (from, to) {
+        let minutes = to.minutes().saturating_sub(from.minutes());
+        if minutes == 0 || minutes > LONGEST {
+            return Err(Wrong::Period(matches.get_str("to").unwrap_or("")));
+        }
+    }
+    Ok((from, to))
 }
 
 /// What `count` asks for.
@@ -191,24 +232,9 @@ fn count_by<'a>(alloc: Global, matches: &ArgMatches<'a>) -> Result<Shown<'a>, Wr
     let kind = matches.get_str("kind").unwrap_or("");
     let place = matches.get_str("place").unwrap_or("");
     let Some(spot) = spot_of(alloc, kind, place)? else {
-        return Err(Wrong::Value {
-            value: place,
-            argument: "<PLACE>",
-            why: "no OPEN has it after that kind",
-        });
+        return Err(Wrong::Place(place));
     };
-    let from = moment_by(matches, "from", "--from <MOMENT>")?;
-    let to = moment_by(matches, "to", "--to <MOMENT>")?;
-    if let (Some(from), Some(to)) = (from, to) {
-        let minutes = to.minutes().saturating_sub(from.minutes());
-        if minutes == 0 || minutes > LONGEST {
-            return Err(Wrong::Value {
-                value: matches.get_str("to").unwrap_or(""),
-                argument: "--to <MOMENT>",
-                why: "it isn't 1 to 1440 minutes after the beginning",
-            });
-        }
-    }
+    let (from, to) = period_by(matches)?;
     let step = matches.get_one::<u32>("step").unwrap_or(60);
     let asked = Asked {
         spot,
@@ -225,11 +251,7 @@ fn count_by<'a>(alloc: Global, matches: &ArgMatches<'a>) -> Result<Shown<'a>, Wr
 fn sweep_by<'a>(matches: &ArgMatches<'a>) -> Result<Shown<'a>, Wrong<'a>> {
     let rates = matches.get_str("rates").unwrap_or("");
     let Some((first, last)) = rates_of(rates) else {
-        return Err(Wrong::Value {
-            value: rates,
-            argument: "--rates <A..B>",
-            why: "it is no A..B with A at most B, and B at most 999",
-        });
+        return Err(Wrong::Rates(rates));
     };
     let what_if = WhatIf {
         kind: matches.get_str("kind").unwrap_or(""),
@@ -259,8 +281,14 @@ fn shown_by<'a>(
             Ok((Shown::Flight { ident }, file))
         }
         "load" => Ok((load_by(inner), file)),
-        "count" => Ok((count_by(alloc, inner)?, file)),
-        "sweep" => Ok((sweep_by(inner)?, file)),
+        "count" => match count_by(alloc, inner) {
+            Ok(shown) => Ok((shown, file)),
+            Err(wrong) => Err(wrong),
+        },
+        "sweep" => match sweep_by(inner) {
+            Ok(shown) => Ok((shown, file)),
+            Err(wrong) => Err(wrong),
+        },
         "refused" => Ok((Shown::Refused, file)),
         "page" => Ok((Shown::Page, file)),
         _ => Ok((Shown::Summary, file)),
@@ -277,11 +305,7 @@ fn at_by<'a>(matches: &ArgMatches<'a>) -> Result<Option<At>, Wrong<'a>> {
     }
     match entry_of(word) {
         Some(number) => Ok(Some(At::Entry(number))),
-        None => Err(Wrong::Value {
-            value: word,
-            argument: "--at <WHEN>",
-            why: "it is no entry, 0 to 1000000, and no moment yymmddhhmm",
-        }),
+        None => Err(Wrong::When(word)),
     }
 }
 
@@ -326,12 +350,7 @@ fn error_of(
     command: &mut Command<'_>,
     wrong: Wrong<'_>,
 ) -> Result<Error, AllocError> {
-    let Wrong::Value {
-        value,
-        argument,
-        why,
-    } = wrong
-    else {
+    let Some((value, argument, why)) = wrong.parts() else {
         return Err(AllocError);
     };
     let text = format!(in alloc; "invalid value '{value}' for '{argument}': {why}")?;

@@ -1,8 +1,8 @@
 //! The courses of the regulated flights on a page.
-use crate::course::{Event, courses_of, hhmm_of, window_name};
+use crate::course::{Event, courses_of, window_name};
 use crate::delay::Delays;
 use crate::fault::{Fault, unwritten};
-use crate::html::{Head, When, begin_table, end_table, put};
+use crate::html::{Head, OfDay, When, begin_table, end_table, put};
 use flow_core::Core;
 use flow_view::FlightDelay;
 use fpl_text::Text;
@@ -69,16 +69,12 @@ fn put_event<W: Write>(writer: &mut W, event: &Event, day: u32) -> Result<(), Fa
         moment: Some(event.time),
         day,
     };
-    let what = event.what;
+    let what = event.what.title();
     let eobt = When {
         moment: event.off_block,
         day,
     };
-    let actual = event.actual.map(|actual| hhmm_of(actual));
-    let actual = match &actual {
-        Some(actual) => str::from_utf8(actual.as_bytes()).unwrap_or(""),
-        None => "",
-    };
+    let actual = OfDay(event.actual);
     let window = event.window.and_then(window_name).unwrap_or("");
     let ctot = When {
         moment: event.told.map(|told| told.ctot),

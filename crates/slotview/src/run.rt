@@ -50,7 +50,7 @@ pub fn run_words<F: Files, R: Read + Drop, W: Write + Drop, E: Write>(
         Ok(input) => input,
         Err(fault) => return tell(fault, errors),
     };
-    match show(alloc, options, input, writer, errors) {
+    match show(alloc, &options, input, writer, errors) {
         Ok(()) => DONE,
         Err(fault) => tell(fault, errors),
     }
@@ -59,22 +59,44 @@ pub fn run_words<F: Files, R: Read + Drop, W: Write + Drop, E: Write>(
 /// Reads the journal, and shows what is asked for.
 fn show<R: Read + Drop, W: Write + Drop, E: Write>(
     alloc: Global,
-    options: Options<'_>,
+    options: &Options<'_>,
     reader: R,
     writer: W,
     errors: &mut E,
 ) -> Result<(), Fault> {
-    let core = read_desk(alloc, reader)?;
-    let core = match options.at {
-        Some(At::Entry(count)) => past_of(alloc, core, count, errors)?,
-        Some(At::Moment(moment)) => desk_at(alloc, &core, moment)?,
-        None => core,
+    let mut core = read_desk(alloc, reader)?;
+    let shown = match options.at {
+        Some(at) => show_past(alloc, options, &core, at, writer, errors),
+        None => show_desk(alloc, options, &mut core, writer, errors),
     };
-    show_desk(alloc, options, core, writer, errors)
+    // The process ends now and gives its memory back whole.
+    let _kept = ManuallyDrop::new(core);
+    shown
+}
+
+/// Shows what is asked for of the desk as it stood.
+fn show_past<W: Write + Drop, E: Write>(
+    alloc: Global,
+    options: &Options<'_>,
+    core: &Core,
+    at: At,
+    writer: W,
+    errors: &mut E,
+) -> Result<(), Fault> {
+    let mut past = match at {
+        At::Entry(count) => past_of(alloc, core, count, errors)?,
+        At::Moment(moment) => desk_at(alloc, core, moment)?,
+    };
+    show_desk(alloc, options, &mut past, writer, errors)
 }
 
 /// The desk as it stood after so many entries.
-fn past_of<E: Write>(alloc: Global, core: Core, count: u32, errors: &mut E) -> Result<Core, Fault> {
+fn past_of<E: Write>(
+    alloc: Global,
+    core: &Core,
+    count: u32,
+    errors: &mut E,
+) -> Result<Core, Fault> {
     let entries = core.entries();
     if count > entries {
         let _told = writeln!(errors, "slotview: no entry {count}, there are {entries}");
@@ -123,45 +145,42 @@ fn read_held<R: BufRead>(
 /// Shows what is asked for of a desk.
 fn show_desk<W: Write + Drop, E: Write>(
     alloc: Global,
-    options: Options<'_>,
-    mut core: Core,
+    options: &Options<'_>,
+    core: &mut Core,
     writer: W,
     errors: &mut E,
 ) -> Result<(), Fault> {
-    let shown = match options.shown {
+    match &options.shown {
         Shown::Sweep { what_if, svg } => {
-            let lines = sweep_of(alloc, &mut core, &what_if, errors)?;
-            show_sweep(alloc, options, &what_if, lines.as_slice(), svg, writer)
+            let lines = sweep_of(alloc, core, what_if, errors)?;
+            show_sweep(alloc, options, what_if, lines.as_slice(), *svg, writer)
         }
-        Shown::Page => put_page(alloc, writer, &core),
-        Shown::Chart { id, step } => show_chart(alloc, &core, id, step, writer, errors),
-        Shown::Count { asked, svg: true } => show_count_chart(alloc, &core, &asked, writer),
-        _ => show_tables(alloc, options, &core, writer, errors),
-    };
-    // The process ends now and gives its memory back whole.
-    let _kept = ManuallyDrop::new(core);
-    shown
+        Shown::Page => put_page(alloc, writer, core),
+        Shown::Chart { id, step } => show_chart(alloc, core, id, *step, writer, errors),
+        Shown::Count { asked, svg: true } => show_count_chart(alloc, core, asked, writer),
+        _ => show_tables(alloc, options, core, writer, errors),
+    }
 }
 
 /// Shows what is asked for as tables.
 fn show_tables<W: Write + Drop, E: Write>(
     alloc: Global,
-    options: Options<'_>,
+    options: &Options<'_>,
     core: &Core,
     writer: W,
     errors: &mut E,
 ) -> Result<(), Fault> {
     let mut sheet = Sheet::new(alloc, options.format, options.table, writer);
-    match options.shown {
+    match &options.shown {
         Shown::Flight { ident } => {
             if !put_flight(alloc, &mut sheet, core, ident)? {
                 tell_flights(alloc, core, ident, errors)?;
                 return Err(Fault::NotThere);
             }
         }
-        Shown::Count { asked, .. } => put_counts(alloc, &mut sheet, core, &asked)?,
+        Shown::Count { asked, .. } => put_counts(alloc, &mut sheet, core, asked)?,
         Shown::Refused => put_all_refused(alloc, &mut sheet, core)?,
-        _ => put_openings(alloc, &mut sheet, options.shown, core, errors)?,
+        shown => put_openings(alloc, &mut sheet, shown, core, errors)?,
     }
     sheet.end()
 }
@@ -170,7 +189,7 @@ fn show_tables<W: Write + Drop, E: Write>(
 fn put_openings<W: Write + Drop, E: Write>(
     alloc: Global,
     sheet: &mut Sheet<'_, W>,
-    shown: Shown<'_>,
+    shown: &Shown<'_>,
     core: &Core,
     errors: &mut E,
 ) -> Result<(), Fault> {
@@ -181,7 +200,7 @@ fn put_openings<W: Write + Drop, E: Write>(
         Shown::List { id: Some(id) } => { put_lists(alloc, sheet, named(alloc, all, id, errors)?) }
         Shown::Load { id, step } => {
             for opening in named(alloc, all, id, errors)? {
-                put_loads(alloc, sheet, opening, step)?;
+                put_loads(alloc, sheet, opening, *step)?;
             }
             Ok(())
         }
@@ -219,7 +238,7 @@ fn show_count_chart<W: Write + Drop>(
 /// Shows what a regulation would do, as a table or as a picture.
 fn show_sweep<W: Write + Drop>(
     alloc: Global,
-    options: Options<'_>,
+    options: &Options<'_>,
     what_if: &WhatIf<'_>,
     lines: &[Swept],
     svg: bool,
