@@ -90,13 +90,15 @@ fn order_words(
 ) -> Result<Vec<u8>, AllocError> {
     let squeezed = squeezed_of(alloc, text)?;
     let mut joined = Vec::new(alloc);
-    for (index, word) in Words::new(squeezed.as_slice()).enumerate() {
+    let mut index = 0usize;
+    for word in Words::new(squeezed.as_slice()) {
         if index >= first && index - first < count {
             if !joined.is_empty() {
                 joined.push(b' ')?;
             }
             joined.extend_from_slice(word)?;
         }
+        index = index.saturating_add(1);
     }
     Ok(joined)
 }
@@ -254,11 +256,13 @@ fn field18(alloc: Global, fields: &Fields<Global>) -> &[u8] {
 fn item_text(alloc: Global, item: &Item<'_>) -> Result<Vec<u8>, AllocError> {
     let mut text = Vec::from_slice(alloc, item.name())?;
     text.push(b'/')?;
-    for (index, word) in item.words().enumerate() {
-        if index > 0 {
+    let mut is_first = true;
+    for word in item.words() {
+        if !is_first {
             text.push(b' ')?;
         }
         text.extend_from_slice(word)?;
+        is_first = false;
     }
     Ok(text)
 }
