@@ -4,3 +4,5 @@ pub mod Loads
 pub mod Planned
 pub mod Tables
 pub mod Delays
+pub mod Histories
+pub mod Openings

@@ -5,7 +5,9 @@ ghost use Rattle.flow_view.specs.Openings.{is_open};
 ghost use Rattle.flow_view.specs.Sweeps.{order_at, with_filing, verdict_of, last_rows, swept, Opens, IsToldOf, IsToldBy};
 ghost use Rattle.flow_view.specs.Totals.{totals_of};
 ghost use Rattle.flow_slots.specs.Period.{most_slots};
+ghost use Rattle.flow_view.specs.declared.what_if.SweepFault.TheVariants.{OutOfMemory};
 
+use crate::past::take_back;
 use crate::slot_row::{SlotRow, rows_of};
 use crate::totals::{Totals, totals_of};
 use flow_core::{Core, Kind, StepFault, Verdict};
@@ -129,7 +131,7 @@ fn swept_at<A: Allocator + Copy>(
     let text = order_at(alloc, order, rate)?;
     let verdict = file(alloc, core, text.as_slice())?;
     let totals = totals_at(alloc, core, verdict);
-    let _filing = core.take_back();
+    take_back(core);
     match totals {
         Ok(totals) => Ok(Swept { rate, totals }),
         Err(fault) => Err(fault),
@@ -156,7 +158,10 @@ pub fn sweep<A: Allocator + Copy>(
 {
     let mut lines = Vec::new(alloc);
     for rate in rates {
-        let line = swept_at(alloc, core, order, *rate)?;
+        let line = match swept_at(alloc, core, order, *rate) {
+            Ok(line) => line,
+            Err(fault) => return Err(fault),
+        };
         let Ok(()) = lines.push(line) else {
             return Err(SweepFault::OutOfMemory);
         };
