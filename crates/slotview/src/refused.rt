@@ -23,16 +23,16 @@ static COLUMNS: [Column; 7] = [
 /// Those of a table of text, in 80 signs.
 static IN_TEXT: [Column; 5] = [
     Column("entry", 7, Side::Right),
-    Column("time", 6, Side::Time),
+    Column("time", 10, Side::Time),
     Column("reason", 16, Side::Left),
     Column("word", 20, Side::Left),
-    Column("text", 27, Side::Left),
+    Column("text", 23, Side::Left),
 ];
 
 /// How many signs of a word and of a text are in a table of text.
 const WORD_SIGNS: usize = 20;
 
-const TEXT_SIGNS: usize = 27;
+const TEXT_SIGNS: usize = 23;
 
 /// Bytes as one line of text: blanks are spaces, and what is no character of UTF-8 is escaped.
 fn line_of(alloc: Global, bytes: &[u8]) -> Result<String, AllocError> {
@@ -80,7 +80,7 @@ fn put_in_text<W: Write + Drop>(
     let text = line_of(alloc, entry.text())?;
     sheet.put(&[
         Cell::number(entry.receipt().number),
-        Cell::Time(time),
+        Cell::Moment(time),
         Cell::long(reason_text(alloc, refusal)?),
         Cell::long(shortened(alloc, word.as_str(), WORD_SIGNS)?),
         Cell::long(shortened(alloc, text.as_str(), TEXT_SIGNS)?),
@@ -102,7 +102,7 @@ fn put_refused<W: Write + Drop>(
     };
     sheet.put(&[
         Cell::number(entry.receipt().number),
-        Cell::Time(time),
+        Cell::Moment(time),
         Cell::number(refusal.number()),
         Cell::text(refusal.name()),
         detail,
@@ -117,7 +117,6 @@ pub fn put_all_refused<W: Write + Drop>(
     sheet: &mut Sheet<'_, W>,
     core: &Core,
 ) -> Result<(), Fault> {
-    sheet.set_day(core.setup().start());
     if sheet.is_text() {
         sheet.begin("refused", &IN_TEXT)?;
     } else {
