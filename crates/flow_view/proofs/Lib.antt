@@ -6,3 +6,4 @@ pub mod Tables
 pub mod Delays
 pub mod Histories
 pub mod Openings
+pub mod Entrants

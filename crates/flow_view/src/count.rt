@@ -1,5 +1,5 @@
 //! Entry counts: how many flights are planned to enter a place, regulated or not.
-ghost use Rattle.std.specs.Prelude.{◌≡◌, ◌≤◌, ◌<◌, ◌+◌, ◌-◌, ◌*◌, IfOk, min, codes};
+ghost use Rattle.std.specs.Prelude.{◌≡◌, ◌≤◌, ◌++◌, ◌+◌, ◌*◌, IfOk, OnOk, option_to_list, min, codes};
 ghost use Rattle.std.specs.Str.{bytes_eq};
 ghost use Rattle.flow_view.specs.Counts.{is_regulated, standing_of, entrant_of, entrants, same_standing, entering};
 ghost use Rattle.flow_view.specs.Counts.{count_in, counts};
@@ -104,6 +104,19 @@ fn entrant_of<A: Allocator + Copy>(
     })
 }
 
+/// Adds a flight, if there is one.
+fn add_entrant<A: Allocator + Copy>(
+    entrants: &mut Vec<Entrant, A>,
+    entrant: Option<Entrant>,
+) -> Result<(), AllocError>
+    ensures { OnOk result (entrants.new.items ≡ entrants.old.items ++ option_to_list entrant) }
+{
+    if let Some(entrant) = entrant {
+        entrants.push(entrant)?;
+    }
+    Ok(())
+}
+
 /// The flights that enter a place, by plan.
 fn entrants_of<A: Allocator + Copy>(
     alloc: A,
@@ -118,9 +131,7 @@ fn entrants_of<A: Allocator + Copy>(
         let Some(plan) = core.plan(index + 1) else {
             return Ok(entrants);
         };
-        if let Some(entrant) = entrant_of(taxi, now, spot, plan) {
-            entrants.push(entrant)?;
-        }
+        add_entrant(&mut entrants, entrant_of(taxi, now, spot, plan))?;
     }
     Ok(entrants)
 }
