@@ -1,5 +1,5 @@
 //! What was filed about a flight, with its times.
-use flow_core::{Core, Entry, Kind, Notice, Said, Told, Verdict, Window};
+use flow_core::{Core, Entry, Kind, Said, Told, Verdict, Window};
 use fpl_message::{Filing, Message, Order, Reading};
 use fpl_text::{Minute, Text, TimeOfDay};
 use std::alloc::{AllocError, Global};
@@ -52,6 +52,8 @@ fn about(verdict: Verdict) -> Option<(What, u32)> {
 /// An accepted message about a flight, or a notice to it.
 #[derive(Clone, Copy)]
 pub struct Event {
+    /// The place of its flight among those that were asked for.
+    pub place: usize,
     /// The number of the entry.
     pub entry: u32,
     /// The desk's time then.
@@ -176,119 +178,99 @@ impl<'a> Course<'a> {
         }
     }
 
-    /// What an accepted message about this plan says.
-    fn message(&mut self, entry: &Entry<'_>, what: What, plan: u32) -> Result<Event, AllocError> {
-        let filing = self.filing_of(entry)?;
-        let (off_block, actual) = self.times_of(&filing, plan)?;
+    /// What an entry filed about one of these flights.
+    fn message_in(
+        &mut self,
+        entry: &Entry<'_>,
+        places: &HashMap<Text<7>, usize>,
+    ) -> Result<Option<Event>, AllocError> {
         let receipt = entry.receipt();
+        let Some((what, number)) = about(receipt.verdict) else {
+            return Ok(None);
+        };
+        let Some(place) = self.place_of(number, places) else {
+            return Ok(None);
+        };
+        let filing = self.filing_of(entry)?;
+        let (off_block, actual) = self.times_of(&filing, number)?;
         let window = match receipt.verdict {
             Verdict::Departed { window, .. } => Some(window),
             _ => None,
         };
-        Ok(Event {
+        Ok(Some(Event {
+            place,
             entry: receipt.number,
             time: self.time,
             what,
-            plan: Some(plan),
+            plan: Some(number),
             off_block,
             actual,
             window,
             told: None,
+        }))
+    }
+
+    /// The place of the flight of a plan among these flights.
+    fn place_of(&self, number: u32, places: &HashMap<Text<7>, usize>) -> Option<usize> {
+        let plan = self.core.plan(number)?;
+        places.get(&plan.key().ident).copied()
+    }
+
+    /// The notice of this number, if it is to one of these flights.
+    fn notice_in(
+        &self,
+        entry: u32,
+        number: u64,
+        places: &HashMap<Text<7>, usize>,
+    ) -> Option<Event> {
+        let notice = self.core.notice(number)?;
+        let place = places.get(&notice.ident).copied()?;
+        let (what, told) = match &notice.says {
+            Said::Sam(told) => (What::Sam, Some(*told)),
+            Said::Srm(told) => (What::Srm, Some(*told)),
+            Said::Slc => (What::Slc, None),
+        };
+        Some(Event {
+            place,
+            entry,
+            time: self.time,
+            what,
+            plan: None,
+            off_block: Some(notice.off_block),
+            actual: None,
+            window: None,
+            told,
         })
     }
 }
 
-/// What a notice says, that an entry caused.
-fn notice_event(entry: u32, time: Minute, notice: &Notice) -> Event {
-    let (what, told) = match &notice.says {
-        Said::Sam(told) => (What::Sam, Some(*told)),
-        Said::Srm(told) => (What::Srm, Some(*told)),
-        Said::Slc => (What::Slc, None),
-    };
-    Event {
-        entry,
-        time,
-        what,
-        plan: None,
-        off_block: Some(notice.off_block),
-        actual: None,
-        window: None,
-        told,
-    }
-}
-
-/// Adds an event to those of a flight, by its place.
-fn add(courses: &mut Vec<Vec<Event>>, place: usize, event: Event) -> Result<(), AllocError> {
-    if let Some(events) = courses.get_mut(place) {
-        events.push(event)?;
-    }
-    Ok(())
-}
-
-/// The courses of flights: all that was filed and said about each, in the order of the journal. Each flight has its place
-/// among them, by its identification.
+/// All that was filed and said about these flights, of which each has its place: those of one flight together and in the
+/// order of the journal, the flights in the order of their places.
 pub fn courses_of(
     alloc: Global,
     core: &Core,
     places: &HashMap<Text<7>, usize>,
-) -> Result<Vec<Vec<Event>>, AllocError> {
-    let mut courses = Vec::new(alloc);
-    for _ in 0..places.len() {
-        courses.push(Vec::new(alloc))?;
-    }
+) -> Result<Vec<Event>, AllocError> {
+    let mut events = Vec::new(alloc);
     let mut course = Course::new(alloc, core);
     for index in 0..core.entries() {
         let Some(entry) = core.entry(index + 1) else {
             break;
         };
         course.pass(&entry)?;
-        course.add_message(&mut courses, &entry, places)?;
-        add_notices(&mut courses, core, &entry, course.time(), places)?;
-    }
-    Ok(courses)
-}
-
-impl Course<'_> {
-    /// Adds what an entry filed about one of these flights.
-    fn add_message(
-        &mut self,
-        courses: &mut Vec<Vec<Event>>,
-        entry: &Entry<'_>,
-        places: &HashMap<Text<7>, usize>,
-    ) -> Result<(), AllocError> {
-        let Some((what, number)) = about(entry.receipt().verdict) else {
-            return Ok(());
-        };
-        let Some(plan) = self.core.plan(number) else {
-            return Ok(());
-        };
-        if let Some(place) = places.get(&plan.key().ident) {
-            let event = self.message(entry, what, number)?;
-            add(courses, *place, event)?;
+        if let Some(event) = course.message_in(&entry, places)? {
+            events.push(event)?;
         }
-        Ok(())
-    }
-}
-
-/// Adds the notices to these flights that an entry caused.
-fn add_notices(
-    courses: &mut Vec<Vec<Event>>,
-    core: &Core,
-    entry: &Entry<'_>,
-    time: Minute,
-    places: &HashMap<Text<7>, usize>,
-) -> Result<(), AllocError> {
-    let receipt = entry.receipt();
-    for index in 0..receipt.notices {
-        let number = receipt.first_notice.saturating_add(u64::from(index));
-        let Some(notice) = core.notice(number) else {
-            continue;
-        };
-        if let Some(place) = places.get(&notice.ident) {
-            add(courses, *place, notice_event(receipt.number, time, notice))?;
+        let receipt = entry.receipt();
+        for index in 0..receipt.notices {
+            let number = receipt.first_notice.saturating_add(u64::from(index));
+            if let Some(event) = course.notice_in(receipt.number, number, places) {
+                events.push(event)?;
+            }
         }
     }
-    Ok(())
+    events.sort_by_key(|event| event.place)?;
+    Ok(events)
 }
 
 /// A time of day in four digits.

@@ -185,10 +185,8 @@ fn put_said<W: Write + Drop>(
 ) -> Result<(), Fault> {
     let mut places = HashMap::new(alloc);
     places.insert(ident, 0)?;
-    for events in &courses_of(alloc, core, &places)? {
-        for event in events {
-            put_event(sheet, event)?;
-        }
+    for event in &courses_of(alloc, core, &places)? {
+        put_event(sheet, event)?;
     }
     Ok(())
 }

@@ -93,13 +93,8 @@ fn put_event<W: Write>(writer: &mut W, event: &Event, day: u32) -> Result<(), Fa
     .map_err(unwritten)
 }
 
-/// Writes the course of a flight.
-fn put_course<W: Write>(
-    writer: &mut W,
-    flight: &Regulated,
-    events: &[Event],
-    day: u32,
-) -> Result<(), Fault> {
+/// Begins the course of a flight.
+fn begin_course<W: Write>(writer: &mut W, flight: &Regulated) -> Result<(), Fault> {
     let ident = str::from_utf8(flight.ident.as_bytes()).unwrap_or("");
     let dep = str::from_utf8(flight.dep.as_bytes()).unwrap_or("");
     let dest = str::from_utf8(flight.dest.as_bytes()).unwrap_or("");
@@ -110,11 +105,36 @@ fn put_course<W: Write>(
         "<tbody id=\"flight-{ident}\">\n<tr><th scope=\"rowgroup\" colspan=\"8\">{ident}, \
             {dep} to {dest}: {minutes} min by {regulation}</th></tr>\n"
     )
-    .map_err(unwritten)?;
+    .map_err(unwritten)
+}
+
+/// Writes the courses of flights, one after the other.
+fn put_courses<W: Write>(
+    writer: &mut W,
+    flights: &[Regulated],
+    events: &[Event],
+    day: u32,
+) -> Result<(), Fault> {
+    let mut shown: Option<usize> = None;
     for event in events {
+        if shown != Some(event.place) {
+            if shown.is_some() {
+                put(writer, "</tbody>\n")?;
+            }
+            match flights.get(event.place) {
+                Some(flight) => begin_course(writer, flight)?,
+                None => put(writer, "<tbody>\n")?,
+            }
+            shown = Some(event.place);
+        }
         put_event(writer, event, day)?;
     }
-    put(writer, "</tbody>\n")
+    let end = if shown.is_some() {
+        "</tbody>\n"
+    } else {
+        "<tbody></tbody>\n"
+    };
+    put(writer, end)
 }
 
 /// Writes the courses of the regulated flights, the most delayed first.
@@ -125,7 +145,7 @@ pub fn put_flight_section<W: Write>(
     delays: &Delays,
 ) -> Result<(), Fault> {
     let flights = flights_of(alloc, core, delays.flights.as_slice())?;
-    let courses = courses_of(alloc, core, &flights.places)?;
+    let events = courses_of(alloc, core, &flights.places)?;
     let day = core.now().day().number();
     put(
         writer,
@@ -136,12 +156,7 @@ pub fn put_flight_section<W: Write>(
         "What was filed about each flight and said to it, the most delayed first",
         &COURSE,
     )?;
-    for (flight, events) in flights.list.iter().zip(&courses) {
-        put_course(writer, flight, events.as_slice(), day)?;
-    }
-    if flights.list.is_empty() {
-        put(writer, "<tbody></tbody>\n")?;
-    }
+    put_courses(writer, flights.list.as_slice(), events.as_slice(), day)?;
     end_table(writer)?;
     put(writer, "</section>\n")
 }
