@@ -27,6 +27,10 @@ VIEWS = (
     ["flight", "AAA1"],
     ["load", "RMZ01"],
     ["load", "RMZ01", "--svg"],
+    ["count", "ARR", "EDDF", "--svg"],
+    ["sweep", "ARR", "EDDM", "2409010700", "2409010800", "--rates", "1..9"],
+    ["refused"],
+    ["page"],
 )
 DESKS = (
     ["--help"],

@@ -1,42 +1,80 @@
-//! The flights that are most like a word.
-use crate::fault::Fault;
-use flow_core::Core;
-use std::alloc::Global;
+//! The names that are most like a word.
+use std::alloc::{AllocError, Global};
+use std::io::Write;
 use strsim::osa_distance;
 
-/// How many flights are named.
+/// How many names are told.
 const MOST: usize = 3;
 
-/// How many characters of a word are compared. An identification has at most seven.
+/// How many characters of a word are compared. No name has more than 16.
 const COMPARED: usize = 16;
 
-/// The flights whose identifications the fewest edits make of the word, each with their number: at most three, in that
-/// order, of equal ones the first filed. An edit leaves out, adds or changes a character, or turns two round. Small
-/// letters are taken as capital ones, and of a long word its beginning is compared.
-pub fn most_alike<'a>(
+/// A name, and how many edits make it of the word.
+#[derive(Drop)]
+struct Near {
+    edits: usize,
+    name: String,
+}
+
+/// The names that the fewest edits make of a word: at most three, in that order, of equal ones the first. An edit leaves
+/// out, adds or changes a character, or turns two round. Small letters are taken as capital ones, and of a long word its
+/// beginning is compared.
+#[derive(Drop)]
+pub struct Nearest {
     alloc: Global,
-    core: &'a Core,
-    word: &str,
-) -> Result<Vec<(usize, &'a str)>, Fault> {
-    let mut compared = String::new(alloc);
-    for letter in word.chars().take(COMPARED) {
-        compared.push(letter.to_ascii_uppercase())?;
-    }
-    let mut nearest: Vec<(usize, &str)> = Vec::new(alloc);
-    for index in 0..core.setup().max_plans() {
-        let Some(plan) = core.plan(index + 1) else {
-            break;
-        };
-        let name = str::from_utf8(plan.key().ident.as_bytes()).unwrap_or("");
-        if nearest.iter().any(|(_, kept)| *kept == name) {
-            continue;
+    compared: String,
+    names: Vec<Near>,
+}
+
+impl Nearest {
+    /// Those of no names yet.
+    pub fn new(alloc: Global, word: &str) -> Result<Self, AllocError> {
+        let mut compared = String::new(alloc);
+        for letter in word.chars().take(COMPARED) {
+            compared.push(letter.to_ascii_uppercase())?;
         }
-        let edits = osa_distance(alloc, compared.as_str(), name)?;
-        let place = nearest.iter().filter(|(kept, _)| *kept <= edits).count();
+        Ok(Nearest {
+            alloc,
+            compared,
+            names: Vec::new(alloc),
+        })
+    }
+
+    /// Whether a name is among them.
+    fn has(&self, name: &str) -> bool {
+        self.names.iter().any(|near| near.name.as_str() == name)
+    }
+
+    /// Takes a further name among them, if it is nearer.
+    pub fn look_at(&mut self, name: &str) -> Result<(), AllocError> {
+        if self.has(name) {
+            return Ok(());
+        }
+        let edits = osa_distance(self.alloc, self.compared.as_str(), name)?;
+        let place = self.names.iter().filter(|near| near.edits <= edits).count();
         if place < MOST {
-            nearest.insert(place.min(nearest.len()), (edits, name))?;
-            nearest.truncate(MOST);
+            let near = Near {
+                edits,
+                name: String::from_str(self.alloc, name)?,
+            };
+            self.names.insert(place.min(self.names.len()), near)?;
+            self.names.truncate(MOST);
         }
+        Ok(())
     }
-    Ok(nearest)
+
+    /// Writes that there is none of this kind and name, and those that are most like it.
+    pub fn tell<E: Write>(&self, kind: &str, word: &str, errors: &mut E) {
+        let _told = write!(errors, "slotview: no {kind} {word}, ");
+        let _begun = errors.write_all(if self.names.is_empty() {
+            b"there are none"
+        } else {
+            b"most alike:"
+        });
+        for near in self.names.as_slice() {
+            let name = near.name.as_str();
+            let _named = write!(errors, " {name}");
+        }
+        let _ended = errors.write_all(b"\n");
+    }
 }

@@ -1,28 +1,23 @@
 //! Demand and slots of a regulation by steps of time, as a picture.
-use crate::chart_text::{Clock, Pixels, heading_of, rates_of};
+use crate::chart_text::{heading_of, rates_of};
+use crate::count::{counts_in, flights_of, later_by};
 use crate::fault::{Fault, unwritten};
 use crate::load::greatest_of;
+use crate::moments::Clock;
+use crate::named::id_of;
+use crate::svg::{Frame, Panel, Pixels, put_frame, put_key};
 use flow_core::Core;
-use flow_regulations::Regulation;
-use flow_view::{Load, PANEL_HEIGHT, PANEL_WIDTH, Scale, held_later, loads_of, rows_of};
+use flow_slots::Shape;
+use flow_view::{Load, Opening, PANEL_HEIGHT, Scale, SlotRow, held_later, loads_of};
+use fpl_text::Minute;
 use std::alloc::{AllocError, Global};
 use std::io::Write;
 
-/// What stands before the names of the picture. It is 800 pixels wide.
-const HEAD: &str =
-    "<svg xmlns=\"http://www.w3.org/2000/svg\" width=\"800\" height=\"568\" viewBox=\"0 0 800 568\" \
-    role=\"img\" aria-labelledby=\"heading rates\" font-family=\"sans-serif\" font-size=\"12\" fill=\"#222222\">\n";
+/// How many minutes are drawn before and after a period at least, where there is room.
+const MARGIN: u32 = 60;
 
-/// What the colours stand for.
-const LEGEND: &str = "<rect x=\"20\" y=\"84\" width=\"12\" height=\"12\" fill=\"#E69F00\"/>\n\
-    <text x=\"38\" y=\"94\">demand: planned entries</text>\n\
-    <rect x=\"260\" y=\"84\" width=\"12\" height=\"12\" fill=\"#0072B2\"/>\n\
-    <text x=\"278\" y=\"94\">held: allocated slots</text>\n\
-    <path d=\"M500 90H524\" stroke=\"#222222\" stroke-width=\"2\"/>\n\
-    <text x=\"530\" y=\"94\">slots that the rates give</text>\n";
-
-/// How many labels a time axis has at most.
-const MOST_LABELS: u32 = 20;
+/// How many minutes a picture has at most.
+const MOST_MINUTES: u32 = 1440;
 
 /// What the bars of a panel count.
 #[derive(Clone, Copy, PartialEq, Eq)]
@@ -39,6 +34,13 @@ impl Counted {
         }
     }
 
+    fn caption(self) -> &'static str {
+        match self {
+            Counted::Demand => "Demand",
+            Counted::Held => "Held",
+        }
+    }
+
     fn color(self) -> &'static str {
         match self {
             Counted::Demand => "#E69F00",
@@ -46,11 +48,19 @@ impl Counted {
         }
     }
 
+    /// The color of what is before and after the period.
+    fn pale_color(self) -> &'static str {
+        match self {
+            Counted::Demand => "#F5D899",
+            Counted::Held => "#99C7E0",
+        }
+    }
+
     /// How far below the upper edge of the picture the panel begins, in pixels.
     fn top(self) -> u32 {
         match self {
-            Counted::Demand => 136,
-            Counted::Held => 336,
+            Counted::Demand => 156,
+            Counted::Held => 356,
         }
     }
 
@@ -63,162 +73,216 @@ impl Counted {
     }
 }
 
-/// How far below the upper edge of a panel a count stands.
-fn down(scale: &Scale, count: u32) -> Pixels {
-    Pixels(PANEL_HEIGHT - scale.up(count))
+/// What is drawn: the steps of the period, and before and after it, of so many minutes each.
+#[derive(Drop)]
+struct Drawn {
+    step: u32,
+    before: Vec<Load>,
+    within: Vec<Load>,
+    after: Vec<Load>,
 }
 
-/// Writes the lines of counts across a panel, with their numbers.
-fn put_lines<W: Write>(writer: &mut W, scale: &Scale) -> Result<(), Fault> {
-    let right = Pixels(PANEL_WIDTH);
-    for line in 0..scale.lines + 1 {
-        let count = scale.between * line;
-        let y = down(scale, count);
-        write!(
-            writer,
-            "<path d=\"M0 {y}H{right}\" stroke=\"#DDDDDD\"/>\
-                <text x=\"-8\" y=\"{y}\" dy=\"4\" text-anchor=\"end\">{count}</text>\n"
-        )
-        .map_err(unwritten)?;
-    }
-    Ok(())
-}
-
-/// Writes the lines of moments down a panel.
-fn put_moments<W: Write>(writer: &mut W, scale: &Scale) -> Result<(), Fault> {
-    let bottom = Pixels(PANEL_HEIGHT);
-    for place in 0..MOST_LABELS {
-        let Some(moment) = scale.label(place) else {
-            break;
-        };
-        let x = Pixels(scale.across(moment));
-        write!(writer, "<path d=\"M{x} 0V{bottom}\" stroke=\"#DDDDDD\"/>\n").map_err(unwritten)?;
-    }
-    Ok(())
-}
-
-/// Writes the times below a panel.
-fn put_times<W: Write>(writer: &mut W, scale: &Scale) -> Result<(), Fault> {
-    for place in 0..MOST_LABELS {
-        let Some(moment) = scale.label(place) else {
-            break;
-        };
-        let x = Pixels(scale.across(moment));
-        let clock = Clock(moment);
-        write!(
-            writer,
-            "<text x=\"{x}\" y=\"178\" text-anchor=\"middle\">{clock}</text>\n"
-        )
-        .map_err(unwritten)?;
-    }
-    writer
-        .write_all(b"<text x=\"356\" y=\"200\" text-anchor=\"middle\">Time, UTC</text>\n")
-        .map_err(unwritten)
-}
-
-/// Writes the bar of a step, where it counts any.
-fn put_bar<W: Write>(
-    writer: &mut W,
-    scale: &Scale,
-    counted: Counted,
-    load: &Load,
-) -> Result<(), Fault> {
-    let count = counted.of(load);
-    if count == 0 {
-        return Ok(());
-    }
-    let (left, right) = scale.bar(load.from, load.to);
-    let x = Pixels(left);
-    let y = down(scale, count);
-    let width = Pixels(right.saturating_sub(left));
-    let height = Pixels(scale.up(count));
-    write!(
-        writer,
-        "<rect x=\"{x}\" y=\"{y}\" width=\"{width}\" height=\"{height}\">"
-    )
-    .map_err(unwritten)?;
-    put_tip(writer, counted, load, count)
-}
-
-/// Writes what is said of a bar, and ends it.
-fn put_tip<W: Write>(
-    writer: &mut W,
-    counted: Counted,
-    load: &Load,
-    count: u32,
-) -> Result<(), Fault> {
-    let name = counted.name();
-    let from = Clock(load.from);
-    let to = Clock(load.to);
-    let slots = load.slots;
-    write!(
-        writer,
-        "<title>{from} to {to}: {name} {count}, slots {slots}</title></rect>\n"
-    )
-    .map_err(unwritten)
-}
-
-/// The path of the slots that the rates give, a level stroke for each row of steps that have the same number.
-fn path_of(alloc: Global, scale: &Scale, loads: &[Load]) -> Result<String, AllocError> {
-    let mut path = String::new(alloc);
-    let mut before = None;
-    for load in loads {
-        if before != Some(load.slots) {
-            let x = Pixels(scale.across(load.from));
-            let y = down(scale, load.slots);
-            write!(path, "M{x} {y}")?;
-            before = Some(load.slots);
+/// How many minutes are drawn before and after a period: whole steps, and those of all slots that are held.
+fn margins_of(shape: &Shape, rows: &[SlotRow], step: u32) -> (u32, u32) {
+    let (start, end) = shape.period();
+    let minutes = end.minutes().saturating_sub(start.minutes());
+    let room = MOST_MINUTES.saturating_sub(minutes);
+    let step = step.max(1);
+    let least = MARGIN.div_ceil(step).saturating_mul(step);
+    let half = (room / 2 / step).saturating_mul(step);
+    let before = least.min(half).min(start.minutes());
+    let held = match rows.last() {
+        Some(row) if row.time >= end => {
+            let later = row.time.minutes().saturating_sub(end.minutes());
+            (later / step).saturating_add(1).saturating_mul(step)
         }
-        let end = Pixels(scale.across(load.to));
-        write!(path, "H{end}")?;
+        _ => 0,
+    };
+    let rest = room.saturating_sub(before) / step;
+    (before, least.max(held).min(rest.saturating_mul(step)))
+}
+
+/// How many flights hold a slot from one moment to before another.
+fn held_in(rows: &[SlotRow], from: Minute, to: Minute) -> u64 {
+    rows.iter()
+        .filter(|row| from <= row.time && row.time < to)
+        .count() as u64
+}
+
+/// The steps of a period outside the regulation: all flights that enter the place, and the slots that are held.
+fn loads_outside(
+    alloc: Global,
+    core: &Core,
+    opening: &Opening,
+    (from, to): (Minute, Minute),
+    step: u32,
+) -> Result<Vec<Load>, AllocError> {
+    let mut loads = Vec::new(alloc);
+    for count in &counts_in(alloc, core, opening.spot(), (from, to), (step, step))? {
+        loads.push(Load {
+            from: count.from,
+            to: count.to,
+            demand: flights_of(count),
+            slots: 0,
+            held: held_in(opening.rows(), count.from, count.to),
+        })?;
     }
+    Ok(loads)
+}
+
+/// What is drawn of a regulation.
+fn drawn_of(alloc: Global, core: &Core, opening: &Opening, step: u32) -> Result<Drawn, AllocError> {
+    let shape = opening.shape();
+    let (start, end) = shape.period();
+    let minutes = end.minutes().saturating_sub(start.minutes());
+    let step = step.min(minutes).clamp(1, MOST_MINUTES);
+    let (lead, wake) = margins_of(shape, opening.rows(), step);
+    let first = Minute::new(start.minutes().saturating_sub(lead)).unwrap_or(start);
+    let last = later_by(end, wake);
+    Ok(Drawn {
+        step,
+        before: loads_outside(alloc, core, opening, (first, start), step)?,
+        within: loads_of(alloc, shape, opening.rows(), step)?,
+        after: loads_outside(alloc, core, opening, (end, last), step)?,
+    })
+}
+
+/// The rates with the moments from which they hold, and the end.
+fn rates_in(alloc: Global, shape: &Shape) -> Result<Vec<(Minute, u32)>, AllocError> {
+    let (start, _) = shape.period();
+    let mut rates = Vec::new(alloc);
+    rates.push((start, shape.rate()))?;
+    for part in shape.parts() {
+        rates.push((part.from, part.rate))?;
+    }
+    Ok(rates)
+}
+
+/// The slots that a rate gives in a step, rounded up.
+fn slots_at(rate: u32, step: u32) -> u32 {
+    let slots = u64::from(rate) * u64::from(step);
+    u32::try_from(slots.div_ceil(60)).unwrap_or(u32::MAX)
+}
+
+/// How far below the upper edge of a panel a rate is, in flights a step.
+fn rate_down(panel: &Panel, rate: u32, step: u32) -> Pixels {
+    let slots = u64::from(rate) * u64::from(step);
+    let most = u64::from(panel.scale.top()) * 60;
+    let up = slots.saturating_mul(u64::from(PANEL_HEIGHT)) / most.max(1);
+    let up = u32::try_from(up).unwrap_or(PANEL_HEIGHT);
+    Pixels(PANEL_HEIGHT.saturating_sub(up))
+}
+
+/// The path of the rates: one line over the period.
+fn path_of(alloc: Global, panel: &Panel, shape: &Shape, step: u32) -> Result<String, AllocError> {
+    let (_, end) = shape.period();
+    let mut path = String::new(alloc);
+    for (from, rate) in rates_in(alloc, shape)?.as_slice() {
+        let x = Pixels(panel.scale.across(*from));
+        let y = rate_down(panel, *rate, step);
+        if path.is_empty() {
+            write!(path, "M{x} {y}")?;
+        } else {
+            write!(path, "H{x}V{y}")?;
+        }
+    }
+    let x = Pixels(panel.scale.across(end));
+    write!(path, "H{x}")?;
     Ok(path)
 }
 
-/// Writes the slots that the rates give, dark on a light edge.
+/// Writes the rates, dark on a light edge.
 fn put_path<W: Write>(writer: &mut W, path: &str) -> Result<(), Fault> {
     write!(
         writer,
-        "<path d=\"{path}\" fill=\"none\" stroke=\"#FFFFFF\" stroke-width=\"4\"/>\n\
-            <path d=\"{path}\" fill=\"none\" stroke=\"#222222\" stroke-width=\"2\"/>\n"
+        "<path class=\"edge\" d=\"{path}\" \
+            fill=\"none\" stroke=\"#FFFFFF\" stroke-width=\"4\"/>\n\
+            <path class=\"rate\" d=\"{path}\" \
+            fill=\"none\" stroke=\"#222222\" stroke-width=\"2\"/>\n"
     )
     .map_err(unwritten)
 }
 
-/// Writes what stands above a panel.
-fn put_caption<W: Write>(writer: &mut W, counted: Counted, step: u32) -> Result<(), Fault> {
+/// Writes the bars of steps in the period, with what is said of each.
+fn put_within<W: Write>(
+    writer: &mut W,
+    panel: &Panel,
+    counted: Counted,
+    loads: &[Load],
+) -> Result<(), Fault> {
+    let name = counted.name();
+    for load in loads {
+        let count = counted.of(load);
+        if count == 0 {
+            continue;
+        }
+        panel.put_bar(writer, (load.from, load.to), (count, 0), counted.color())?;
+        let from = Clock(load.from);
+        let to = Clock(load.to);
+        let slots = load.slots;
+        write!(
+            writer,
+            "<title>{from} to {to}: {name} {count}, slots {slots}</title></rect>\n"
+        )
+        .map_err(unwritten)?;
+    }
+    Ok(())
+}
+
+/// Writes the bars of steps outside the period.
+fn put_outside<W: Write>(
+    writer: &mut W,
+    panel: &Panel,
+    counted: Counted,
+    loads: &[Load],
+) -> Result<(), Fault> {
+    let name = counted.name();
+    for load in loads {
+        let count = counted.of(load);
+        if count == 0 {
+            continue;
+        }
+        panel.put_bar(
+            writer,
+            (load.from, load.to),
+            (count, 0),
+            counted.pale_color(),
+        )?;
+        let from = Clock(load.from);
+        let to = Clock(load.to);
+        write!(
+            writer,
+            "<title>{from} to {to}, outside the period: {name} {count}</title></rect>\n"
+        )
+        .map_err(unwritten)?;
+    }
+    Ok(())
+}
+
+/// Writes a panel: its lines, the bars of the steps, and the rates.
+fn put_panel<W: Write>(
+    writer: &mut W,
+    panel: &Panel,
+    counted: Counted,
+    drawn: &Drawn,
+    path: &str,
+) -> Result<(), Fault> {
     let top = counted.top();
-    let caption = match counted {
-        Counted::Demand => "Demand",
-        Counted::Held => "Held",
-    };
+    let caption = counted.caption();
+    let step = drawn.step;
     write!(
         writer,
         "<g transform=\"translate(64 {top})\">\n\
             <text x=\"0\" y=\"-10\">{caption}: flights per step of {step} min</text>\n"
     )
-    .map_err(unwritten)
-}
-
-/// Writes a panel: its lines, the bars of the steps, and the slots that the rates give.
-fn put_panel<W: Write>(
-    writer: &mut W,
-    scale: &Scale,
-    counted: Counted,
-    loads: &[Load],
-    path: &str,
-) -> Result<(), Fault> {
-    put_lines(writer, scale)?;
-    put_moments(writer, scale)?;
-    let color = counted.color();
-    write!(writer, "<g fill=\"{color}\">\n").map_err(unwritten)?;
-    for load in loads {
-        put_bar(writer, scale, counted, load)?;
-    }
-    writer.write_all(b"</g>\n").map_err(unwritten)?;
+    .map_err(unwritten)?;
+    panel.put_grid(writer)?;
+    put_outside(writer, panel, counted, drawn.before.as_slice())?;
+    put_within(writer, panel, counted, drawn.within.as_slice())?;
+    put_outside(writer, panel, counted, drawn.after.as_slice())?;
     put_path(writer, path)?;
     if counted == Counted::Held {
-        put_times(writer, scale)?;
+        panel.put_times(writer)?;
     }
     writer.write_all(b"</g>\n").map_err(unwritten)
 }
@@ -232,37 +296,58 @@ fn put_rates<W: Write>(writer: &mut W, rates: &str, more: &str) -> Result<(), Fa
     write!(writer, "<text x=\"20\" y=\"68\">{more}</text>\n").map_err(unwritten)
 }
 
-/// Writes the names of a picture, and what its colours stand for.
-fn put_head<W: Write>(alloc: Global, writer: &mut W, regulation: &Regulation) -> Result<(), Fault> {
-    let heading = heading_of(alloc, regulation)?;
-    let (rates, more) = rates_of(alloc, regulation)?;
-    writer.write_all(HEAD.as_bytes()).map_err(unwritten)?;
-    write!(
+/// Writes what the colours stand for.
+fn put_legend<W: Write>(writer: &mut W) -> Result<(), Fault> {
+    let demand = Counted::Demand;
+    let held = Counted::Held;
+    let subject = "planned entries of the flights that are subject";
+    put_key(writer, (20, 92), demand.color(), subject)?;
+    put_key(writer, (380, 92), held.color(), "slots that they hold")?;
+    let all = "before and after: planned entries of all flights";
+    put_key(writer, (20, 112), demand.pale_color(), all)?;
+    put_key(
         writer,
-        "<title id=\"heading\">{heading}</title>\n<desc id=\"rates\">{rates} {more}</desc>\n"
-    )
-    .map_err(unwritten)?;
-    write!(
-        writer,
-        "<rect width=\"800\" height=\"568\" fill=\"#FFFFFF\"/>\n\
-            <text x=\"20\" y=\"28\" font-size=\"16\" font-weight=\"bold\">{heading}</text>\n"
-    )
-    .map_err(unwritten)?;
-    put_rates(writer, rates.as_str(), more.as_str())?;
-    writer.write_all(LEGEND.as_bytes()).map_err(unwritten)
+        (380, 112),
+        held.pale_color(),
+        "slots held after the period",
+    )?;
+    writer
+        .write_all(
+            b"<path class=\"rate\" d=\"M620 88H644\" stroke=\"#222222\" stroke-width=\"2\"/>\
+                <text x=\"650\" y=\"92\">the rate</text>\n",
+        )
+        .map_err(unwritten)
 }
 
-/// Writes what stands below the panels, and ends the picture.
-fn put_foot<W: Write>(writer: &mut W, later: u64) -> Result<(), Fault> {
-    if later > 0 {
-        write!(
-            writer,
-            "<text x=\"20\" y=\"556\">{later} more hold slots behind the period</text>\n"
-        )
-        .map_err(unwritten)?;
+/// Writes the names of a picture, and what its colours stand for.
+fn put_head<W: Write>(alloc: Global, writer: &mut W, opening: &Opening) -> Result<(), Fault> {
+    let heading = heading_of(alloc, opening)?;
+    let (rates, more) = rates_of(alloc, opening.shape())?;
+    let name = id_of(opening);
+    let entry = opening.opened_by();
+    let id = format!(in alloc; "{name}-{entry}")?;
+    let text = format!(in alloc; "{rates} {more}")?;
+    let frame = Frame {
+        id: id.as_str(),
+        title: heading.as_str(),
+        text: text.as_str(),
+        height: 588,
+    };
+    put_frame(writer, frame)?;
+    put_rates(writer, rates.as_str(), more.as_str())?;
+    put_legend(writer)
+}
+
+/// The greatest count that is drawn, the slots of the rates among them.
+fn greatest_in(alloc: Global, drawn: &Drawn, shape: &Shape) -> Result<u32, AllocError> {
+    let most = greatest_of(drawn.before.as_slice())
+        .max(greatest_of(drawn.within.as_slice()))
+        .max(greatest_of(drawn.after.as_slice()));
+    let mut greatest = u32::try_from(most).unwrap_or(u32::MAX);
+    for (_, rate) in rates_in(alloc, shape)?.as_slice() {
+        greatest = greatest.max(slots_at(*rate, drawn.step));
     }
-    writer.write_all(b"</svg>\n").map_err(unwritten)?;
-    writer.flush().map_err(unwritten)
+    Ok(greatest)
 }
 
 /// Writes demand and slots of a regulation in steps of so many minutes as an SVG document.
@@ -270,21 +355,28 @@ pub fn put_chart<W: Write>(
     alloc: Global,
     writer: &mut W,
     core: &Core,
-    regulation: &Regulation,
+    opening: &Opening,
     step: u32,
 ) -> Result<(), Fault> {
-    let list = regulation.list();
-    let step = step.clamp(1, 1440);
-    let rows = rows_of(alloc, core, regulation.spot(), list)?;
-    let loads = loads_of(alloc, list.shape(), rows.as_slice(), step)?;
-    let greatest = u32::try_from(greatest_of(loads.as_slice())).unwrap_or(u32::MAX);
-    let (start, end) = list.shape().period();
-    let scale = Scale::new(start, end, greatest);
-    let path = path_of(alloc, &scale, loads.as_slice())?;
-    put_head(alloc, writer, regulation)?;
+    let shape = opening.shape();
+    let (start, end) = shape.period();
+    let drawn = drawn_of(alloc, core, opening, step)?;
+    let greatest = greatest_in(alloc, &drawn, shape)?;
+    let first = drawn.before.first().map_or(start, |load| load.from);
+    let last = drawn.after.last().map_or(end, |load| load.to);
+    let panel = Panel::new(Scale::new(first, last, greatest), start, drawn.step);
+    let path = path_of(alloc, &panel, shape, drawn.step)?;
+    put_head(alloc, writer, opening)?;
     for counted in [Counted::Demand, Counted::Held] {
-        put_caption(writer, counted, step.min(scale.minutes))?;
-        put_panel(writer, &scale, counted, loads.as_slice(), path.as_str())?;
+        put_panel(writer, &panel, counted, &drawn, path.as_str())?;
     }
-    put_foot(writer, held_later(list.shape(), rows.as_slice()))
+    let later = held_later(shape, opening.rows());
+    if later > 0 {
+        write!(
+            writer,
+            "<text x=\"20\" y=\"576\">{later} more hold slots behind the period</text>\n"
+        )
+        .map_err(unwritten)?;
+    }
+    writer.write_all(b"</svg>\n").map_err(unwritten)
 }

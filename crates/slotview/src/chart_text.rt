@@ -1,60 +1,35 @@
 //! The words and numbers of a picture.
-use crate::summary::place_text;
-use flow_regulations::Regulation;
+use crate::moments::{Clock, DateOf};
+use crate::named::id_of;
+use crate::summary::words_of;
+use flow_slots::Shape;
+use flow_view::Opening;
 use fpl_text::{Minute, Part};
 use std::alloc::{AllocError, Global};
-use std::fmt;
 
-/// A length in tenths of a pixel, written in pixels.
-#[derive(Clone, Copy)]
-pub struct Pixels(pub u32);
-
-impl fmt::Display for Pixels {
-    fn fmt<W: fmt::Write>(&self, f: &mut fmt::Formatter<W>) -> fmt::Result {
-        let Pixels(tenths) = *self;
-        let whole = tenths / 10;
-        let rest = tenths % 10;
-        write!(f, "{whole}.{rest}")
+/// The name of a regulation, its place and its period. One that was shut has the entry that opened it with its name, and
+/// the one that shut it at the end.
+pub fn heading_of(alloc: Global, opening: &Opening) -> Result<String, AllocError> {
+    let (kind, place) = words_of(opening.spot());
+    let name = id_of(opening);
+    let (start, end) = opening.shape().period();
+    let period = period_text(alloc, start, end)?;
+    let period = period.as_str();
+    match opening.shut_by() {
+        Some(shut) => {
+            let opened = opening.opened_by();
+            format!(in alloc; "{name}@{opened}, {kind} {place}, {period}, shut by entry {shut}")
+        }
+        None => format!(in alloc; "{name}, {kind} {place}, {period}"),
     }
 }
 
-/// The time of day of a moment, with a colon.
-#[derive(Clone, Copy)]
-pub struct Clock(pub Minute);
-
-impl fmt::Display for Clock {
-    fn fmt<W: fmt::Write>(&self, f: &mut fmt::Formatter<W>) -> fmt::Result {
-        let minute = self.0.minutes() % 1440;
-        let hours = minute / 60;
-        let minutes = minute % 60;
-        write!(f, "{hours:02}:{minutes:02}")
-    }
-}
-
-/// The date of a moment: its year, month and day.
-#[derive(Clone, Copy)]
-struct DateOf(Minute);
-
-impl fmt::Display for DateOf {
-    fn fmt<W: fmt::Write>(&self, f: &mut fmt::Formatter<W>) -> fmt::Result {
-        let date = self.0.day().date();
-        let year = date.year();
-        let month = date.month();
-        let day = date.day();
-        write!(f, "{year:04}-{month:02}-{day:02}")
-    }
-}
-
-/// The name of a regulation, its place and its period.
-pub fn heading_of(alloc: Global, regulation: &Regulation) -> Result<String, AllocError> {
-    let place = place_text(alloc, regulation.spot())?;
-    let place = str::from_utf8(place.as_slice()).unwrap_or("");
-    let name = str::from_utf8(regulation.id().as_bytes()).unwrap_or("");
-    let (start, end) = regulation.list().shape().period();
+/// A period in words.
+pub fn period_text(alloc: Global, start: Minute, end: Minute) -> Result<String, AllocError> {
     let date = DateOf(start);
     let from = Clock(start);
     let to = Clock(end);
-    let mut text = format!(in alloc; "{name}, {place}, {date} {from} to ")?;
+    let mut text = format!(in alloc; "{date} {from} to ")?;
     if start.minutes() / 1440 != end.minutes() / 1440 {
         let date = DateOf(end);
         write!(text, "{date} ")?;
@@ -67,13 +42,13 @@ pub fn heading_of(alloc: Global, regulation: &Regulation) -> Result<String, Allo
 const IN_FIRST_LINE: usize = 4;
 
 /// The hourly rates of the sub-periods, in two lines.
-pub fn rates_of(alloc: Global, regulation: &Regulation) -> Result<(String, String), AllocError> {
-    let (start, _) = regulation.list().shape().period();
-    let rate = regulation.list().shape().rate();
+pub fn rates_of(alloc: Global, shape: &Shape) -> Result<(String, String), AllocError> {
+    let (start, _) = shape.period();
+    let rate = shape.rate();
     let from = Clock(start);
     let mut first = format!(in alloc; "Slots an hour: {rate} from {from}")?;
     let mut second = String::new(alloc);
-    for (index, part) in regulation.list().shape().parts().iter().enumerate() {
+    for (index, part) in shape.parts().iter().enumerate() {
         if index + 1 < IN_FIRST_LINE {
             add_rate(&mut first, part)?;
         } else {

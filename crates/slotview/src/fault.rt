@@ -24,6 +24,8 @@ pub enum Fault {
     BadJournal { at: u64 },
     /// Something that isn't there was asked for, which has been told.
     NotThere,
+    /// The desk refuses what was asked for, which has been told.
+    NotDone,
     OutOfMemory,
 }
 
@@ -34,6 +36,7 @@ impl Fault {
         match self {
             Fault::ReaderGone => DONE,
             Fault::OutOfMemory => NOT_RUN,
+            Fault::NotDone => NOT_RUN,
             _ => NOT_SHOWN,
         }
     }
@@ -68,7 +71,7 @@ pub fn tell<E: Write>(fault: Fault, errors: &mut E) -> u8
         Fault::Read => errors.write_all(b"slotview: read fault\n"),
         Fault::Write => errors.write_all(b"slotview: write fault\n"),
         Fault::BadJournal { at } => writeln!(errors, "slotview: bad journal at byte {at}"),
-        Fault::ReaderGone | Fault::NotThere => Ok(()),
+        Fault::ReaderGone | Fault::NotThere | Fault::NotDone => Ok(()),
         Fault::OutOfMemory => errors.write_all(b"slotview: out of memory\n"),
     };
     let _flushed = errors.flush();

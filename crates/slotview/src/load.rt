@@ -1,16 +1,14 @@
 //! Demand and slots of a regulation by steps of time.
 use crate::fault::Fault;
 use crate::sheet::{Cell, Column, Sheet, Side};
-use flow_core::Core;
-use flow_regulations::Regulation;
-use flow_view::{Load, held_later, loads_of, rows_of};
+use flow_view::{Load, Opening, held_later, loads_of};
 use std::alloc::{AllocError, Global};
 use std::io::Write;
 
 /// The columns. In a table of text the two last ones have bars.
 static COLUMNS: [Column; 7] = [
-    Column("from", 10, Side::Left),
-    Column("to", 10, Side::Left),
+    Column("from", 10, Side::Time),
+    Column("to", 10, Side::Time),
     Column("demand", 6, Side::Right),
     Column("slots", 5, Side::Right),
     Column("held", 5, Side::Right),
@@ -19,8 +17,8 @@ static COLUMNS: [Column; 7] = [
 ];
 
 static COUNTS: [Column; 5] = [
-    Column("from", 10, Side::Left),
-    Column("to", 10, Side::Left),
+    Column("from", 10, Side::Time),
+    Column("to", 10, Side::Time),
     Column("demand", 6, Side::Right),
     Column("slots", 5, Side::Right),
     Column("held", 5, Side::Right),
@@ -61,7 +59,7 @@ fn bar_of(alloc: Global, count: u64, slots: u64, each: u64) -> Result<Vec<u8>, A
 
 fn put_load<W: Write + Drop>(
     alloc: Global,
-    sheet: &mut Sheet<W>,
+    sheet: &mut Sheet<'_, W>,
     load: &Load,
     each: u64,
 ) -> Result<(), Fault> {
@@ -69,8 +67,8 @@ fn put_load<W: Write + Drop>(
     let demand = bar_of(alloc, load.demand, slots, each)?;
     let held = bar_of(alloc, load.held, slots, each)?;
     let cells = [
-        Cell::moment(load.from),
-        Cell::moment(load.to),
+        Cell::Moment(load.from),
+        Cell::Moment(load.to),
         Cell::Number(load.demand),
         Cell::Number(slots),
         Cell::Number(load.held),
@@ -87,7 +85,7 @@ fn put_load<W: Write + Drop>(
 /// Says what stands behind the period, and what the signs of the bars are.
 fn put_key<W: Write + Drop>(
     alloc: Global,
-    sheet: &mut Sheet<W>,
+    sheet: &mut Sheet<'_, W>,
     later: u64,
     each: u64,
 ) -> Result<(), Fault> {
@@ -103,15 +101,12 @@ fn put_key<W: Write + Drop>(
 /// Writes demand and slots of a regulation in steps of so many minutes.
 pub fn put_loads<W: Write + Drop>(
     alloc: Global,
-    sheet: &mut Sheet<W>,
-    core: &Core,
-    regulation: &Regulation,
+    sheet: &mut Sheet<'_, W>,
+    opening: &Opening,
     step: u32,
 ) -> Result<(), Fault> {
-    let list = regulation.list();
     let step = step.clamp(1, 1440);
-    let rows = rows_of(alloc, core, regulation.spot(), list)?;
-    let loads = loads_of(alloc, list.shape(), rows.as_slice(), step)?;
+    let loads = loads_of(alloc, opening.shape(), opening.rows(), step)?;
     let each = greatest_of(loads.as_slice()).div_ceil(LONGEST).max(1);
     if sheet.is_text() {
         sheet.begin("load", &COLUMNS)?;
@@ -121,6 +116,6 @@ pub fn put_loads<W: Write + Drop>(
     for load in &loads {
         put_load(alloc, sheet, load, each)?;
     }
-    let later = held_later(list.shape(), rows.as_slice());
+    let later = held_later(opening.shape(), opening.rows());
     put_key(alloc, sheet, later, each)
 }

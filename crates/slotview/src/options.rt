@@ -1,29 +1,24 @@
-//! The words of the command line.
-use clap::builder::ValueParser;
+//! What the words of the command line ask for.
+use crate::commands::command;
+use crate::words::{entry_of, may_be_name, moment_of, rates_of, spot_of};
 use clap::error::ErrorKind;
 use clap::parser::ValueSource;
-use clap::{Arg, ArgAction, ArgMatches, Command, Error};
-use flow_plans::MAX_ENTRIES;
+use clap::{ArgMatches, Command, Error};
+use fpl_message::Spot;
+use fpl_text::Minute;
 use std::alloc::{AllocError, Global};
 
-const ABOUT: &str = "Shows a flight plan desk as its journal tells it.\n\n\
-    Reads the journal from standard input, as slotdesk --journal writes it after\n\
-    its answers: what comes before the journal is skipped, and what follows its END\n\
-    isn't read. Without a command it shows a summary.";
-
-const AFTER: &str =
-    "Exit status: 0 if it was shown, or its reader has gone; 1 if reading or writing\n\
-    fails, the input has no journal, or there is no such regulation, flight or\n\
-    entry; 2 for a bad command line, or if memory is refused.\n\n\
-    Times are UTC. The desk of a day, and a slot list after entry 12:\n  \
-    slotdesk --start 2409010500 --journal < day.txt | slotview\n  \
-    slotview --at 12 list RMZ01 < journal.txt";
-
-/// What is said where a picture is asked for in a format of tables.
+/// What is said where a picture or a page is asked for as a table.
 const SVG_WITH_FORMAT: &str = "the argument '--svg' cannot be used with '--format <FORMAT>'";
 
-/// The version of the program.
-const VERSION: &str = "0.1.0";
+const SVG_WITH_TABLE: &str = "the argument '--svg' cannot be used with '--table <NAME>'";
+
+const PAGE_WITH_FORMAT: &str = "'page' cannot be used with '--format <FORMAT>'";
+
+const PAGE_WITH_TABLE: &str = "'page' cannot be used with '--table <NAME>'";
+
+/// The longest period that is counted, in minutes.
+const LONGEST: u32 = 1440;
 
 /// How a table is written.
 #[derive(Clone, Copy)]
@@ -31,6 +26,38 @@ pub enum Format {
     Table,
     Csv,
     Json,
+}
+
+/// When a desk is shown.
+#[derive(Clone, Copy)]
+pub enum At {
+    /// After the entry of this number.
+    Entry(u32),
+    /// When its time was last not after this moment.
+    Moment(Minute),
+}
+
+/// The period of counts, and its windows.
+#[derive(Clone, Copy)]
+pub struct Asked {
+    pub spot: Spot,
+    /// None is the midnight before the desk's time.
+    pub from: Option<Minute>,
+    /// None is a day after the beginning.
+    pub to: Option<Minute>,
+    pub step: u32,
+    pub slide: u32,
+}
+
+/// A regulation that isn't opened, and the first and the last of its rates.
+#[derive(Clone, Copy)]
+pub struct WhatIf<'a> {
+    pub kind: &'a str,
+    pub place: &'a str,
+    pub from: &'a str,
+    pub to: &'a str,
+    pub first: u32,
+    pub last: u32,
 }
 
 /// What is to be shown.
@@ -45,96 +72,101 @@ pub enum Shown<'a> {
     Load { id: &'a str, step: u32 },
     /// The same as a picture.
     Chart { id: &'a str, step: u32 },
+    /// How many flights enter a place, as a table or as a picture.
+    Count { asked: Asked, svg: bool },
+    /// What a regulation would do at several rates, as a table or as a picture.
+    Sweep { what_if: WhatIf<'a>, svg: bool },
+    /// The refused filings.
+    Refused,
+    /// All of it as a page.
+    Page,
+}
+
+impl Shown<'_> {
+    /// The names of its tables.
+    fn tables(&self) -> &'static [&'static str] {
+        match self {
+            Shown::Summary => &["desk", "regulations", "delays", "histogram", "delayed"],
+            Shown::List { .. } => &["slots"],
+            Shown::Flight { .. } => &["plans", "slots", "said"],
+            Shown::Load { .. } => &["load"],
+            Shown::Count { .. } => &["counts"],
+            Shown::Sweep { .. } => &["sweep"],
+            Shown::Refused => &["refused"],
+            Shown::Chart { .. } | Shown::Page => &[],
+        }
+    }
+
+    /// Whether it is a picture.
+    fn is_picture(&self) -> bool {
+        match self {
+            Shown::Chart { .. } => true,
+            Shown::Count { svg, .. } => *svg,
+            Shown::Sweep { svg, .. } => *svg,
+            _ => false,
+        }
+    }
 }
 
 /// What the words of the command line ask for.
 #[derive(Clone, Copy)]
 pub struct Options<'a> {
     pub shown: Shown<'a>,
-    /// After which entry the desk is shown. None is the last one.
-    pub at: Option<u32>,
+    /// What is read. None is standard input.
+    pub file: Option<&'a str>,
+    /// When the desk is shown. None is after the last entry.
+    pub at: Option<At>,
     pub format: Format,
+    /// The table that alone is written.
+    pub table: Option<&'a str>,
 }
 
-fn at_argument<'a>(alloc: Global) -> Arg<'a> {
-    Arg::new(alloc, "at")
-        .long("at")
-        .value_name("N")
-        .value_parser(ValueParser::unsigned(0, MAX_ENTRIES as u64))
-        .global(true)
-        .help("Shows the desk as it stood after entry N, from 0")
+/// Why the words ask for nothing that can be shown: the value that can't be.
+#[derive(Drop)]
+enum Wrong<'a> {
+    Place(&'a str),
+    /// The beginning or the end of a period.
+    Begin(&'a str),
+    End(&'a str),
+    /// An end that the beginning doesn't allow.
+    Period(&'a str),
+    Rates(&'a str),
+    When(&'a str),
+    OutOfMemory,
 }
 
-fn format_argument<'a>(alloc: Global) -> Arg<'a> {
-    Arg::new(alloc, "format")
-        .long("format")
-        .value_name("FORMAT")
-        .default_value("table")
-        .value_parser(["table", "csv", "json"].as_slice())
-        .global(true)
-        .hide_possible_values(true)
-        .help("Format of tables: table, csv or json")
+impl<'a> Wrong<'a> {
+    /// The value, the argument that has it, and why it can't be.
+    fn parts(&self) -> Option<(&'a str, &'static str, &'static str)> {
+        let no_moment = "it is no moment yymmddhhmm";
+        match self {
+            Wrong::Place(value) => Some((*value, "<PLACE>", "no OPEN has it after that kind")),
+            Wrong::Begin(value) => Some((*value, "--from <MOMENT>", no_moment)),
+            Wrong::End(value) => Some((*value, "--to <MOMENT>", no_moment)),
+            Wrong::Period(value) => Some((
+                *value,
+                "--to <MOMENT>",
+                "it isn't 1 to 1440 minutes after the beginning",
+            )),
+            Wrong::Rates(value) => Some((
+                *value,
+                "--rates <A..B>",
+                "it is no A..B with A at most B, and B at most 999",
+            )),
+            Wrong::When(value) => Some((
+                *value,
+                "--at <WHEN>",
+                "it is no entry, 0 to 1000000, and no moment yymmddhhmm",
+            )),
+            Wrong::OutOfMemory => None,
+        }
+    }
 }
 
-fn list_command<'a>(alloc: Global) -> Result<Command<'a>, AllocError> {
-    Command::new(alloc, "list")
-        .about("Slot lists: the held slots of one regulation, or of all")
-        .arg(
-            Arg::new(alloc, "regulation")
-                .value_name("REGULATION")
-                .help("The name of an open regulation"),
-        )
-}
-
-fn flight_command<'a>(alloc: Global) -> Result<Command<'a>, AllocError> {
-    Command::new(alloc, "flight")
-        .about("A flight: its plans, its slots, and what was filed and said about it")
-        .arg(
-            Arg::new(alloc, "identification")
-                .value_name("IDENTIFICATION")
-                .required(true)
-                .help("The identification, as AAA1"),
-        )
-}
-
-fn svg_argument<'a>(alloc: Global) -> Arg<'a> {
-    Arg::new(alloc, "svg")
-        .long("svg")
-        .action(ArgAction::SetTrue)
-        .help("Draws them as an SVG document, without --format")
-}
-
-fn load_command<'a>(alloc: Global) -> Result<Command<'a>, AllocError> {
-    Command::new(alloc, "load")
-        .about("Demand and slots of a regulation, by steps of time")
-        .arg(
-            Arg::new(alloc, "regulation")
-                .value_name("REGULATION")
-                .required(true)
-                .help("The name of an open regulation"),
-        )?
-        .arg(
-            Arg::new(alloc, "step")
-                .long("step")
-                .value_name("MIN")
-                .default_value("20")
-                .value_parser(ValueParser::unsigned(1, 1440))
-                .help("The minutes of a step, 1 to 1440"),
-        )?
-        .arg(svg_argument(alloc))
-}
-
-fn command<'a>(alloc: Global) -> Result<Command<'a>, AllocError> {
-    Command::new(alloc, "slotview")
-        .about(ABOUT)
-        .version(VERSION)
-        .after_help(AFTER)
-        .disable_help_subcommand(true)
-        .arg(at_argument(alloc))?
-        .arg(format_argument(alloc))?
-        .subcommand(list_command(alloc)?)?
-        .subcommand(flight_command(alloc)?)?
-        .subcommand(load_command(alloc)?)
+impl From<AllocError> for Wrong<'_> {
+    fn from(_: AllocError) -> Self {
+        Wrong::OutOfMemory
+    }
 }
 
 fn format_of(word: Option<&str>) -> Format {
@@ -155,31 +187,203 @@ fn load_by<'a>(matches: &ArgMatches<'a>) -> Shown<'a> {
     }
 }
 
-fn shown_by<'a>(matches: &ArgMatches<'a>) -> Shown<'a> {
-    match matches.subcommand() {
-        Some(("list", inner)) => Shown::List {
-            id: inner.get_str("regulation"),
-        },
-        Some(("flight", inner)) => Shown::Flight {
-            ident: inner.get_str("identification").unwrap_or(""),
-        },
-        Some(("load", inner)) => load_by(inner),
-        _ => Shown::Summary,
+/// What `list` asks for, and what is read. One word alone is a file where it can't be the name of a regulation.
+fn list_by<'a>(matches: &ArgMatches<'a>) -> (Shown<'a>, Option<&'a str>) {
+    let id = matches.get_str("regulation");
+    let file = matches.get_str("file");
+    match (id, file) {
+        (Some(word), None) if !may_be_name(word) => (Shown::List { id: None }, Some(word)),
+        (id, file) => (Shown::List { id }, file),
     }
+}
+
+/// The moment that an argument gives, if it is there, or the word that is none.
+fn moment_by<'a>(matches: &ArgMatches<'a>, id: &str) -> Result<Option<Minute>, &'a str> {
+    let Some(word) = matches.get_str(id) else {
+        return Ok(None);
+    };
+    match moment_of(word) {
+        Some(moment) => Ok(Some(moment)),
+        None => Err(word),
+    }
+}
+
+/// The period that `count` asks for.
+fn period_by<'a>(matches: &ArgMatches<'a>) -> Result<(Option<Minute>, Option<Minute>), Wrong<'a>> {
+    let from = match moment_by(matches, "from") {
+        Ok(from) => from,
+        Err(word) => return Err(Wrong::Begin(word)),
+    };
+    let to = match moment_by(matches, "to") {
+        Ok(to) => to,
+        Err(word) => return Err(Wrong::End(word)),
+    };
+    if let (Some(from), Some(to)) = (from, to) {
+        let minutes = to.minutes().saturating_sub(from.minutes());
+        if minutes == 0 || minutes > LONGEST {
+            return Err(Wrong::Period(matches.get_str("to").unwrap_or("")));
+        }
+    }
+    Ok((from, to))
+}
+
+/// What `count` asks for.
+fn count_by<'a>(alloc: Global, matches: &ArgMatches<'a>) -> Result<Shown<'a>, Wrong<'a>> {
+    let kind = matches.get_str("kind").unwrap_or("");
+    let place = matches.get_str("place").unwrap_or("");
+    let Some(spot) = spot_of(alloc, kind, place)? else {
+        return Err(Wrong::Place(place));
+    };
+    let (from, to) = period_by(matches)?;
+    let step = matches.get_one::<u32>("step").unwrap_or(60);
+    let asked = Asked {
+        spot,
+        from,
+        to,
+        step,
+        slide: matches.get_one::<u32>("slide").unwrap_or(step),
+    };
+    let svg = matches.get_flag("svg");
+    Ok(Shown::Count { asked, svg })
+}
+
+/// What `sweep` asks for.
+fn sweep_by<'a>(matches: &ArgMatches<'a>) -> Result<Shown<'a>, Wrong<'a>> {
+    let rates = matches.get_str("rates").unwrap_or("");
+    let Some((first, last)) = rates_of(rates) else {
+        return Err(Wrong::Rates(rates));
+    };
+    let what_if = WhatIf {
+        kind: matches.get_str("kind").unwrap_or(""),
+        place: matches.get_str("place").unwrap_or(""),
+        from: matches.get_str("from").unwrap_or(""),
+        to: matches.get_str("to").unwrap_or(""),
+        first,
+        last,
+    };
+    let svg = matches.get_flag("svg");
+    Ok(Shown::Sweep { what_if, svg })
+}
+
+/// What is asked for, and what is read.
+fn shown_by<'a>(
+    alloc: Global,
+    matches: &ArgMatches<'a>,
+) -> Result<(Shown<'a>, Option<&'a str>), Wrong<'a>> {
+    let Some((name, inner)) = matches.subcommand() else {
+        return Ok((Shown::Summary, matches.get_str("file")));
+    };
+    let file = inner.get_str("file");
+    match name {
+        "list" => Ok(list_by(inner)),
+        "flight" => {
+            let ident = inner.get_str("identification").unwrap_or("");
+            Ok((Shown::Flight { ident }, file))
+        }
+        "load" => Ok((load_by(inner), file)),
+        "count" => match count_by(alloc, inner) {
+            Ok(shown) => Ok((shown, file)),
+            Err(wrong) => Err(wrong),
+        },
+        "sweep" => match sweep_by(inner) {
+            Ok(shown) => Ok((shown, file)),
+            Err(wrong) => Err(wrong),
+        },
+        "refused" => Ok((Shown::Refused, file)),
+        "page" => Ok((Shown::Page, file)),
+        _ => Ok((Shown::Summary, file)),
+    }
+}
+
+/// When the desk is shown.
+fn at_by<'a>(matches: &ArgMatches<'a>) -> Result<Option<At>, Wrong<'a>> {
+    let Some(word) = matches.get_str("at") else {
+        return Ok(None);
+    };
+    if let Some(moment) = moment_of(word) {
+        return Ok(Some(At::Moment(moment)));
+    }
+    match entry_of(word) {
+        Some(number) => Ok(Some(At::Entry(number))),
+        None => Err(Wrong::When(word)),
+    }
+}
+
+/// Why a table or a format that is asked for isn't there, if it isn't.
+fn unfit(matches: &ArgMatches<'_>, shown: &Shown<'_>) -> Option<&'static str> {
+    let formatted = matches.value_source("format") == Some(ValueSource::CommandLine);
+    let is_page = matches!(shown, Shown::Page);
+    if !is_page && !shown.is_picture() {
+        return None;
+    }
+    if formatted {
+        return Some(if is_page {
+            PAGE_WITH_FORMAT
+        } else {
+            SVG_WITH_FORMAT
+        });
+    }
+    if matches.contains_id("table") {
+        return Some(if is_page {
+            PAGE_WITH_TABLE
+        } else {
+            SVG_WITH_TABLE
+        });
+    }
+    None
+}
+
+/// The text of the fault of a table that isn't there.
+fn no_table(alloc: Global, shown: &Shown<'_>, name: &str) -> Result<String, AllocError> {
+    let mut text = format!(in alloc; "invalid value '{name}' for '--table <NAME>'\n  [tables:")?;
+    for (index, table) in shown.tables().iter().enumerate() {
+        text.push_str(if index == 0 { " " } else { ", " })?;
+        text.push_str(table)?;
+    }
+    text.push_str("]")?;
+    Ok(text)
+}
+
+/// The fault of words that ask for nothing that can be shown.
+fn error_of(
+    alloc: Global,
+    command: &mut Command<'_>,
+    wrong: Wrong<'_>,
+) -> Result<Error, AllocError> {
+    let Some((value, argument, why)) = wrong.parts() else {
+        return Err(AllocError);
+    };
+    let text = format!(in alloc; "invalid value '{value}' for '{argument}': {why}")?;
+    command.error(ErrorKind::ValueValidation, text.as_str())
 }
 
 /// Reads the words of the command line, of which the first is the program's name.
 pub fn read_options<'a>(alloc: Global, words: &'a [String]) -> Result<Options<'a>, Error> {
     let mut command = command(alloc)?;
     let matches = command.try_get_matches_from_mut(words)?;
-    let shown = shown_by(&matches);
-    let formatted = matches.value_source("format") == Some(ValueSource::CommandLine);
-    if formatted && matches!(shown, Shown::Chart { .. }) {
-        return Err(command.error(ErrorKind::ArgumentConflict, SVG_WITH_FORMAT)?);
+    let (shown, file) = match shown_by(alloc, &matches) {
+        Ok(shown) => shown,
+        Err(wrong) => return Err(error_of(alloc, &mut command, wrong)?),
+    };
+    let at = match at_by(&matches) {
+        Ok(at) => at,
+        Err(wrong) => return Err(error_of(alloc, &mut command, wrong)?),
+    };
+    if let Some(text) = unfit(&matches, &shown) {
+        return Err(command.error(ErrorKind::ArgumentConflict, text)?);
+    }
+    let table = matches.get_str("table");
+    if let Some(name) = table {
+        if !shown.tables().contains(&name) {
+            let text = no_table(alloc, &shown, name)?;
+            return Err(command.error(ErrorKind::InvalidValue, text.as_str())?);
+        }
     }
     Ok(Options {
         shown,
-        at: matches.get_one::<u32>("at"),
+        file,
+        at,
         format: format_of(matches.get_str("format")),
+        table,
     })
 }

@@ -1,30 +1,39 @@
 //! A run of the program.
 ghost use Rattle.std.specs.Prelude.{◌≤◌};
 
-use crate::alike::most_alike;
 use crate::chart::put_chart;
+use crate::count::put_counts;
+use crate::count_chart::put_count_chart;
 use crate::fault::{DONE, Fault, NOT_RUN, tell, unwritten};
 use crate::flight::put_flight;
+use crate::input::open_input;
 use crate::list::put_lists;
 use crate::load::put_loads;
-use crate::options::{Options, Shown, read_options};
+use crate::named::{named, tell_flights};
+use crate::options::{Asked, At, Options, Shown, WhatIf, read_options};
+use crate::page::put_page;
+use crate::refused::put_all_refused;
 use crate::sheet::Sheet;
 use crate::source::{Held, Source};
 use crate::summary::put_summary;
+use crate::sweep::{put_sweep, sweep_of};
+use crate::sweep_chart::put_sweep_chart;
 use clap::Error;
 use clap::error::ErrorKind;
 use flow_core::{Core, Counted, JournalFault, read_journal, read_stored};
-use flow_regulations::Regulation;
+use flow_view::{Swept, desk_at, openings_of};
 use std::alloc::Global;
+use std::fs::Files;
 use std::io::{BufRead, BufReader, Read, Write};
 use std::mem::ManuallyDrop;
 
 /// Shows what the words of the command line ask for, of which the first is the program's name, and answers the exit
 /// status: 0 where it was shown, 1 where a device failed or it isn't there, 2 where nothing could be run.
 ///
-/// What is shown goes to `writer`, one line of a fault and the text of a bad command line to `errors`. The command line
-/// is checked before a byte is read.
-pub fn run_words<R: Read + Drop, W: Write + Drop, E: Write>(
+/// What is read is the file that they name, or `reader`. What is shown goes to `writer`, one line of a fault and the text
+/// of a bad command line to `errors`. The command line is checked before a byte is read.
+pub fn run_words<F: Files, R: Read + Drop, W: Write + Drop, E: Write>(
+    files: &F,
     alloc: Global,
     words: &[String],
     reader: R,
@@ -37,7 +46,11 @@ pub fn run_words<R: Read + Drop, W: Write + Drop, E: Write>(
         Ok(options) => options,
         Err(error) => return tell_usage(&error, &mut writer, errors),
     };
-    match show(alloc, options, reader, writer, errors) {
+    let input = match open_input(files, options.file, reader, errors) {
+        Ok(input) => input,
+        Err(fault) => return tell(fault, errors),
+    };
+    match show(alloc, &options, input, writer, errors) {
         Ok(()) => DONE,
         Err(fault) => tell(fault, errors),
     }
@@ -46,37 +59,50 @@ pub fn run_words<R: Read + Drop, W: Write + Drop, E: Write>(
 /// Reads the journal, and shows what is asked for.
 fn show<R: Read + Drop, W: Write + Drop, E: Write>(
     alloc: Global,
-    options: Options<'_>,
+    options: &Options<'_>,
     reader: R,
     writer: W,
     errors: &mut E,
 ) -> Result<(), Fault> {
-    let core = read_desk(alloc, reader)?;
+    let mut core = read_desk(alloc, reader)?;
     let shown = match options.at {
-        Some(count) => show_past(alloc, options, &core, count, writer, errors),
-        None => show_desk(alloc, options, &core, writer, errors),
+        Some(at) => show_past(alloc, options, &core, at, writer, errors),
+        None => show_desk(alloc, options, &mut core, writer, errors),
     };
     // The process ends now and gives its memory back whole.
     let _kept = ManuallyDrop::new(core);
     shown
 }
 
-/// Shows what is asked for of the desk as it stood after so many entries.
+/// Shows what is asked for of the desk as it stood.
 fn show_past<W: Write + Drop, E: Write>(
     alloc: Global,
-    options: Options<'_>,
+    options: &Options<'_>,
     core: &Core,
-    count: u32,
+    at: At,
     writer: W,
     errors: &mut E,
 ) -> Result<(), Fault> {
+    let mut past = match at {
+        At::Entry(count) => past_of(alloc, core, count, errors)?,
+        At::Moment(moment) => desk_at(alloc, core, moment)?,
+    };
+    show_desk(alloc, options, &mut past, writer, errors)
+}
+
+/// The desk as it stood after so many entries.
+fn past_of<E: Write>(
+    alloc: Global,
+    core: &Core,
+    count: u32,
+    errors: &mut E,
+) -> Result<Core, Fault> {
     let entries = core.entries();
     if count > entries {
         let _told = writeln!(errors, "slotview: no entry {count}, there are {entries}");
         return Err(Fault::NotThere);
     }
-    let past = core.replay_to(alloc, count)?;
-    show_desk(alloc, options, &past, writer, errors)
+    Ok(core.replay_to(alloc, count)?)
 }
 
 /// The desk of the journal or the store in the input.
@@ -119,92 +145,112 @@ fn read_held<R: BufRead>(
 /// Shows what is asked for of a desk.
 fn show_desk<W: Write + Drop, E: Write>(
     alloc: Global,
-    options: Options<'_>,
+    options: &Options<'_>,
+    core: &mut Core,
+    writer: W,
+    errors: &mut E,
+) -> Result<(), Fault> {
+    match &options.shown {
+        Shown::Sweep { what_if, svg } => {
+            let lines = sweep_of(alloc, core, what_if, errors)?;
+            show_sweep(alloc, options, what_if, lines.as_slice(), *svg, writer)
+        }
+        Shown::Page => put_page(alloc, writer, core),
+        Shown::Chart { id, step } => show_chart(alloc, core, id, *step, writer, errors),
+        Shown::Count { asked, svg: true } => show_count_chart(alloc, core, asked, writer),
+        _ => show_tables(alloc, options, core, writer, errors),
+    }
+}
+
+/// Shows what is asked for as tables.
+fn show_tables<W: Write + Drop, E: Write>(
+    alloc: Global,
+    options: &Options<'_>,
     core: &Core,
     writer: W,
     errors: &mut E,
 ) -> Result<(), Fault> {
-    let all = core.regulations();
-    if let Shown::Chart { id, step } = options.shown {
-        return show_chart(alloc, core, named(all, id, errors)?, step, writer);
-    }
-    let mut sheet = Sheet::new(alloc, options.format, writer);
-    match options.shown {
-        Shown::Summary => put_summary(alloc, &mut sheet, core, all)?,
-        Shown::List { id: None } => put_lists(alloc, &mut sheet, core, all)?,
-        Shown::List { id: Some(id) } => {
-            put_lists(alloc, &mut sheet, core, named(all, id, errors)?)?;
-        }
-        Shown::Load { id, step } => {
-            for regulation in named(all, id, errors)? {
-                put_loads(alloc, &mut sheet, core, regulation, step)?;
-            }
-        }
-        Shown::Chart { .. } => {}
+    let mut sheet = Sheet::new(alloc, options.format, options.table, writer);
+    match &options.shown {
         Shown::Flight { ident } => {
-            if !put_flight(alloc, &mut sheet, core, all, ident.as_bytes())? {
-                return Err(tell_flights(alloc, core, ident, errors));
+            if !put_flight(alloc, &mut sheet, core, ident)? {
+                tell_flights(alloc, core, ident, errors)?;
+                return Err(Fault::NotThere);
             }
         }
+        Shown::Count { asked, .. } => put_counts(alloc, &mut sheet, core, asked)?,
+        Shown::Refused => put_all_refused(alloc, &mut sheet, core)?,
+        shown => put_openings(alloc, &mut sheet, shown, core, errors)?,
     }
     sheet.end()
 }
 
+/// Writes what is asked for of regulations, those that were shut among them.
+fn put_openings<W: Write + Drop, E: Write>(
+    alloc: Global,
+    sheet: &mut Sheet<'_, W>,
+    shown: &Shown<'_>,
+    core: &Core,
+    errors: &mut E,
+) -> Result<(), Fault> {
+    let openings = openings_of(alloc, core)?;
+    let all = openings.as_slice();
+    match shown {
+        Shown::List { id: None } => put_lists(alloc, sheet, all),
+        Shown::List { id: Some(id) } => { put_lists(alloc, sheet, named(alloc, all, id, errors)?) }
+        Shown::Load { id, step } => {
+            for opening in named(alloc, all, id, errors)? {
+                put_loads(alloc, sheet, opening, *step)?;
+            }
+            Ok(())
+        }
+        _ => put_summary(alloc, sheet, core, all),
+    }
+}
+
 /// Draws the load of a regulation.
-fn show_chart<W: Write + Drop>(
+fn show_chart<W: Write + Drop, E: Write>(
     alloc: Global,
     core: &Core,
-    regulations: &[Regulation],
+    id: &str,
     step: u32,
     mut writer: W,
-) -> Result<(), Fault> {
-    for regulation in regulations {
-        put_chart(alloc, &mut writer, core, regulation, step)?;
-    }
-    Ok(())
-}
-
-/// Writes that there is no such flight, and the flights that are most like it. Answers the fault.
-fn tell_flights<E: Write>(alloc: Global, core: &Core, ident: &str, errors: &mut E) -> Fault {
-    let alike = match most_alike(alloc, core, ident) {
-        Ok(alike) => alike,
-        Err(fault) => return fault,
-    };
-    let _told = write!(errors, "slotview: no flight {ident}, ");
-    let _begun = errors.write_all(if alike.is_empty() {
-        b"there are none"
-    } else {
-        b"most alike:"
-    });
-    for (_, name) in alike.as_slice() {
-        let _named = write!(errors, " {name}");
-    }
-    let _ended = errors.write_all(b"\n");
-    Fault::NotThere
-}
-
-/// The open regulation of this name, alone. Where there is none, a line names those there are.
-fn named<'a, E: Write>(
-    regulations: &'a [Regulation],
-    id: &str,
     errors: &mut E,
-) -> Result<&'a [Regulation], Fault> {
-    for (index, regulation) in regulations.iter().enumerate() {
-        if regulation.id().as_bytes() == id.as_bytes() {
-            return Ok(&regulations[index..index + 1]);
-        }
+) -> Result<(), Fault> {
+    let openings = openings_of(alloc, core)?;
+    for opening in named(alloc, openings.as_slice(), id, errors)? {
+        put_chart(alloc, &mut writer, core, opening, step)?;
     }
-    let _told = write!(errors, "slotview: no regulation {id}, open are:");
-    for regulation in regulations {
-        let name = str::from_utf8(regulation.id().as_bytes()).unwrap_or("");
-        let _named = write!(errors, " {name}");
-    }
-    let _ended = errors.write_all(b"\n");
-    Err(Fault::NotThere)
+    writer.flush().map_err(unwritten)
 }
 
-/// What is said beside the parser's text to a word that is no command or option, such as the name of a file.
-const INPUT_HINT: &[u8] = b"\nThe journal comes on standard input: slotview .. < FILE\n";
+/// Draws how many flights enter a place.
+fn show_count_chart<W: Write + Drop>(
+    alloc: Global,
+    core: &Core,
+    asked: &Asked,
+    mut writer: W,
+) -> Result<(), Fault> {
+    put_count_chart(alloc, &mut writer, core, asked)?;
+    writer.flush().map_err(unwritten)
+}
+
+/// Shows what a regulation would do, as a table or as a picture.
+fn show_sweep<W: Write + Drop>(
+    alloc: Global,
+    options: &Options<'_>,
+    what_if: &WhatIf<'_>,
+    lines: &[Swept],
+    svg: bool,
+    writer: W,
+) -> Result<(), Fault> {
+    if svg {
+        return put_sweep_chart(alloc, writer, what_if, lines);
+    }
+    let mut sheet = Sheet::new(alloc, options.format, options.table, writer);
+    put_sweep(&mut sheet, lines)?;
+    sheet.end()
+}
 
 /// Writes what the command line parser says, the help to `writer` and a fault to `errors`.
 fn tell_usage<W: Write, E: Write>(error: &Error, writer: &mut W, errors: &mut E) -> u8
@@ -215,12 +261,6 @@ fn tell_usage<W: Write, E: Write>(error: &Error, writer: &mut W, errors: &mut E)
     }
     if error.use_stderr() {
         let _told = write!(errors, "{error}");
-        if matches!(
-            error.kind(),
-            ErrorKind::UnknownArgument | ErrorKind::InvalidSubcommand
-        ) {
-            let _hinted = errors.write_all(INPUT_HINT);
-        }
         let _flushed = errors.flush();
         return NOT_RUN;
     }

@@ -3,6 +3,7 @@ ghost use Rattle.std.specs.Prelude.{◌≡◌, OnOk};
 ghost use Rattle.slotview.specs.Rows.{with_more};
 
 use crate::fault::{Fault, unwritten};
+use crate::moments::{Digits, Iso, Short};
 use crate::options::Format;
 use csv::WriterBuilder;
 use fpl_text::{Minute, Text};
@@ -21,6 +22,12 @@ pub enum Cell {
     Number(u64),
     /// A number of tenths.
     Tenths(u32),
+    /// A moment, in full.
+    Moment(Minute),
+    /// A moment that a table of text has without its day, where that is the day of the sheet.
+    Time(Minute),
+    /// A text of any length.
+    Long(String),
 }
 
 impl Cell {
@@ -38,53 +45,58 @@ impl Cell {
         Cell::Number(u64::from(number))
     }
 
-    /// A moment: yymmddhhmm.
-    pub fn moment(moment: Minute) -> Cell {
-        let day = moment.yymmdd();
-        let time = moment.hhmm();
-        let mut digits = [b' '; 10];
-        let mut place = 0usize;
-        for digit in day.as_bytes() {
-            if place < 10 {
-                digits[place] = *digit;
-                place += 1;
-            }
+    /// A text of any length, or a blank cell where it is empty.
+    pub fn long(text: String) -> Cell {
+        if text.is_empty() {
+            Cell::Blank
+        } else {
+            Cell::Long(text)
         }
-        for digit in time.as_bytes() {
-            if place < 10 {
-                digits[place] = *digit;
-                place += 1;
-            }
-        }
-        Cell::text(&digits)
     }
 
     /// What may be a moment.
     pub fn moment_or_blank(moment: Option<Minute>) -> Cell {
         match moment {
-            Some(moment) => Cell::moment(moment),
+            Some(moment) => Cell::Moment(moment),
+            None => Cell::Blank,
+        }
+    }
+
+    /// What may be a moment, without the day of the sheet.
+    pub fn time_or_blank(moment: Option<Minute>) -> Cell {
+        match moment {
+            Some(moment) => Cell::Time(moment),
             None => Cell::Blank,
         }
     }
 }
 
-/// A column: its name, its width in a table of text, and whether its cells stand at the right.
+/// A column: its name, its width in a table of text, and what its cells are.
 pub struct Column(pub &'static str, pub usize, pub Side);
 
+/// What the cells of a column are, and where they are in a table of text.
 #[derive(Clone, Copy, PartialEq, Eq)]
 pub enum Side {
     Left,
     Right,
+    /// Moments, at the left. In JSON each has a second member, by ISO 8601.
+    Time,
 }
 
-/// Where tables are written, one behind the other.
+/// Where tables are written, one after the other.
 #[derive(Drop)]
-pub struct Sheet<W: Write + Drop> {
+pub struct Sheet<'a, W: Write + Drop> {
     alloc: Global,
     format: Format,
+    /// The name of the table that alone is written.
+    only: Option<&'a str>,
     writer: W,
     columns: &'static [Column],
-    /// How many tables were begun, and how many rows the last one has.
+    /// The number of the day whose times a table of text has without it.
+    day: u32,
+    /// Whether the last table isn't written.
+    left_out: bool,
+    /// How many tables were written, and how many rows the last one has.
     tables: u32,
     rows: u64,
 }
@@ -101,6 +113,12 @@ fn pad(line: &mut Vec<u8>, count: usize) -> Result<(), AllocError> {
     Ok(())
 }
 
+/// The text of a moment in full.
+fn digits_of(alloc: Global, moment: Minute) -> Result<Vec<u8>, AllocError> {
+    let digits = Digits(moment);
+    Ok(format!(in alloc; "{digits}")?.into_bytes())
+}
+
 /// The text of a cell.
 fn text_of(alloc: Global, cell: &Cell) -> Result<Vec<u8>, AllocError> {
     match cell {
@@ -112,7 +130,22 @@ fn text_of(alloc: Global, cell: &Cell) -> Result<Vec<u8>, AllocError> {
             let rest = *tenths % 10;
             Ok(format!(in alloc; "{whole}.{rest}")?.into_bytes())
         }
+        Cell::Moment(moment) => digits_of(alloc, *moment),
+        Cell::Time(moment) => digits_of(alloc, *moment),
+        Cell::Long(text) => Vec::from_slice(alloc, text.as_bytes()),
     }
+}
+
+/// The value of a moment: the text of its digits, or that of ISO 8601.
+fn moment_value(alloc: Global, moment: Minute, by_iso: bool) -> Result<Value, AllocError> {
+    let text = if by_iso {
+        let iso = Iso(moment);
+        format!(in alloc; "{iso}")?
+    } else {
+        let digits = Digits(moment);
+        format!(in alloc; "{digits}")?
+    };
+    Value::try_from_str(alloc, text.as_str())
 }
 
 /// The value of a cell.
@@ -125,6 +158,18 @@ fn value_of(alloc: Global, cell: &Cell) -> Result<Value, AllocError> {
         ),
         Cell::Number(number) => Ok(Value::from(*number)),
         Cell::Tenths(tenths) => Ok(Value::from(f64::from(*tenths) / 10.0)),
+        Cell::Moment(moment) => moment_value(alloc, *moment, false),
+        Cell::Time(moment) => moment_value(alloc, *moment, false),
+        Cell::Long(text) => Value::try_from_str(alloc, text.as_str()),
+    }
+}
+
+/// The value of a cell of moments by ISO 8601.
+fn iso_value(alloc: Global, cell: &Cell) -> Result<Value, AllocError> {
+    match cell {
+        Cell::Moment(moment) => moment_value(alloc, *moment, true),
+        Cell::Time(moment) => moment_value(alloc, *moment, true),
+        _ => Ok(Value::Null),
     }
 }
 
@@ -141,7 +186,7 @@ fn put_aligned(
         return Ok(gap.saturating_add(*width));
     }
     match side {
-        Side::Left => {
+        Side::Left | Side::Time => {
             pad(line, gap)?;
             line.extend_from_slice(text)?;
             Ok(room)
@@ -154,16 +199,27 @@ fn put_aligned(
     }
 }
 
-impl<W: Write + Drop> Sheet<W> {
-    /// Tables in this format, to that writer.
-    pub fn new(alloc: Global, format: Format, writer: W) -> Self {
+impl<'a, W: Write + Drop> Sheet<'a, W> {
+    /// Tables in this format, to that writer: all of them, or the one of this name.
+    pub fn new(alloc: Global, format: Format, only: Option<&'a str>, writer: W) -> Self {
         Sheet {
             alloc,
             format,
+            only,
             writer,
             columns: &[],
+            day: 0,
+            left_out: false,
             tables: 0,
             rows: 0,
+        }
+    }
+
+    /// Whether a table of this name isn't written.
+    fn leaves_out(&self, name: &str) -> bool {
+        match self.only {
+            Some(only) => only != name,
+            None => false,
         }
     }
 
@@ -178,9 +234,13 @@ impl<W: Write + Drop> Sheet<W> {
         ensures { OnOk result (self.new.rows ≡ 0) }
     {
         let first = self.tables == 0;
-        self.tables = self.tables.saturating_add(1);
         self.rows = 0;
         self.columns = columns;
+        self.left_out = self.leaves_out(name);
+        if self.left_out {
+            return Ok(());
+        }
+        self.tables = self.tables.saturating_add(1);
         match self.format {
             Format::Json => {
                 self.write(if first { b"{\"" } else { b"\n],\"" })?;
@@ -207,21 +267,27 @@ impl<W: Write + Drop> Sheet<W> {
         self.put_line(cells.as_slice())
     }
 
-    /// Writes a row, and counts it.
+    /// Writes a row, unless its table isn't written, and counts it.
     pub fn put(&mut self, cells: &[Cell]) -> Result<(), Fault>
         ensures { OnOk result (self.new.rows ≡ with_more self.old.rows 1) }
     {
-        match self.format {
-            Format::Table | Format::Csv => self.put_line(cells)?,
-            Format::Json => {
-                self.write(if self.rows == 0 { b"\n" } else { b",\n" })?;
-                let value = self.object_of(cells)?;
-                let text = value.to_string(self.alloc)?;
-                self.write(text.as_bytes())?;
+        if !self.left_out {
+            match self.format {
+                Format::Table | Format::Csv => self.put_line(cells)?,
+                Format::Json => self.put_object(cells)?,
             }
         }
         self.rows = self.rows.saturating_add(1);
         Ok(())
+    }
+
+    fn put_object(&mut self, cells: &[Cell]) -> Result<(), Fault>
+        ensures { self.new.rows ≡ self.old.rows }
+    {
+        self.write(if self.rows == 0 { b"\n" } else { b",\n" })?;
+        let value = self.object_of(cells)?;
+        let text = value.to_string(self.alloc)?;
+        self.write(text.as_bytes())
     }
 
     fn put_line(&mut self, cells: &[Cell]) -> Result<(), Fault>
@@ -238,9 +304,14 @@ impl<W: Write + Drop> Sheet<W> {
     fn object_of(&self, cells: &[Cell]) -> Result<Value, Fault> {
         let mut members = Map::new(self.alloc);
         for (column, cell) in self.columns.iter().zip(cells) {
-            let Column(name, _, _) = column;
+            let Column(name, _, side) = column;
             let value = value_of(self.alloc, cell)?;
             put(&mut members, self.alloc, name, value)?;
+            if *side == Side::Time {
+                let iso_name = format!(in self.alloc; "{name}-iso")?;
+                let value = iso_value(self.alloc, cell)?;
+                put(&mut members, self.alloc, iso_name.as_str(), value)?;
+            }
         }
         Ok(Value::Object(members))
     }
@@ -256,12 +327,26 @@ impl<W: Write + Drop> Sheet<W> {
         record.into_inner().map_err(memory)
     }
 
+    /// The text of a cell in a table of text.
+    fn aligned_text(&self, cell: &Cell) -> Result<Vec<u8>, AllocError> {
+        match cell {
+            Cell::Time(moment) => {
+                let short = Short {
+                    moment: *moment,
+                    day: self.day,
+                };
+                Ok(format!(in self.alloc; "{short}")?.into_bytes())
+            }
+            _ => text_of(self.alloc, cell),
+        }
+    }
+
     /// The cells of a row as an aligned line.
     fn text_line(&self, cells: &[Cell]) -> Result<Vec<u8>, Fault> {
         let mut line = Vec::new(self.alloc);
         let mut gap = 0usize;
         for (column, cell) in self.columns.iter().zip(cells) {
-            let text = text_of(self.alloc, cell)?;
+            let text = self.aligned_text(cell)?;
             gap = put_aligned(&mut line, gap, column, text.as_slice())?.saturating_add(1);
         }
         line.push(b'\n')?;
@@ -273,12 +358,24 @@ impl<W: Write + Drop> Sheet<W> {
         matches!(self.format, Format::Table)
     }
 
-    /// Writes a text below a table of aligned text.
-    pub fn note(&mut self, text: &str) -> Result<(), Fault> {
+    /// Writes a text below or within a table of aligned text.
+    pub fn note(&mut self, text: &str) -> Result<(), Fault>
+        ensures { self.new.rows ≡ self.old.rows }
+    {
+        if self.left_out {
+            return Ok(());
+        }
         match self.format {
             Format::Table => self.write(text.as_bytes()),
             _ => Ok(()),
         }
+    }
+
+    /// From now on a table of text has times of the day of this moment without it.
+    pub fn set_day(&mut self, moment: Minute)
+        ensures { self.new.rows ≡ self.old.rows }
+    {
+        self.day = moment.day().number();
     }
 
     /// Ends the tables.

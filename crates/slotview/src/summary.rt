@@ -1,16 +1,17 @@
-//! A summary: the desk, and its open regulations.
+//! A summary: the desk, its regulations, and the delay of its flights.
+use crate::delay::{mean_of, put_delays};
 use crate::fault::Fault;
 use crate::sheet::{Cell, Column, Sheet, Side};
 use flow_core::Core;
 use flow_plans::PlanState;
-use flow_regulations::Regulation;
-use flow_view::{Totals, rows_of, totals_of};
+use flow_slots::Shape;
+use flow_view::{Opening, Totals, totals_of};
 use fpl_message::Spot;
 use std::alloc::{AllocError, Global};
 use std::io::Write;
 
 static DESK: [Column; 6] = [
-    Column("time", 10, Side::Left),
+    Column("time", 10, Side::Time),
     Column("entries", 7, Side::Right),
     Column("plans", 5, Side::Right),
     Column("filed", 5, Side::Right),
@@ -18,11 +19,11 @@ static DESK: [Column; 6] = [
     Column("cancelled", 9, Side::Right),
 ];
 
-static REGULATIONS: [Column; 11] = [
+static REGULATIONS: [Column; 13] = [
     Column("regul", 8, Side::Left),
     Column("place", 15, Side::Left),
-    Column("from", 10, Side::Left),
-    Column("to", 10, Side::Left),
+    Column("from", 10, Side::Time),
+    Column("to", 10, Side::Time),
     Column("rates", 11, Side::Left),
     Column("flights", 7, Side::Right),
     Column("frozen", 6, Side::Right),
@@ -30,6 +31,8 @@ static REGULATIONS: [Column; 11] = [
     Column("total", 6, Side::Right),
     Column("mean", 5, Side::Right),
     Column("most", 4, Side::Right),
+    Column("opened", 7, Side::Right),
+    Column("shut", 7, Side::Right),
 ];
 
 /// A slot list has no more slots.
@@ -37,14 +40,14 @@ const MOST_ROWS: usize = 30_000;
 
 /// Plans by state.
 #[derive(Clone, Copy)]
-struct States {
-    filed: u32,
-    departed: u32,
-    cancelled: u32,
+pub struct States {
+    pub filed: u32,
+    pub departed: u32,
+    pub cancelled: u32,
 }
 
 /// How many plans stand in each state.
-fn states_of(core: &Core) -> States {
+pub fn states_of(core: &Core) -> States {
     let mut states = States {
         filed: 0,
         departed: 0,
@@ -63,12 +66,12 @@ fn states_of(core: &Core) -> States {
     states
 }
 
-fn put_desk<W: Write + Drop>(sheet: &mut Sheet<W>, core: &Core) -> Result<(), Fault> {
+fn put_desk<W: Write + Drop>(sheet: &mut Sheet<'_, W>, core: &Core) -> Result<(), Fault> {
     let states = states_of(core);
     let plans = u64::from(states.filed) + u64::from(states.departed) + u64::from(states.cancelled);
     sheet.begin("desk", &DESK)?;
     sheet.put(&[
-        Cell::moment(core.now()),
+        Cell::Moment(core.now()),
         Cell::number(core.entries()),
         Cell::Number(plans),
         Cell::number(states.filed),
@@ -77,77 +80,79 @@ fn put_desk<W: Write + Drop>(sheet: &mut Sheet<W>, core: &Core) -> Result<(), Fa
     ])
 }
 
+/// The words by which an order names a place: its kind and its name.
+pub fn words_of(spot: &Spot) -> (&'static str, &str) {
+    match spot {
+        Spot::Dep(place) => ("DEP", str::from_utf8(place.as_bytes()).unwrap_or("")),
+        Spot::Arr(place) => ("ARR", str::from_utf8(place.as_bytes()).unwrap_or("")),
+        Spot::Via(place) => ("VIA", str::from_utf8(place.as_bytes()).unwrap_or("")),
+    }
+}
+
 /// A place as an order names it.
-pub fn place_text(alloc: Global, spot: &Spot) -> Result<Vec<u8>, AllocError> {
-    let (kind, place) = match spot {
-        Spot::Dep(place) => (b"DEP ", place.as_bytes()),
-        Spot::Arr(place) => (b"ARR ", place.as_bytes()),
-        Spot::Via(place) => (b"VIA ", place.as_bytes()),
-    };
-    let mut text = Vec::from_slice(alloc, kind)?;
-    text.extend_from_slice(place)?;
-    Ok(text)
+pub fn place_text(alloc: Global, spot: &Spot) -> Result<String, AllocError> {
+    let (kind, name) = words_of(spot);
+    format!(in alloc; "{kind} {name}")
 }
 
 /// The hourly rates of the sub-periods, with strokes between them.
-fn rates_text(alloc: Global, regulation: &Regulation) -> Result<String, AllocError> {
-    let rate = regulation.list().shape().rate();
+pub fn rates_text(alloc: Global, shape: &Shape) -> Result<String, AllocError> {
+    let rate = shape.rate();
     let mut text = format!(in alloc; "{rate}")?;
-    for part in regulation.list().shape().parts() {
+    for part in shape.parts() {
         let rate = part.rate;
         write!(text, "/{rate}")?;
     }
     Ok(text)
 }
 
-/// The mean delay in tenths of a minute, rounded.
-fn mean_of(totals: Totals) -> u32 {
-    if totals.flights == 0 {
-        return 0;
-    }
-    let tenths = totals.total.saturating_mul(10);
-    let mean = tenths.saturating_add(totals.flights / 2) / totals.flights;
-    u32::try_from(mean).unwrap_or(u32::MAX)
+/// The sums and counts of the slots of a regulation.
+pub fn totals_in(opening: &Opening) -> Totals {
+    let rows = opening.rows();
+    totals_of(&rows[..rows.len().min(MOST_ROWS)])
 }
 
 fn put_regulation<W: Write + Drop>(
     alloc: Global,
-    sheet: &mut Sheet<W>,
-    core: &Core,
-    regulation: &Regulation,
+    sheet: &mut Sheet<'_, W>,
+    opening: &Opening,
 ) -> Result<(), Fault> {
-    let list = regulation.list();
-    let rows = rows_of(alloc, core, regulation.spot(), list)?;
-    let totals = totals_of(&rows[..rows.len().min(MOST_ROWS)]);
-    let (from, to) = regulation.list().shape().period();
-    let place = place_text(alloc, regulation.spot())?;
-    let rates = rates_text(alloc, regulation)?;
+    let totals = totals_in(opening);
+    let (from, to) = opening.shape().period();
+    let place = place_text(alloc, opening.spot())?;
+    let rates = rates_text(alloc, opening.shape())?;
+    let shut = match opening.shut_by() {
+        Some(entry) => Cell::number(entry),
+        None => Cell::Blank,
+    };
     sheet.put(&[
-        Cell::text(regulation.id().as_bytes()),
-        Cell::text(place.as_slice()),
-        Cell::moment(from),
-        Cell::moment(to),
+        Cell::text(opening.id().as_bytes()),
+        Cell::text(place.as_bytes()),
+        Cell::Moment(from),
+        Cell::Moment(to),
         Cell::text(rates.as_bytes()),
         Cell::Number(totals.flights),
         Cell::Number(totals.frozen),
         Cell::Number(totals.delayed),
         Cell::Number(totals.total),
-        Cell::Tenths(mean_of(totals)),
+        Cell::Tenths(mean_of(totals.total, totals.flights)),
         Cell::number(totals.greatest),
+        Cell::number(opening.opened_by()),
+        shut,
     ])
 }
 
-/// Writes the desk and its open regulations.
+/// Writes the desk, its regulations, and the delay of its flights.
 pub fn put_summary<W: Write + Drop>(
     alloc: Global,
-    sheet: &mut Sheet<W>,
+    sheet: &mut Sheet<'_, W>,
     core: &Core,
-    regulations: &[Regulation],
+    openings: &[Opening],
 ) -> Result<(), Fault> {
     put_desk(sheet, core)?;
     sheet.begin("regulations", &REGULATIONS)?;
-    for regulation in regulations {
-        put_regulation(alloc, sheet, core, regulation)?;
+    for opening in openings {
+        put_regulation(alloc, sheet, opening)?;
     }
-    Ok(())
+    put_delays(alloc, sheet, core, openings)
 }

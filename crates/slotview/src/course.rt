@@ -1,0 +1,279 @@
+//! What was filed about a flight, with its times.
+use flow_core::{Core, Entry, Kind, Said, Told, Verdict, Window};
+use fpl_message::{Filing, Message, Order, Reading};
+use fpl_text::{Minute, Text, TimeOfDay};
+use std::alloc::{AllocError, Global};
+use std::collections::HashMap;
+
+/// What an event is.
+#[derive(Clone, Copy)]
+pub enum What {
+    Fpl,
+    Dla,
+    Chg,
+    Cnl,
+    Dep,
+    Sam,
+    Srm,
+    Slc,
+}
+
+impl What {
+    /// The title of the message or of the notice.
+    pub fn title(self) -> &'static str {
+        match self {
+            What::Fpl => "FPL",
+            What::Dla => "DLA",
+            What::Chg => "CHG",
+            What::Cnl => "CNL",
+            What::Dep => "DEP",
+            What::Sam => "SAM",
+            What::Srm => "SRM",
+            What::Slc => "SLC",
+        }
+    }
+}
+
+/// What an accepted message is, and the plan that it is about.
+fn about(verdict: Verdict) -> Option<(What, u32)> {
+    match verdict {
+        Verdict::Accepted { kind, plan } => match kind {
+            Kind::Fpl => Some((What::Fpl, plan)),
+            Kind::Dla => Some((What::Dla, plan)),
+            Kind::Chg => Some((What::Chg, plan)),
+            Kind::Cnl => Some((What::Cnl, plan)),
+            _ => None,
+        },
+        Verdict::Departed { plan, .. } => Some((What::Dep, plan)),
+        Verdict::Refused(_) => None,
+    }
+}
+
+/// An accepted message about a flight, or a notice to it.
+#[derive(Clone, Copy)]
+pub struct Event {
+    /// The place of its flight among those that were asked for.
+    pub place: usize,
+    /// The number of the entry.
+    pub entry: u32,
+    /// The desk's time then.
+    pub time: Minute,
+    pub what: What,
+    /// The plan that a message is about.
+    pub plan: Option<u32>,
+    /// The off-block time that a message gives, or that the plan of a notice had.
+    pub off_block: Option<Minute>,
+    /// The time of day of a departure.
+    pub actual: Option<TimeOfDay>,
+    /// How a departure is to the take-off time that was told.
+    pub window: Option<Window>,
+    /// The take-off time that a notice tells.
+    pub told: Option<Told>,
+}
+
+/// The name of a window, as answers have it. None where no take-off time was told.
+pub fn window_name(window: Window) -> Option<&'static str> {
+    match window {
+        Window::None => None,
+        Window::Early => Some("Early"),
+        Window::InWindow => Some("InWindow"),
+        Window::Late => Some("Late"),
+    }
+}
+
+/// The entries of a journal, passed in their order: the desk's time, and the off-block times of plans.
+#[derive(Drop)]
+pub struct Course<'a> {
+    alloc: Global,
+    core: &'a Core,
+    /// The desk's time after the entry that was passed last.
+    time: Minute,
+    off_blocks: HashMap<u32, Minute>,
+}
+
+/// The first moment at a time of day that is not before another.
+fn first_from(moment: Minute, time: TimeOfDay) -> Option<Minute> {
+    let later = u32::from(time.minutes()) + 1440 - moment.minutes() % 1440;
+    moment.plus(later % 1440)
+}
+
+impl<'a> Course<'a> {
+    /// Before the first entry.
+    pub fn new(alloc: Global, core: &'a Core) -> Self {
+        Course {
+            alloc,
+            core,
+            time: core.setup().start(),
+            off_blocks: HashMap::new(alloc),
+        }
+    }
+
+    /// The desk's time after the entry that was passed last.
+    pub fn time(&self) -> Minute {
+        self.time
+    }
+
+    /// What an entry says.
+    fn filing_of(&self, entry: &Entry<'_>) -> Result<Filing, AllocError> {
+        let Ok(filing) = Filing::read_as(self.alloc, entry.edition(), entry.text()) else {
+            return Err(AllocError);
+        };
+        Ok(filing)
+    }
+
+    /// Passes an entry, which may set the desk's time.
+    pub fn pass(&mut self, entry: &Entry<'_>) -> Result<(), AllocError> {
+        let Verdict::Accepted {
+            kind: Kind::Time,
+            ..
+        } = entry.receipt().verdict
+        else {
+            return Ok(());
+        };
+        let filing = self.filing_of(entry)?;
+        if let Reading::Ord(Order::SetTime { at }) = filing.reading() {
+            self.time = *at;
+        }
+        Ok(())
+    }
+
+    /// The off-block time as first filed.
+    fn first_off_block(&self, plan: u32, time: TimeOfDay) -> Option<Minute> {
+        let day = self.core.plan(plan)?.key().day.number();
+        let midnight = Minute::new(day.saturating_mul(1440))?;
+        midnight.plus(u32::from(time.minutes()))
+    }
+
+    /// The off-block time after a delay.
+    fn delayed(&self, plan: u32, time: TimeOfDay) -> Option<Minute> {
+        let held = self.off_blocks.get(&plan)?;
+        first_from(*held, time)
+    }
+
+    /// The off-block time that an accepted message about this plan gives, and the time of day of a departure. All earlier
+    /// ones about it were asked for.
+    fn times_of(
+        &mut self,
+        filing: &Filing,
+        plan: u32,
+    ) -> Result<(Option<Minute>, Option<TimeOfDay>), AllocError> {
+        let Reading::Msg(message) = filing.reading() else {
+            return Ok((None, None));
+        };
+        let off_block = match message {
+            Message::Fpl(filed) => self.first_off_block(plan, filed.departure().time),
+            Message::Dla(delay) => self.delayed(plan, delay.time),
+            Message::Chg(change) => match change.departure() {
+                Some(departure) => self.delayed(plan, departure.time),
+                None => None,
+            },
+            _ => None,
+        };
+        if let Some(moment) = off_block {
+            self.off_blocks.insert(plan, moment)?;
+        }
+        match message {
+            Message::Dep(departure) => Ok((off_block, Some(departure.time))),
+            _ => Ok((off_block, None)),
+        }
+    }
+
+    /// What an entry filed about one of these flights.
+    fn message_in(
+        &mut self,
+        entry: &Entry<'_>,
+        places: &HashMap<Text<7>, usize>,
+    ) -> Result<Option<Event>, AllocError> {
+        let receipt = entry.receipt();
+        let Some((what, number)) = about(receipt.verdict) else {
+            return Ok(None);
+        };
+        let Some(place) = self.place_of(number, places) else {
+            return Ok(None);
+        };
+        let filing = self.filing_of(entry)?;
+        let (off_block, actual) = self.times_of(&filing, number)?;
+        let window = match receipt.verdict {
+            Verdict::Departed { window, .. } => Some(window),
+            _ => None,
+        };
+        Ok(Some(Event {
+            place,
+            entry: receipt.number,
+            time: self.time,
+            what,
+            plan: Some(number),
+            off_block,
+            actual,
+            window,
+            told: None,
+        }))
+    }
+
+    /// The place of the flight of a plan among these flights.
+    fn place_of(&self, number: u32, places: &HashMap<Text<7>, usize>) -> Option<usize> {
+        let plan = self.core.plan(number)?;
+        places.get(&plan.key().ident).copied()
+    }
+
+    /// The notice of this number, if it is to one of these flights.
+    fn notice_in(
+        &self,
+        entry: u32,
+        number: u64,
+        places: &HashMap<Text<7>, usize>,
+    ) -> Option<Event> {
+        let notice = self.core.notice(number)?;
+        let place = places.get(&notice.ident).copied()?;
+        let (what, told) = match &notice.says {
+            Said::Sam(told) => (What::Sam, Some(*told)),
+            Said::Srm(told) => (What::Srm, Some(*told)),
+            Said::Slc => (What::Slc, None),
+        };
+        Some(Event {
+            place,
+            entry,
+            time: self.time,
+            what,
+            plan: None,
+            off_block: Some(notice.off_block),
+            actual: None,
+            window: None,
+            told,
+        })
+    }
+}
+
+/// All that was filed and said about these flights, of which each has its place: those of one flight together and in the
+/// order of the journal, the flights in the order of their places.
+pub fn courses_of(
+    alloc: Global,
+    core: &Core,
+    places: &HashMap<Text<7>, usize>,
+) -> Result<Vec<Event>, AllocError> {
+    let mut events = Vec::new(alloc);
+    let mut course = Course::new(alloc, core);
+    for index in 0..core.entries() {
+        let Some(entry) = core.entry(index + 1) else {
+            break;
+        };
+        course.pass(&entry)?;
+        if let Some(event) = course.message_in(&entry, places)? {
+            events.push(event)?;
+        }
+        let receipt = entry.receipt();
+        for index in 0..receipt.notices {
+            let number = receipt.first_notice.saturating_add(u64::from(index));
+            if let Some(event) = course.notice_in(receipt.number, number, places) {
+                events.push(event)?;
+            }
+        }
+    }
+    events.sort_by_key(|event| event.place)?;
+    Ok(events)
+}
+
+/// A time of day in four digits.
+pub fn hhmm_of(time: TimeOfDay) -> Text<4> {
+    Minute::from_minutes(u32::from(time.minutes())).hhmm()
+}

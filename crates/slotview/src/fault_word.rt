@@ -1,0 +1,295 @@
+//! The word or the item at which a filing was refused.
+use fpl_items::{Item, Items, Other18};
+use fpl_message::Refusal;
+use fpl_text::{
+    Departure, Destination, Fields, Heading, Ident, Squeezed, Title, Words, begins_amendment, split,
+};
+use std::alloc::{AllocError, Global};
+
+/// How many fields of a message that isn't an FPL come before field 18.
+const BEFORE_18: usize = 4;
+
+/// The word or the item of a text at which it was refused, or no bytes where no part of it is at fault.
+pub fn word_at_fault(alloc: Global, text: &[u8], refusal: Refusal) -> Result<Vec<u8>, AllocError> {
+    match refusal {
+        Refusal::BadByte(place) => Vec::from_slice(alloc, word_around(text, place as usize)),
+        Refusal::FieldCount => field_count(alloc, text),
+        Refusal::UnknownTitle => title_word(alloc, text),
+        Refusal::BadOrder => order_words(alloc, text, 0, 1),
+        Refusal::RegulationHeld | Refusal::NoRegulation | Refusal::TimeBack => {
+            order_words(alloc, text, 1, 1)
+        }
+        Refusal::BadPeriod => order_words(alloc, text, 4, 2),
+        Refusal::BadRate => order_words(alloc, text, 6, usize::MAX),
+        Refusal::Empty
+        | Refusal::NoBracket
+        | Refusal::KeyChange
+        | Refusal::PlansFull
+        | Refusal::RegulationsFull => Ok(Vec::new(alloc)),
+        _ => message_word(alloc, text, refusal),
+    }
+}
+
+/// Whether a byte is outside of words: a blank, a bracket or a hyphen.
+fn is_outside(byte: u8) -> bool {
+    matches!(byte, b' ' | b'\r' | b'\n' | b'(' | b')' | b'-')
+}
+
+/// The bytes round a place, up to blanks, brackets and hyphens.
+fn word_around(text: &[u8], place: usize) -> &[u8] {
+    let mut start = 0usize;
+    let mut end = text.len();
+    for (index, byte) in text.iter().enumerate() {
+        if is_outside(*byte) {
+            if index < place {
+                start = index.saturating_add(1);
+            } else {
+                end = end.min(index);
+            }
+        }
+    }
+    text.get(start..end).unwrap_or(b"")
+}
+
+/// How many fields a text has.
+fn field_count(alloc: Global, text: &[u8]) -> Result<Vec<u8>, AllocError> {
+    let mut count = 1u32;
+    for byte in text {
+        if *byte == b'-' {
+            count = count.saturating_add(1);
+        }
+    }
+    Ok(format!(in alloc; "{count} fields")?.into_bytes())
+}
+
+/// The bytes of a squeezed text. There are none where it can't be squeezed.
+fn squeezed_of(alloc: Global, text: &[u8]) -> Result<Vec<u8>, AllocError> {
+    match Squeezed::read(alloc, text) {
+        Ok(squeezed) => Vec::from_slice(alloc, squeezed.as_bytes()),
+        Err(_) => Ok(Vec::new(alloc)),
+    }
+}
+
+/// What is before the first hyphen of a message, without the bracket.
+fn title_word(alloc: Global, text: &[u8]) -> Result<Vec<u8>, AllocError> {
+    let squeezed = squeezed_of(alloc, text)?;
+    let bytes = squeezed.as_slice();
+    let end = bytes
+        .iter()
+        .position(|byte| *byte == b'-' || *byte == b')')
+        .unwrap_or(bytes.len());
+    Vec::from_slice(alloc, bytes.get(1..end).unwrap_or(b""))
+}
+
+/// So many words of an order from one on, with a space between them.
+fn order_words(
+    alloc: Global,
+    text: &[u8],
+    first: usize,
+    count: usize,
+) -> Result<Vec<u8>, AllocError> {
+    let squeezed = squeezed_of(alloc, text)?;
+    let mut joined = Vec::new(alloc);
+    let mut index = 0usize;
+    for word in Words::new(squeezed.as_slice()) {
+        if index >= first && index - first < count {
+            if !joined.is_empty() {
+                joined.push(b' ')?;
+            }
+            joined.extend_from_slice(word)?;
+        }
+        index = index.saturating_add(1);
+    }
+    Ok(joined)
+}
+
+/// The word of a message that has its fields.
+fn message_word(alloc: Global, text: &[u8], refusal: Refusal) -> Result<Vec<u8>, AllocError> {
+    let Ok(fields) = split(alloc, text) else {
+        return Ok(Vec::new(alloc));
+    };
+    match refusal {
+        Refusal::BadField(18) | Refusal::BadDate => {
+            item_at_fault(alloc, field18(alloc, &fields), refusal)
+        }
+        Refusal::DuplicateItem => match second_amendment(&fields) {
+            Some(field) => Vec::from_slice(alloc, field),
+            None => item_at_fault(alloc, field18(alloc, &fields), refusal),
+        },
+        Refusal::BadField(22) => Vec::from_slice(alloc, no_amendment(&fields)),
+        Refusal::BadField(number) => Vec::from_slice(alloc, bad_field(&fields, number)),
+        Refusal::UnsupportedAmendment(number) => {
+            Vec::from_slice(alloc, amendment(&fields, number).unwrap_or(b""))
+        }
+        Refusal::NotLater | Refusal::DelayTooLong | Refusal::Past | Refusal::TooEarly => {
+            Vec::from_slice(alloc, field13(&fields))
+        }
+        _ => Vec::from_slice(alloc, field_at(&fields, 1)),
+    }
+}
+
+/// The field at a place, from 0. Empty where there is none.
+fn field_at(fields: &Fields<Global>, place: usize) -> &[u8] {
+    if place < fields.count() {
+        fields.field(place)
+    } else {
+        b""
+    }
+}
+
+/// The place of the field of a number in a message of this title, but for amended fields.
+fn place_of(title: Title, number: u8) -> Option<usize> {
+    let numbers: &[u8] = match title {
+        Title::Fpl => &[3, 7, 8, 9, 10, 13, 15, 16, 18],
+        _ => &[3, 7, 13, 16, 18],
+    };
+    numbers.iter().position(|other| *other == number)
+}
+
+/// The number and the text of an amended field.
+fn amended_of(field: &[u8]) -> Option<(u8, &[u8])> {
+    if !begins_amendment(field) {
+        return None;
+    }
+    let stroke = field.iter().position(|byte| *byte == b'/')?;
+    let digits = str::from_utf8(field.get(..stroke)?).ok()?;
+    let number = digits.parse::<u8>().ok()?;
+    let after = stroke.saturating_add(1);
+    Some((number, field.get(after..)?))
+}
+
+/// The amended field of this number, whole.
+fn amendment(fields: &Fields<Global>, number: u8) -> Option<&[u8]> {
+    for place in BEFORE_18..fields.count() {
+        let field = field_at(fields, place);
+        match amended_of(field) {
+            Some((other, _)) if other == number => return Some(field),
+            _ => {}
+        }
+    }
+    None
+}
+
+/// The first amended field of a number that an earlier one has.
+fn second_amendment(fields: &Fields<Global>) -> Option<&[u8]> {
+    let mut seen = [false; 256];
+    for place in BEFORE_18..fields.count() {
+        let field = field_at(fields, place);
+        if let Some((number, _)) = amended_of(field) {
+            let index = number as usize;
+            if seen[index] {
+                return Some(field);
+            }
+            seen[index] = true;
+        }
+    }
+    None
+}
+
+/// The first field after field 18 that is no amended field.
+fn no_amendment(fields: &Fields<Global>) -> &[u8] {
+    for place in BEFORE_18 + 1..fields.count() {
+        let field = field_at(fields, place);
+        if !begins_amendment(field) {
+            return field;
+        }
+    }
+    b""
+}
+
+/// Whether a field that each message has isn't in its form.
+fn is_bad(number: u8, field: &[u8]) -> bool {
+    match number {
+        3 => Heading::read(field).is_err(),
+        7 => Ident::read(field).is_err(),
+        13 => Departure::read(field).is_err(),
+        16 => Destination::read(field).is_err(),
+        _ => true,
+    }
+}
+
+/// The field of this number that isn't in its form: the message's own, or an amended one.
+fn bad_field(fields: &Fields<Global>, number: u8) -> &[u8] {
+    if let Some(place) = place_of(fields.title(), number) {
+        let field = field_at(fields, place);
+        if is_bad(number, field) {
+            return field;
+        }
+    }
+    amendment(fields, number).unwrap_or(b"")
+}
+
+/// The field 13 that gives an off-block time: that of an amendment, if there is one.
+fn field13(fields: &Fields<Global>) -> &[u8] {
+    if let Some(field) = amendment(fields, 13) {
+        return field;
+    }
+    match place_of(fields.title(), 13) {
+        Some(place) => field_at(fields, place),
+        None => b"",
+    }
+}
+
+/// Field 18: that of the message where it is at fault, or an amended one.
+fn field18(alloc: Global, fields: &Fields<Global>) -> &[u8] {
+    let own = match place_of(fields.title(), 18) {
+        Some(place) => field_at(fields, place),
+        None => b"",
+    };
+    let is_chg = matches!(fields.title(), Title::Chg);
+    if !is_chg {
+        return own;
+    }
+    if !own.is_empty() && !begins_amendment(own) && is_bad_item(alloc, own) {
+        return own;
+    }
+    match amendment(fields, 18) {
+        Some(field) => match amended_of(field) {
+            Some((_, text)) => text,
+            None => b"",
+        },
+        None => own,
+    }
+}
+
+/// An item as it is in its field.
+fn item_text(alloc: Global, item: &Item<'_>) -> Result<Vec<u8>, AllocError> {
+    let mut text = Vec::from_slice(alloc, item.name())?;
+    text.push(b'/')?;
+    let mut is_first = true;
+    for word in item.words() {
+        if !is_first {
+            text.push(b' ')?;
+        }
+        text.extend_from_slice(word)?;
+        is_first = false;
+    }
+    Ok(text)
+}
+
+/// Whether an item by itself is refused.
+fn is_bad_item(alloc: Global, text: &[u8]) -> bool {
+    Other18::read(alloc, text).is_err()
+}
+
+/// The item of field 18 that is refused, or the word that begins none.
+fn item_at_fault(alloc: Global, field: &[u8], refusal: Refusal) -> Result<Vec<u8>, AllocError> {
+    let first = Words::new(field).next().unwrap_or(b"");
+    if Items::new(first).next().is_none() {
+        return Vec::from_slice(alloc, first);
+    }
+    let mut dated = false;
+    for item in Items::new(field) {
+        let text = item_text(alloc, &item)?;
+        let is_day = item.name() == b"DOF".as_slice();
+        let is_it = match refusal {
+            Refusal::DuplicateItem => is_day && dated,
+            _ => is_bad_item(alloc, text.as_slice()),
+        };
+        if is_it {
+            return Ok(text);
+        }
+        dated = dated || is_day;
+    }
+    Ok(Vec::new(alloc))
+}

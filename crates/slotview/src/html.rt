@@ -1,0 +1,138 @@
+//! The parts of a page: its head, and tables.
+use crate::fault::{Fault, unwritten};
+use crate::moments::Short;
+use fpl_text::{Minute, TimeOfDay};
+use std::fmt;
+use std::io::Write;
+
+/// How the page is drawn: light or dark as its reader has it, narrow on a phone, and unfolded in print.
+const STYLE: &str = "\
+:root{color-scheme:light dark;--paper:#fff;--ink:#222;--faint:#ddd;--link:#0050a0}
+@media (prefers-color-scheme:dark){:root{--paper:#16181c;--ink:#e6e6e6;\
+--faint:#454a52;--link:#8cc4ff}}
+body{margin:0 auto;max-width:62rem;padding:0 1rem 3rem;font:1rem/1.5 system-ui,sans-serif;\
+background:var(--paper);color:var(--ink)}
+a{color:var(--link)}
+nav ul{display:flex;flex-wrap:wrap;gap:.2rem 1rem;list-style:none;padding:0}
+summary{cursor:pointer}
+.wide{overflow-x:auto;margin:.5rem 0}
+table{border-collapse:collapse;font-variant-numeric:tabular-nums}
+caption{text-align:left;padding:.5rem 0}
+th,td{padding:.15rem .6rem .15rem 0;border-bottom:1px solid var(--faint);\
+text-align:left;white-space:nowrap}
+.n{text-align:right}
+.chart{display:block;width:100%;min-width:36rem;max-width:800px;height:auto;fill:var(--ink)}
+.paper{fill:var(--paper)}
+.grid{stroke:var(--faint)}
+.edge{stroke:var(--paper)}
+.rate{stroke:var(--ink)}
+@media print{:root{--paper:#fff;--ink:#222;--faint:#ddd;--link:#222}\
+body{max-width:none;font-size:9pt}nav{display:none}.wide{overflow:visible}\
+.chart{min-width:0}tr,.chart{break-inside:avoid}\
+details::details-content{content-visibility:visible;block-size:auto}}
+";
+
+/// Writes a text.
+pub fn put<W: Write>(writer: &mut W, text: &str) -> Result<(), Fault> {
+    writer.write_all(text.as_bytes()).map_err(unwritten)
+}
+
+/// Begins a page of this title.
+pub fn begin_page<W: Write>(writer: &mut W, title: &str) -> Result<(), Fault> {
+    write!(
+        writer,
+        "<!DOCTYPE html>\n<html lang=\"en\" xmlns=\"http://www.w3.org/1999/xhtml\">\n<head>\n\
+            <meta charset=\"utf-8\"/>\n\
+            <meta name=\"viewport\" content=\"width=device-width, initial-scale=1\"/>\n\
+            <title>{title}</title>\n<style>\n{STYLE}</style>\n</head>\n<body>\n<h1>{title}</h1>\n"
+    )
+    .map_err(unwritten)
+}
+
+/// Ends a page.
+pub fn end_page<W: Write>(writer: &mut W) -> Result<(), Fault> {
+    put(writer, "</main>\n</body>\n</html>\n")
+}
+
+/// The heading of a column, and whether its cells are numbers.
+pub struct Head(pub &'static str, pub bool);
+
+/// Begins a table.
+pub fn begin_table<W: Write>(writer: &mut W, caption: &str, heads: &[Head]) -> Result<(), Fault> {
+    write!(
+        writer,
+        "<div class=\"wide\" tabindex=\"0\"><table>\n<caption>{caption}</caption>\n<thead><tr>"
+    )
+    .map_err(unwritten)?;
+    for Head(name, is_number) in heads {
+        let class = if *is_number { " class=\"n\"" } else { "" };
+        write!(writer, "<th scope=\"col\"{class}>{name}</th>").map_err(unwritten)?;
+    }
+    put(writer, "</tr></thead>\n")
+}
+
+/// Ends a table.
+pub fn end_table<W: Write>(writer: &mut W) -> Result<(), Fault> {
+    put(writer, "</table></div>\n")
+}
+
+/// What may be a moment: its time, after the day of the month where it isn't this day.
+#[derive(Clone, Copy)]
+pub struct When {
+    pub moment: Option<Minute>,
+    pub day: u32,
+}
+
+impl fmt::Display for When {
+    fn fmt<W: fmt::Write>(&self, f: &mut fmt::Formatter<W>) -> fmt::Result {
+        let Some(moment) = self.moment else {
+            return Ok(());
+        };
+        let short = Short {
+            moment,
+            day: self.day,
+        };
+        write!(f, "{short}")
+    }
+}
+
+/// What may be a time of day, in four digits.
+#[derive(Clone, Copy)]
+pub struct OfDay(pub Option<TimeOfDay>);
+
+impl fmt::Display for OfDay {
+    fn fmt<W: fmt::Write>(&self, f: &mut fmt::Formatter<W>) -> fmt::Result {
+        let Some(time) = self.0 else {
+            return Ok(());
+        };
+        let hour = time.hour();
+        let minute = time.minute();
+        write!(f, "{hour:02}{minute:02}")
+    }
+}
+
+/// What may be a number.
+#[derive(Clone, Copy)]
+pub struct Number(pub Option<u32>);
+
+impl fmt::Display for Number {
+    fn fmt<W: fmt::Write>(&self, f: &mut fmt::Formatter<W>) -> fmt::Result {
+        match self.0 {
+            Some(number) => write!(f, "{number}"),
+            None => Ok(()),
+        }
+    }
+}
+
+/// A number of tenths.
+#[derive(Clone, Copy)]
+pub struct Tenths(pub u32);
+
+impl fmt::Display for Tenths {
+    fn fmt<W: fmt::Write>(&self, f: &mut fmt::Formatter<W>) -> fmt::Result {
+        let Tenths(tenths) = *self;
+        let whole = tenths / 10;
+        let rest = tenths % 10;
+        write!(f, "{whole}.{rest}")
+    }
+}

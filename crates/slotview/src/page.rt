@@ -1,0 +1,84 @@
+//! A page of a day: one HTML document with the delay of flights, the regulations with their pictures and slot lists, the
+//! counts of their places, and the courses of the regulated flights. It has no scripts and nothing from elsewhere, and it
+//! is well-formed XML, too.
+use crate::delay::delays_in;
+use crate::fault::{Fault, unwritten};
+use crate::html::{begin_page, end_page, put};
+use crate::moments::{Clock, DateOf};
+use crate::named::id_of;
+use crate::page_delay::put_delay_section;
+use crate::page_flights::put_flight_section;
+use crate::page_regulations::{put_count_section, put_regulation_section};
+use crate::summary::states_of;
+use flow_core::Core;
+use flow_view::{Opening, openings_of};
+use std::alloc::Global;
+use std::io::Write;
+
+/// Writes how many entries, plans and regulations there are.
+fn put_counts<W: Write>(writer: &mut W, core: &Core, openings: &[Opening]) -> Result<(), Fault> {
+    let states = states_of(core);
+    let entries = core.entries();
+    let filed = states.filed;
+    let departed = states.departed;
+    let cancelled = states.cancelled;
+    let regulations = openings.len();
+    let shut = openings
+        .iter()
+        .filter(|opening| opening.shut_by().is_some())
+        .count();
+    write!(
+        writer,
+        "<p>{entries} entries. Plans: {filed} filed, {departed} departed, {cancelled} cancelled. \
+            Regulations: {regulations}, of which {shut} were shut. All times are UTC, hhmm, and \
+            ddhhmm where it is another day.</p>\n"
+    )
+    .map_err(unwritten)
+}
+
+/// Writes links to the sections and the regulations.
+fn put_links<W: Write>(writer: &mut W, openings: &[Opening]) -> Result<(), Fault> {
+    put(
+        writer,
+        "<nav aria-label=\"Sections\"><ul>\n<li><a href=\"#delay\">Delay</a></li>\n\
+            <li><a href=\"#regulations\">Regulations</a></li>\n",
+    )?;
+    for opening in openings {
+        let id = id_of(opening);
+        let entry = opening.opened_by();
+        let note = if opening.shut_by().is_some() {
+            ", shut"
+        } else {
+            ""
+        };
+        write!(
+            writer,
+            "<li><a href=\"#regulation-{id}-{entry}\">{id}{note}</a></li>\n"
+        )
+        .map_err(unwritten)?;
+    }
+    put(
+        writer,
+        "<li><a href=\"#counts\">Counts</a></li>\n<li><a href=\"#flights\">Flights</a></li>\n\
+            </ul></nav>\n<main>\n",
+    )
+}
+
+/// Writes the page of a desk.
+pub fn put_page<W: Write + Drop>(alloc: Global, mut writer: W, core: &Core) -> Result<(), Fault> {
+    let openings = openings_of(alloc, core)?;
+    let openings = openings.as_slice();
+    let delays = delays_in(alloc, core, openings)?;
+    let date = DateOf(core.now());
+    let time = Clock(core.now());
+    let title = format!(in alloc; "Desk on {date} at {time} UTC")?;
+    begin_page(&mut writer, title.as_str())?;
+    put_counts(&mut writer, core, openings)?;
+    put_links(&mut writer, openings)?;
+    put_delay_section(alloc, &mut writer, core, &delays)?;
+    put_regulation_section(alloc, &mut writer, core, openings)?;
+    put_count_section(alloc, &mut writer, core, openings)?;
+    put_flight_section(alloc, &mut writer, core, &delays)?;
+    end_page(&mut writer)?;
+    writer.flush().map_err(unwritten)
+}

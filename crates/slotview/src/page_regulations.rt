@@ -1,0 +1,324 @@
+//! The regulations of a desk and the counts of their places on a page.
+use crate::chart::put_chart;
+use crate::chart_text::heading_of;
+use crate::count::{counts_in, flights_of, later_by};
+use crate::count_chart::put_count_chart;
+use crate::delay::mean_of;
+use crate::fault::{Fault, unwritten};
+use crate::html::{Head, Number, Tenths, When, begin_table, end_table, put};
+use crate::list::holding_name;
+use crate::named::id_of;
+use crate::options::Asked;
+use crate::summary::{rates_text, totals_in, words_of};
+use flow_core::Core;
+use flow_view::{Count, Line, Opening, lines_with};
+use fpl_message::Spot;
+use fpl_text::Minute;
+use std::alloc::{AllocError, Global};
+use std::io::Write;
+
+static REGULATIONS: [Head; 11] = [
+    Head("Name", false),
+    Head("Place", false),
+    Head("From", false),
+    Head("To", false),
+    Head("Slots an hour", false),
+    Head("Flights", true),
+    Head("Delayed", true),
+    Head("Total, min", true),
+    Head("Mean, min", true),
+    Head("Most, min", true),
+    Head("Shut by entry", true),
+];
+
+static SLOTS: [Head; 11] = [
+    Head("Slot", true),
+    Head("Time", false),
+    Head("Flight", false),
+    Head("From", false),
+    Head("To", false),
+    Head("EOBT", false),
+    Head("Entry", false),
+    Head("Delay, min", true),
+    Head("State", false),
+    Head("CTOT issued", false),
+    Head("Cause", false),
+];
+
+static COUNTS: [Head; 6] = [
+    Head("Hour", false),
+    Head("Flights", true),
+    Head("Subject", true),
+    Head("Exempt", true),
+    Head("Departed", true),
+    Head("Entered", true),
+];
+
+/// How many minutes a step of a picture has: fewer in a short period.
+fn step_of(opening: &Opening) -> u32 {
+    let (from, to) = opening.shape().period();
+    if to.minutes().saturating_sub(from.minutes()) > 480 {
+        60
+    } else {
+        20
+    }
+}
+
+/// Writes the row of a regulation.
+fn put_row<W: Write>(alloc: Global, writer: &mut W, opening: &Opening) -> Result<(), Fault> {
+    let totals = totals_in(opening);
+    let id = id_of(opening);
+    let entry = opening.opened_by();
+    let (kind, place) = words_of(opening.spot());
+    let (start, end) = opening.shape().period();
+    let day = start.day().number();
+    let from = When {
+        moment: Some(start),
+        day,
+    };
+    let to = When {
+        moment: Some(end),
+        day,
+    };
+    let rates = rates_text(alloc, opening.shape())?;
+    let flights = totals.flights;
+    let delayed = totals.delayed;
+    let total = totals.total;
+    let mean = Tenths(mean_of(total, flights));
+    let most = totals.greatest;
+    let shut = Number(opening.shut_by());
+    write!(
+        writer,
+        "<tr><th scope=\"row\"><a href=\"#regulation-{id}-{entry}\">{id}</a></th>\
+            <td>{kind} {place}</td>\
+            <td>{from}</td><td>{to}</td><td>{rates}</td><td class=\"n\">{flights}</td>\
+            <td class=\"n\">{delayed}</td><td class=\"n\">{total}</td><td class=\"n\">{mean}</td>\
+            <td class=\"n\">{most}</td><td class=\"n\">{shut}</td></tr>\n"
+    )
+    .map_err(unwritten)
+}
+
+/// Writes a line of a slot list.
+fn put_line<W: Write>(writer: &mut W, line: &Line, day: u32) -> Result<(), Fault> {
+    let Some(flight) = &line.row.flight else {
+        return Ok(());
+    };
+    let slot = line.row.slot;
+    let time = When {
+        moment: Some(line.row.time),
+        day,
+    };
+    let ident = str::from_utf8(flight.ident.as_bytes()).unwrap_or("");
+    let dep = str::from_utf8(flight.dep.as_bytes()).unwrap_or("");
+    let dest = str::from_utf8(flight.dest.as_bytes()).unwrap_or("");
+    let eobt = When {
+        moment: Some(flight.off_block),
+        day,
+    };
+    let entry = When {
+        moment: flight.entry,
+        day,
+    };
+    let delay = line.delay;
+    let state = str::from_utf8(holding_name(line.holding)).unwrap_or("");
+    let ctot = When {
+        moment: line.ctot,
+        day,
+    };
+    let cause = match &line.cause {
+        Some(cause) => str::from_utf8(cause.as_bytes()).unwrap_or(""),
+        None => "",
+    };
+    write!(
+        writer,
+        "<tr><td class=\"n\">{slot}</td><td>{time}</td>\
+            <th scope=\"row\"><a href=\"#flight-{ident}\">{ident}</a></th><td>{dep}</td>\
+            <td>{dest}</td>\
+            <td>{eobt}</td><td>{entry}</td><td class=\"n\">{delay}</td><td>{state}</td>\
+            <td>{ctot}</td>\
+            <td>{cause}</td></tr>\n"
+    )
+    .map_err(unwritten)
+}
+
+/// Writes the slot list of a regulation.
+fn put_slots<W: Write>(alloc: Global, writer: &mut W, opening: &Opening) -> Result<(), Fault> {
+    let (start, _) = opening.shape().period();
+    let day = start.day().number();
+    let id = id_of(opening);
+    let caption = format!(in alloc; "Slot list of {id}")?;
+    begin_table(writer, caption.as_str(), &SLOTS)?;
+    put(writer, "<tbody>\n")?;
+    for line in &lines_with(alloc, opening.rows())? {
+        put_line(writer, line, day)?;
+    }
+    put(writer, "</tbody>\n")?;
+    end_table(writer)
+}
+
+/// Writes a regulation: its picture and its slot list, folded.
+fn put_regulation<W: Write>(
+    alloc: Global,
+    writer: &mut W,
+    core: &Core,
+    opening: &Opening,
+) -> Result<(), Fault> {
+    let heading = heading_of(alloc, opening)?;
+    let heading = heading.as_str();
+    let id = id_of(opening);
+    let entry = opening.opened_by();
+    let flights = opening.rows().len();
+    write!(
+        writer,
+        "<section id=\"regulation-{id}-{entry}\">\n<h3>{heading}</h3>\n\
+            <details><summary>Chart and slot list of {id}: {flights} flights</summary>\n\
+            <div class=\"wide\" tabindex=\"0\">\n"
+    )
+    .map_err(unwritten)?;
+    put_chart(alloc, writer, core, opening, step_of(opening))?;
+    put(writer, "</div>\n")?;
+    put_slots(alloc, writer, opening)?;
+    put(writer, "</details>\n</section>\n")
+}
+
+/// Writes the regulations of a desk, those that were shut among them.
+pub fn put_regulation_section<W: Write>(
+    alloc: Global,
+    writer: &mut W,
+    core: &Core,
+    openings: &[Opening],
+) -> Result<(), Fault> {
+    put(
+        writer,
+        "<section id=\"regulations\">\n<h2>Regulations</h2>\n",
+    )?;
+    begin_table(
+        writer,
+        "A regulation that was shut is shown as it was before that",
+        &REGULATIONS,
+    )?;
+    put(writer, "<tbody>\n")?;
+    for opening in openings {
+        put_row(alloc, writer, opening)?;
+    }
+    put(writer, "</tbody>\n")?;
+    end_table(writer)?;
+    for opening in openings {
+        put_regulation(alloc, writer, core, opening)?;
+    }
+    put(writer, "</section>\n")
+}
+
+/// The counts that are shown of the place of a regulation: whole hours, from one before its period to one after it.
+fn asked_of(opening: &Opening) -> Asked {
+    let (start, end) = opening.shape().period();
+    let hour = start.minutes() / 60;
+    let first = Minute::new(hour.saturating_sub(1).saturating_mul(60)).unwrap_or(start);
+    let minutes = end.minutes().saturating_sub(first.minutes());
+    let hours = minutes.div_ceil(60).saturating_add(1).min(24);
+    Asked {
+        spot: *opening.spot(),
+        from: Some(first),
+        to: Some(later_by(first, hours.saturating_mul(60))),
+        step: 60,
+        slide: 60,
+    }
+}
+
+/// Writes the counts of an hour.
+fn put_count<W: Write>(writer: &mut W, count: &Count, day: u32) -> Result<(), Fault> {
+    let from = When {
+        moment: Some(count.from),
+        day,
+    };
+    let to = When {
+        moment: Some(count.to),
+        day,
+    };
+    let flights = flights_of(count);
+    let subject = count.subject;
+    let exempt = count.exempt;
+    let departed = count.departed;
+    let entered = count.entered;
+    write!(
+        writer,
+        "<tr><th scope=\"row\">{from} to {to}</th><td class=\"n\">{flights}</td>\
+            <td class=\"n\">{subject}</td>\
+            <td class=\"n\">{exempt}</td><td class=\"n\">{departed}</td>\
+            <td class=\"n\">{entered}</td></tr>\n"
+    )
+    .map_err(unwritten)
+}
+
+/// Writes the counts of the place of a regulation, with their picture.
+fn put_place<W: Write>(
+    alloc: Global,
+    writer: &mut W,
+    core: &Core,
+    opening: &Opening,
+) -> Result<(), Fault> {
+    let asked = asked_of(opening);
+    let (kind, place) = words_of(opening.spot());
+    write!(
+        writer,
+        "<h3>{kind} {place}</h3>\n<details><summary>Entry counts of {kind} {place}</summary>\n\
+            <div class=\"wide\" tabindex=\"0\">\n"
+    )
+    .map_err(unwritten)?;
+    put_count_chart(alloc, writer, core, &asked)?;
+    put(writer, "</div>\n")?;
+    begin_table(
+        writer,
+        "Flights that are planned to enter, regulated or not",
+        &COUNTS,
+    )?;
+    put(writer, "<tbody>\n")?;
+    if let (Some(from), Some(to)) = (asked.from, asked.to) {
+        let day = from.day().number();
+        for count in &counts_in(alloc, core, &asked.spot, (from, to), (60, 60))? {
+            put_count(writer, count, day)?;
+        }
+    }
+    put(writer, "</tbody>\n")?;
+    end_table(writer)?;
+    put(writer, "</details>\n")
+}
+
+/// Whether two places are the same.
+fn is_same(spot: &Spot, other: &Spot) -> bool {
+    words_of(spot) == words_of(other)
+}
+
+/// The regulations whose places no earlier one has.
+fn first_of_places<'a>(
+    alloc: Global,
+    openings: &'a [Opening],
+) -> Result<Vec<&'a Opening>, AllocError> {
+    let mut firsts: Vec<&'a Opening> = Vec::new(alloc);
+    for opening in openings {
+        let is_known = firsts
+            .iter()
+            .any(|first| is_same(first.spot(), opening.spot()));
+        if !is_known {
+            firsts.push(opening)?;
+        }
+    }
+    Ok(firsts)
+}
+
+/// Writes the counts of the regulated places.
+pub fn put_count_section<W: Write>(
+    alloc: Global,
+    writer: &mut W,
+    core: &Core,
+    openings: &[Opening],
+) -> Result<(), Fault> {
+    put(
+        writer,
+        "<section id=\"counts\">\n<h2>Counts of the regulated places</h2>\n",
+    )?;
+    for opening in &first_of_places(alloc, openings)? {
+        put_place(alloc, writer, core, opening)?;
+    }
+    put(writer, "</section>\n")
+}

@@ -1,0 +1,141 @@
+//! The filings that were refused.
+use crate::course::Course;
+use crate::fault::Fault;
+use crate::fault_word::word_at_fault;
+use crate::sheet::{Cell, Column, Sheet, Side};
+use command_line::readable_form;
+use flow_core::{Core, Entry, Verdict};
+use fpl_message::Refusal;
+use fpl_text::Minute;
+use std::alloc::{AllocError, Global};
+use std::io::Write;
+
+static COLUMNS: [Column; 7] = [
+    Column("entry", 7, Side::Right),
+    Column("time", 10, Side::Time),
+    Column("number", 6, Side::Right),
+    Column("reason", 20, Side::Left),
+    Column("detail", 6, Side::Right),
+    Column("word", 20, Side::Left),
+    Column("text", 60, Side::Left),
+];
+
+/// Those of a table of text, in 80 signs.
+static IN_TEXT: [Column; 5] = [
+    Column("entry", 7, Side::Right),
+    Column("time", 10, Side::Time),
+    Column("reason", 16, Side::Left),
+    Column("word", 20, Side::Left),
+    Column("text", 23, Side::Left),
+];
+
+/// How many signs of a word and of a text are in a table of text.
+const WORD_SIGNS: usize = 20;
+
+const TEXT_SIGNS: usize = 23;
+
+/// Bytes as one line of text: blanks are spaces, and what is no character of UTF-8 is escaped.
+fn line_of(alloc: Global, bytes: &[u8]) -> Result<String, AllocError> {
+    let readable = readable_form(alloc, bytes)?;
+    let mut line = String::new(alloc);
+    for letter in readable.as_str().chars() {
+        line.push(if letter.is_control() { ' ' } else { letter })?;
+    }
+    Ok(line)
+}
+
+/// A text of at most so many characters: a longer one is cut, and ends with two dots.
+fn shortened(alloc: Global, text: &str, most: usize) -> Result<String, AllocError> {
+    let mut line = String::new(alloc);
+    if text.chars().count() <= most {
+        line.push_str(text)?;
+        return Ok(line);
+    }
+    for letter in text.chars().take(most.saturating_sub(2)) {
+        line.push(letter)?;
+    }
+    line.push_str("..")?;
+    Ok(line)
+}
+
+/// The name of a reason, with its detail.
+fn reason_text(alloc: Global, refusal: Refusal) -> Result<String, AllocError> {
+    let name = str::from_utf8(refusal.name()).unwrap_or("");
+    match refusal.detail() {
+        Some(detail) => format!(in alloc; "{name} {detail}"),
+        None => String::from_str(alloc, name),
+    }
+}
+
+/// Writes a refused filing to a table of text.
+fn put_in_text<W: Write + Drop>(
+    alloc: Global,
+    sheet: &mut Sheet<'_, W>,
+    entry: &Entry<'_>,
+    time: Minute,
+    refusal: Refusal,
+) -> Result<(), Fault> {
+    let word = word_at_fault(alloc, entry.text(), refusal)?;
+    let word = line_of(alloc, word.as_slice())?;
+    let text = line_of(alloc, entry.text())?;
+    sheet.put(&[
+        Cell::number(entry.receipt().number),
+        Cell::Moment(time),
+        Cell::long(reason_text(alloc, refusal)?),
+        Cell::long(shortened(alloc, word.as_str(), WORD_SIGNS)?),
+        Cell::long(shortened(alloc, text.as_str(), TEXT_SIGNS)?),
+    ])
+}
+
+/// Writes a refused filing.
+fn put_refused<W: Write + Drop>(
+    alloc: Global,
+    sheet: &mut Sheet<'_, W>,
+    entry: &Entry<'_>,
+    time: Minute,
+    refusal: Refusal,
+) -> Result<(), Fault> {
+    let word = word_at_fault(alloc, entry.text(), refusal)?;
+    let detail = match refusal.detail() {
+        Some(detail) => Cell::Number(detail as u64),
+        None => Cell::Blank,
+    };
+    sheet.put(&[
+        Cell::number(entry.receipt().number),
+        Cell::Moment(time),
+        Cell::number(refusal.number()),
+        Cell::text(refusal.name()),
+        detail,
+        Cell::long(readable_form(alloc, word.as_slice())?),
+        Cell::long(readable_form(alloc, entry.text())?),
+    ])
+}
+
+/// Writes the refused filings of a journal.
+pub fn put_all_refused<W: Write + Drop>(
+    alloc: Global,
+    sheet: &mut Sheet<'_, W>,
+    core: &Core,
+) -> Result<(), Fault> {
+    if sheet.is_text() {
+        sheet.begin("refused", &IN_TEXT)?;
+    } else {
+        sheet.begin("refused", &COLUMNS)?;
+    }
+    let mut course = Course::new(alloc, core);
+    for index in 0..core.entries() {
+        let Some(entry) = core.entry(index + 1) else {
+            break;
+        };
+        course.pass(&entry)?;
+        let Verdict::Refused(refusal) = entry.receipt().verdict else {
+            continue;
+        };
+        if sheet.is_text() {
+            put_in_text(alloc, sheet, &entry, course.time(), refusal)?;
+        } else {
+            put_refused(alloc, sheet, &entry, course.time(), refusal)?;
+        }
+    }
+    Ok(())
+}

@@ -1,0 +1,107 @@
+#!/usr/bin/env python3
+"""Looks at the page that a built slotview makes of each journal of its worked runs, and of the samples.
+
+    tests/cli/page.py PROGRAM
+
+A page must be well-formed XML without scripts and without anything from elsewhere; each id is there once, each link leads to
+one, each table has a caption and headings, each picture a title. Where a sample has a page.html, it is the page of its stdout.
+Prints each fault, then 'N pages, M findings'. The status is 1 where there are any.
+"""
+import pathlib
+import re
+import subprocess
+import sys
+import xml.etree.ElementTree as tree
+
+HOME = pathlib.Path(__file__).resolve().parent
+SAMPLES = HOME.parent.parent / "samples"
+HTML = "{http://www.w3.org/1999/xhtml}"
+SVG = "{http://www.w3.org/2000/svg}"
+OURS = ("http://www.w3.org/1999/xhtml", "http://www.w3.org/2000/svg")
+
+
+def journals():
+    """Each input that a summary is shown of, once."""
+    seen = set()
+    for folder in sorted([*(HOME / "slotview").iterdir(), *SAMPLES.iterdir()]):
+        for name in ("stdin", "stdout"):
+            path = folder / name
+            if path.exists() and path.read_bytes() not in seen:
+                seen.add(path.read_bytes())
+                yield path
+
+
+def page_of(program, path):
+    done = subprocess.run([program, "page", str(path)], capture_output=True, timeout=60)
+    return done.stdout.decode() if done.returncode == 0 else None
+
+
+def findings_in_tables(root):
+    for table in root.iter(HTML + "table"):
+        if table.find(HTML + "caption") is None:
+            yield "a table without a caption"
+        heads = table.findall("%sthead/%str/%sth" % (HTML, HTML, HTML))
+        if not heads or any(head.get("scope") != "col" for head in heads):
+            yield "a table without headings"
+        columns = len(heads)
+        for row in table.iter(HTML + "tr"):
+            if sum(int(cell.get("colspan", 1)) for cell in row) != columns:
+                yield "a row of another length than its headings: %s" % "".join(row.itertext())
+
+
+def findings_in_pictures(root, ids):
+    for picture in root.iter(SVG + "svg"):
+        named = (picture.get("aria-labelledby") or "").split()
+        if picture.get("role") != "img" or not named or any(name not in ids for name in named):
+            yield "a picture without a name"
+        title = picture.find(SVG + "title")
+        if title is None or not title.text:
+            yield "a picture without a title"
+
+
+def findings_in(text):
+    try:
+        root = tree.fromstring(text)
+    except tree.ParseError as fault:
+        yield "not well-formed: %s" % fault
+        return
+    ids = [element.get("id") for element in root.iter() if element.get("id")]
+    for twice in sorted({name for name in ids if ids.count(name) > 1}):
+        yield "the id %s more than once" % twice
+    for element in root.iter():
+        if element.tag in (HTML + "script", HTML + "link", HTML + "img", HTML + "iframe") or element.get("src"):
+            yield "the element %s" % element.tag
+        link = element.get("href")
+        if link and link[1:] not in ids:
+            yield "a link to %s, which isn't there" % link
+    for address in re.findall(r"\w+://[^\"' )]*|@import|url\(", text):
+        if address not in OURS:
+            yield "something from elsewhere: %s" % address
+    yield from findings_in_tables(root)
+    yield from findings_in_pictures(root, set(ids))
+
+
+def main():
+    if len(sys.argv) != 2:
+        print(__doc__)
+        return 2
+    program = str(pathlib.Path(sys.argv[1]).resolve())
+    pages = findings = 0
+    for path in journals():
+        text = page_of(program, path)
+        if text is None:
+            continue
+        pages += 1
+        kept = path.with_name("page.html")
+        if path.name == "stdout" and kept.exists() and kept.read_text() != text:
+            findings += 1
+            print("%s: another page" % kept.relative_to(HOME.parent.parent))
+        for finding in findings_in(text):
+            findings += 1
+            print("%s: %s" % (path.relative_to(HOME.parent.parent), finding))
+    print("%d pages, %d findings" % (pages, findings))
+    return 1 if findings or not pages else 0
+
+
+if __name__ == "__main__":
+    sys.exit(main())
