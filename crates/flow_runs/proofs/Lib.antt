@@ -7,3 +7,4 @@ pub mod Dealings
 pub mod Readings
 pub mod Answering
 pub mod Ran
+pub mod StoredRun
