@@ -60,8 +60,17 @@ def resumes(f):
     """A store of a journal."""
     f.run(["--store", "store", "--resume"], JOURNAL + b"TIME 2409010501\n", output=b"2 OK TIME\n", name="of a journal",
           store=HEAD + ENTRY + TIME + b"-", files=["store"])
-    (f.folder / "store").unlink()
+    path, new = f.folder / "store", f.folder / "store.new"
+    path.unlink()
     f.run(["--store", "store", "--resume"], JOURNAL[:-1], 1, line=b"slotdesk: bad journal\n", name="bad journal", files=[])
+    new.write_bytes(HEAD + ENTRY + b"-")
+    f.run(["--store", "store", "--resume"], JOURNAL + b"TIME 2409010501\n", output=b"2 OK TIME\n", name="made but for the link",
+          store=HEAD + ENTRY + TIME + b"-", files=["store"])
+    path.unlink()
+    for other in (HEAD + ENTRY + b"-\n", HEAD + ENTRY, HEAD + ENTRY[:30], HEAD + ENTRY + TIME + b"-", HEAD + TIME + b"-", HEAD + b"E" + ENTRY[1:-9] + b"-"):
+        new.write_bytes(other)
+        f.run(["--store", "store", "--resume"], JOURNAL, 2, line=b"slotdesk: store exists\n", name="made by others %r" % other, files=["store.new"])
+        assert new.read_bytes() == other, other
 
 
 def damaged(f):

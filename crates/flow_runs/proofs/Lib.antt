@@ -8,3 +8,4 @@ pub mod Readings
 pub mod Answering
 pub mod Ran
 pub mod StoredRun
+pub mod StoredLaws

@@ -37,9 +37,9 @@ module _ (setup : Settings) (read : List Record) (feeders : ℕ) (journal : Bool
   left : count - (length (state_of core).journal - r) ≡ length (filings input) - length f.entries
   left = omega (arith, h.counted, start, ap length f.journal, length-append read f.entries)
 
-  pub same : long_lines input ++ answers_and_end (state_of core) r count journal
+  pub same-ended : long_lines input ++ answers_and_end (state_of core) r count journal
       ≡ long_lines input ++ (answers (after setup (read ++ f.entries)) f.entries ++ end_lines (after setup (read ++ f.entries)) (length (filings input) - length f.entries) journal)
-  same =
+  same-ended =
       ap (λ (q : List Record). long_lines input ++ (answers (state_of core) q ++ end_lines (state_of core) (count - (length (state_of core).journal - r)) journal)) behind
       ∙ (ap (λ (n : ℕ). long_lines input ++ (answers (state_of core) f.entries ++ end_lines (state_of core) n journal)) left
       ∙ ap (λ (q : State). long_lines input ++ (answers q f.entries ++ end_lines q (length (filings input) - length f.entries) journal)) f.one_thread)
@@ -54,7 +54,7 @@ module _ (setup : Settings) (read : List Record) (feeders : ℕ) (journal : Bool
         fronts = λ k in_k. f.fronts k (dealt feeders k (filings input)) (h.dealt.each k in_k);
         whole = λ few k in_k. f.whole none few k (dealt feeders k (filings input)) (h.dealt.each k in_k);
         output = Appends-both begun mid written (long_lines input) (answers_and_end (state_of core) r count journal)
-            (long_lines input ++ (answers (after setup (read ++ f.entries)) f.entries ++ end_lines (after setup (read ++ f.entries)) (length (filings input) - length f.entries) journal)) h.told a same;
+            (long_lines input ++ (answers (after setup (read ++ f.entries)) f.entries ++ end_lines (after setup (read ++ f.entries)) (length (filings input) - length f.entries) journal)) h.told a same-ended;
       }
 
   -- so are the answers alone, and what stands before the replay
@@ -82,7 +82,7 @@ module _ (setup : Settings) (read : List Record) (feeders : ℕ) (journal : Bool
   pub front-filed : AppendsFront mid written (answers_and_end (state_of core) r count journal) → HaveFiled setup read feeders input (λ entries. AppendsFront begun written (ended setup read journal input entries))
   front-filed a =
       filed-so (λ entries. AppendsFront begun written (ended setup read journal input entries))
-      (AppendsFront-both begun mid written (long_lines input) (answers_and_end (state_of core) r count journal) (ended setup read journal input f.entries) h.told a same)
+      (AppendsFront-both begun mid written (long_lines input) (answers_and_end (state_of core) r count journal) (ended setup read journal input f.entries) h.told a same-ended)
 
   cut-short : (stop ≢ None) × Appends mid written (answers (state_of core) (drop r (state_of core).journal)) → IsCutShort setup read input begun written f.entries
   cut-short a =

@@ -8,6 +8,7 @@ mod dealing;
 mod fault;
 mod feeding;
 mod filing;
+pub mod laws;
 mod run;
 mod stored;
 

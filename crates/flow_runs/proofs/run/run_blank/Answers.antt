@@ -50,8 +50,8 @@ pub returns-clause-ran : goal.returns-clause-ran
 returns-clause-ran g c =
     let filed = c.in_ok-filed.ensures.filed in
     on_ok_two c.answer_all.result
-    (λ a none. RanMany-all c.args.blank.setup c.args.blank.entries c.args.feeders c.args.journal (g.R.Read.remaining c.args.reader.now.device) filed.0 c.in_ok-filed.field-0.1
-    (g.W.Write.contents c.args.writer.now.device) (g.W.Write.contents c.file_input.new.writer.device) (g.W.Write.contents c.answer_all.new.writer.device) c.in_ok-filed.field-0.0.core c.in_ok-filed.field-0.0.stop c.args.read
+    (λ a none. RanMany-all c.args.blank.setup c.args.blank.entries c.args.feeders c.args.journal (g.R.Read.remaining c.args.reader.now.device) filed.0 c.in_ok-filed.count
+    (g.W.Write.contents c.args.writer.now.device) (g.W.Write.contents c.file_input.new.writer.device) (g.W.Write.contents c.answer_all.new.writer.device) c.in_ok-filed.filed.core c.in_ok-filed.filed.stop c.args.read
     filed.2 filed.1 none c.requires.read a)
     c.answer_all.ensures.ok c.answer_all.ensures.whole
 
@@ -59,7 +59,7 @@ pub returns-clause-left : goal.returns-clause-left
 returns-clause-left g c =
     let filed = c.in_ok-filed.ensures.filed in
     if_err_map c.answer_all.result
-    (λ e a. ended-filed c.args.blank.setup c.args.blank.entries c.args.feeders c.args.journal e (g.R.Read.remaining c.args.reader.now.device) (g.R.Read.remaining c.file_input.new.reader.device) filed.0 c.in_ok-filed.field-0.1
-    (g.W.Write.contents c.args.writer.now.device) (g.W.Write.contents c.file_input.new.writer.device) (g.W.Write.contents c.answer_all.new.writer.device) c.in_ok-filed.field-0.0.core c.in_ok-filed.field-0.0.stop c.args.read
+    (λ e a. ended-filed c.args.blank.setup c.args.blank.entries c.args.feeders c.args.journal e (g.R.Read.remaining c.args.reader.now.device) (g.R.Read.remaining c.file_input.new.reader.device) filed.0 c.in_ok-filed.count
+    (g.W.Write.contents c.args.writer.now.device) (g.W.Write.contents c.file_input.new.writer.device) (g.W.Write.contents c.answer_all.new.writer.device) c.in_ok-filed.filed.core c.in_ok-filed.filed.stop c.args.read
     filed.2 filed.1 c.requires.read a)
     c.answer_all.ensures.left
