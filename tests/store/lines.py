@@ -32,14 +32,14 @@ class Folder:
         return sorted(path.name for path in self.folder.iterdir())
 
     def run(self, words, given=b"", status=0, output=b"", line=b"", name="", **after):
-        """One run, and what it has to leave: `files` that are there, and the bytes of `store`."""
+        """One run, and what it has to leave: `files` that are there, and the bytes of `store`, or one of several."""
         done = subprocess.run([self.program, *words], input=given, capture_output=True, cwd=self.folder, timeout=60)
         told = (done.returncode, done.stdout, done.stderr)
         if told != (status, output, line):
             self.failed.append("%s: %r, wanted %r" % (name, told, (status, output, line)))
         for what, wanted in after.items():
             found = self.files() if what == "files" else (self.folder / "store").read_bytes()
-            if found != wanted:
+            if found not in (wanted if isinstance(wanted, tuple) else (wanted,)):
                 self.failed.append("%s: %s %r, wanted %r" % (name, what, found, wanted))
 
 
@@ -60,8 +60,17 @@ def resumes(f):
     """A store of a journal."""
     f.run(["--store", "store", "--resume"], JOURNAL + b"TIME 2409010501\n", output=b"2 OK TIME\n", name="of a journal",
           store=HEAD + ENTRY + TIME + b"-", files=["store"])
-    (f.folder / "store").unlink()
+    path, new = f.folder / "store", f.folder / "store.new"
+    path.unlink()
     f.run(["--store", "store", "--resume"], JOURNAL[:-1], 1, line=b"slotdesk: bad journal\n", name="bad journal", files=[])
+    new.write_bytes(HEAD + ENTRY + b"-")
+    f.run(["--store", "store", "--resume"], JOURNAL + b"TIME 2409010501\n", output=b"2 OK TIME\n", name="made but for the link",
+          store=HEAD + ENTRY + TIME + b"-", files=["store"])
+    path.unlink()
+    for other in (HEAD + ENTRY + b"-\n", HEAD + ENTRY, HEAD + ENTRY[:30], HEAD + ENTRY + TIME + b"-", HEAD + TIME + b"-", HEAD + b"E" + ENTRY[1:-9] + b"-"):
+        new.write_bytes(other)
+        f.run(["--store", "store", "--resume"], JOURNAL, 2, line=b"slotdesk: store exists\n", name="made by others %r" % other, files=["store.new"])
+        assert new.read_bytes() == other, other
 
 
 def damaged(f):
@@ -122,9 +131,59 @@ def refused(f):
     f.run(["--store", "store"], b"X\n", output=b"1 NO 30 BadOrder\n", name="a name that a crash has left", files=["store"])
 
 
+def many_feeders(f):
+    """Two feeders and a store: its bytes, going on, what is refused and when."""
+    path, two, replayed = f.folder / "store", ["--feeders", "2"], b"REPLAY OK\n"
+    both = (HEAD + ENTRY + other(ENTRY, 1) + b"-", HEAD + other(ENTRY, 1) + ENTRY + b"-")
+    f.run(["--store", "store", *START, *two], output=replayed, name="two feeders, no filing", store=HEAD + b"-", files=["store"])
+    f.run(["--store", "store", *two], FPL, output=b"1 OK FPL 1\n" + replayed, name="one of two files", store=HEAD + ENTRY + b"-")
+    f.run(["--store", "store", *two, "--journal"], b"x" * 2001 + b"\nTIME 2409010501\n",
+          output=b"- NO 90 TooLong\n2 OK TIME\n" + JOURNAL.replace(b"END 1\n", TIME + b"END 2\n") + replayed,
+          name="a line without an entry, and the journal", store=HEAD + ENTRY + TIME + b"-")
+    f.run(["--store", "store"], FPL, output=b"3 NO 20 AlreadyHeld\n", name="one feeder after two", store=HEAD + ENTRY + TIME + ENTRY + b"-")
+    path.unlink()
+    f.run(["--store", "store", *START, *two], FPL + FPL, output=b"1 OK FPL 1\n2 NO 20 AlreadyHeld\n" + replayed,
+          name="both file", store=both, files=["store"])
+    path.unlink()
+    f.run(["--store", "store", "--resume", *two], JOURNAL + b"TIME 2409010501\n", output=b"2 OK TIME\n" + replayed,
+          name="two feeders of a journal", store=HEAD + ENTRY + TIME + b"-", files=["store"])
+    path.unlink()
+    full = HEAD.replace(b" 1000000\n", b" 1\n")
+    f.run(["--store", "store", "--resume", *two], full.replace(b"STORE 1", b"JOURNAL 2") + b"END 0\n" + FPL + FPL,
+          output=b"1 OK FPL 1\n- NO 91 JournalFull\n" + replayed, name="a full journal of two feeders",
+          store=(full + ENTRY + b"-", full + other(ENTRY, 1) + b"-"))
+    path.unlink()
+
+
+def few_feeders(f):
+    """Fewer feeders than an entry's, and what is told before and after that."""
+    path, two = f.folder / "store", ["--feeders", "2"]
+    third = HEAD + other(ENTRY, 2) + b"-"
+    journal = JOURNAL.replace(b"E 0", b"E 2")
+    f.run(["--store", "store", *two], FPL, 2, line=b"slotdesk: no store\n", name="no store for two", files=[])
+    f.run(["--store", "store", *two, "--start", "2409310500"], FPL, 2, line=b"slotdesk: bad start\n", name="two with a bad start", files=[])
+    f.run(["--store", "store", "--resume", *two], journal[:-1], 1, line=b"slotdesk: bad journal\n", name="the journal is before its feeders", files=[])
+    f.run(["--store", "store", "--resume", *two], journal + b"x" * 2001, 2, line=b"slotdesk: bad feeders\n", name="a journal of a third", files=[])
+    path.write_bytes(third)
+    f.run(["--store", "store", "--resume", *two], journal, 2, line=b"slotdesk: store exists\n", name="exists before its feeders", store=third)
+    f.run(["--store", "store", *two], b"x" * 2001, 2, line=b"slotdesk: bad feeders\n", name="a store of a third", store=third, files=["store"])
+    with open(path, "rb") as held:
+        fcntl.flock(held, fcntl.LOCK_EX)
+        f.run(["--store", "store", *two], FPL, 2, line=b"slotdesk: store in use\n", name="in use before its feeders", store=third)
+    f.run(["--store", "store", "--feeders", "3"], output=b"REPLAY OK\n", name="three suffice", store=third)
+    f.run(["--store", "store"], b"TIME 2409010501\n", output=b"2 OK TIME\n", name="one always does", store=third[:-1] + TIME + b"-")
+    path.write_bytes(third[:-1])
+    f.run(["--store", "store", *two], FPL, 1, line=b"slotdesk: bad store\n", name="damage is before the feeders", store=third[:-1])
+
+
+def other(entry, feeder):
+    """The entry as that of another feeder."""
+    return b"E %d" % feeder + entry[3:]
+
+
 def main():
     program, failed, count = os.path.abspath(sys.argv[1]), [], 0
-    for rows in (makes_and_goes_on, resumes, damaged, refused):
+    for rows in (makes_and_goes_on, resumes, damaged, refused, many_feeders, few_feeders):
         with tempfile.TemporaryDirectory() as folder:
             f = Folder(program, folder)
             rows(f)

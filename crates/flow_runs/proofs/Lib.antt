@@ -7,3 +7,5 @@ pub mod Dealings
 pub mod Readings
 pub mod Answering
 pub mod Ran
+pub mod StoredRun
+pub mod StoredLaws

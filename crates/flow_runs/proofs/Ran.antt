@@ -17,7 +17,7 @@ use Rattle.flow_desk.specs.Blanks.{first_beyond}
 use Rattle.flow_core.specs.History.{History, state_of}
 use Rattle.flow_desk.specs.Histories.{after}
 use Rattle.flow_runs.specs.Dealing.{dealt}
-use Rattle.flow_runs.specs.Reading.{filings, long_lines, HasRead, ToldUntil}
+use Rattle.flow_runs.specs.Reading.{filings, long_lines, HasRead, ToldUntil, EndedBefore}
 use Rattle.flow_runs.proofs.Readings.{ToldFirst-none, ToldEnded-none, ToldFront-none}
 use Rattle.flow_runs.specs.Filing.{HasFiled}
 use Rattle.flow_runs.specs.declared.fault.RunFault.{RunFault}
@@ -37,9 +37,9 @@ module _ (setup : Settings) (read : List Record) (feeders : ℕ) (journal : Bool
   left : count - (length (state_of core).journal - r) ≡ length (filings input) - length f.entries
   left = omega (arith, h.counted, start, ap length f.journal, length-append read f.entries)
 
-  same : long_lines input ++ answers_and_end (state_of core) r count journal
+  pub same-ended : long_lines input ++ answers_and_end (state_of core) r count journal
       ≡ long_lines input ++ (answers (after setup (read ++ f.entries)) f.entries ++ end_lines (after setup (read ++ f.entries)) (length (filings input) - length f.entries) journal)
-  same =
+  same-ended =
       ap (λ (q : List Record). long_lines input ++ (answers (state_of core) q ++ end_lines (state_of core) (count - (length (state_of core).journal - r)) journal)) behind
       ∙ (ap (λ (n : ℕ). long_lines input ++ (answers (state_of core) f.entries ++ end_lines (state_of core) n journal)) left
       ∙ ap (λ (q : State). long_lines input ++ (answers q f.entries ++ end_lines q (length (filings input) - length f.entries) journal)) f.one_thread)
@@ -54,7 +54,7 @@ module _ (setup : Settings) (read : List Record) (feeders : ℕ) (journal : Bool
         fronts = λ k in_k. f.fronts k (dealt feeders k (filings input)) (h.dealt.each k in_k);
         whole = λ few k in_k. f.whole none few k (dealt feeders k (filings input)) (h.dealt.each k in_k);
         output = Appends-both begun mid written (long_lines input) (answers_and_end (state_of core) r count journal)
-            (long_lines input ++ (answers (after setup (read ++ f.entries)) f.entries ++ end_lines (after setup (read ++ f.entries)) (length (filings input) - length f.entries) journal)) h.told a same;
+            (long_lines input ++ (answers (after setup (read ++ f.entries)) f.entries ++ end_lines (after setup (read ++ f.entries)) (length (filings input) - length f.entries) journal)) h.told a same-ended;
       }
 
   -- so are the answers alone, and what stands before the replay
@@ -69,7 +69,7 @@ module _ (setup : Settings) (read : List Record) (feeders : ℕ) (journal : Bool
       ∙ ap (λ (q : State). long_lines input ++ (answers q f.entries ++ end_before_replay q (length (filings input) - length f.entries) journal)) f.one_thread)
 
   -- all was read and filed, and this is so of the entries
-  filed-so : (Is : List Record → Type 0) → Is f.entries → HaveFiled setup read feeders input Is
+  pub filed-so : (Is : List Record → Type 0) → Is f.entries → HaveFiled setup read feeders input Is
   filed-so Is is =
       record {
         entries = f.entries;
@@ -82,7 +82,7 @@ module _ (setup : Settings) (read : List Record) (feeders : ℕ) (journal : Bool
   pub front-filed : AppendsFront mid written (answers_and_end (state_of core) r count journal) → HaveFiled setup read feeders input (λ entries. AppendsFront begun written (ended setup read journal input entries))
   front-filed a =
       filed-so (λ entries. AppendsFront begun written (ended setup read journal input entries))
-      (AppendsFront-both begun mid written (long_lines input) (answers_and_end (state_of core) r count journal) (ended setup read journal input f.entries) h.told a same)
+      (AppendsFront-both begun mid written (long_lines input) (answers_and_end (state_of core) r count journal) (ended setup read journal input f.entries) h.told a same-ended)
 
   cut-short : (stop ≢ None) × Appends mid written (answers (state_of core) (drop r (state_of core).journal)) → IsCutShort setup read input begun written f.entries
   cut-short a =
@@ -132,13 +132,13 @@ answered-stop e stop s read count journal begun written is (inr begun_not) told 
 
 -- ---- where a run ended with a fault
 
-if-some : {X : Type 0} {P Q : X → Type 0} (o : Option X) → ((x : X) → P x → Q x) → IfSome o P → IfSome o Q
+pub if-some : {X : Type 0} {P Q : X → Type 0} (o : Option X) → ((x : X) → P x → Q x) → IfSome o P → IfSome o Q
 if-some None f p = p
 if-some (Some x) f p = f x p
 
 module _ (setup : Settings) (read : List Record) (feeders : ℕ) (journal : Bool) where
   -- while its frames were read
-  pub ended-told : (e : RunFault) (begun written input rest : Option (List ℕ)) → ToldUntil e begun written input rest → EndedBy e setup read feeders journal begun written input rest
+  ended-told : (e : RunFault) (begun written input rest : Option (List ℕ)) → ToldUntil e begun written input rest → EndedBy e setup read feeders journal begun written input rest
   ended-told fault.Read begun written input rest t = t
   ended-told fault.TooMuch begun written input rest t = t
   ended-told fault.Write begun written input rest t = inl t
@@ -154,12 +154,12 @@ module _ (setup : Settings) (read : List Record) (feeders : ℕ) (journal : Bool
   ended-first fault.NotStarted begun input none = absurd (none refl)
   ended-first _ begun input none = Keeps-refl begun
 
-  -- when all frames were read, for want of memory before a feeder began
-  pub ended-all : (e : RunFault) (feeds : List (List FilingText)) (count : ℕ) (begun mid input rest : Option (List ℕ)) → e ≡ fault.OutOfMemory
-      → IfSome input (λ bytes. HasRead feeders (frames bytes) feeds count begun mid) → EndedBy e setup read feeders journal begun mid input rest
-  ended-all e feeds count begun mid input rest is h =
-      subst (λ (k : RunFault). EndedBy k setup read feeders journal begun mid input rest) (sym is)
-      (inr (if-some {P = λ bytes. HasRead feeders (frames bytes) feeds count begun mid} {Q = λ bytes. EndedByMemory setup read feeders journal (frames bytes) begun mid} input (λ bytes r. inl r.told) h))
+  -- before a feeder began
+  pub ended-before : (e : RunFault) (begun written input rest : Option (List ℕ)) → EndedBefore e begun written input rest → EndedBy e setup read feeders journal begun written input rest
+  ended-before e begun written input rest (inl told) = ended-told e begun written input rest told
+  ended-before e begun written input rest (inr memory) =
+      subst (λ (k : RunFault). EndedBy k setup read feeders journal begun written input rest) (sym memory.0)
+      (inr (if-some {P = λ bytes. Appends begun written (long_lines (frames bytes))} {Q = λ bytes. EndedByMemory setup read feeders journal (frames bytes) begun written} input (λ bytes told. inl told) memory.1))
 
   -- when the feeders had filed
   pub ended-filed : (e : RunFault) (input rest : Option (List ℕ)) (feeds : List (List FilingText)) (count : ℕ) (begun mid written : Option (List ℕ)) (core : History) (stop : Option RunFault) (r : ℕ)

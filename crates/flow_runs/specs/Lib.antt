@@ -4,3 +4,4 @@ pub mod Reading
 pub mod Ends
 pub mod Filing
 pub mod ManyRuns
+pub mod StoredRuns

@@ -1,5 +1,5 @@
 -- What is read before the feeders start.
-use Rattle.std.specs.Prelude.{◌≡◌, ℕ, List, [], ◌∷◌, ◌++◌, length, take, nat_le, if◌then◌else◌, Option, None}
+use Rattle.std.specs.Prelude.{◌≡◌, ◌⊎◌, ℕ, List, [], ◌∷◌, ◌++◌, length, take, nat_le, if◌then◌else◌, Option, None, IfSome}
 use Rattle.std.specs.Io.KnownBytes.{Appends, Consumes}
 use Rattle.fpl_message.specs.Filings.{FilingText}
 use Rattle.flow_input.specs.Frames.{frames, ended_frames}
@@ -74,3 +74,8 @@ abbrev pub LeavesNext : RunFault → Option FilingText → Option (List ℕ) →
 LeavesNext fault.Write filing before after = (filing ≡ None) × AppendsFront before after too_long_line
 LeavesNext fault.OutOfMemory filing before after = after ≡ before
 LeavesNext _ filing before after = ⊥
+
+-- the same where the run ended before a feeder began: while it was read, or when all was, for want of memory
+abbrev pub EndedBefore : RunFault → Option (List ℕ) → Option (List ℕ) → Option (List ℕ) → Option (List ℕ) → Type 0
+EndedBefore why begun written input rest =
+    ToldUntil why begun written input rest ⊎ ((why ≡ fault.OutOfMemory) × IfSome input (λ bytes. Appends begun written (long_lines (frames bytes))))

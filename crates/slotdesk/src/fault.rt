@@ -2,8 +2,8 @@
 ghost use Rattle.std.specs.Prelude.{◌≤◌};
 
 use flow_core::{JournalFault, ServeFault};
-use flow_runs::RunFault;
-use flow_store::{OpenFault, StoredFault};
+use flow_runs::{RunFault, StoredRunFault};
+use flow_store::{OpenFault, StoreFault, StoredFault};
 
 /// Exit statuses.
 pub const DONE: u8 = 0;
@@ -109,6 +109,25 @@ impl From<StoredFault> for Fault {
             StoredFault::HandOn => Fault::Write,
             StoredFault::OutOfMemory => Fault::OutOfMemory,
             StoredFault::Store => Fault::Store,
+        }
+    }
+}
+
+impl From<StoreFault> for Fault {
+    fn from(fault: StoreFault) -> Fault {
+        match fault {
+            StoreFault::HandOn => Fault::Write,
+            StoreFault::OutOfMemory => Fault::OutOfMemory,
+            StoreFault::Device | StoreFault::Full => Fault::Store,
+        }
+    }
+}
+
+impl From<StoredRunFault> for Fault {
+    fn from(fault: StoredRunFault) -> Fault {
+        match fault {
+            StoredRunFault::Begin(fault) | StoredRunFault::End(fault) => Fault::from(fault),
+            StoredRunFault::Store(fault) => Fault::from(fault),
         }
     }
 }

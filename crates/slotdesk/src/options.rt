@@ -1,4 +1,6 @@
 //! The words of the command line.
+ghost use Rattle.std.specs.Prelude.{◌≤◌, IsTrue};
+ghost use Rattle.flow_core.specs.declared.entry.TheConstants.{MAX_FEEDERS};
 
 use clap::builder::ValueParser;
 use clap::{Arg, ArgAction, Command, Error};
@@ -55,6 +57,14 @@ impl Options<'_> {
     pub fn is_new(&self) -> bool {
         self.resume || self.start.is_some()
     }
+
+    /// Whether 2 to 64 feeders file. The command line has refused more.
+    pub fn has_many_feeders(&self) -> bool
+        ensures some { IsTrue result → 2 ≤ self.now.feeders }
+        ensures most { IsTrue result → self.now.feeders ≤ MAX_FEEDERS }
+    {
+        2 <= self.feeders && self.feeders <= MAX_FEEDERS as u32
+    }
 }
 
 fn start_argument<'a>(alloc: Global) -> Result<Arg<'a>, AllocError> {
@@ -108,12 +118,11 @@ fn resume_argument<'a>(alloc: Global) -> Result<Arg<'a>, AllocError> {
         .conflicts_with("start")
 }
 
-fn store_argument<'a>(alloc: Global) -> Result<Arg<'a>, AllocError> {
+fn store_argument<'a>(alloc: Global) -> Arg<'a> {
     Arg::new(alloc, "store")
         .long("store")
         .value_name("FILE")
         .help("Keeps the desk in FILE, or resumes it")
-        .conflicts_with("feeders")
 }
 
 fn command<'a>(alloc: Global) -> Result<Command<'a>, AllocError> {
@@ -128,7 +137,7 @@ fn command<'a>(alloc: Global) -> Result<Command<'a>, AllocError> {
         .arg(feeders_argument(alloc))?
         .arg(journal_argument(alloc))?
         .arg(resume_argument(alloc)?)?
-        .arg(store_argument(alloc)?)
+        .arg(store_argument(alloc))
 }
 
 /// Reads the words of the command line, of which the first is the program's name.
