@@ -4,6 +4,31 @@ use fpl_message::{Filing, Message, Order, Reading};
 use fpl_text::{Minute, Text, TimeOfDay};
 use std::alloc::{AllocError, Global};
 use std::collections::HashMap;
+use std::fmt;
+
+/// A time of day.
+#[derive(Clone, Copy)]
+pub struct OfDay {
+    hour: u8,
+    minute: u8,
+}
+
+impl OfDay {
+    fn of(time: TimeOfDay) -> OfDay {
+        OfDay {
+            hour: time.hour(),
+            minute: time.minute(),
+        }
+    }
+}
+
+impl fmt::Display for OfDay {
+    fn fmt<W: fmt::Write>(&self, f: &mut fmt::Formatter<W>) -> fmt::Result {
+        let hour = self.hour;
+        let minute = self.minute;
+        write!(f, "{hour:02}{minute:02}")
+    }
+}
 
 /// What an event is.
 #[derive(Clone, Copy)]
@@ -64,7 +89,7 @@ pub struct Event {
     /// The off-block time that a message gives, or that the plan of a notice had.
     pub off_block: Option<Minute>,
     /// The time of day of a departure.
-    pub actual: Option<TimeOfDay>,
+    pub actual: Option<OfDay>,
     /// How a departure is to the take-off time that was told.
     pub window: Option<Window>,
     /// The take-off time that a notice tells.
@@ -156,7 +181,7 @@ impl<'a> Course<'a> {
         &mut self,
         filing: &Filing,
         plan: u32,
-    ) -> Result<(Option<Minute>, Option<TimeOfDay>), AllocError> {
+    ) -> Result<(Option<Minute>, Option<OfDay>), AllocError> {
         let Reading::Msg(message) = filing.reading() else {
             return Ok((None, None));
         };
@@ -173,7 +198,7 @@ impl<'a> Course<'a> {
             self.off_blocks.insert(plan, moment)?;
         }
         match message {
-            Message::Dep(departure) => Ok((off_block, Some(departure.time))),
+            Message::Dep(departure) => Ok((off_block, Some(OfDay::of(departure.time)))),
             _ => Ok((off_block, None)),
         }
     }
@@ -271,9 +296,4 @@ pub fn courses_of(
     }
     events.sort_by_key(|event| event.place)?;
     Ok(events)
-}
-
-/// A time of day in four digits.
-pub fn hhmm_of(time: TimeOfDay) -> Text<4> {
-    Minute::from_minutes(u32::from(time.minutes())).hhmm()
 }

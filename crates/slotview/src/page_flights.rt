@@ -2,7 +2,7 @@
 use crate::course::{Event, courses_of, window_name};
 use crate::delay::Delays;
 use crate::fault::{Fault, unwritten};
-use crate::html::{Head, OfDay, When, begin_table, end_table, put};
+use crate::html::{Actual, Head, When, begin_table, end_table, put};
 use flow_core::Core;
 use flow_view::FlightDelay;
 use fpl_text::Text;
@@ -74,7 +74,7 @@ fn put_event<W: Write>(writer: &mut W, event: &Event, day: u32) -> Result<(), Fa
         moment: event.off_block,
         day,
     };
-    let actual = OfDay(event.actual);
+    let actual = Actual(event.actual);
     let window = event.window.and_then(window_name).unwrap_or("");
     let ctot = When {
         moment: event.told.map(|told| told.ctot),
