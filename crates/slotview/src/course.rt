@@ -1,5 +1,5 @@
 //! What was filed about a flight, with its times.
-use flow_core::{Core, Entry, Kind, Said, Told, Verdict, Window};
+use flow_core::{Core, Entry, Kind, Said, Verdict, Window};
 use fpl_message::{Filing, Message, Order, Reading};
 use fpl_text::{Minute, Text, TimeOfDay};
 use std::alloc::{AllocError, Global};
@@ -27,6 +27,35 @@ impl fmt::Display for OfDay {
         let hour = self.hour;
         let minute = self.minute;
         write!(f, "{hour:02}{minute:02}")
+    }
+}
+
+/// How a departure is to the take-off time that was told.
+#[derive(Clone, Copy)]
+pub enum Timing {
+    Early,
+    InWindow,
+    Late,
+}
+
+impl Timing {
+    /// That of a window. None where no take-off time was told.
+    fn of(window: Window) -> Option<Timing> {
+        match window {
+            Window::None => None,
+            Window::Early => Some(Timing::Early),
+            Window::InWindow => Some(Timing::InWindow),
+            Window::Late => Some(Timing::Late),
+        }
+    }
+
+    /// Its name, as answers have it.
+    pub fn name(self) -> &'static str {
+        match self {
+            Timing::Early => "Early",
+            Timing::InWindow => "InWindow",
+            Timing::Late => "Late",
+        }
     }
 }
 
@@ -91,19 +120,10 @@ pub struct Event {
     /// The time of day of a departure.
     pub actual: Option<OfDay>,
     /// How a departure is to the take-off time that was told.
-    pub window: Option<Window>,
-    /// The take-off time that a notice tells.
-    pub told: Option<Told>,
-}
-
-/// The name of a window, as answers have it. None where no take-off time was told.
-pub fn window_name(window: Window) -> Option<&'static str> {
-    match window {
-        Window::None => None,
-        Window::Early => Some("Early"),
-        Window::InWindow => Some("InWindow"),
-        Window::Late => Some("Late"),
-    }
+    pub timing: Option<Timing>,
+    /// The take-off time that a notice tells, and the regulation that causes it.
+    pub ctot: Option<Minute>,
+    pub cause: Option<Text<8>>,
 }
 
 /// The entries of a journal, passed in their order: the desk's time, and the off-block times of plans.
@@ -218,8 +238,8 @@ impl<'a> Course<'a> {
         };
         let filing = self.filing_of(entry)?;
         let (off_block, actual) = self.times_of(&filing, number)?;
-        let window = match receipt.verdict {
-            Verdict::Departed { window, .. } => Some(window),
+        let timing = match receipt.verdict {
+            Verdict::Departed { window, .. } => Timing::of(window),
             _ => None,
         };
         Ok(Some(Event {
@@ -230,8 +250,9 @@ impl<'a> Course<'a> {
             plan: Some(number),
             off_block,
             actual,
-            window,
-            told: None,
+            timing,
+            ctot: None,
+            cause: None,
         }))
     }
 
@@ -250,10 +271,10 @@ impl<'a> Course<'a> {
     ) -> Option<Event> {
         let notice = self.core.notice(number)?;
         let place = places.get(&notice.ident).copied()?;
-        let (what, told) = match &notice.says {
-            Said::Sam(told) => (What::Sam, Some(*told)),
-            Said::Srm(told) => (What::Srm, Some(*told)),
-            Said::Slc => (What::Slc, None),
+        let (what, ctot, cause) = match &notice.says {
+            Said::Sam(told) => (What::Sam, Some(told.ctot), Some(told.regulation)),
+            Said::Srm(told) => (What::Srm, Some(told.ctot), Some(told.regulation)),
+            Said::Slc => (What::Slc, None, None),
         };
         Some(Event {
             place,
@@ -263,8 +284,9 @@ impl<'a> Course<'a> {
             plan: None,
             off_block: Some(notice.off_block),
             actual: None,
-            window: None,
-            told,
+            timing: None,
+            ctot,
+            cause,
         })
     }
 }

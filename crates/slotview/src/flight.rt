@@ -1,5 +1,5 @@
 //! A flight: its plans, its slots, and what was filed and said about it.
-use crate::course::{Event, courses_of, window_name};
+use crate::course::{Event, courses_of};
 use crate::fault::Fault;
 use crate::list::holding_name;
 use crate::named::is_of;
@@ -158,7 +158,14 @@ fn put_event<W: Write + Drop>(
     sheet: &mut Sheet<'_, W>,
     event: &Event,
 ) -> Result<(), Fault> {
-    let window = event.window.and_then(window_name).unwrap_or("");
+    let window = match event.timing {
+        Some(timing) => timing.name(),
+        None => "",
+    };
+    let cause = match &event.cause {
+        Some(cause) => Cell::text(cause.as_bytes()),
+        None => Cell::Blank,
+    };
     let plan = match event.plan {
         Some(number) => Cell::number(number),
         None => Cell::Blank,
@@ -175,8 +182,8 @@ fn put_event<W: Write + Drop>(
         Cell::moment_or_blank(event.off_block),
         actual,
         Cell::text(window.as_bytes()),
-        Cell::moment_or_blank(ctot_of(&event.told)),
-        cause_of(&event.told),
+        Cell::moment_or_blank(event.ctot),
+        cause,
     ])
 }
 
