@@ -1,9 +1,8 @@
 -- Tables of the greatest delays so far.
 use Rattle.std.proofs.Common.{◌≡◌, ◌≤◌, ◌<◌, ◌+◌, ◌-◌, ◌++◌, ◌∷◌, ◌∙◌, [], ℕ, zero, suc, Bool, List, Option, None, Some, length, take, get_or, refl, ap, sym, arith, slice_get}
-use Rattle.std.specs.Prelude.{slice_set, slice_index_or, flat_map, if◌then◌else◌, fold}
+use Rattle.std.specs.Prelude.{slice_set, slice_index_or, flat_map, if◌then◌else◌}
 use Rattle.std.specs.Option.{option_map, option_to_list}
 use Rattle.std.proofs.Math.Seq.{take-suc}
-use Rattle.std.proofs.Math.Numerals.{add-one}
 use Rattle.std.proofs.lemmas.Bool.{eq-eqb, ne_eqb}
 use Rattle.std.proofs.lemmas.List.{flat_map_more}
 use Rattle.std.proofs.lemmas.List.Sums.{fold_more}

@@ -1,5 +1,5 @@
 -- The plans of a desk, one by one.
-use Rattle.std.proofs.Common.{◌≡◌, ◌≤◌, ◌+◌, ◌∙◌, ◌++◌, ◌∷◌, [], ℕ, List, Option, Some, length, take, get_or, refl, ap, sym, arith, slice_get}
+use Rattle.std.proofs.Common.{◌≡◌, ◌≤◌, ◌+◌, ◌∙◌, ◌++◌, ◌∷◌, [], ℕ, List, Option, Some, length, take, refl, ap, sym, arith, slice_get}
 use Rattle.std.specs.Prelude.{flat_map, Result, Ok, Err}
 use Rattle.std.specs.Option.{option_to_list}
 use Rattle.std.proofs.lemmas.List.{flat_map_more, take_more}
@@ -7,7 +7,6 @@ use Rattle.std.proofs.lemmas.Option.{get_or_from_slice_get, slice_get_within}
 use Rattle.fpl_message.specs.declared.refusal.Refusal.{Refusal}
 use Rattle.fpl_message.specs.Reads.{reading_of}
 use Rattle.flow_plans.specs.Settings.{Settings}
-use Rattle.flow_traffic.specs.Traffic.{Traffic}
 use Rattle.flow_traffic.specs.Asked.{Asked, asked}
 use Rattle.flow_traffic.specs.Answers.{settle}
 use Rattle.flow_core.specs.State.{State, Input, fresh}

@@ -7,3 +7,6 @@ pub mod Delays
 pub mod Histories
 pub mod Openings
 pub mod Entrants
+pub mod Advised
+pub mod Frozen
+pub mod AdvisedAt

@@ -1,7 +1,6 @@
 -- Openings, entry by entry.
-use Rattle.std.proofs.Common.{◌≡◌, ◌+◌, ◌-◌, ◌∙◌, ◌++◌, ◌∷◌, [], ℕ, Bool, true, false, List, Option, Some, None, length, take, refl, ap, sym, slice_get, map}
+use Rattle.std.proofs.Common.{◌≡◌, ◌+◌, ◌-◌, ◌∙◌, ◌++◌, ℕ, Bool, true, false, List, Option, Some, None, length, take, refl, ap, sym, slice_get, map}
 use Rattle.std.specs.Option.{option_map, option_map_or, option_to_list}
-use Rattle.std.proofs.lemmas.List.{append-nil}
 use Rattle.flow_plans.specs.Settings.{Settings}
 use Rattle.flow_regulations.specs.Regulations.{Regulation}
 use Rattle.flow_regulations.specs.Listing.{Listed, regulation_of}

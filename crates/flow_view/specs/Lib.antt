@@ -1,3 +1,4 @@
+pub mod Advised
 pub mod Counts
 pub mod Delays
 pub mod Load

@@ -9,7 +9,6 @@ use Rattle.flow_traffic.specs.declared.verdict.Verdict.{Verdict}
 use Rattle.flow_traffic.specs.declared.verdict.Verdict.TheVariants.{Refused}
 use Rattle.flow_core.specs.History.{History, state_of}
 use Rattle.flow_view.specs.declared.slot_row.SlotRow.{SlotRow}
-use Rattle.flow_view.specs.declared.totals.Totals.{Totals}
 use Rattle.flow_view.specs.declared.what_if.Swept.{Swept}
 use Rattle.flow_view.specs.declared.what_if.SweepFault.{SweepFault}
 use Rattle.flow_view.specs.declared.what_if.SweepFault.TheVariants as fault

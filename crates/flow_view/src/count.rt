@@ -16,8 +16,8 @@ use fpl_text::{FlightRules, GREATEST_MINUTE, Minute};
 use std::alloc::{AllocError, Allocator};
 
 /// How a held flight stands to a place that it is planned to enter.
-#[derive(Clone, Copy, Debug, PartialEq, Eq)]
-pub enum Standing {
+#[derive(Clone, Copy)]
+enum Standing {
     /// Filed, and a regulation there may apply to it.
     Subject,
     /// Filed, and none applies to it: it is flown by visual flight rules, filed in the air or exempt.
@@ -41,9 +41,13 @@ pub struct Count {
     pub from: Minute,
     /// The first minute after the window.
     pub to: Minute,
+    /// Filed flights to which a regulation there may apply.
     pub subject: u64,
+    /// Filed flights to which none applies: flown by visual flight rules, filed in the air or exempt.
     pub exempt: u64,
+    /// Departed flights on their way: their planned entry is after the desk's time.
     pub departed: u64,
+    /// Departed flights that are there: their planned entry isn't after the desk's time.
     pub entered: u64,
 }
 

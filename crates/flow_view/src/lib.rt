@@ -13,6 +13,7 @@
 mod count;
 mod delay;
 mod flight;
+pub mod laws;
 mod load;
 mod opening;
 mod past;
@@ -24,7 +25,7 @@ mod totals;
 mod what_if;
 mod windows;
 
-pub use count::{Count, Standing, counts_of};
+pub use count::{Count, counts_of};
 pub use delay::{DelayTotals, FlightDelay, Spread, delay_totals, delays_of, most_delayed_first};
 pub use flight::{Flight, entry_at};
 pub use load::{Load, held_later, loads_of};

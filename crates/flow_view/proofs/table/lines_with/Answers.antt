@@ -11,7 +11,7 @@ loop-row-preserved g c =
     let i : ℕ = c.loop-row.row-index in
     let next : take (i + 1) rows ≡ take i rows ++ c.row-item.result ∷ [] = take-next rows i c.row-item.result c.loop-row-test.true c.row-item.is in
     record {
-      made = line-added (take i rows) c.row-item.result c.loop-row.before c.line_of.result _ _ c.loop-row.invariant.made c.loop-row.invariant.before c.line_of.ensures c.in_ok-push.ensures.items
+      made = line-added (take i rows) c.row-item.result c.loop-row.before c.line_of.result c.loop-row.made.items c.push.new.self.items c.loop-row.invariant.made c.loop-row.invariant.before c.line_of.ensures c.in_ok-push.ensures.items
           ∙ ap lines (sym next);
       before = sym (slot-of-last None (take i rows) c.row-item.result) ∙ ap (last_slot None) (sym next);
     }

@@ -1,4 +1,4 @@
-use Rattle.std.proofs.Common.{◌≡◌, ◌∷◌, take, map}
+use Rattle.std.proofs.Common.{◌≡◌, take, map}
 use Rattle.std.specs.List.{AllByRecursion}
 use Rattle.flow_view.specs.Sweeps.{swept, order_at, Opens}
 use Rattle.flow_view.proofs.what_if.sweep.Given as goal
