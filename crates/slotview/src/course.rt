@@ -1,9 +1,63 @@
 //! What was filed about a flight, with its times.
-use flow_core::{Core, Entry, Kind, Said, Told, Verdict, Window};
+use flow_core::{Core, Entry, Kind, Said, Verdict, Window};
 use fpl_message::{Filing, Message, Order, Reading};
 use fpl_text::{Minute, Text, TimeOfDay};
 use std::alloc::{AllocError, Global};
 use std::collections::HashMap;
+use std::fmt;
+
+/// A time of day.
+#[derive(Clone, Copy)]
+pub struct OfDay {
+    hour: u8,
+    minute: u8,
+}
+
+impl OfDay {
+    fn of(time: TimeOfDay) -> OfDay {
+        OfDay {
+            hour: time.hour(),
+            minute: time.minute(),
+        }
+    }
+}
+
+impl fmt::Display for OfDay {
+    fn fmt<W: fmt::Write>(&self, f: &mut fmt::Formatter<W>) -> fmt::Result {
+        let hour = self.hour;
+        let minute = self.minute;
+        write!(f, "{hour:02}{minute:02}")
+    }
+}
+
+/// How a departure is to the take-off time that was told.
+#[derive(Clone, Copy)]
+pub enum Timing {
+    Early,
+    InWindow,
+    Late,
+}
+
+impl Timing {
+    /// That of a window. None where no take-off time was told.
+    fn of(window: Window) -> Option<Timing> {
+        match window {
+            Window::None => None,
+            Window::Early => Some(Timing::Early),
+            Window::InWindow => Some(Timing::InWindow),
+            Window::Late => Some(Timing::Late),
+        }
+    }
+
+    /// Its name, as answers have it.
+    pub fn name(self) -> &'static str {
+        match self {
+            Timing::Early => "Early",
+            Timing::InWindow => "InWindow",
+            Timing::Late => "Late",
+        }
+    }
+}
 
 /// What an event is.
 #[derive(Clone, Copy)]
@@ -64,21 +118,12 @@ pub struct Event {
     /// The off-block time that a message gives, or that the plan of a notice had.
     pub off_block: Option<Minute>,
     /// The time of day of a departure.
-    pub actual: Option<TimeOfDay>,
+    pub actual: Option<OfDay>,
     /// How a departure is to the take-off time that was told.
-    pub window: Option<Window>,
-    /// The take-off time that a notice tells.
-    pub told: Option<Told>,
-}
-
-/// The name of a window, as answers have it. None where no take-off time was told.
-pub fn window_name(window: Window) -> Option<&'static str> {
-    match window {
-        Window::None => None,
-        Window::Early => Some("Early"),
-        Window::InWindow => Some("InWindow"),
-        Window::Late => Some("Late"),
-    }
+    pub timing: Option<Timing>,
+    /// The take-off time that a notice tells, and the regulation that causes it.
+    pub ctot: Option<Minute>,
+    pub cause: Option<Text<8>>,
 }
 
 /// The entries of a journal, passed in their order: the desk's time, and the off-block times of plans.
@@ -156,7 +201,7 @@ impl<'a> Course<'a> {
         &mut self,
         filing: &Filing,
         plan: u32,
-    ) -> Result<(Option<Minute>, Option<TimeOfDay>), AllocError> {
+    ) -> Result<(Option<Minute>, Option<OfDay>), AllocError> {
         let Reading::Msg(message) = filing.reading() else {
             return Ok((None, None));
         };
@@ -173,7 +218,7 @@ impl<'a> Course<'a> {
             self.off_blocks.insert(plan, moment)?;
         }
         match message {
-            Message::Dep(departure) => Ok((off_block, Some(departure.time))),
+            Message::Dep(departure) => Ok((off_block, Some(OfDay::of(departure.time)))),
             _ => Ok((off_block, None)),
         }
     }
@@ -193,8 +238,8 @@ impl<'a> Course<'a> {
         };
         let filing = self.filing_of(entry)?;
         let (off_block, actual) = self.times_of(&filing, number)?;
-        let window = match receipt.verdict {
-            Verdict::Departed { window, .. } => Some(window),
+        let timing = match receipt.verdict {
+            Verdict::Departed { window, .. } => Timing::of(window),
             _ => None,
         };
         Ok(Some(Event {
@@ -205,8 +250,9 @@ impl<'a> Course<'a> {
             plan: Some(number),
             off_block,
             actual,
-            window,
-            told: None,
+            timing,
+            ctot: None,
+            cause: None,
         }))
     }
 
@@ -225,10 +271,10 @@ impl<'a> Course<'a> {
     ) -> Option<Event> {
         let notice = self.core.notice(number)?;
         let place = places.get(&notice.ident).copied()?;
-        let (what, told) = match &notice.says {
-            Said::Sam(told) => (What::Sam, Some(*told)),
-            Said::Srm(told) => (What::Srm, Some(*told)),
-            Said::Slc => (What::Slc, None),
+        let (what, ctot, cause) = match &notice.says {
+            Said::Sam(told) => (What::Sam, Some(told.ctot), Some(told.regulation)),
+            Said::Srm(told) => (What::Srm, Some(told.ctot), Some(told.regulation)),
+            Said::Slc => (What::Slc, None, None),
         };
         Some(Event {
             place,
@@ -238,8 +284,9 @@ impl<'a> Course<'a> {
             plan: None,
             off_block: Some(notice.off_block),
             actual: None,
-            window: None,
-            told,
+            timing: None,
+            ctot,
+            cause,
         })
     }
 }
@@ -271,9 +318,4 @@ pub fn courses_of(
     }
     events.sort_by_key(|event| event.place)?;
     Ok(events)
-}
-
-/// A time of day in four digits.
-pub fn hhmm_of(time: TimeOfDay) -> Text<4> {
-    Minute::from_minutes(u32::from(time.minutes())).hhmm()
 }

@@ -1,5 +1,5 @@
 //! A flight: its plans, its slots, and what was filed and said about it.
-use crate::course::{Event, courses_of, hhmm_of, window_name};
+use crate::course::{Event, courses_of};
 use crate::fault::Fault;
 use crate::list::holding_name;
 use crate::named::is_of;
@@ -153,14 +153,25 @@ fn put_slot<W: Write + Drop>(
 }
 
 /// Writes a message about a flight, or a notice to it.
-fn put_event<W: Write + Drop>(sheet: &mut Sheet<'_, W>, event: &Event) -> Result<(), Fault> {
-    let window = event.window.and_then(window_name).unwrap_or("");
+fn put_event<W: Write + Drop>(
+    alloc: Global,
+    sheet: &mut Sheet<'_, W>,
+    event: &Event,
+) -> Result<(), Fault> {
+    let window = match event.timing {
+        Some(timing) => timing.name(),
+        None => "",
+    };
+    let cause = match &event.cause {
+        Some(cause) => Cell::text(cause.as_bytes()),
+        None => Cell::Blank,
+    };
     let plan = match event.plan {
         Some(number) => Cell::number(number),
         None => Cell::Blank,
     };
     let actual = match event.actual {
-        Some(actual) => Cell::text(hhmm_of(actual).as_bytes()),
+        Some(actual) => Cell::long(format!(in alloc; "{actual}")?),
         None => Cell::Blank,
     };
     sheet.put(&[
@@ -171,8 +182,8 @@ fn put_event<W: Write + Drop>(sheet: &mut Sheet<'_, W>, event: &Event) -> Result
         Cell::moment_or_blank(event.off_block),
         actual,
         Cell::text(window.as_bytes()),
-        Cell::moment_or_blank(ctot_of(&event.told)),
-        cause_of(&event.told),
+        Cell::moment_or_blank(event.ctot),
+        cause,
     ])
 }
 
@@ -186,7 +197,7 @@ fn put_said<W: Write + Drop>(
     let mut places = HashMap::new(alloc);
     places.insert(ident, 0)?;
     for event in &courses_of(alloc, core, &places)? {
-        put_event(sheet, event)?;
+        put_event(alloc, sheet, event)?;
     }
     Ok(())
 }

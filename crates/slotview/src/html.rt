@@ -1,7 +1,8 @@
 //! The parts of a page: its head, and tables.
+use crate::course::OfDay;
 use crate::fault::{Fault, unwritten};
 use crate::moments::Short;
-use fpl_text::{Minute, TimeOfDay};
+use fpl_text::Minute;
 use std::fmt;
 use std::io::Write;
 
@@ -96,18 +97,16 @@ impl fmt::Display for When {
     }
 }
 
-/// What may be a time of day, in four digits.
+/// What may be a time of day.
 #[derive(Clone, Copy)]
-pub struct OfDay(pub Option<TimeOfDay>);
+pub struct Actual(pub Option<OfDay>);
 
-impl fmt::Display for OfDay {
+impl fmt::Display for Actual {
     fn fmt<W: fmt::Write>(&self, f: &mut fmt::Formatter<W>) -> fmt::Result {
-        let Some(time) = self.0 else {
-            return Ok(());
-        };
-        let hour = time.hour();
-        let minute = time.minute();
-        write!(f, "{hour:02}{minute:02}")
+        match self.0 {
+            Some(time) => write!(f, "{time}"),
+            None => Ok(()),
+        }
     }
 }
 

@@ -1,8 +1,8 @@
 //! The courses of the regulated flights on a page.
-use crate::course::{Event, courses_of, window_name};
+use crate::course::{Event, courses_of};
 use crate::delay::Delays;
 use crate::fault::{Fault, unwritten};
-use crate::html::{Head, OfDay, When, begin_table, end_table, put};
+use crate::html::{Actual, Head, When, begin_table, end_table, put};
 use flow_core::Core;
 use flow_view::FlightDelay;
 use fpl_text::Text;
@@ -74,14 +74,17 @@ fn put_event<W: Write>(writer: &mut W, event: &Event, day: u32) -> Result<(), Fa
         moment: event.off_block,
         day,
     };
-    let actual = OfDay(event.actual);
-    let window = event.window.and_then(window_name).unwrap_or("");
+    let actual = Actual(event.actual);
+    let window = match event.timing {
+        Some(timing) => timing.name(),
+        None => "",
+    };
     let ctot = When {
-        moment: event.told.map(|told| told.ctot),
+        moment: event.ctot,
         day,
     };
-    let cause = match &event.told {
-        Some(told) => str::from_utf8(told.regulation.as_bytes()).unwrap_or(""),
+    let cause = match &event.cause {
+        Some(cause) => str::from_utf8(cause.as_bytes()).unwrap_or(""),
         None => "",
     };
     write!(
