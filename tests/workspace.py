@@ -53,4 +53,11 @@ def placed(folder, name, stands_on, kept, proofs=True):
         target = folder / "crates" / name / source.relative_to(kept).with_suffix("")
         target.parent.mkdir(parents=True, exist_ok=True)
         shutil.copyfile(source, target)
+    # A program exports nothing, so its modules are placed beside the tests of them.
+    program = ROOT / "crates" / kept.name / "src"
+    if (program / "main.rt").exists():
+        for source in program.glob("*.rt"):
+            target = folder / "crates" / name / "src" / source.name
+            if source.name not in ("main.rt", "tests.rt") and not target.exists():
+                shutil.copyfile(source, target)
     return folder / "crates" / name
