@@ -3,7 +3,7 @@
 
     docs/check.py [PROGRAM]
 
-Looked at are README.md, docs/*.md, the stories in samples/ and the sources of all crates. Each check is a file in checks/:
+Looked at are README.md, docs/*.md, tests/README.md, the stories in samples/ and the sources of all crates. Each check is a file in checks/:
 - links: each relative link leads to a file or folder, and to a heading of it if it names one; each file of code that a
   page names, as `name.rt` or `Name.antt`, perhaps with its folders, is there, and so is each `Type::function`;
 - quotations: a block between fences below a line with a link and a colon at its end is found word for word in that file,
@@ -14,6 +14,8 @@ Looked at are README.md, docs/*.md, the stories in samples/ and the sources of a
 - walks: in docs/ARCHITECTURE.md each function in a walk is in the file named before it, that file in the crate named
   before it, and what the diagram names is there;
 - rings: no two modules of a crate import one another;
+- prose: no line has over 100 columns, outside tables and fences, and no page has a word that docs/GLOSSARY.md replaces, as
+  far as a script can tell; the pages that aren't so yet are listed there;
 - lists: docs/FORMATS.md and docs/GUIDE.md have each refusal with its number, and README.md just the ported crates of crates.txt.
 With a program, each folder of samples/ is run as well: args (a word a line), stdin, stdout and status (0 where absent).
 Prints a line for each finding, then 'N findings'. The status is 1 if there are any.
@@ -23,9 +25,9 @@ import sys
 
 sys.dont_write_bytecode = True
 
-from checks import definitions, links, lists, proved, quotations, rings, samples, walks  # noqa: E402
+from checks import definitions, links, lists, prose, proved, quotations, rings, samples, walks  # noqa: E402
 
-CHECKS = (links, quotations, definitions, proved, walks, rings, lists)
+CHECKS = (links, quotations, definitions, proved, walks, rings, prose, lists)
 
 
 def main():

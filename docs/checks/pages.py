@@ -10,7 +10,8 @@ CODE = re.compile(r"`([^`]+)`")
 
 
 def pages():
-    return [ROOT / "README.md", *sorted(DOCS.glob("*.md")), *sorted((ROOT / "samples").glob("**/*.md"))]
+    more = [*sorted(DOCS.glob("*.md")), *sorted((ROOT / "samples").glob("**/*.md"))]
+    return [ROOT / "README.md", *more, ROOT / "tests" / "README.md"]
 
 
 def text_of(file):

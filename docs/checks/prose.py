@@ -1,0 +1,98 @@
+"""Pages are written in lines of at most 100 columns, and in the words of the field.
+
+Lines of tables and between fences may be longer. What is between fences, in inline code or the target of a link is quoted,
+and may have any word."""
+import re
+
+from checks.pages import CODE, LINK, anchor_of, lines_outside_fences, name_of, pages, text_of
+
+LONGEST = 100
+
+# Words of the code that docs/GLOSSARY.md replaces, as far as a script can tell their sense, and what pages say instead.
+REPLACED = {
+    r"behind": "after, appended to",
+    r"rooms?": "capacity, buffer",
+    r"(?:is|are|was|were|be|been) told(?! apart)": "is notified, is issued",
+    r"tells? (?:a|the|each|its) (?:plan|flight)": "issues a slot or a notice to",
+    r"wants? of memory|memory (?:is|was) refused": "a failed allocation",
+    r"(?:stands|stood)(?! for)": "is, precedes",
+    r"(?:take|takes|taken|took) back": "undo, roll back",
+    r"(?:go|goes|going|went) on from": "resume",
+    r"(?:hands|handed|to hand) (?:\w+ ){0,3}on": "flush",
+    r"lets? go|gives? up|gave up": "release, discard",
+    r"answers (?:None|Some|Ok|Err|true|false|whether|an? (?:number|value|list|row))": "returns",
+    r"(?:is|are|was|were|be|been) noted": "is recorded, is collected",
+    r"(?:is|are|was|were|be|been) let in": "is inserted into the slot list",
+    r"comes? to (?:a|the|its|that) place": "enters, is planned over",
+    r"looks? again at": "reallocates",
+    r"off-block moments?": "off-block date and time",
+    r"a front of": "a prefix of",
+    r"so many": "the count by its name",
+    r"where (?:no|nobody|nothing|none)": "if",
+    r"dearest": "slowest",
+}
+
+# Pages, and sections of pages, in which there still are such lines or words. Whoever cleans one takes it off this list.
+NOT_YET = {
+    "docs/DECISIONS.md#the-store-flow_store-slotdesk",
+    "docs/DECISIONS.md#the-programs-and-their-first-build-command_line-slotdesk-slotview-bin",
+    "docs/DEFINITIONS.md",
+    "docs/FORMATS.md",
+    "docs/GUIDE.md",
+    "docs/PROVED.md",
+    "docs/THEOREM.md",
+    "samples/README.md",
+    "samples/departures-and-windows/story.md",
+    "samples/journal-and-going-on/story.md",
+    "samples/quiet-morning/story.md",
+    "samples/rates-and-ways/story.md",
+    "samples/refusals-and-remedies/story.md",
+    "samples/regulated-arrival/story.md",
+    "samples/store-and-going-on/story.md",
+    "tests/README.md",
+}
+
+
+def long_lines(lines):
+    for number, line in lines.items():
+        if len(line) > LONGEST and not line.startswith("|"):
+            yield number, "a line of %d columns, over %d" % (len(line), LONGEST)
+
+
+def without_quotations(text):
+    """A text without inline code and without what links lead to, with as many lines."""
+    text = LINK.sub(lambda found: found.group(0).replace(found.group(1), ""), text)
+    return CODE.sub(lambda found: "\n" * found.group(0).count("\n"), text)
+
+
+def replaced_words(lines):
+    # Words may go over the end of a line, so they are looked for in the whole page, with blank lines for its blocks.
+    text = without_quotations("\n".join(lines.get(number, "") for number in range(1, max(lines, default=0) + 1)))
+    for pattern, instead in REPLACED.items():
+        for found in re.finditer(r"\b(?:%s)\b" % pattern.replace(" ", r"(?: |\n(?:> *| *))"), text, re.I):
+            words = " ".join(found.group(0).split())
+            yield text.count("\n", 0, found.start()) + 1, "'%s', where pages say: %s" % (words, instead)
+
+
+def sections_of(page, lines):
+    """For each line the name of its page, and that with its heading."""
+    heading, found = "", {}
+    for number, line in lines.items():
+        if line.startswith("#"):
+            heading = anchor_of(line.lstrip("#"))
+        found[number] = {name_of(page), "%s#%s" % (name_of(page), heading)}
+    return found
+
+
+def findings():
+    unclean = set()
+    for page in pages():
+        lines = dict(lines_outside_fences(text_of(page)))
+        sections = sections_of(page, lines)
+        for number, what in sorted([*long_lines(lines), *replaced_words(lines)]):
+            listed = sections[number] & NOT_YET
+            unclean |= listed
+            if not listed:
+                yield "%s:%d: %s" % (name_of(page), number, what)
+    for name in sorted(NOT_YET - unclean):
+        yield "docs/checks/prose.py: %s is clean, or isn't there: take it off the list" % name
