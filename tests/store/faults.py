@@ -28,7 +28,7 @@ CALLS = {
 LINES = [b"", b"slotdesk: store fault\n", b"slotdesk: write fault\n", b"slotdesk: store exists\n", b"slotdesk: store in use\n"]
 
 # A journal of two entries, with which a store may begin.
-KEPT = [(0, 2, b"TIME 2409010501"), (0, 2, b"OPEN R1 ARR EDDF 2409011000 2409011200 20")]
+KEPT = [(0, 2, b"TIME 2409010501"), (0, 2, b"OPEN RMZ01 ARR EDDF 2409011000 2409011200 20")]
 JOURNAL = stores.HEAD.replace(b"STORE 1", b"JOURNAL 2") + b"".join(b"E 0 2 %d\n%s\n" % (len(text), text) for _, _, text in KEPT) + b"END 2\n"
 
 
