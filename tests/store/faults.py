@@ -79,28 +79,21 @@ def main():
     count = 0
     rows = [(call, how, journal) for call, hows in CALLS.items() for how in hows for journal in (b"", JOURNAL)]
     with tempfile.TemporaryDirectory() as folder:
-        for call, how, journal in rows:    print("faults: strace isn't here, so no system call was made to fail")
-        return
-    slotdesk, most = os.path.abspath(sys.argv[1]), 40 if "--long" in sys.argv else 6
-    count = 0
-    rows = [(call, how, journal) for call, hows in CALLS.items() for how in hows for journal in (b"", JOURNAL)]
-    with tempfile.TemporaryDirectory() as folder:
-        for call, how, journal in [(call, how, journal) for call, hows in CALLS.items() for how in hows for journal in (b"", JOURNAL)]:
-            if True:
-                for when in range(1, most + 1):
-                    path = os.path.join(folder, "store")
-                    for old in (path, path + ".new"):
-                        if os.path.exists(old):
-                            os.remove(old)
-                    made = trial(slotdesk, path, call, how, when, journal)
-                    if not os.path.exists(path):
-                        make_again(slotdesk, path, journal)
-                    gone_on = trial(slotdesk, path, call, how, when, journal)
-                    count += made + gone_on
-                    again = stores.store(slotdesk, path, input=b"TIME 2409010501\n")
-                    assert again.returncode == 0 and again.stdout, (call, how, when, again)
-                    if not made and not gone_on:
-                        break
+        path = os.path.join(folder, "store")
+        for call, how, journal in rows:
+            for when in range(1, most + 1):
+                for old in (path, path + ".new"):
+                    if os.path.exists(old):
+                        os.remove(old)
+                made = trial(slotdesk, path, call, how, when, journal)
+                if not os.path.exists(path):
+                    make_again(slotdesk, path, journal)
+                gone_on = trial(slotdesk, path, call, how, when, journal)
+                count += made + gone_on
+                again = stores.store(slotdesk, path, input=b"TIME 2409010501\n")
+                assert again.returncode == 0 and again.stdout, (call, how, when, again)
+                if not made and not gone_on:
+                    break
     print("faults: %d runs in which a system call failed or killed" % count)
 
 
