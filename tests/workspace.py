@@ -19,6 +19,9 @@ UNIT_TESTS = {
     "feeder": ["fpl_text", "fpl_message", "flow_plans", "flow_core", "flow_desk", "linked_list_allocator"],
 }
 
+# Modules of other tests that the tests of a crate use too.
+SHARED = {"store": ["log/src/disk.rt.in"]}
+
 
 def workspace():
     """The crates that each crate of the workspace stands on, by its name."""
@@ -53,6 +56,9 @@ def placed(folder, name, stands_on, kept, proofs=True):
         target = folder / "crates" / name / source.relative_to(kept).with_suffix("")
         target.parent.mkdir(parents=True, exist_ok=True)
         shutil.copyfile(source, target)
+    for shared in SHARED.get(kept.name, []):
+        source = kept.parent / shared
+        shutil.copyfile(source, folder / "crates" / name / "src" / source.with_suffix("").name)
     # A program exports nothing, so its modules are placed beside the tests of them.
     program = ROOT / "crates" / kept.name / "src"
     if (program / "main.rt").exists():
