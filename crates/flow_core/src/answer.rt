@@ -65,7 +65,7 @@ fn put_plan(line: &mut Line, plan: u32)
     ensures len { array_vec_len line.new ≤ array_vec_len line.old + 21 }
 {
     if plan > 0 {
-        put(line, b" ");
+        line.push(b' ');
         put_number(line, u64::from(plan));
     }
 }
@@ -113,7 +113,7 @@ fn put_refusal(line: &mut Line, refusal: Refusal)
 {
     put(line, refused_text(refusal));
     if let Some(detail) = refusal.detail() {
-        put(line, b" ");
+        line.push(b' ');
         put_number(line, detail as u64);
     }
 }
@@ -132,7 +132,7 @@ fn put_verdict(line: &mut Line, verdict: Verdict)
         Verdict::Departed { plan, window } => {
             put(line, b" OK DEP ");
             put_number(line, u64::from(plan));
-            put(line, b" ");
+            line.push(b' ');
             put(line, window_name(window));
         }
         Verdict::Refused(refusal) => put_refusal(line, refusal),
@@ -146,7 +146,7 @@ fn put_answer(line: &mut Line, receipt: &Receipt)
 {
     put_number(line, u64::from(receipt.number));
     put_verdict(line, receipt.verdict);
-    put(line, b"\n");
+    line.push(b'\n');
 }
 
 /// Appends of which flight a notice speaks.
@@ -201,7 +201,7 @@ fn put_notice(line: &mut Line, notice: &Notice)
             put_flight(line, notice);
         }
     }
-    put(line, b"\n");
+    line.push(b'\n');
 }
 
 /// Writes the answer line of a receipt.
