@@ -1,5 +1,6 @@
 //! A readable form of bytes that may not be text.
-ghost use Rattle.std.specs.Prelude.{◌≡◌, ◌≤◌, ◌<◌, ◌++◌, length, take, IfOk, OnOk, IsUtf8, string_bytes};
+ghost use Rattle.std.specs.Prelude.{◌≡◌, ◌≤◌, ◌<◌, ◌++◌, length, take};
+ghost use Rattle.std.specs.Prelude.{IfOk, OnOk, IsUtf8, string_bytes};
 ghost use Rattle.command_line.specs.Words.{IsReadable, digit_of, escaped};
 
 use std::alloc::{AllocError, Global};

@@ -39,7 +39,8 @@ pub fn answer<W: Write, A: Allocator + Copy>(
       filed = core.old.filed ++ record { feeder = 0; text = second text.now } ∷ [];
       undoable = true;
     }) }
-    ensures answer { OnOk result (Appends (W.contents writer.old.device) (W.contents writer.new.device)
+    ensures answer { OnOk result
+        (Appends (W.contents writer.old.device) (W.contents writer.new.device)
         (answer_text (state_of core.new) (length (state_of core.old).journal))) }
 {
     // `new` promises a filing of just these bytes, and that only their number and memory can refuse it.
@@ -60,7 +61,8 @@ pub fn answer<W: Write, A: Allocator + Copy>(
 
 /// The slot that a plan holds in an open regulation. None where the regulation isn't open, or its plan holds none.
 pub fn slot_in<A: Allocator + Copy>(core: &Core<A>, id: &Text<8>, plan: u32) -> Option<u32>
-    ensures { result ≡ option_and_then (λ l. held_slot l plan) (slots_of (state_of core.now).traffic id.now) }
+    ensures { result ≡ option_and_then (λ l. held_slot l plan)
+        (slots_of (state_of core.now).traffic id.now) }
 {
     // `slots` promises the slot list of that regulation, and `slot_of` the place of a flight in it.
     core.slots(id)?.slot_of(plan)

@@ -19,9 +19,11 @@ pub fn would_accept<A: Allocator + Copy>(
     now: Minute,
 ) -> Result<u32, PlanFault>
     requires { IsDeskTime now }
-    ensures accepted { IfOk result (λ number. (after : _) × (filed store.old.max_plans now store.old.plans message.now
+    ensures accepted { IfOk result (λ number. (after : _)
+        × (filed store.old.max_plans now store.old.plans message.now
         ≡ Ok after) × (number ≡ length after)) }
-    ensures refused { IfErr result (λ e. IsRefusal e (filed store.old.max_plans now store.old.plans message.now)) }
+    ensures refused { IfErr result (λ e.
+        IsRefusal e (filed store.old.max_plans now store.old.plans message.now)) }
     ensures same { store.new.plans ≡ store.old.plans }
 {
     let number = store.file(message, now)?;

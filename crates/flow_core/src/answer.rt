@@ -4,8 +4,10 @@ ghost use Rattle.std.specs.List.{flat_map};
 ghost use Rattle.fpl_message.specs.Numbers.{number_of, name_of};
 ghost use Rattle.flow_input.specs.Writes.{Writes};
 ghost use Rattle.arrayvec.specs.ArrayVec.{array_vec_len};
-ghost use Rattle.flow_core.specs.Output.{kind_text, window_text, plan_text, refusal_text, verdict_text, answer_line};
-ghost use Rattle.flow_core.specs.Output.{flight_text, told_text, notice_line, too_long_line, journal_full_line};
+ghost use Rattle.flow_core.specs.Output.{kind_text, window_text, plan_text};
+ghost use Rattle.flow_core.specs.Output.{refusal_text, verdict_text, answer_line};
+ghost use Rattle.flow_core.specs.Output.{flight_text, told_text, notice_line};
+ghost use Rattle.flow_core.specs.Output.{too_long_line, journal_full_line};
 
 use crate::line::{Line, put, put_number};
 use crate::receipt::Receipt;
@@ -72,7 +74,8 @@ fn put_plan(line: &mut Line, plan: u32)
 
 /// What an answer says of a refused filing before a detail: the number and the name of the reason, in one piece.
 fn refused_text(refusal: Refusal) -> &'static [u8]
-    ensures text { result.now ≡ codes " NO " ++ decimal (number_of refusal) ++ codes " " ++ name_of refusal }
+    ensures text { result.now ≡ codes " NO " ++ decimal (number_of refusal) ++ codes " "
+        ++ name_of refusal }
     ensures short { length result.now ≤ 28 }
 {
     match refusal {

@@ -3,7 +3,8 @@ ghost use Rattle.std.specs.Prelude.{◌≡◌, ◌≤◌, ◌<◌, ◌-◌, IfSo
 ghost use Rattle.std.specs.Vec.{vec_capacity};
 ghost use Rattle.std.specs.Option.{option_map, option_and_then};
 ghost use Rattle.flow_traffic.specs.Traffic.{told_of};
-ghost use Rattle.flow_core.specs.Changes.{same_state, same_told, same_row, row_with, change_to, change_at};
+ghost use Rattle.flow_core.specs.Changes.{same_state, same_told, same_row};
+ghost use Rattle.flow_core.specs.Changes.{row_with, change_to, change_at};
 ghost use Rattle.flow_core.specs.Changes.{changes_between, rows_in};
 
 use crate::row::{Row, row_at};
@@ -80,7 +81,8 @@ fn row_before<A: Allocator + Copy>(
     requires change { IsSome traffic.now.before }
     requires each { IfSome traffic.now.before (λ before. length before.told ≡ length before.plans) }
     requires told { IfSome traffic.now.before (λ before. told.now ≡ told_of before.told number) }
-    ensures { IfSome traffic.now.before (λ before. result ≡ slice_get (rows_in before) (number - 1)) }
+    ensures { IfSome traffic.now.before (λ before.
+        result ≡ slice_get (rows_in before) (number - 1)) }
 {
     row_with(traffic.previous(number), told)
 }

@@ -21,7 +21,8 @@ pub(crate) fn put(line: &mut Line, text: &[u8])
 fn put_pair(line: &mut Line, number: u32)
     requires below { number < 100 }
     requires room { array_vec_len line.old + 2 ≤ 192 }
-    ensures items { line.new.items ≡ line.old.items ++ (48 + number / 10) ∷ (48 + number % 10) ∷ [] }
+    ensures items { line.new.items ≡ line.old.items ++ (48 + number / 10)
+        ∷ (48 + number % 10) ∷ [] }
     ensures len { array_vec_len line.new ≡ array_vec_len line.old + 2 }
 {
     line.push(b'0' + (number / 10) as u8);

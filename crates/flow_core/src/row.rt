@@ -30,7 +30,8 @@ fn row_of<A: Allocator + Copy>(plan: &Plan<A>, told: &Option<Told>) -> Row
 /// The row of the plan of this number.
 pub(crate) fn row_at<A: Allocator + Copy>(traffic: &Traffic<A>, number: u32) -> Option<Row>
     requires { 0 < number }
-    ensures { result ≡ slice_get (rows_of traffic.now.traffic.plans traffic.now.traffic.told) (number - 1) }
+    ensures { result ≡ slice_get (rows_of traffic.now.traffic.plans traffic.now.traffic.told)
+        (number - 1) }
 {
     let Some(plan) = traffic.plan(number) else {
         return None;

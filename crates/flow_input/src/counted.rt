@@ -1,8 +1,10 @@
 //! A reader or a writer with the count of its calls that failed.
-ghost use Rattle.std.specs.Prelude.{◌≡◌, ◌+◌, ◌-◌, ◌^◌, ◌<◌, length, MatchResult, OnOk, OnSome, IfOk};
+ghost use Rattle.std.specs.Prelude.{◌≡◌, ◌+◌, ◌-◌, ◌^◌, ◌<◌, length};
+ghost use Rattle.std.specs.Prelude.{MatchResult, OnOk, OnSome, IfOk};
 ghost use Rattle.std.specs.Prelude.{IfSome, IfNone, OnErr, take, ◌≤◌, if◌then◌else◌, [], ◌∷◌};
 ghost use Rattle.std.specs.Io.{ReadsAtMost, WritesAtMost, StartsWith};
-ghost use Rattle.std.specs.Io.KnownBytes.{ReadConsumes, WriteAppends, Keeps, Appends, Consumes, IsAtEnd};
+ghost use Rattle.std.specs.Io.KnownBytes.{ReadConsumes, WriteAppends, Keeps};
+ghost use Rattle.std.specs.Io.KnownBytes.{Appends, Consumes, IsAtEnd};
 ghost use Rattle.std.specs.Io.BufRead.{Rests, FillKeeps, DropsConsumable};
 ghost use Rattle.flow_input.specs.contracts.counted.Counted.{the_row};
 ghost use types.Logic.{sem};
@@ -63,7 +65,8 @@ impl<R: Read> Read for Counted<R> {
 
     fn read(&mut self, buf: &mut [u8]) -> io::Result<usize>
         ensures bound { ReadsAtMost result buf.new }
-        ensures bytes { ReadConsumes (R.remaining self.old.device) (R.remaining self.new.device) result buf.new }
+        ensures bytes { ReadConsumes (R.remaining self.old.device) (R.remaining self.new.device)
+            result buf.new }
         ensures counts { MatchResult result (λ _. self.new.failures ≡ self.old.failures) (λ _.
             self.new.failures ≡ counted_up self.old.failures) }
     {
@@ -81,10 +84,13 @@ impl<R: BufRead> Counted<R> {
     /// The bytes that come next, as many as the device has at hand: none only at the end of the input. They stay to be
     /// read until `consume` drops them. A failure is counted by `count_failure`.
     pub fn ahead(&mut self) -> Result<&[u8], ReadFailure>
-        ensures front { IfSome (R.remaining self.old.device) (λ xs. IfOk result (λ s. StartsWith xs s.now)) }
-        ensures end { IfSome (R.remaining self.old.device) (λ xs. IfOk result (λ s. length s.now ≡ 0 → xs ≡ [])) }
+        ensures front { IfSome (R.remaining self.old.device) (λ xs.
+            IfOk result (λ s. StartsWith xs s.now)) }
+        ensures end { IfSome (R.remaining self.old.device) (λ xs.
+            IfOk result (λ s. length s.now ≡ 0 → xs ≡ [])) }
         ensures* after_borrow { sem 𝓛 (Rests (the_row R.row) self.entry (λ new.
-            FillKeeps (R.remaining self.old.device) (R.remaining new.device) (R.consumable_len new.device) result
+            FillKeeps (R.remaining self.old.device) (R.remaining new.device)
+            (R.consumable_len new.device) result
             × (new.failures ≡ self.old.failures))) }
     {
         match self.device.fill_buf() {
@@ -116,7 +122,8 @@ impl<W: Write> Write for Counted<W> {
 
     fn write(&mut self, buf: &[u8]) -> io::Result<usize>
         ensures bound { WritesAtMost result buf.now }
-        ensures bytes { WriteAppends (W.contents self.old.device) (W.contents self.new.device) result buf.now }
+        ensures bytes { WriteAppends (W.contents self.old.device) (W.contents self.new.device)
+            result buf.now }
         ensures calm { IfOk result (λ n. 0 < n → self.new.failures ≡ self.old.failures) }
         ensures empty { length buf.now ≡ 0 → OnOk result (self.new.failures ≡ self.old.failures) }
         ensures counts { MatchResult result (λ n. n ≡ 0 → 0 < length buf.now
@@ -154,7 +161,8 @@ fn write_some<W: Write>(writer: &mut Counted<W>, bytes: &[u8]) -> Option<usize>
     ensures written { IfSome result (λ n.
         Appends (W.contents writer.old.device) (W.contents writer.new.device) (take n bytes.now)) }
     ensures calm { OnSome result (writer.new.failures ≡ writer.old.failures) }
-    ensures none { IfNone result (Keeps (W.contents writer.old.device) (W.contents writer.new.device)) }
+    ensures none { IfNone result
+        (Keeps (W.contents writer.old.device) (W.contents writer.new.device)) }
     ensures failed { IfNone result (writer.new.failures ≡ counted_up writer.old.failures) }
 {
     match writer.write(bytes) {

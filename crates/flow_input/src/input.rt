@@ -3,8 +3,10 @@
 //! Frames are taken from the front of the bytes that were read. If these show no end of the first frame, the bytes of
 //! that frame, at most 2,000, move to the front of the buffer, and more are read after them. The bytes of a longer frame
 //! are dropped as they come.
-ghost use Rattle.std.specs.Prelude.{◌≡◌, ◌≢◌, ◌≤◌, ◌<◌, ◌+◌, [], length, drop, false, true, IsTrue, OnOk, IfOk};
-ghost use Rattle.std.specs.Prelude.{IsErrOf, Err, MatchOption, None, Some, slice_range, IfSome, List, Option, ℕ};
+ghost use Rattle.std.specs.Prelude.{◌≡◌, ◌≢◌, ◌≤◌, ◌<◌, ◌+◌, [], length};
+ghost use Rattle.std.specs.Prelude.{drop, false, true, IsTrue, OnOk, IfOk};
+ghost use Rattle.std.specs.Prelude.{IsErrOf, Err, MatchOption, None, Some};
+ghost use Rattle.std.specs.Prelude.{slice_range, IfSome, List, Option, ℕ};
 ghost use Rattle.std.specs.Prelude.{◌-◌, ◌++◌, OnErr, MatchResult};
 ghost use Rattle.std.specs.Io.KnownBytes.{Consumes, IsAtEnd};
 ghost use Rattle.flow_input.specs.Frames.{first_cut, kept_of};
@@ -46,7 +48,8 @@ fn read_after<R: Read>(
         × (length came ≡ n)
         × (slice_range buffer.new 0 (end - at + n) ≡ slice_range buffer.old at end ++ came)) }
     ensures end { IfOk result (λ n. n ≡ 0 → IsAtEnd (R.remaining reader.new.device)) }
-    ensures err { OnErr result ((slice_range buffer.new 0 (end - at) ≡ slice_range buffer.old at end)
+    ensures err { OnErr result
+        ((slice_range buffer.new 0 (end - at) ≡ slice_range buffer.old at end)
         × Consumes (R.remaining reader.old.device) (R.remaining reader.new.device) []) }
     ensures failures { MatchResult result (λ _. reader.new.failures ≡ reader.old.failures) (λ _.
         reader.new.failures ≡ counted_up reader.old.failures) }
@@ -71,7 +74,8 @@ pub struct Input<A: Allocator = Global> {
 }
 
 impl<A: Allocator> Model for Input<A> {
-    ghost use Rattle.std.specs.Prelude.{◌≡◌, ◌≤◌, ◌-◌, ◌+◌, length, slice_range, false, if◌then◌else◌, None, Some};
+    ghost use Rattle.std.specs.Prelude.{◌≡◌, ◌≤◌, ◌-◌, ◌+◌, length, slice_range};
+    ghost use Rattle.std.specs.Prelude.{false, if◌then◌else◌, None, Some};
     ghost use Rattle.flow_input.specs.Reader.{Ahead};
     ghost use Rattle.flow_input.specs.declared.input.TheConstants.{MAX_INPUT, PIECE};
     ghost use Rattle.fpl_message.specs.declared.filed_text.TheConstants.{MAX_BYTES};
@@ -86,14 +90,16 @@ impl<A: Allocator> Model for Input<A> {
     } };
 
     ghost invariant = { λ p. (p.begin ≤ p.at) × (p.at ≤ p.end) × (p.end ≤ length p.buffer.items)
-        × (length p.buffer.items ≡ MAX_BYTES + PIECE) × (p.end - p.at ≤ p.total) × (p.total ≤ MAX_INPUT)
+        × (length p.buffer.items ≡ MAX_BYTES + PIECE) × (p.end - p.at ≤ p.total)
+        × (p.total ≤ MAX_INPUT)
         × (p.is_long ≡ false → p.at - p.begin ≤ MAX_BYTES) };
 }
 
 impl<A: Allocator> Input<A> {
     /// Takes the memory for the buffer.
     pub fn new(alloc: A) -> Result<Self, AllocError>
-        ensures { IfOk result (λ p. p ≡ record { unread = []; taken = 0; ended = false; item = Some [] }) }
+        ensures { IfOk result (λ p.
+            p ≡ record { unread = []; taken = 0; ended = false; item = Some [] }) }
     {
         let mut buffer = Vec::with_capacity(alloc, MAX_BYTES + PIECE)?;
         buffer.resize(MAX_BYTES + PIECE, 0)?;
@@ -110,7 +116,8 @@ impl<A: Allocator> Input<A> {
 
     /// The bytes of the frame that was taken last, at most 2,000. `None` if it is too long.
     pub fn frame(&self) -> Option<&[u8]>
-        ensures { MatchOption result (self.now.item ≡ None) (λ bytes. (self.now.item ≡ Some bytes.now)
+        ensures { MatchOption result (self.now.item ≡ None) (λ bytes.
+            (self.now.item ≡ Some bytes.now)
             × (length bytes.now ≤ MAX_BYTES)) }
     {
         if self.is_long {
@@ -186,12 +193,14 @@ impl<A: Allocator> Input<A> {
         requires going { self.old.ended ≡ false }
         ensures filled { OnOk result (Filled self.old self.new (R.remaining reader.old.device)
             (R.remaining reader.new.device)) }
-        ensures more { OnOk result (self.new.ended ≡ false → length self.old.unread < length self.new.unread) }
+        ensures more { OnOk result (self.new.ended ≡ false
+            → length self.old.unread < length self.new.unread) }
         ensures end { OnOk result (IsTrue self.new.ended → (self.new.unread ≡ self.old.unread)
             × IsAtEnd (R.remaining reader.new.device)) }
         ensures taken { self.new.taken ≡ self.old.taken }
         ensures within { OnOk result (self.new.taken + length self.new.unread ≤ MAX_INPUT) }
-        ensures err { OnErr result (Came (R.remaining reader.old.device) (R.remaining reader.new.device)) }
+        ensures err { OnErr result
+            (Came (R.remaining reader.old.device) (R.remaining reader.new.device)) }
         ensures read { IsErrOf result IntakeFault.Read → (self.new.unread ≡ self.old.unread)
             × (self.new.ended ≡ false)
             × (Consumes (R.remaining reader.old.device) (R.remaining reader.new.device) []) }

@@ -1,6 +1,8 @@
 //! The frames of an input.
-ghost use Rattle.std.specs.Prelude.{◌≡◌, ◌≢◌, ◌≤◌, ◌<◌, ◌+◌, Some, None, false, length, IfErr, IfOk};
-ghost use Rattle.std.specs.Prelude.{IfNone, IfSome, IsOkAnd, OnErr, OnOk, IsErrOf, Err, IsTrue, IsNone, ◌-◌};
+ghost use Rattle.std.specs.Prelude.{◌≡◌, ◌≢◌, ◌≤◌, ◌<◌, ◌+◌, Some};
+ghost use Rattle.std.specs.Prelude.{None, false, length, IfErr, IfOk};
+ghost use Rattle.std.specs.Prelude.{IfNone, IfSome, IsOkAnd, OnErr, OnOk};
+ghost use Rattle.std.specs.Prelude.{IsErrOf, Err, IsTrue, IsNone, ◌-◌};
 ghost use Rattle.flow_input.specs.InTurn.{EndsWithin, GivesNext};
 ghost use Rattle.flow_input.specs.NextFrame.{Cuts, Gives, Misses, Starves, filing_in, filing_kept};
 ghost use Rattle.flow_input.specs.Source.{CutsFirst, KeepsTotal, MissesFirst, failures_after};
@@ -48,7 +50,8 @@ fn next_frame<R: Read, A: Allocator + Copy>(
 ) -> Result<Option<Frame<A>>, IntakeFault>
     requires { Agrees input.old (R.remaining reader.old.device) }
     ensures gives { IfOk result (λ frame.
-        Gives frame input.old input.new (R.remaining reader.old.device) (R.remaining reader.new.device)) }
+        Gives frame input.old input.new (R.remaining reader.old.device)
+        (R.remaining reader.new.device)) }
     ensures ended { IsTrue input.old.ended → IfOk result (λ frame. IsNone frame) }
     ensures still { IsTrue input.old.ended → (input.new ≡ input.old) × (reader.new ≡ reader.old) }
     ensures agrees { OnOk result (Agrees input.new (R.remaining reader.new.device)) }
@@ -135,20 +138,24 @@ impl<R: Read, A: Allocator + Copy> Intake<R, A> {
         ensures frames { IfOk result (λ frame. GivesNext frame self.old.left self.new.left) }
         ensures taken { OnOk result (KeepsTotal self.old self.new) }
         ensures none { IfOk result (λ frame. IfNone frame (IsTrue self.new.ended)) }
-        ensures ended { IsTrue self.old.ended → self.old.failed ≡ false → IsOkAnd result (λ frame. IsNone frame)
+        ensures ended { IsTrue self.old.ended → self.old.failed ≡ false
+            → IsOkAnd result (λ frame. IsNone frame)
             × (self.new ≡ self.old) }
 
         // A fault is the last: from then on the answer is `Read`.
         ensures ok { OnOk result (self.new.failed ≡ false) }
         ensures err { OnErr result (IsTrue self.new.failed) }
-        ensures failed { IsTrue self.old.failed → IsErrOf result IntakeFault.Read × (self.new ≡ self.old) }
+        ensures failed { IsTrue self.old.failed
+            → IsErrOf result IntakeFault.Read × (self.new ≡ self.old) }
 
         // When the first fault comes.
-        ensures failures { self.old.failed ≡ false → self.new.failures ≡ failures_after result self.old.failures }
+        ensures failures { self.old.failed ≡ false
+            → self.new.failures ≡ failures_after result self.old.failures }
         ensures much { IsErrOf result IntakeFault.TooMuch
             → IfSome self.old.left (λ bytes. MAX_INPUT < self.old.taken + length bytes) }
         ensures memory { IsErrOf result IntakeFault.OutOfMemory
-            → MissesFirst self.old.left self.new.left × KeepsTotal self.old self.new × (self.new.taken ≤ MAX_INPUT) }
+            → MissesFirst self.old.left self.new.left × KeepsTotal self.old self.new
+            × (self.new.taken ≤ MAX_INPUT) }
 
         // An input of more than 4,000,000,000 bytes has no end that is answered.
         ensures most { OnOk result (self.new.taken ≤ MAX_INPUT) }

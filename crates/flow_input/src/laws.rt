@@ -1,6 +1,7 @@
 //! Laws over the definitions that the contracts cite.
 
-ghost use Rattle.std.specs.Prelude.{◌≡◌, ◌≤◌, ◌↔◌, ◌+◌, ◌++◌, ℕ, List, [], ◌∷◌, Option, None, Some, length, take};
+ghost use Rattle.std.specs.Prelude.{◌≡◌, ◌≤◌, ◌↔◌, ◌+◌, ◌++◌, ℕ, List, []};
+ghost use Rattle.std.specs.Prelude.{◌∷◌, Option, None, Some, length, take};
 ghost use Rattle.std.specs.List.{concat, filter};
 ghost use Rattle.flow_input.specs.Frames.{Cut, ended_frames, first_cut, frames, is_text};
 ghost use Rattle.flow_input.specs.InTurn.{AnswerInTurn, filings_of};
@@ -22,10 +23,13 @@ pub fn ended_frames_stay()
 /// The frames of an input are its first one and those of the bytes after it. So calls that cut one frame off after the
 /// other answer the frames of the whole input: what was answered so far and what is still to come are all of them.
 pub fn frames_come_in_turn()
-    ensures first { (bytes : List ℕ) (c : Cut) → first_cut bytes ≡ Some c → frames bytes ≡ c.frame ∷ frames c.rest }
+    ensures first { (bytes : List ℕ) (c : Cut) → first_cut bytes ≡ Some c
+        → frames bytes ≡ c.frame ∷ frames c.rest }
     ensures none { (bytes : List ℕ) → (first_cut bytes ≡ None) ↔ (frames bytes ≡ []) }
-    ensures so_far { (filings : List (Option FilingText)) (input left : List ℕ) → AnswerInTurn filings input left
+    ensures so_far { (filings : List (Option FilingText)) (input left : List ℕ)
+        → AnswerInTurn filings input left
         → filings_of input ≡ filings ++ filings_of left }
-    ensures whole { (filings : List (Option FilingText)) (input left : List ℕ) → AnswerInTurn filings input left
+    ensures whole { (filings : List (Option FilingText)) (input left : List ℕ)
+        → AnswerInTurn filings input left
         → first_cut left ≡ None → filings_of input ≡ filings }
 {}

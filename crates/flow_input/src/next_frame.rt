@@ -1,10 +1,12 @@
 //! The next frame of an input, for whose end more bytes may have to be read.
-ghost use Rattle.std.specs.Prelude.{◌≡◌, ◌≢◌, ◌≤◌, ◌<◌, ◌+◌, [], length, false, true, IsTrue, OnErr, OnOk};
+ghost use Rattle.std.specs.Prelude.{◌≡◌, ◌≢◌, ◌≤◌, ◌<◌, ◌+◌, [], length};
+ghost use Rattle.std.specs.Prelude.{false, true, IsTrue, OnErr, OnOk};
 ghost use Rattle.std.specs.Prelude.{IfOk, IsErrOf, Err, None, Some, IfSome};
 ghost use Rattle.std.specs.Io.KnownBytes.{Consumes, IsAtEnd};
 ghost use Rattle.flow_input.specs.Frames.{first_cut, is_text, kept_of};
 ghost use Rattle.flow_input.specs.NextFrame.{Cuts, GaveFirst, Starves, filing_kept};
-ghost use Rattle.flow_input.specs.Reader.{Agrees, BeginsWithStop, Came, CameTooMuch, Filled, Finished, TakesIf};
+ghost use Rattle.flow_input.specs.Reader.{Agrees, BeginsWithStop, Came};
+ghost use Rattle.flow_input.specs.Reader.{CameTooMuch, Filled, Finished, TakesIf};
 ghost use Rattle.flow_input.specs.Reader.{Took, TookRun, Unfinished};
 ghost use Rattle.flow_input.specs.Source.{failures_after};
 ghost use Rattle.flow_input.specs.Until.{stops_at};
@@ -32,7 +34,8 @@ fn make_ready<R: Read, A: Allocator>(
     ensures agrees { OnOk result (Agrees input.new (R.remaining reader.new.device)) }
     ensures taken { input.new.taken ≡ input.old.taken }
     ensures read { IsErrOf result IntakeFault.Read → (input.new.unread ≡ [])
-        × (input.old.unread ≡ []) × (Consumes (R.remaining reader.old.device) (R.remaining reader.new.device) []) }
+        × (input.old.unread ≡ [])
+        × (Consumes (R.remaining reader.old.device) (R.remaining reader.new.device) []) }
     ensures much { IsErrOf result IntakeFault.TooMuch
         → CameTooMuch input.old (R.remaining reader.old.device) (R.remaining reader.new.device) }
     ensures memory { result ≢ Err IntakeFault.OutOfMemory }
@@ -67,7 +70,8 @@ fn take_until<R: Read, A: Allocator>(
     until: Until,
 ) -> Result<(), IntakeFault>
     requires { Agrees input.old (R.remaining reader.old.device) }
-    ensures took { OnOk result (Took (stops_at until) input.old input.new (R.remaining reader.old.device)
+    ensures took { OnOk result
+        (Took (stops_at until) input.old input.new (R.remaining reader.old.device)
         (R.remaining reader.new.device)) }
     ensures stop { OnOk result (BeginsWithStop (stops_at until) input.new.unread) }
     ensures end { OnOk result (input.new.unread ≡ [] → IsTrue input.new.ended) }
@@ -119,9 +123,11 @@ fn finish<R: Read, A: Allocator>(
     ensures agrees { OnOk result (Agrees input.new (R.remaining reader.new.device)) }
     ensures item { OnOk result (input.new.item ≡ None) }
     ensures within { OnOk result (input.new.taken ≤ MAX_INPUT) }
-    ensures err { OnErr result (Came (R.remaining reader.old.device) (R.remaining reader.new.device)) }
+    ensures err { OnErr result
+        (Came (R.remaining reader.old.device) (R.remaining reader.new.device)) }
     ensures read { IsErrOf result IntakeFault.Read
-        → Unfinished first input.old (R.remaining reader.old.device) (R.remaining reader.new.device) }
+        → Unfinished first input.old (R.remaining reader.old.device)
+        (R.remaining reader.new.device) }
     ensures much { IsErrOf result IntakeFault.TooMuch
         → CameTooMuch input.old (R.remaining reader.old.device) (R.remaining reader.new.device) }
     ensures memory { result ≢ Err IntakeFault.OutOfMemory }
@@ -148,7 +154,8 @@ fn pass_long<R: Read, A: Allocator>(
         (R.remaining reader.old.device) (R.remaining reader.new.device)) }
     ensures agrees { OnOk result (Agrees input.new (R.remaining reader.new.device)) }
     ensures within { OnOk result (input.new.taken ≤ MAX_INPUT) }
-    ensures err { OnErr result (Came (R.remaining reader.old.device) (R.remaining reader.new.device)) }
+    ensures err { OnErr result
+        (Came (R.remaining reader.old.device) (R.remaining reader.new.device)) }
     ensures read { IsErrOf result IntakeFault.Read
         → Starves input.old (R.remaining reader.old.device) (R.remaining reader.new.device) }
     ensures much { IsErrOf result IntakeFault.TooMuch
@@ -176,7 +183,8 @@ fn skip_blanks<A: Allocator>(input: &mut Input<A>)
 /// Takes what is left at the end of the input as its last frame. Returns whether anything is.
 fn take_rest<A: Allocator>(input: &mut Input<A>) -> bool
     requires ended { IsTrue input.old.ended }
-    ensures some { result ≡ true → (input.new.unread ≡ []) × (input.new.item ≡ kept_of input.old.unread)
+    ensures some { result ≡ true → (input.new.unread ≡ [])
+        × (input.new.item ≡ kept_of input.old.unread)
         × (input.new.taken ≡ input.old.taken + length input.old.unread) × (input.old.unread ≢ []) }
     ensures none { result ≡ false → (input.old.unread ≡ []) × (input.new ≡ input.old) }
     ensures ended { IsTrue input.new.ended }
@@ -198,7 +206,8 @@ pub fn take_frame<R: Read, A: Allocator>(
 ) -> Result<bool, IntakeFault>
     requires { Agrees input.old (R.remaining reader.old.device) }
     ensures cuts { IfOk result (λ found.
-        Cuts found input.new.item input.old input.new (R.remaining reader.old.device) (R.remaining reader.new.device)) }
+        Cuts found input.new.item input.old input.new (R.remaining reader.old.device)
+        (R.remaining reader.new.device)) }
     ensures ended { IsTrue input.old.ended → IfOk result (λ found. found ≡ false) }
     ensures still { IsTrue input.old.ended → (input.new ≡ input.old) × (reader.new ≡ reader.old) }
     ensures agrees { OnOk result (Agrees input.new (R.remaining reader.new.device)) }
@@ -207,7 +216,8 @@ pub fn take_frame<R: Read, A: Allocator>(
     ensures most { OnOk result (input.new.taken ≤ MAX_INPUT) }
 
     // What the bytes that came show, and when each fault comes.
-    ensures err { OnErr result (Came (R.remaining reader.old.device) (R.remaining reader.new.device)) }
+    ensures err { OnErr result
+        (Came (R.remaining reader.old.device) (R.remaining reader.new.device)) }
     ensures going { OnErr result (input.old.ended ≡ false) }
     ensures read { IsErrOf result IntakeFault.Read
         → Starves input.old (R.remaining reader.old.device) (R.remaining reader.new.device) }

@@ -44,7 +44,8 @@ pub(crate) fn exempt_after<A: Allocator + Copy>(held: bool, amended: Option<&Oth
 /// The elapsed time of an amended field 16 that has one, or else the one held.
 pub(crate) fn elapsed_after(held: u32, amended: Option<&Destination>) -> u32
     requires held { held < ELAPSED_LIMIT }
-    requires amended { IfSome amended (λ amended. IfSome amended.now.elapsed (λ minutes. minutes < ELAPSED_LIMIT)) }
+    requires amended { IfSome amended (λ amended.
+        IfSome amended.now.elapsed (λ minutes. minutes < ELAPSED_LIMIT)) }
     ensures value { result ≡ elapsed_after held (option_copied amended.entry) }
     ensures bound { result < ELAPSED_LIMIT }
 {

@@ -1,10 +1,12 @@
 //! What a CHG makes of a plan.
-ghost use Rattle.std.specs.Prelude.{◌≡◌, ◌≤◌, ◌<◌, Ok, true, IfOk, IfErr, IfSome, length, option_copied, ◌+◌, ◌-◌};
+ghost use Rattle.std.specs.Prelude.{◌≡◌, ◌≤◌, ◌<◌, Ok, true, IfOk, IfErr};
+ghost use Rattle.std.specs.Prelude.{IfSome, length, option_copied, ◌+◌, ◌-◌};
 ghost use Rattle.std.specs.Prelude.{Err, Some, None, IsOk, OnOk, OnErr};
 ghost use Rattle.flow_plans.specs.Settings.{IsDeskTime};
 ghost use Rattle.flow_plans.specs.Plans.{is_held, plan_at, changed_at};
 ghost use Rattle.flow_plans.specs.Chains.{AreChained, flight_of_key, StayChained};
-ghost use Rattle.flow_plans.specs.Changes.{moved_to, key_after, amended_plan, amended, Answers, IsRefusal};
+ghost use Rattle.flow_plans.specs.Changes.{moved_to, key_after, amended_plan};
+ghost use Rattle.flow_plans.specs.Changes.{amended, Answers, IsRefusal};
 ghost use Rattle.flow_plans.specs.Changes.{IsJustRefusal};
 ghost use Rattle.flow_plans.specs.Matching.{matching};
 ghost use Rattle.flow_plans.specs.Undoing.{undone, IsOf, CanReturn};
@@ -47,9 +49,10 @@ fn checked<A: Allocator + Copy>(
     requires now { IsDeskTime now }
     requires few { length plans.now ≤ MAX_PLANS }
     requires chained { AreChained chains.now plans.now }
-    ensures ok { IfOk result (λ r. amended now plans.now message.now
-        ≡ Ok (record { plans = changed_at (amended_plan r.2 message.now) r.0 plans.now; number = r.0 })) }
-    ensures within { IfOk result (λ r. (0 < r.0) × (r.0 ≤ length plans.now) × (r.2 < off_blocks_end)) }
+    ensures ok { IfOk result (λ r. amended now plans.now message.now ≡ Ok (
+        record { plans = changed_at (amended_plan r.2 message.now) r.0 plans.now; number = r.0 })) }
+    ensures within { IfOk result (λ r. (0 < r.0) × (r.0 ≤ length plans.now)
+        × (r.2 < off_blocks_end)) }
     ensures held { IfOk result (λ r. IfSome (plan_at plans.now r.0) (λ p. is_held p.state ≡ true)) }
     ensures named { IfOk result (λ r. IfSome (plan_at plans.now r.0)
         (λ p. flight_of_key (key_after p.key message.now) ≡ r.1)) }
@@ -89,7 +92,8 @@ pub(crate) fn amend_plan<A: Allocator + Copy>(
     ensures change { OnOk result (IsOf last.new plans.new) }
     ensures room { OnOk result (CanReturn chains.new last.new plans.new) }
     ensures refused { IfErr result (λ e. IsRefusal e (amended now plans.old message.now)) }
-    ensures memory { IfErr result (λ e. e ≡ PlanFault.OutOfMemory → IsOk (amended now plans.old message.now)) }
+    ensures memory { IfErr result (λ e. e ≡ PlanFault.OutOfMemory
+        → IsOk (amended now plans.old message.now)) }
     ensures count { length plans.new ≡ length plans.old }
     ensures err { OnErr result (plans.new ≡ plans.old) }
     ensures last { OnErr result (last.new ≡ last.old) }

@@ -1,11 +1,14 @@
 //! Finding plans by identification, departure and destination, without a walk over all plans.
-ghost use Rattle.std.specs.Prelude.{◌≡◌, ◌≤◌, ◌<◌, ◌+◌, ◌-◌, ◌++◌, ◌∷◌, [], ℕ, Bool, true, false, None, OnOk};
+ghost use Rattle.std.specs.Prelude.{◌≡◌, ◌≤◌, ◌<◌, ◌+◌, ◌-◌, ◌++◌, ◌∷◌, []};
+ghost use Rattle.std.specs.Prelude.{ℕ, Bool, true, false, None, OnOk};
 ghost use Rattle.std.specs.Prelude.{OnErr, IfSome, length, max, take, slice_index, fold, ◌*◌};
 ghost use Rattle.std.specs.Map.{lookup};
 ghost use Rattle.indexmap.specs.IndexMap.{spare};
 ghost use Rattle.flow_plans.specs.Plans.{Plan as Held, is_held, plan_at, with_plan};
-ghost use Rattle.flow_plans.specs.Chains.{base_256, flight_named, flight_of_key, flight_of_parts, same_flight, newest};
-ghost use Rattle.flow_plans.specs.Chains.{GoDown, AreLinks, IsNewest, AreChained, HasRoomFor, IsUpdated, KeepNames};
+ghost use Rattle.flow_plans.specs.Chains.{base_256, flight_named, flight_of_key};
+ghost use Rattle.flow_plans.specs.Chains.{flight_of_parts, same_flight, newest};
+ghost use Rattle.flow_plans.specs.Chains.{GoDown, AreLinks, IsNewest, AreChained};
+ghost use Rattle.flow_plans.specs.Chains.{HasRoomFor, IsUpdated, KeepNames};
 ghost use Rattle.flow_plans.specs.Chains.{IsForgotten, StayChained, IsApart, LeaveOut, TakeIn};
 ghost use Rattle.flow_plans.specs.declared.setup.TheConstants.{MAX_PLANS};
 
@@ -96,7 +99,8 @@ impl<A: Allocator + Copy> Model for Chains<A> {
 
     ghost Value = { Chained };
 
-    ghost view = { λ c. record { heads = c.heads.entries; older = c.older.items; room = spare c.heads } };
+    ghost view = { λ c.
+        record { heads = c.heads.entries; older = c.older.items; room = spare c.heads } };
 
     ghost invariant = { λ c. GoDown c.older.items };
 }
@@ -176,7 +180,8 @@ impl<A: Allocator + Copy> Chains<A> {
         requires within { newest self.old.heads name.now ≤ length self.old.older }
         ensures out { LeaveOut self.old self.new name.now number }
         ensures others { (q : FlightName) → same_flight name.now q ≡ false
-            → lookup (same_flight q) self.new.heads ≡ None → lookup (same_flight q) self.old.heads ≡ None }
+            → lookup (same_flight q) self.new.heads ≡ None
+            → lookup (same_flight q) self.old.heads ≡ None }
         ensures room { self.old.room ≤ self.new.room }
     {
         if self.older[(number - 1) as usize] == 0 {
@@ -247,7 +252,8 @@ fn lower_newest<A: Allocator + Copy>(
 ) -> u32
     requires { 0 < number }
     ensures before { result ≡ newest heads.old.entries name.now }
-    ensures lowered { result ≡ number → IsUpdated heads.old.entries heads.new.entries name.now next }
+    ensures lowered { result ≡ number
+        → IsUpdated heads.old.entries heads.new.entries name.now next }
     ensures kept { (result ≡ number → ⊥) → (q : FlightName)
         → lookup (same_flight q) heads.new.entries ≡ lookup (same_flight q) heads.old.entries }
     ensures room { spare heads.new ≡ spare heads.old }
@@ -302,7 +308,8 @@ fn later_than(older: &[u32], newest: u32, number: u32) -> usize
     ensures within { result < length older.now }
     ensures later { number ≤ result }
     ensures next { slice_index older.now result ≤ number }
-    ensures held { (test : ℕ → Bool) → AreLinks test older.now → IsNewest test newest → test result ≡ true }
+    ensures held { (test : ℕ → Bool) → AreLinks test older.now → IsNewest test newest
+        → test result ≡ true }
 {
     let mut later = (newest - 1) as usize;
     while older[later] > number {

@@ -1,9 +1,11 @@
 //! Finding the plan that a message is about.
-ghost use Rattle.std.specs.Prelude.{◌≡◌, ◌≤◌, ◌<◌, ℕ, true, false, not, ◌&&◌, ◌==◌, length, IfOk, IfSome};
+ghost use Rattle.std.specs.Prelude.{◌≡◌, ◌≤◌, ◌<◌, ℕ, true, false, not};
+ghost use Rattle.std.specs.Prelude.{◌&&◌, ◌==◌, length, IfOk, IfSome};
 ghost use Rattle.std.specs.List.{list_any};
 ghost use Rattle.flow_plans.specs.Plans.{plan_at, is_held_as};
 ghost use Rattle.flow_plans.specs.Matching.{is_candidate, is_gone, matching};
-ghost use Rattle.flow_plans.specs.Searching.{with_candidate, with_gone, with_one_more, passes_at, IsSound, IsCounted};
+ghost use Rattle.flow_plans.specs.Searching.{with_candidate, with_gone, with_one_more};
+ghost use Rattle.flow_plans.specs.Searching.{passes_at, IsSound, IsCounted};
 ghost use Rattle.flow_plans.specs.Searching.{IsFreeAt, IsHeldBeside};
 ghost use Rattle.flow_plans.specs.Chains.{AreChained, flight_of_key};
 ghost use Rattle.flow_plans.specs.Changes.{Answers, others};
@@ -47,7 +49,8 @@ impl Found {
 
     /// With the plan at a place.
     fn with<A: Allocator + Copy>(self, place: usize, plan: &Plan<A>, parts: &Parts) -> Found
-        ensures { result ≡ with_one_more (is_candidate parts.now plan.now) (is_gone parts.now plan.now) place self }
+        ensures { result ≡ with_one_more (is_candidate parts.now plan.now)
+            (is_gone parts.now plan.now) place self }
     {
         if plan.is_candidate(parts) {
             return self.with_candidate(place);
@@ -79,7 +82,8 @@ fn with_place<A: Allocator + Copy>(
 fn found_in<A: Allocator + Copy>(plans: &[Plan<A>], chains: &Chains<A>, parts: &Parts) -> Found
     requires { AreChained chains.now plans.now }
     ensures sound { IsSound (is_candidate parts.now) (is_gone parts.now) plans.now result }
-    ensures all { (place : ℕ) → IsCounted (is_candidate parts.now) (is_gone parts.now) plans.now result place }
+    ensures all { (place : ℕ)
+        → IsCounted (is_candidate parts.now) (is_gone parts.now) plans.now result place }
 {
     let older = chains.older();
     let mut number = chains.newest(&FlightName::of_parts(parts));
@@ -102,7 +106,8 @@ pub(crate) fn matching<A: Allocator + Copy>(
     requires chained { AreChained chains.now plans.now }
     ensures answer { Answers result (matching plans.now parts.now) }
     ensures within { IfOk result (λ n. (0 < n) × (n ≤ length plans.now)) }
-    ensures filed { IfOk result (λ n. IfSome (plan_at plans.now n) (λ p. p.state ≡ PlanState.Filed)) }
+    ensures filed { IfOk result (λ n.
+        IfSome (plan_at plans.now n) (λ p. p.state ≡ PlanState.Filed)) }
 {
     match found_in(plans, chains, parts) {
         Found::Nothing => Err(PlanFault::NoPlan),

@@ -63,7 +63,8 @@ fn next_bit(word: u64, from: usize) -> usize
 
 /// The bits of the words of a set of places on the way.
 pub(crate) fn words_on_way(table: &[u64], places: u64) -> u64
-    ensures { (b : ℕ) → b < 64 → bit_at places b ≡ 1 → HasBitsOf result (word_at table.now (128 + b)) }
+    ensures { (b : ℕ) → b < 64 → bit_at places b ≡ 1
+        → HasBitsOf result (word_at table.now (128 + b)) }
 {
     let mut words = 0;
     let mut bit = next_bit(places, 0);

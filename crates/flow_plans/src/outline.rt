@@ -3,7 +3,8 @@
 //! Most flights never come to the place of a regulation, or not while it lasts. Their outlines say so without a look at
 //! their plans. When a flight enters a regulated departure its outline tells, too.
 ghost use Rattle.std.specs.Prelude.{◌≡◌, ◌≤◌};
-ghost use Rattle.flow_plans.specs.Outlines.{may_come, may_fly, outlined_moment, departure, IsOutlineOf};
+ghost use Rattle.flow_plans.specs.Outlines.{may_come, may_fly, outlined_moment};
+ghost use Rattle.flow_plans.specs.Outlines.{departure, IsOutlineOf};
 ghost use Rattle.flow_plans.specs.declared.setup.TheConstants.{MAX_TAXI};
 
 use crate::places::letters_of;

@@ -1,5 +1,6 @@
 //! One flight plan.
-ghost use Rattle.std.specs.Prelude.{◌≡◌, ◌≤◌, ◌<◌, ℕ, List, Option, true, IfOk, IfSome, IsSome, None, option_copied};
+ghost use Rattle.std.specs.Prelude.{◌≡◌, ◌≤◌, ◌<◌, ℕ, List, Option, true, IfOk};
+ghost use Rattle.std.specs.Prelude.{IfSome, IsSome, None, option_copied};
 ghost use Rattle.fpl_items.specs.Items.{Item, day_of_items};
 ghost use Rattle.fpl_items.specs.Told.{TellsOfAny};
 ghost use Rattle.flow_plans.specs.Entries.{take_off, elapsed_at, entry_at, subject};
@@ -7,10 +8,12 @@ ghost use Rattle.fpl_message.specs.declared.order.Spot.{Spot};
 ghost use Rattle.flow_plans.specs.Near.{row_of, word_at, HasBitsOf};
 ghost use Rattle.flow_plans.specs.Outlines.{may_be_subject};
 ghost use Rattle.fpl_items.specs.Places.{may_have};
-ghost use Rattle.flow_plans.specs.Plans.{is_held, is_filed, same_key, is_held_as, text_of, status_of};
+ghost use Rattle.flow_plans.specs.Plans.{is_held, is_filed, same_key};
+ghost use Rattle.flow_plans.specs.Plans.{is_held_as, text_of, status_of};
 ghost use Rattle.flow_plans.specs.Plans.{with_state, with_off_block, with_former, texts_or};
 ghost use Rattle.flow_plans.specs.Matching.{agrees, is_candidate, is_gone};
-ghost use Rattle.flow_plans.specs.Changes.{plan_of, key_of, changes_key, key_after, texts_after, amended_plan};
+ghost use Rattle.flow_plans.specs.Changes.{plan_of, key_of, changes_key};
+ghost use Rattle.flow_plans.specs.Changes.{key_after, texts_after, amended_plan};
 ghost use Rattle.std.specs.Option.{option_map_or};
 ghost use Rattle.std.specs.Str.{bytes_eq};
 ghost use Rattle.flow_plans.specs.declared.setup.TheConstants.{MAX_TAXI};
@@ -97,7 +100,8 @@ impl Key {
 
     /// The destination after a message, which may amend it.
     fn dest_after<A: Allocator + Copy>(&self, message: &Chg<A>) -> Text<4>
-        ensures { result ≡ option_map_or (λ destination. destination.place) message.now.destination self.now.dest }
+        ensures { result ≡ option_map_or (λ destination. destination.place) message.now.destination
+            self.now.dest }
     {
         match message.destination() {
             Some(destination) => destination.place,
@@ -275,7 +279,8 @@ impl<A: Allocator + Copy> Plan<A> {
         alloc: A,
         message: &Chg<A>,
     ) -> Result<Option<Box<Texts<A>, A>>, AllocError>
-        ensures { IfOk result (λ texts. texts_or texts self.now.texts ≡ texts_after self.now.texts message.now) }
+        ensures { IfOk result (λ texts.
+            texts_or texts self.now.texts ≡ texts_after self.now.texts message.now) }
     {
         self.texts.amended(alloc, message)
     }
@@ -555,7 +560,8 @@ impl<A: Allocator + Copy> Plan<A> {
 
     /// A set that has each place of the way.
     pub(crate) fn way(&self) -> u64
-        ensures { (place : List ℕ) → IsSome (elapsed_at place self.now) → may_have result place ≡ true }
+        ensures { (place : List ℕ) → IsSome (elapsed_at place self.now)
+            → may_have result place ≡ true }
     {
         self.texts.way()
     }
@@ -563,7 +569,8 @@ impl<A: Allocator + Copy> Plan<A> {
     /// The minutes from take-off to the last place that the flight comes to, or more.
     pub(crate) fn longest(&self) -> u16
         ensures destination { self.now.elapsed ≤ result }
-        ensures way { (place : List ℕ) → IfSome (elapsed_at place self.now) (λ minutes. minutes ≤ result) }
+        ensures way { (place : List ℕ)
+            → IfSome (elapsed_at place self.now) (λ minutes. minutes ≤ result) }
     {
         let way = self.texts.longest().min(ELAPSED_LIMIT) as u16;
         way.max(self.elapsed)

@@ -2,7 +2,8 @@
 //!
 //! The outlines stand in a dense row of their own, so that a look at which flights may come to a place reads little
 //! memory.
-ghost use Rattle.std.specs.Prelude.{◌≡◌, ◌+◌, ◌≤◌, ◌<◌, ◌-◌, ◌++◌, ◌∷◌, ℕ, [], None, true, false, length, take, OnOk};
+ghost use Rattle.std.specs.Prelude.{◌≡◌, ◌+◌, ◌≤◌, ◌<◌, ◌-◌, ◌++◌, ◌∷◌, ℕ, []};
+ghost use Rattle.std.specs.Prelude.{None, true, false, length, take, OnOk};
 ghost use Rattle.std.specs.Prelude.{OnErr, IfSome};
 ghost use Rattle.flow_plans.specs.Chains.{AreChained, StayChained};
 ghost use Rattle.flow_plans.specs.Entries.{subject};
@@ -132,7 +133,8 @@ impl<A: Allocator + Copy> PlanList<A> {
     ) -> Option<Minute>
         requires number { (0 < number) × (number ≤ length self.now) }
         requires taxi { taxi ≤ MAX_TAXI }
-        ensures { IfSome (plan_at self.now number) (λ plan. result ≡ subject taxi spot.now start end plan) }
+        ensures { IfSome (plan_at self.now number) (λ plan.
+            result ≡ subject taxi spot.now start end plan) }
     {
         if let Spot::Dep(place) = spot {
             let letters = letters_of(place.as_bytes());
@@ -235,7 +237,8 @@ impl<A: Allocator + Copy> PlanList<A> {
         requires off_block { off_block < off_blocks_end }
         requires texts { IfSome (plan_at self.old number)
             (λ plan. texts_or texts plan.texts ≡ texts_after plan.texts message.now) }
-        ensures changed { self.new ≡ changed_at (amended_plan off_block message.now) number self.old }
+        ensures changed { self.new ≡ changed_at (amended_plan off_block message.now)
+            number self.old }
         ensures back { changed_at (with_former result) number self.new ≡ self.old }
         ensures count { length self.new ≡ length self.old }
     {

@@ -1,6 +1,8 @@
 //! The plans by number.
-ghost use Rattle.std.specs.Prelude.{◌≡◌, ◌≢◌, ◌≤◌, ◌<◌, ◌+◌, ◌-◌, ◌++◌, ◌∷◌, ℕ, [], Ok, Err, Some, None, IfOk};
-ghost use Rattle.std.specs.Prelude.{IfErr, IsOk, OnOk, OnErr, IfSome, IsSome, IsTrue, ◌↔◌, true, length};
+ghost use Rattle.std.specs.Prelude.{◌≡◌, ◌≢◌, ◌≤◌, ◌<◌, ◌+◌, ◌-◌, ◌++◌, ◌∷◌};
+ghost use Rattle.std.specs.Prelude.{ℕ, [], Ok, Err, Some, None, IfOk};
+ghost use Rattle.std.specs.Prelude.{IfErr, IsOk, OnOk, OnErr, IfSome};
+ghost use Rattle.std.specs.Prelude.{IsSome, IsTrue, ◌↔◌, true, length};
 ghost use Rattle.std.specs.Prelude.{slice_get, option_copied};
 ghost use Rattle.flow_plans.specs.Settings.{IsDeskTime};
 ghost use Rattle.flow_plans.specs.Entries.{take_off, entry_at, subject};
@@ -13,7 +15,8 @@ ghost use Rattle.fpl_message.specs.declared.order.Spot.{Spot};
 ghost use Rattle.flow_plans.specs.Near.{row_of, word_at, HasBitsOf};
 ghost use Rattle.flow_plans.specs.Matching.{matching};
 ghost use Rattle.flow_plans.specs.Times.{delayed_to, off_blocks_end};
-ghost use Rattle.flow_plans.specs.Changes.{plan_of, moment_of, filed, cancelled, departed, delayed, amended, IsRefusal};
+ghost use Rattle.flow_plans.specs.Changes.{plan_of, moment_of, filed, cancelled};
+ghost use Rattle.flow_plans.specs.Changes.{departed, delayed, amended, IsRefusal};
 ghost use Rattle.flow_plans.specs.Changes.{IsJustRefusal, Answers};
 ghost use Rattle.flow_plans.specs.declared.setup.TheConstants.{MAX_PLANS};
 
@@ -106,10 +109,12 @@ impl<A: Allocator + Copy> PlanStore<A> {
     /// plan may have the same key (AlreadyHeld), and there must be room (PlansFull).
     pub fn file(&mut self, message: &Fpl<A>, now: Minute) -> Result<u32, PlanFault>
         requires { IsDeskTime now }
-        ensures ok { IfOk result (λ n. (filed self.old.max_plans now self.old.plans message.now ≡ Ok self.new.plans)
+        ensures ok { IfOk result (λ n.
+            (filed self.old.max_plans now self.old.plans message.now ≡ Ok self.new.plans)
             × (n ≡ length self.new.plans)) }
         ensures next { IfOk result (λ n. n ≡ length self.old.plans + 1) }
-        ensures refused { IfErr result (λ e. IsRefusal e (filed self.old.max_plans now self.old.plans message.now)) }
+        ensures refused { IfErr result (λ e.
+            IsRefusal e (filed self.old.max_plans now self.old.plans message.now)) }
         ensures memory { IfErr result (λ e. e ≡ PlanFault.OutOfMemory
             → IsOk (filed self.old.max_plans now self.old.plans message.now)) }
         ensures before { OnOk result (self.new.before ≡ Some self.old.plans) }
@@ -157,7 +162,8 @@ impl<A: Allocator + Copy> PlanStore<A> {
         ensures ok { IfOk result (λ n. cancelled self.old.plans message.now
             ≡ Ok (record { plans = self.new.plans; number = n })) }
         ensures within { IfOk result (λ n. (0 < n) × (n ≤ length self.new.plans)) }
-        ensures refused { IfErr result (λ e. IsJustRefusal e (cancelled self.old.plans message.now)) }
+        ensures refused { IfErr result (λ e.
+            IsJustRefusal e (cancelled self.old.plans message.now)) }
         ensures before { OnOk result (self.new.before ≡ Some self.old.plans) }
         ensures err { OnErr result (self.new ≡ self.old) }
         ensures count { length self.new.plans ≡ length self.old.plans }
@@ -181,7 +187,8 @@ impl<A: Allocator + Copy> PlanStore<A> {
         ensures ok { IfOk result (λ n. departed self.old.plans message.now
             ≡ Ok (record { plans = self.new.plans; number = n })) }
         ensures within { IfOk result (λ n. (0 < n) × (n ≤ length self.new.plans)) }
-        ensures refused { IfErr result (λ e. IsJustRefusal e (departed self.old.plans message.now)) }
+        ensures refused { IfErr result (λ e.
+            IsJustRefusal e (departed self.old.plans message.now)) }
         ensures before { OnOk result (self.new.before ≡ Some self.old.plans) }
         ensures err { OnErr result (self.new ≡ self.old) }
         ensures count { length self.new.plans ≡ length self.old.plans }
@@ -208,7 +215,8 @@ impl<A: Allocator + Copy> PlanStore<A> {
         ensures ok { IfOk result (λ n. delayed now self.old.plans message.now
             ≡ Ok (record { plans = self.new.plans; number = n })) }
         ensures within { IfOk result (λ n. (0 < n) × (n ≤ length self.new.plans)) }
-        ensures refused { IfErr result (λ e. IsJustRefusal e (delayed now self.old.plans message.now)) }
+        ensures refused { IfErr result (λ e.
+            IsJustRefusal e (delayed now self.old.plans message.now)) }
         ensures before { OnOk result (self.new.before ≡ Some self.old.plans) }
         ensures err { OnErr result (self.new ≡ self.old) }
         ensures count { length self.new.plans ≡ length self.old.plans }
@@ -286,7 +294,8 @@ impl<A: Allocator + Copy> PlanStore<A> {
     pub fn take_off(&self, number: u32) -> Minute
         requires some { 0 < number }
         requires within { number ≤ length self.now.plans }
-        ensures { IfSome (plan_at self.now.plans number) (λ plan. result ≡ take_off self.now.taxi plan) }
+        ensures { IfSome (plan_at self.now.plans number) (λ plan.
+            result ≡ take_off self.now.taxi plan) }
     {
         self.plans.as_slice()[(number - 1) as usize].take_off(self.taxi)
     }
@@ -305,7 +314,8 @@ impl<A: Allocator + Copy> PlanStore<A> {
     pub fn entry(&self, number: u32, spot: &Spot) -> Option<Minute>
         requires some { 0 < number }
         requires within { number ≤ length self.now.plans }
-        ensures { IfSome (plan_at self.now.plans number) (λ plan. result ≡ entry_at self.now.taxi spot.now plan) }
+        ensures { IfSome (plan_at self.now.plans number) (λ plan.
+            result ≡ entry_at self.now.taxi spot.now plan) }
     {
         self.plans.as_slice()[(number - 1) as usize].entry_at(self.taxi, spot)
     }
@@ -330,7 +340,8 @@ impl<A: Allocator + Copy> PlanStore<A> {
         requires some { 0 < number }
         requires within { number ≤ length self.now.plans }
         ensures { (spot : Spot) → IsDepartureOf letters spot
-            → IfSome (plan_at self.now.plans number) (λ plan. result ≡ subject self.now.taxi spot start end plan) }
+            → IfSome (plan_at self.now.plans number) (λ plan.
+            result ≡ subject self.now.taxi spot start end plan) }
     {
         self.plans.departure(number, self.taxi, letters, start, end)
     }
@@ -343,7 +354,8 @@ impl<A: Allocator + Copy> PlanStore<A> {
         requires { 0 < from }
         ensures from { from ≤ result }
         ensures passed { (n : ℕ) → from ≤ n → n < result
-            → IfSome (plan_at self.now.plans n) (λ plan. subject self.now.taxi spot.now start end plan ≡ None) }
+            → IfSome (plan_at self.now.plans n) (λ plan.
+            subject self.now.taxi spot.now start end plan ≡ None) }
         ensures end { length self.now.plans < from → result ≡ from }
         ensures most { from ≤ length self.now.plans → result ≤ length self.now.plans + 1 }
     {
@@ -376,11 +388,13 @@ fn end_plan<A: Allocator + Copy>(
     ensures found { Answers result (matching plans.old parts.now) }
     ensures changed { IfOk result (λ n. plans.new ≡ changed_at (with_state state) n plans.old) }
     ensures within { IfOk result (λ n. (0 < n) × (n ≤ length plans.new)) }
-    ensures back { IfOk result (λ n. changed_at (with_state PlanState.Filed) n plans.new ≡ plans.old) }
+    ensures back { IfOk result (λ n. changed_at (with_state PlanState.Filed) n plans.new
+        ≡ plans.old) }
     ensures count { length plans.new ≡ length plans.old }
     ensures err { OnErr result (plans.new ≡ plans.old) }
     ensures chained { AreChained chains.new plans.new }
-    ensures room { IfOk result (λ n. IfSome (plan_at plans.new n) (λ p. HasRoomFor chains.new (flight_of_key p.key))) }
+    ensures room { IfOk result (λ n.
+        IfSome (plan_at plans.new n) (λ p. HasRoomFor chains.new (flight_of_key p.key))) }
     ensures kept { OnErr result (chains.new ≡ chains.old) }
 {
     let number = matching(plans.as_slice(), chains, parts)?;
@@ -405,7 +419,8 @@ fn delay_plan<A: Allocator + Copy>(
     requires chained { AreChained chains.now plans.old }
     ensures ok { IfOk result (λ r. delayed now plans.old message.now
         ≡ Ok (record { plans = plans.new; number = r.0 })) }
-    ensures within { IfOk result (λ r. (0 < r.0) × (r.0 ≤ length plans.new) × (r.1 < off_blocks_end)) }
+    ensures within { IfOk result (λ r. (0 < r.0) × (r.0 ≤ length plans.new)
+        × (r.1 < off_blocks_end)) }
     ensures back { IfOk result (λ r. changed_at (with_off_block r.1) r.0 plans.new ≡ plans.old) }
     ensures refused { IfErr result (λ e. IsJustRefusal e (delayed now plans.old message.now)) }
     ensures count { length plans.new ≡ length plans.old }
@@ -433,7 +448,8 @@ fn why_refused<A: Allocator + Copy>(
         ≡ Ok (plans.now ++ plan_of moment message.now ∷ [])) }
     ensures room { OnOk result (length plans.now < max_plans) }
     ensures bound { IfOk result (λ moment. moment < off_blocks_end) }
-    ensures refused { IfErr result (λ e. IsJustRefusal e (filed max_plans now plans.now message.now)) }
+    ensures refused { IfErr result (λ e.
+        IsJustRefusal e (filed max_plans now plans.now message.now)) }
 {
     let Some(off_block) = moment_of(message, now) else {
         return Err(PlanFault::TooEarly);

@@ -1,5 +1,6 @@
 //! The field texts that a plan holds.
-ghost use Rattle.std.specs.Prelude.{◌≡◌, ◌≤◌, ◌<◌, ◌+◌, ◌++◌, true, length, List, ℕ, option_copied, MatchOption, IfOk};
+ghost use Rattle.std.specs.Prelude.{◌≡◌, ◌≤◌, ◌<◌, ◌+◌, ◌++◌, true, length};
+ghost use Rattle.std.specs.Prelude.{List, ℕ, option_copied, MatchOption, IfOk};
 ghost use Rattle.std.specs.Prelude.{IfSome, IsSome, Option};
 ghost use Rattle.fpl_text.specs.Words.{words_of};
 ghost use Rattle.fpl_items.specs.Items.{Item, items_of, elapsed_to};
@@ -51,7 +52,8 @@ impl<A: Allocator + Copy> Model for Texts<A> {
 
     ghost invariant = { λ t. (t.end8 ≤ t.end9) × (t.end9 ≤ t.end10) × (t.end10 ≤ t.end15)
         × (t.end15 ≤ length t.bytes.items)
-        × AreEstimatesOf (items_of (words_of (slice_range t.bytes.items t.end15 (length t.bytes.items)))) t.estimates };
+        × AreEstimatesOf (items_of
+        (words_of (slice_range t.bytes.items t.end15 (length t.bytes.items)))) t.estimates };
 }
 
 /// Appends a text, and answers where it ends. Refused where memory is, and behind 65,535 bytes, where the texts of no
@@ -82,7 +84,8 @@ fn estimates_after<A: Allocator + Copy>(
     held: &KeptEstimates<A>,
     amended: Option<&Other18<A>>,
 ) -> Result<KeptEstimates<A>, AllocError>
-    ensures { IfOk result (λ after. (items : Option (List Item)) → TellsOfAny items (option_copied amended.entry)
+    ensures { IfOk result (λ after. (items : Option (List Item))
+        → TellsOfAny items (option_copied amended.entry)
         → MatchOption items (after ≡ held.now) (λ items. AreEstimatesOf items after)) }
 {
     match amended {
@@ -153,7 +156,8 @@ impl<A: Allocator + Copy> Texts<A> {
         alloc: A,
         message: &Chg<A>,
     ) -> Result<Option<Box<Self, A>>, AllocError>
-        ensures { IfOk result (λ texts. texts_or texts self.now ≡ texts_after self.now message.now) }
+        ensures { IfOk result (λ texts.
+            texts_or texts self.now ≡ texts_after self.now message.now) }
     {
         if keeps_texts(message) {
             return Ok(None);
@@ -229,7 +233,8 @@ impl<A: Allocator + Copy> Texts<A> {
     /// The bits of the words in a table that stand in the rows of the places of the way, by the EET items of field 18.
     #[inline]
     pub(crate) fn near(&self, table: &[u64]) -> u64
-        ensures { (place : List ℕ) → IsSome (elapsed_to place (items_of (words_of self.now.field18)))
+        ensures { (place : List ℕ)
+            → IsSome (elapsed_to place (items_of (words_of self.now.field18)))
             → HasBitsOf result (word_at table.now (128 + bit_of place)) }
     {
         words_on_way(table, self.estimates.places())
@@ -237,7 +242,8 @@ impl<A: Allocator + Copy> Texts<A> {
 
     /// A set that has each place of the way, by the EET items of field 18.
     pub(crate) fn way(&self) -> u64
-        ensures { (place : List ℕ) → IsSome (elapsed_to place (items_of (words_of self.now.field18)))
+        ensures { (place : List ℕ)
+            → IsSome (elapsed_to place (items_of (words_of self.now.field18)))
             → may_have result place ≡ true }
     {
         self.estimates.places()
@@ -245,7 +251,8 @@ impl<A: Allocator + Copy> Texts<A> {
 
     /// The minutes from take-off to the last place of the way, by the EET items of field 18, or more.
     pub(crate) fn longest(&self) -> u32
-        ensures { (place : List ℕ) → IfSome (elapsed_to place (items_of (words_of self.now.field18)))
+        ensures { (place : List ℕ)
+            → IfSome (elapsed_to place (items_of (words_of self.now.field18)))
             (λ minutes. minutes ≤ result) }
     {
         self.estimates.longest()

@@ -1,5 +1,6 @@
 //! Off-block moments: what a flight plan asks for, and what a delay makes of one.
-ghost use Rattle.std.specs.Prelude.{◌≡◌, ◌≤◌, ◌<◌, ◌+◌, ◌-◌, ◌*◌, Ok, Err, Some, None, IfOk, MatchOption};
+ghost use Rattle.std.specs.Prelude.{◌≡◌, ◌≤◌, ◌<◌, ◌+◌, ◌-◌, ◌*◌, Ok};
+ghost use Rattle.std.specs.Prelude.{Err, Some, None, IfOk, MatchOption};
 ghost use Rattle.flow_plans.specs.Settings.{IsDeskTime};
 ghost use Rattle.flow_plans.specs.Times.{first_from, delayed_to, off_blocks_end};
 ghost use Rattle.flow_plans.specs.Changes.{moment_of, Answers};
@@ -67,7 +68,8 @@ fn minute_of(minutes: u32) -> Minute
 /// The moment at a time of a day. None where it lies too far ahead for any desk.
 #[tactic(auto, unfolding(fpl_text::specs::Moments::moment_within))]
 fn moment_on(day: Day, time: TimeOfDay) -> Option<Minute>
-    ensures { MatchOption result (GREATEST_MINUTE < 1440 * day + time) (λ moment. moment ≡ 1440 * day + time) }
+    ensures { MatchOption result (GREATEST_MINUTE < 1440 * day + time) (λ moment.
+        moment ≡ 1440 * day + time) }
 {
     Minute::new(1440 * day.number() + u32::from(time.minutes()))
 }

@@ -66,7 +66,8 @@ pub(crate) fn undo<A: Allocator + Copy>(
 /// memory.
 fn file_again<A: Allocator + Copy>(plans: &mut PlanList<A>, chains: &mut Chains<A>, number: u32)
     requires number { (0 < number) × (number ≤ length plans.old) }
-    requires room { IfSome (plan_at plans.old number) (λ p. HasRoomFor chains.old (flight_of_key p.key)) }
+    requires room { IfSome (plan_at plans.old number) (λ p.
+        HasRoomFor chains.old (flight_of_key p.key)) }
     requires chained { AreChained chains.old plans.old }
     ensures changed { plans.new ≡ changed_at (with_state PlanState.Filed) number plans.old }
     ensures chained { AreChained chains.new plans.new }

@@ -1,5 +1,6 @@
 //! Feeders at their desk: each files the texts that were dealt to it, in a thread of its own.
-ghost use Rattle.std.specs.Prelude.{◌≡◌, ◌≢◌, ◌≤◌, ◌<◌, ◌+◌, ◌++◌, ℕ, [], length, map, vec_len, vec_capacity};
+ghost use Rattle.std.specs.Prelude.{◌≡◌, ◌≢◌, ◌≤◌, ◌<◌, ◌+◌, ◌++◌, ℕ, []};
+ghost use Rattle.std.specs.Prelude.{length, map, vec_len, vec_capacity};
 ghost use Rattle.std.specs.Prelude.{slice_index_or, IsTrue, IsFalse, IfOk, OnOk, OnErr};
 ghost use Rattle.std.specs.VecDeque.{deque_len, deque_capacity};
 ghost use Rattle.flow_runs.specs.Ends.{EndsFeed};
@@ -95,7 +96,8 @@ fn file_next<N: Name, Q: Wait + Drop, P: Wait, A: Allocator + Copy>(
     ensures none { ready.new.items ≡ [] }
     ensures ran { (p : _) (texts : _) → FiledTo p texts feed.old.pass feed.old.left.items
         → FiledTo p texts feed.new.pass feed.new.left.items }
-    ensures ends { IsFalse result → EndsFeed N.setup feed.new.end feed.new.pass feed.new.left.items }
+    ensures ends { IsFalse result
+        → EndsFeed N.setup feed.new.end feed.new.pass feed.new.left.items }
     ensures goes { IsTrue result → length feed.new.left.items < length feed.old.left.items }
 {
     if feed.left.is_empty() {
@@ -123,7 +125,8 @@ fn run_feed<N: Name, Q: Wait + Drop, P: Wait, A: Allocator + Copy>(
     at_once: usize,
     feed: &mut Feed<N, A>,
 )
-    ensures { RanFeed N.setup feed.old.pass feed.old.left.items feed.new.pass feed.new.left.items feed.new.end }
+    ensures { RanFeed N.setup feed.old.pass feed.old.left.items feed.new.pass
+        feed.new.left.items feed.new.end }
 {
     let mut room = Vec::new(alloc);
     let mut ready = VecDeque::new(alloc);
@@ -140,7 +143,8 @@ fn run_all<
 >(rt: &T, wait: &P, alloc: A, desk: &Desk<N, Q, A>, feeds: &mut Vec<Feed<N, A>, A>)
     ensures len { length feeds.new.items ≡ length feeds.old.items }
     ensures each { (i : ℕ) (d : _) → i < length feeds.old.items
-        → RanFeed N.setup (slice_index_or feeds.old.items i d).pass (slice_index_or feeds.old.items i d).left.items
+        → RanFeed N.setup (slice_index_or feeds.old.items i d).pass
+        (slice_index_or feeds.old.items i d).left.items
         (slice_index_or feeds.new.items i d).pass (slice_index_or feeds.new.items i d).left.items
         (slice_index_or feeds.new.items i d).end }
 {
@@ -162,7 +166,8 @@ fn gather<N: Name, A: Allocator + Copy>(
 )
     requires each { length passes.old.items ≡ length texts.old.items }
     requires room { vec_len feeds.old + length passes.old.items ≤ vec_capacity feeds.old }
-    ensures passes { map (λ f. f.pass) feeds.new.items ≡ map (λ f. f.pass) feeds.old.items ++ passes.old.items }
+    ensures passes { map (λ f. f.pass) feeds.new.items
+        ≡ map (λ f. f.pass) feeds.old.items ++ passes.old.items }
     ensures texts { map (λ f. f.left.items) feeds.new.items
         ≡ map (λ f. f.left.items) feeds.old.items ++ map (λ v. v.items) texts.old.items }
     ensures len { vec_len feeds.new ≡ vec_len feeds.old + length passes.old.items }
@@ -200,7 +205,8 @@ pub(crate) fn file_texts<
 ) -> Result<Vec<Feed<N, A>, A>, AllocError>
     requires { length passes.items ≡ length texts.items }
     ensures { IfOk result (λ feeds. RanFeeds N.setup passes.items (map (λ v. v.items) texts.items)
-        (map (λ f. f.pass) feeds.items) (map (λ f. f.left.items) feeds.items) (map (λ f. f.end) feeds.items)) }
+        (map (λ f. f.pass) feeds.items) (map (λ f. f.left.items) feeds.items)
+        (map (λ f. f.end) feeds.items)) }
 {
     let mut feeds = Vec::new(alloc);
     feeds.reserve(passes.len())?;

@@ -1,5 +1,6 @@
 //! Runs the feeders of a desk over their feeds, and closes it.
-ghost use Rattle.std.specs.Prelude.{◌≡◌, ◌≢◌, ◌<◌, ◌≤◌, ◌+◌, ◌++◌, None, Some, length, map, vec_len};
+ghost use Rattle.std.specs.Prelude.{◌≡◌, ◌≢◌, ◌<◌, ◌≤◌, ◌+◌, ◌++◌};
+ghost use Rattle.std.specs.Prelude.{None, Some, length, map, vec_len};
 ghost use Rattle.std.specs.Prelude.{vec_capacity, IfOk, IfErr, IfNone};
 ghost use Rattle.std.specs.List.{All, fold};
 ghost use Rattle.flow_core.specs.History.{state_of};

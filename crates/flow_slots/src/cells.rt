@@ -1,5 +1,6 @@
 //! The row of slots as its callers see it: what stands in each slot, and how often slots were written.
-ghost use Rattle.std.specs.Prelude.{◌≡◌, ℕ, ◌+◌, ◌-◌, ◌^◌, ◌<◌, ◌≤◌, ◌++◌, true, ◌↔◌, IfOk, IsTrue, vec_capacity};
+ghost use Rattle.std.specs.Prelude.{◌≡◌, ℕ, ◌+◌, ◌-◌, ◌^◌, ◌<◌, ◌≤◌, ◌++◌};
+ghost use Rattle.std.specs.Prelude.{true, ◌↔◌, IfOk, IsTrue, vec_capacity};
 ghost use Rattle.std.specs.Prelude.{None, Some, [], drop, length, map, replicate, take, vec_len};
 ghost use Rattle.flow_slots.specs.CellRow.{CellRow, written};
 ghost use Rattle.flow_slots.specs.Changed.{gained};
@@ -7,7 +8,8 @@ ghost use Rattle.flow_slots.specs.Lineup.{IsKept, MayFill};
 ghost use Rattle.flow_slots.specs.MadeRow.{EndsEmpty, filled};
 ghost use Rattle.flow_slots.specs.PackedCell.{IsStored, flight_number, from_start, planned_in};
 ghost use Rattle.flow_slots.specs.Period.{first_slot};
-ghost use Rattle.flow_slots.specs.Row.{cell_at, fixed_of, flight_at, place_at, waiting_of, EntriesWithin, IsTied};
+ghost use Rattle.flow_slots.specs.Row.{cell_at, fixed_of, flight_at, place_at};
+ghost use Rattle.flow_slots.specs.Row.{waiting_of, EntriesWithin, IsTied};
 ghost use Rattle.flow_slots.specs.Walk.{close, displace, has_empty, push, waits, AllFollow};
 ghost use Rattle.flow_slots.specs.declared.cell.Cell.TheVariants.{Empty, Fixed, Waiting};
 ghost use Rattle.flow_slots.specs.declared.cell.Planned.{Planned};
@@ -97,7 +99,8 @@ fn displace_in(
     requires room { has_empty (drop from cells.old) ≡ true }
     requires waits { waits flight ≡ true }
     ensures tied { IsTied places.new cells.new }
-    ensures cells { cells.new ≡ take from cells.old ++ displace (planned_in flight) (drop from cells.old) }
+    ensures cells { cells.new ≡ take from cells.old
+        ++ displace (planned_in flight) (drop from cells.old) }
     ensures written { result ≡ gained cells.old cells.new }
 {
     let mut row = Counting::new(cells);
@@ -137,7 +140,8 @@ impl<A: Allocator + Copy> Cells<A> {
     pub(crate) fn new(alloc: A, len: u32, start: u32) -> Result<Cells<A>, AllocError>
         requires len { len < 2 ^ 16 }
         requires start { start < 2 ^ 31 }
-        ensures { IfOk result (λ c. c ≡ record { row = replicate len Empty; writes = 0; start = start }) }
+        ensures { IfOk result (λ c.
+            c ≡ record { row = replicate len Empty; writes = 0; start = start }) }
     {
         Ok(Cells {
             row: Vec::with_capacity(alloc, len as usize)?,
@@ -223,7 +227,8 @@ impl<A: Allocator + Copy> Cells<A> {
         requires stored { IsStored self.old.start (Waiting flight) }
         ensures tied { IsTied places.new.items self.new.row }
         ensures start { self.new.start ≡ self.old.start }
-        ensures row { self.new.row ≡ take from self.old.row ++ displace flight (drop from self.old.row) }
+        ensures row { self.new.row ≡ take from self.old.row
+            ++ displace flight (drop from self.old.row) }
         ensures len { vec_len places.new ≡ vec_len places.old }
         ensures writes { self.new.writes ≤ self.old.writes + gained self.old.row self.new.row }
         ensures more { self.old.writes ≤ self.new.writes }
@@ -249,7 +254,8 @@ impl<A: Allocator + Copy> Cells<A> {
         ensures tied { IsTied places.new.items self.new.row }
         ensures start { self.new.start ≡ self.old.start }
         ensures row { self.new.row
-            ≡ take k self.old.row ++ close (λ e. first_slot shape.now e) k (drop (k + 1) self.old.row) }
+            ≡ take k self.old.row
+            ++ close (λ e. first_slot shape.now e) k (drop (k + 1) self.old.row) }
         ensures len { vec_len places.new ≡ vec_len places.old }
         ensures writes { self.new.writes ≤ self.old.writes + gained self.old.row self.new.row + 1 }
         ensures more { self.old.writes ≤ self.new.writes }
@@ -308,7 +314,8 @@ impl<A: Allocator + Copy> Cells<A> {
         shape: &FirstSlots<A>,
         flights: &[Planned],
     )
-        requires kept { IsKept shape.now (length places.old.items - 1) self.old.row places.old.items }
+        requires kept { IsKept shape.now (length places.old.items - 1) self.old.row
+            places.old.items }
         requires start { self.old.start ≡ shape.now.start }
         requires may { MayFill flights.now (record {
           period = shape.now;
@@ -316,7 +323,8 @@ impl<A: Allocator + Copy> Cells<A> {
           waiting = waiting_of self.old.row;
           fixed = fixed_of 0 self.old.row;
         }) }
-        ensures kept { IsKept shape.now (length places.old.items - 1) self.new.row places.new.items }
+        ensures kept { IsKept shape.now (length places.old.items - 1) self.new.row
+            places.new.items }
         ensures start { self.new.start ≡ self.old.start }
         ensures waiting { waiting_of self.new.row ≡ flights.now }
         ensures fixed { fixed_of 0 self.new.row ≡ [] }

@@ -1,12 +1,14 @@
 //! The chains: a flight that comes in and displaces later ones up to an empty slot, and a hole into which later
 //! ones move up.
-ghost use Rattle.std.specs.Prelude.{◌≡◌, ◌+◌, ◌-◌, ◌^◌, ◌<◌, ◌++◌, true, length, map, take, drop, IfSome, IfNone};
+ghost use Rattle.std.specs.Prelude.{◌≡◌, ◌+◌, ◌-◌, ◌^◌, ◌<◌, ◌++◌, true};
+ghost use Rattle.std.specs.Prelude.{length, map, take, drop, IfSome, IfNone};
 ghost use Rattle.std.specs.Prelude.{None, Some};
 ghost use Rattle.flow_slots.specs.Changed.{gained};
 ghost use Rattle.flow_slots.specs.PackedCell.{flight_from, flight_number, from_start, planned_in};
 ghost use Rattle.flow_slots.specs.Period.{first_slot};
 ghost use Rattle.flow_slots.specs.Row.{flight_at, place_at, IsTied, EntriesWithin, MovesUp};
-ghost use Rattle.flow_slots.specs.Walk.{displace, has_empty, next_up, close, waits, Follows, AllFollow, ComesIn};
+ghost use Rattle.flow_slots.specs.Walk.{displace, has_empty, next_up, close};
+ghost use Rattle.flow_slots.specs.Walk.{waits, Follows, AllFollow, ComesIn};
 
 use crate::counting::Counting;
 use crate::first_slots::FirstSlots;
@@ -52,7 +54,8 @@ pub(crate) fn displace(
     ensures same_reference { row.new.cells.ghost_name ≡ row.old.cells.ghost_name }
     ensures tied { IsTied places.new row.new.cells.now }
     ensures cells { row.new.cells.now
-        ≡ take from row.old.cells.now ++ displace (planned_in flight) (drop from row.old.cells.now) }
+        ≡ take from row.old.cells.now
+        ++ displace (planned_in flight) (drop from row.old.cells.now) }
     ensures written { row.new.written ≡ gained row.old.cells.now row.new.cells.now }
 {
     let mut coming = flight;
@@ -93,11 +96,13 @@ fn next_up<A: Allocator + Copy>(
     requires hole { hole < length row.now.cells.now }
     requires entries { EntriesWithin shape.now (map (from_start start) row.now.cells.now) }
     ensures found { IfSome result
-        (λ r. MovesUp shape.now (map (from_start start) row.now.cells.now) hole r.slot (flight_from start (planned_in r.held))) }
+        (λ r. MovesUp shape.now (map (from_start start) row.now.cells.now) hole r.slot
+        (flight_from start (planned_in r.held))) }
     ensures within { IfSome result (λ r. r.slot < length row.now.cells.now) }
     ensures waits { IfSome result (λ r. waits r.held ≡ true) }
     ensures none { IfNone result
-        (next_up (λ e. first_slot shape.now e) hole (drop (hole + 1) (map (from_start start) row.now.cells.now))
+        (next_up (λ e. first_slot shape.now e) hole
+        (drop (hole + 1) (map (from_start start) row.now.cells.now))
         ≡ None) }
 {
     for next in hole + 1..row.len() {
@@ -139,7 +144,8 @@ pub(crate) fn vacate<A: Allocator + Copy>(
     ensures tied { IsTied places.new row.new.cells.now }
     ensures cells { map (from_start start) row.new.cells.now
         ≡ take k (map (from_start start) row.old.cells.now)
-        ++ close (λ e. first_slot shape.now e) k (drop (k + 1) (map (from_start start) row.old.cells.now)) }
+        ++ close (λ e. first_slot shape.now e) k
+        (drop (k + 1) (map (from_start start) row.old.cells.now)) }
     ensures written { row.new.written ≡ gained row.old.cells.now row.new.cells.now + 1 }
 {
     let mut hole = k;

@@ -1,5 +1,6 @@
 //! The slot that a flight holds.
-ghost use Rattle.std.specs.Prelude.{◌≡◌, ◌<◌, ◌≤◌, ◌-◌, ◌^◌, ◌↔◌, ℕ, None, Some, IsSome, IsTrue, length};
+ghost use Rattle.std.specs.Prelude.{◌≡◌, ◌<◌, ◌≤◌, ◌-◌, ◌^◌, ◌↔◌, ℕ};
+ghost use Rattle.std.specs.Prelude.{None, Some, IsSome, IsTrue, length};
 ghost use Rattle.std.specs.Prelude.{slice_index_or, vec_len};
 ghost use Rattle.std.specs.List.{All};
 ghost use Rattle.flow_slots.specs.Row.{place_at};

@@ -6,7 +6,8 @@ ghost use Rattle.std.specs.Prelude.{◌≡◌, ℕ, ◌<◌, ◌⊎◌, ◌↔�
 ghost use Rattle.flow_slots.specs.ChangeList.{MayAll, changed_by};
 ghost use Rattle.flow_slots.specs.Delay.{HasLeastDelay, Rise, waiting_slots};
 ghost use Rattle.flow_slots.specs.FirstServed.{IsFirstServed};
-ghost use Rattle.flow_slots.specs.Lineup.{Lineup, MayFill, len_of, assigned, held_slot, held_flight, fixed_slot};
+ghost use Rattle.flow_slots.specs.Lineup.{Lineup, MayFill, len_of, assigned};
+ghost use Rattle.flow_slots.specs.Lineup.{held_slot, held_flight, fixed_slot};
 ghost use Rattle.flow_slots.specs.Lineup.{waiting_entry, with_all_waiting, fixed_at};
 ghost use Rattle.flow_slots.specs.LineupLaws.{IsNumber, IsSound, NoneTwice, Waits, IsNextFree};
 ghost use Rattle.flow_slots.specs.Order.{stands_before};
@@ -22,27 +23,34 @@ pub fn one_slot_each()
     ensures inverse { (l : Lineup) (flight k : ℕ) → IsSound l
         → (held_slot l flight ≡ Some k) ↔ (held_flight l k ≡ Some flight) }
     ensures all { (l : Lineup) (flight : ℕ)
-        → IsSome (held_slot l flight) ↔ (IsSome (fixed_slot l flight) ⊎ IsSome (waiting_entry l flight)) }
-    ensures kept { (l : Lineup) (flight k : ℕ) → fixed_slot l flight ≡ Some k → held_slot l flight ≡ Some k }
+        → IsSome (held_slot l flight)
+        ↔ (IsSome (fixed_slot l flight) ⊎ IsSome (waiting_entry l flight)) }
+    ensures kept { (l : Lineup) (flight k : ℕ) → fixed_slot l flight ≡ Some k
+        → held_slot l flight ≡ Some k }
 {}
 
 /// A slot that is held is one of the list, by a flight with a number of the list.
 pub fn slots_are_of_the_list()
-    ensures slot { (l : Lineup) (flight k : ℕ) → IsSound l → held_slot l flight ≡ Some k → k < len_of l }
-    ensures number { (l : Lineup) (flight k : ℕ) → IsSound l → held_slot l flight ≡ Some k → IsNumber l flight }
+    ensures slot { (l : Lineup) (flight k : ℕ) → IsSound l → held_slot l flight ≡ Some k
+        → k < len_of l }
+    ensures number { (l : Lineup) (flight k : ℕ) → IsSound l → held_slot l flight ≡ Some k
+        → IsNumber l flight }
 {}
 
 /// The slots of the waiting flights rise in the order of their entries, ties by the lower number.
 pub fn slots_rise()
     ensures rise { (l : Lineup) → IsSound l → Rise (waiting_slots l) }
     ensures order { (l : Lineup) (v w : Planned) (j k : ℕ) → IsSound l → Waits l v → Waits l w
-        → stands_before v w ≡ true → held_slot l v.flight ≡ Some j → held_slot l w.flight ≡ Some k → j < k }
+        → stands_before v w ≡ true → held_slot l v.flight ≡ Some j
+        → held_slot l w.flight ≡ Some k → j < k }
 {}
 
 /// Fixing a flight in the slot where it waits leaves the assignment as it is: each flight has the slot that it had.
 pub fn fixing_moves_nobody()
-    ensures { (l : Lineup) (w : Planned) (k flight : ℕ) → IsSound l → Waits l w → held_slot l w.flight ≡ Some k
-        → held_slot (fixed_at (record { flight = w.flight; slot = k }) l) flight ≡ held_slot l flight }
+    ensures { (l : Lineup) (w : Planned) (k flight : ℕ) → IsSound l → Waits l w
+        → held_slot l w.flight ≡ Some k
+        → held_slot (fixed_at (record { flight = w.flight; slot = k }) l) flight
+        ≡ held_slot l flight }
 {}
 
 /// Each waiting flight has the first slot not before its entry that is free for it: in each slot between

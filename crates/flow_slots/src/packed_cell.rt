@@ -4,7 +4,8 @@
 //! 1,440 minutes, and 17 bits are there for them; 15 bits are there for a flight's number, which is at most 20,000.
 ghost use Rattle.std.specs.Prelude.{◌≡◌, ◌+◌, ◌*◌, ◌/◌, ◌%◌, ◌^◌, ◌<◌, ◌≤◌, ◌↔◌, true, IsTrue};
 ghost use Rattle.std.specs.List.{All};
-ghost use Rattle.flow_slots.specs.PackedCell.{IsStored, entry_number, flight_from, flight_number, from_start};
+ghost use Rattle.flow_slots.specs.PackedCell.{IsStored, entry_number, flight_from};
+ghost use Rattle.flow_slots.specs.PackedCell.{flight_number, from_start};
 ghost use Rattle.flow_slots.specs.PackedCell.{planned_in};
 ghost use Rattle.flow_slots.specs.Row.{IsFixedCell};
 ghost use Rattle.flow_slots.specs.Walk.{waits, waits_before};

@@ -1,8 +1,10 @@
 //! The period of a regulation with its rates: which times its slots have, and which of them is the first not before
 //! an entry.
-ghost use Rattle.std.specs.Prelude.{◌≡◌, ◌+◌, ◌-◌, ◌*◌, ◌<◌, ◌≤◌, ◌↔◌, IsSome, IfSome, IsTrue, None, length};
+ghost use Rattle.std.specs.Prelude.{◌≡◌, ◌+◌, ◌-◌, ◌*◌, ◌<◌, ◌≤◌, ◌↔◌};
+ghost use Rattle.std.specs.Prelude.{IsSome, IfSome, IsTrue, None, length};
 ghost use Rattle.flow_slots.specs.Limits.{rises, rates_fit, is_period, broken_limit};
-ghost use Rattle.flow_slots.specs.Period.{Period, IsRegular, IsWithin, AreSubperiods, slots_in, time_from, first_from};
+ghost use Rattle.flow_slots.specs.Period.{Period, IsRegular, IsWithin, AreSubperiods};
+ghost use Rattle.flow_slots.specs.Period.{slots_in, time_from, first_from};
 ghost use Rattle.flow_slots.specs.Period.{slot_time, first_slot, slots_before_end, IsFirstSlot};
 ghost use Rattle.flow_slots.specs.Period.{most_before_end, most_slots};
 
@@ -171,7 +173,8 @@ impl Shape {
             ↔ IsRegular (record { start = start; end = end; rate = rate; parts = parts.now }) }
         ensures exact { YEAR_2000 ≤ start → end < YEAR_2099 → length parts.now ≤ MOST_PARTS
             → (IsSome result
-            ↔ (broken_limit (record { start = start; end = end; rate = rate; parts = parts.now }) ≡ None)) }
+            ↔ (broken_limit (record { start = start; end = end; rate = rate; parts = parts.now })
+            ≡ None)) }
         ensures value { IfSome result
             (λ s. s ≡ record { start = start; end = end; rate = rate; parts = parts.now }) }
     {

@@ -1,13 +1,16 @@
 //! The slot list with all its calls. Their contracts say what each makes of the lineup, which the row stands for.
-ghost use Rattle.std.specs.Prelude.{◌≡◌, ℕ, ◌+◌, ◌<◌, ◌≤◌, length, [], None, Some, ◌↔◌, IfOk, OnOk, IfSome, IsSome};
+ghost use Rattle.std.specs.Prelude.{◌≡◌, ℕ, ◌+◌, ◌<◌, ◌≤◌, length, [], None};
+ghost use Rattle.std.specs.Prelude.{Some, ◌↔◌, IfOk, OnOk, IfSome, IsSome};
 ghost use Rattle.std.specs.Prelude.{IsTrue};
 ghost use Rattle.flow_slots.specs.Period.{IsWithin, IsRegular, most_flights, most_slots};
 ghost use Rattle.flow_slots.specs.Changed.{moved_flights};
 ghost use Rattle.flow_slots.specs.Delay.{HasLeastDelay, Rise, waiting_slots};
 ghost use Rattle.flow_slots.specs.FirstServed.{IsFirstServed};
 ghost use Rattle.flow_slots.specs.Row.{flight_at};
-ghost use Rattle.flow_slots.specs.Lineup.{len_of, held_slot, held_flight, fixed_slot, with_waiting, with_fixed};
-ghost use Rattle.flow_slots.specs.Lineup.{without_flight, fixed_at, IsLineup, waiting_entry, with_all_waiting, MayFill};
+ghost use Rattle.flow_slots.specs.Lineup.{len_of, held_slot, held_flight};
+ghost use Rattle.flow_slots.specs.Lineup.{fixed_slot, with_waiting, with_fixed};
+ghost use Rattle.flow_slots.specs.Lineup.{without_flight, fixed_at, IsLineup};
+ghost use Rattle.flow_slots.specs.Lineup.{waiting_entry, with_all_waiting, MayFill};
 ghost use Rattle.flow_slots.specs.LineupLaws.{IsNumber, IsSound};
 
 use crate::cell::{Cell, Planned};
@@ -87,7 +90,8 @@ impl<A: Allocator + Copy> SlotList<A> {
     pub fn max_plans(&self) -> u32
         ensures value { result ≡ self.now.lineup.capacity }
         ensures most { result ≤ most_flights }
-        ensures held { (flight k : ℕ) → held_slot self.now.lineup flight ≡ Some k → (0 < flight) × (flight ≤ result) }
+        ensures held { (flight k : ℕ) → held_slot self.now.lineup flight ≡ Some k
+            → (0 < flight) × (flight ≤ result) }
     {
         self.capacity
     }
@@ -143,7 +147,8 @@ impl<A: Allocator + Copy> SlotList<A> {
     pub fn next_held(&self, from: u32) -> u32
         ensures from { from ≤ result }
         ensures passed { (f : ℕ) → from ≤ f → f < result → held_slot self.now.lineup f ≡ None }
-        ensures stops { result ≤ self.now.lineup.capacity → IsSome (held_slot self.now.lineup result) }
+        ensures stops { result ≤ self.now.lineup.capacity
+            → IsSome (held_slot self.now.lineup result) }
         ensures end { from ≤ self.now.lineup.capacity → result ≤ self.now.lineup.capacity + 1 }
         ensures late { self.now.lineup.capacity < from → result ≡ from }
     {
@@ -262,7 +267,8 @@ impl<A: Allocator + Copy> SlotList<A> {
         requires held { IsSome (held_slot self.old.lineup flight) }
         requires waits { fixed_slot self.old.lineup flight ≡ None }
         ensures lineup { IfSome (held_slot self.old.lineup flight)
-            (λ k. self.new.lineup ≡ fixed_at (record { flight = flight; slot = k }) self.old.lineup) }
+            (λ k. self.new.lineup
+            ≡ fixed_at (record { flight = flight; slot = k }) self.old.lineup) }
         ensures nobody_moves { (other : ℕ)
             → held_slot self.new.lineup other ≡ held_slot self.old.lineup other }
         ensures writes { self.new.writes

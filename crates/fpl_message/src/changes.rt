@@ -3,9 +3,12 @@ ghost use Rattle.std.specs.Prelude.{◌≡◌, ◌≢◌, Err, ◌≤◌, ◌<�
 ghost use Rattle.fpl_text.specs.Fields.{begins_amendment};
 ghost use Rattle.fpl_message.specs.Refusals.{Gives, RunsOutOnlyIf, IsPastTheEighth};
 ghost use Rattle.fpl_message.specs.Messages.{field};
-ghost use Rattle.fpl_message.specs.Modifications.{amended_number, amended_text, amend_rules, amend_craft};
-ghost use Rattle.fpl_message.specs.Modifications.{amend_equipment, amend_departure, amend_route, amend_destination};
-ghost use Rattle.fpl_message.specs.Modifications.{amend_other, amend_numbered, amend, amended, chg_of};
+ghost use Rattle.fpl_message.specs.Modifications.{amended_number, amended_text};
+ghost use Rattle.fpl_message.specs.Modifications.{amend_rules, amend_craft};
+ghost use Rattle.fpl_message.specs.Modifications.{amend_equipment, amend_departure};
+ghost use Rattle.fpl_message.specs.Modifications.{amend_route, amend_destination};
+ghost use Rattle.fpl_message.specs.Modifications.{amend_other, amend_numbered};
+ghost use Rattle.fpl_message.specs.Modifications.{amend, amended, chg_of};
 ghost use Rattle.fpl_message.specs.KeptChanges.{kept, StandAmong};
 ghost use Rattle.fpl_message.specs.NinthEstimates.{NotesNine, ChgNotesNine};
 
@@ -170,7 +173,8 @@ impl<A: Allocator + Copy> Changes<A> {
         requires { place < length fields.now }
         ensures change { Gives (λ _. kept fields.now self.new) result
             (amend_other (amended_text (field fields.now place)) (kept fields.now self.old)) }
-        ensures memory { RunsOutOnlyIf result (IsPastTheEighth (amended_text (field fields.now place))
+        ensures memory { RunsOutOnlyIf result
+            (IsPastTheEighth (amended_text (field fields.now place))
             (amend_other (amended_text (field fields.now place)) (kept fields.now self.old))) }
         ensures stand { StandAmong fields.now self.old → StandAmong fields.now self.new }
     {
@@ -189,7 +193,8 @@ impl<A: Allocator + Copy> Changes<A> {
         requires { place < length fields.now }
         ensures change { Gives (λ _. kept fields.now self.new) result
             (amend (field fields.now place) (kept fields.now self.old)) }
-        ensures memory { RunsOutOnlyIf result (IsPastTheEighth (amended_text (field fields.now place))
+        ensures memory { RunsOutOnlyIf result
+            (IsPastTheEighth (amended_text (field fields.now place))
             (amend (field fields.now place) (kept fields.now self.old))) }
         ensures stand { StandAmong fields.now self.old → StandAmong fields.now self.new }
     {
@@ -215,7 +220,8 @@ impl<A: Allocator + Copy> Changes<A> {
         requires { first ≤ length fields.now }
         ensures change { Gives (λ _. kept fields.now self.new) result
             (amended (drop first fields.now) (kept fields.now self.old)) }
-        ensures memory { RunsOutOnlyIf result (NotesNine (drop first fields.now) (kept fields.now self.old)) }
+        ensures memory { RunsOutOnlyIf result
+            (NotesNine (drop first fields.now) (kept fields.now self.old)) }
         ensures stand { StandAmong fields.now self.old → StandAmong fields.now self.new }
     {
         for place in first..fields.count() {

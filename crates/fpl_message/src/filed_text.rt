@@ -68,7 +68,8 @@ impl<A: Allocator + Copy> FiledText<A> {
 
     /// A text of these bytes, to be read by the rules of today. After an `Err` there is none.
     pub fn new(alloc: A, bytes: &[u8]) -> Result<Self, FilingFault>
-        ensures value { IfOk result (λ text. text ≡ record { edition = Edition.Second; bytes = bytes.now }) }
+        ensures value { IfOk result (λ text.
+            text ≡ record { edition = Edition.Second; bytes = bytes.now }) }
         ensures long { IsErrOf result FilingFault.TooLong ↔ (MAX_BYTES < length bytes.now) }
     {
         if bytes.len() > MAX_BYTES {

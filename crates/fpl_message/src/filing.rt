@@ -36,7 +36,8 @@ impl<A: Allocator + Copy> Model for Filing<A> {
 impl<A: Allocator + Copy> Filing<A> {
     /// A filing of these bytes, read by the rules of today. After an `Err` there is none.
     pub fn new(alloc: A, bytes: &[u8]) -> Result<Self, FilingFault>
-        ensures value { IfOk result (λ filing. filing ≡ record { edition = Edition.Second; bytes = bytes.now }) }
+        ensures value { IfOk result (λ filing.
+            filing ≡ record { edition = Edition.Second; bytes = bytes.now }) }
         ensures long { IsErrOf result FilingFault.TooLong ↔ (MAX_BYTES < length bytes.now) }
     {
         Filing::read_as(alloc, Edition::Second, bytes)
@@ -44,7 +45,8 @@ impl<A: Allocator + Copy> Filing<A> {
 
     /// A filing of these bytes, read by the rules of that edition. After an `Err` there is none.
     pub fn read_as(alloc: A, edition: Edition, bytes: &[u8]) -> Result<Self, FilingFault>
-        ensures value { IfOk result (λ filing. filing ≡ record { edition = edition; bytes = bytes.now }) }
+        ensures value { IfOk result (λ filing.
+            filing ≡ record { edition = edition; bytes = bytes.now }) }
         ensures long { IsErrOf result FilingFault.TooLong ↔ (MAX_BYTES < length bytes.now) }
     {
         if bytes.len() > MAX_BYTES {

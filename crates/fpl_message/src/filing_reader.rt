@@ -54,7 +54,8 @@ impl<A: Allocator + Copy> FilingReader<A> {
         bytes: &[u8],
     ) -> Result<Self, AllocError>
         requires { length bytes.now ≤ MAX_BYTES }
-        ensures { IfOk result (λ reader. reader ≡ reading_of (record { edition = edition; bytes = bytes.now })) }
+        ensures { IfOk result (λ reader.
+            reader ≡ reading_of (record { edition = edition; bytes = bytes.now })) }
     {
         let mut reader = FilingReader::new(alloc);
         read(
@@ -72,7 +73,8 @@ impl<A: Allocator + Copy> FilingReader<A> {
     /// of its kind said before. Where memory is refused no bytes are read.
     pub fn read(&mut self, alloc: A, edition: Edition, bytes: &[u8]) -> Result<(), AllocError>
         requires { length bytes.now ≤ MAX_BYTES }
-        ensures ok { OnOk result (self.new ≡ reading_of (record { edition = edition; bytes = bytes.now })) }
+        ensures ok { OnOk result (self.new
+            ≡ reading_of (record { edition = edition; bytes = bytes.now })) }
         ensures err { OnErr result (self.new ≡ bad Refusal.Empty) }
     {
         self.clear();

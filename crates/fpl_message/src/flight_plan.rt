@@ -52,7 +52,8 @@ impl<A: Allocator + Copy> Model for Fpl<A> {
       items = items_of (words_of (field m.fields 8));
     } };
 
-    ghost invariant = { λ m. (length m.fields ≡ 9) × (is_route (field m.fields 6) ≡ true) × (m.elapsed < ELAPSED_LIMIT)
+    ghost invariant = { λ m. (length m.fields ≡ 9) × (is_route (field m.fields 6) ≡ true)
+        × (m.elapsed < ELAPSED_LIMIT)
         × TellsOf (items_of (words_of (field m.fields 8))) m.other };
 }
 

@@ -22,7 +22,8 @@ pub fn amendments_are_their_parts()
     ensures found { (field : List ℕ) → begins_amendment field ≡ true
         → IsAmendment field (amended_number field) (amended_text field) }
     ensures only { (field text : List ℕ) (number : ℕ) → IsAmendment field number text
-        → (begins_amendment field ≡ true) × (amended_number field ≡ number) × (amended_text field ≡ text) }
+        → (begins_amendment field ≡ true) × (amended_number field ≡ number)
+        × (amended_text field ≡ text) }
 {}
 
 /// The limit of a filing, which other clauses and definitions cite by its name.

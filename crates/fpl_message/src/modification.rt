@@ -108,7 +108,8 @@ impl<A: Allocator + Copy> Chg<A> {
     /// An amended field 16, of which an elapsed time is at most 5,999 minutes.
     pub fn destination(&self) -> Option<&Destination>
         ensures value { option_copied result ≡ self.now.destination }
-        ensures bound { IfSome result (λ amended. IfSome amended.now.elapsed (λ minutes. minutes < ELAPSED_LIMIT)) }
+        ensures bound { IfSome result (λ amended.
+            IfSome amended.now.elapsed (λ minutes. minutes < ELAPSED_LIMIT)) }
     {
         self.changes.destination.as_ref()
     }

@@ -55,7 +55,8 @@ pub(crate) fn read_opening<A: Allocator + Copy>(
     requires other { IsTrue has_other → 4 < length fields.now }
     ensures value { Gives (λ opening. opening) result (opening_of has_other fields.now) }
     ensures memory { RunsOutOnlyIf result
-        ((has_other ≡ true) × IsPastTheEighth (field fields.now 4) (opening_of has_other fields.now)) }
+        ((has_other ≡ true)
+        × IsPastTheEighth (field fields.now 4) (opening_of has_other fields.now)) }
 {
     let _heading = Heading::read(fields.field(0))?;
     let ident = Ident::read(fields.field(1))?;
@@ -81,7 +82,8 @@ fn read_day<A: Allocator + Copy>(
 ) -> Result<Option<Day>, Fault>
     requires { IsTrue has_other → 4 < length fields.now }
     ensures value { Gives (λ day. day) result (other_day has_other fields.now) }
-    ensures memory { RunsOutOnlyIf result ((has_other ≡ true) × (8 < noted_of_field (field fields.now 4))) }
+    ensures memory { RunsOutOnlyIf result ((has_other ≡ true)
+        × (8 < noted_of_field (field fields.now 4))) }
 {
     if !has_other {
         return Ok(None);

@@ -4,7 +4,8 @@ ghost use Rattle.fpl_text.specs.Squeezing.{squeezed_or_fault};
 ghost use Rattle.fpl_text.specs.Fields.{fields_or_fault};
 ghost use Rattle.fpl_message.specs.Refusals.{Gives, by_text};
 ghost use Rattle.fpl_message.specs.Said.{said};
-ghost use Rattle.fpl_message.specs.Reads.{reading_of, reading_or_refusal, message_of, begins_message, heading_of_bytes};
+ghost use Rattle.fpl_message.specs.Reads.{reading_of, reading_or_refusal, message_of};
+ghost use Rattle.fpl_message.specs.Reads.{begins_message, heading_of_bytes};
 ghost use Rattle.fpl_message.specs.declared.filed_text.TheConstants.{MAX_BYTES};
 
 use crate::edition::Edition;
@@ -33,7 +34,8 @@ pub(crate) fn read<A: Allocator + Copy>(
     bytes: &[u8],
 ) -> Result<(), AllocError>
     requires { length bytes.now ≤ MAX_BYTES }
-    ensures { OnOk result (said reading.new ≡ reading_of (record { edition = edition; bytes = bytes.now })) }
+    ensures { OnOk result (said reading.new
+        ≡ reading_of (record { edition = edition; bytes = bytes.now })) }
 {
     match read_filed(alloc, room, spares, reading, edition, bytes) {
         Ok(()) => Ok(()),

@@ -39,7 +39,8 @@ pub(crate) fn read_short<A: Allocator + Copy>(
     requires { 4 ≤ length fields }
     ensures value { Gives (λ opening. opening) result (short_opening_of fields) }
     ensures memory { RunsOutOnlyIf result
-        (((length fields == 5) ≡ true) × IsPastTheEighth (field fields 4) (short_opening_of fields)) }
+        (((length fields == 5) ≡ true)
+        × IsPastTheEighth (field fields 4) (short_opening_of fields)) }
 {
     let opening = read_opening(alloc, fields.count() == 5, &fields);
     *room = fields.into_room();

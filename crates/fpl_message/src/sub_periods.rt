@@ -1,5 +1,6 @@
 //! The further sub-periods of a regulation.
-ghost use Rattle.std.specs.Prelude.{◌≡◌, ◌≤◌, ◌<◌, ◌∷◌, ◌++◌, ◌*◌, ◌-◌, [], true, nat_le, if◌then◌else◌, length};
+ghost use Rattle.std.specs.Prelude.{◌≡◌, ◌≤◌, ◌<◌, ◌∷◌, ◌++◌, ◌*◌, ◌-◌, []};
+ghost use Rattle.std.specs.Prelude.{true, nat_le, if◌then◌else◌, length};
 ghost use Rattle.fpl_text.specs.Bytes.{is_digit};
 ghost use Rattle.fpl_message.specs.Orders.{rate_of, part_of, parts_of, more_of};
 
@@ -95,7 +96,8 @@ fn part_of(moment: &[u8], rate: &[u8]) -> Option<Part>
 
 /// Reads pairs of a moment and a rate, at most 7.
 fn parts_of(from: Minute, mut words: Words<'_>) -> Option<SubPeriods>
-    ensures { result ≡ (if nat_le (length words.entry) (2 * MOST_PARTS) then parts_of words.entry else None) }
+    ensures { result
+        ≡ (if nat_le (length words.entry) (2 * MOST_PARTS) then parts_of words.entry else None) }
 {
     let mut parts = SubPeriods::none(from);
     while let Some(moment) = words.next() {
