@@ -15,7 +15,7 @@ use std::sync::Wait;
 use std::thread;
 use std::thread::Threads;
 
-/// A feed as it runs: the texts that have no entry yet, and how it ended.
+/// The state of a feed: the texts that have no entry yet, and how it ended.
 #[derive(Drop)]
 pub(crate) struct Feed<N: Name, A: Allocator + Copy = Global> {
     pub pass: Pass<N, A>,
@@ -23,15 +23,16 @@ pub(crate) struct Feed<N: Name, A: Allocator + Copy = Global> {
     pub end: End,
 }
 
-/// So many texts all feeders together have read while they wait for the lock: 16 each of 4 feeders, one each of 64.
-/// A feeder files those that it has read while it holds the lock once. Each time the lock goes to another feeder it goes
-/// to another processor, and the core's memory with it: with 16 filings a lock this is no longer what most time goes
-/// into. But the more of them are filed at once, the less their order is that of the input.
+/// The number of texts that all feeders together have read while they wait for the lock: 16 each of
+/// 4 feeders, one each of 64. A feeder files the texts that it has read in one critical section.
+/// Whenever the lock goes to another feeder, the core's memory moves to another processor; with 16
+/// filings a lock this is no longer the largest cost. But the more of them are filed at once, the
+/// less their order is that of the input.
 const AHEAD: usize = 64;
 
-/// Reads texts from the front of a feed in this room, as many as are filed at once, or all that are left; one at least.
-/// Where memory is refused those that were read before are ready, and the text that wasn't read is the first that is
-/// left.
+/// Reads the first texts of a feed into `ready`, as many as are filed at once, or all that are
+/// left; at least one. If an allocation fails, the texts read before are ready, and the one that
+/// wasn't read is the first that is left.
 fn read_ahead<A: Allocator + Copy>(
     alloc: A,
     at_once: usize,
@@ -63,7 +64,7 @@ fn read_ahead<A: Allocator + Copy>(
     Ok(())
 }
 
-/// Puts what wasn't filed back in front of what is left, in its order.
+/// Moves what wasn't filed back to the beginning of what is left, in its order.
 fn put_back<A: Allocator + Copy>(
     ready: &mut VecDeque<Filing<A>, A>,
     left: &mut VecDeque<FiledText<A>, A>,
@@ -77,12 +78,12 @@ fn put_back<A: Allocator + Copy>(
     }
 }
 
-/// Reads the next texts of a feed, and files them while it holds the lock once. False where one was refused or nothing
-/// is left.
+/// Reads the next texts of a feed, and files them in one critical section. Returns `false` if one
+/// was refused or nothing is left.
 ///
-/// A text is read just before it is filed: of all texts of a feed only these take the memory of what they say, and the
-/// others wait for the lock the less, the longer each reads. Where memory is refused for reading, what was read before
-/// is filed all the same: a text is left only where it or one before it was refused.
+/// A text is read just before it is filed, so only the texts of one batch take the memory of what
+/// they say. If reading a text fails to allocate, those before it are filed all the same: a text is
+/// left only if it or one before it was refused.
 fn file_next<N: Name, Q: Wait + Drop, P: Wait, A: Allocator + Copy>(
     wait: &P,
     alloc: A,
@@ -117,7 +118,7 @@ fn file_next<N: Name, Q: Wait + Drop, P: Wait, A: Allocator + Copy>(
     true
 }
 
-/// Files a feed until it ends, so many texts at once.
+/// Files a feed until it ends, a batch at a time.
 fn run_feed<N: Name, Q: Wait + Drop, P: Wait, A: Allocator + Copy>(
     wait: &P,
     alloc: A,
@@ -133,7 +134,7 @@ fn run_feed<N: Name, Q: Wait + Drop, P: Wait, A: Allocator + Copy>(
     while file_next(wait, alloc, desk, at_once, &mut room, &mut ready, feed) {}
 }
 
-/// Runs all feeds at the same time, each in a thread of its own where one can be made.
+/// Runs all feeds at the same time, each in a thread of its own if one can be created.
 fn run_all<
     N: Name + Send + Sync,
     Q: Wait + Drop + Send,
@@ -158,7 +159,7 @@ fn run_all<
     );
 }
 
-/// Makes a feed of each pass and its texts, in their order.
+/// Pairs the passes with their texts, in their order.
 fn gather<N: Name, A: Allocator + Copy>(
     passes: &mut Vec<Pass<N, A>, A>,
     texts: &mut Vec<Vec<FiledText<A>, A>, A>,
@@ -187,7 +188,7 @@ fn gather<N: Name, A: Allocator + Copy>(
     });
 }
 
-/// Has each pass file its texts, at the same time as the others. Where memory is refused before any feed is begun
+/// Files the texts of all passes at the same time. If an allocation fails before any feed begins,
 /// nothing was filed.
 pub(crate) fn file_texts<
     N: Name + Send + Sync,

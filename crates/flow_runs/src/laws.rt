@@ -8,8 +8,9 @@ ghost use Rattle.flow_store.specs.Serving.{IsSafe, IsKept};
 ghost use Rattle.flow_store.specs.Store.{IsStoreFile};
 ghost use Rattle.flow_runs.specs.StoredRuns.{IsSafeRun, IsKeptRun, HasAll};
 
-/// Whoever files at a desk that is kept in a store, one feeder or many: at whatever moment that has crashed, the file has all
-/// entries with which it was opened. So what was answered in one run is in the file after every later one, too.
+/// Whoever files at a desk with a store, one feeder or many: whenever that crashes, the file has
+/// all entries with which it was opened. So what was answered in one run is in the file after every
+/// later one, too.
 pub fn stored_runs_keep_all()
     ensures one { (opened : History) (begun : List ℕ) (input : Option (List ℕ)) (l : Left)
         → IsSafe (state_of opened) begun input l → HasAll opened l.file }
