@@ -1,8 +1,8 @@
-//! The bytes of an input in one buffer, and its frames, each shown as a slice of it.
+//! The bytes of an input in one buffer, and its frames, each a slice of that buffer.
 //!
-//! Frames are taken from the front of the bytes that were read. If these show no end of the first frame, the bytes of
-//! that frame, at most 2,000, move to the front of the buffer, and more are read after them. The bytes of a longer frame
-//! are dropped as they come.
+//! Frames are taken from the unread bytes. If these show no end of the first frame, its bytes, at
+//! most 2,000, move to the beginning of the buffer, and more are read after them. The bytes of a
+//! longer frame are dropped as they come.
 ghost use Rattle.std.specs.Prelude.{◌≡◌, ◌≢◌, ◌≤◌, ◌<◌, ◌+◌, [], length};
 ghost use Rattle.std.specs.Prelude.{drop, false, true, IsTrue, OnOk, IfOk};
 ghost use Rattle.std.specs.Prelude.{IsErrOf, Err, MatchOption, None, Some};
@@ -25,13 +25,14 @@ use std::io;
 use std::io::Read;
 use std::marker::Model;
 
-/// The bytes of an input at most.
+/// The length limit of an input, in bytes.
 pub const MAX_INPUT: u64 = 4_000_000_000;
 
-/// How many bytes are asked for at once.
+/// The number of bytes that one read asks for.
 const PIECE: usize = 65_536;
 
-/// Moves some bytes of a buffer to its front, and reads more after them. Returns how many came.
+/// Moves the bytes `at..end` of a buffer to its beginning, and reads more bytes after it. Returns
+/// the number of bytes read.
 fn read_after<R: Read>(
     reader: &mut Counted<R>,
     buffer: &mut [u8],
@@ -59,13 +60,14 @@ fn read_after<R: Read>(
     reader.read(&mut buffer[kept..kept + PIECE])
 }
 
-/// The bytes that were read and not yet taken, after the frame that was taken last.
+/// The buffer of an input: the unread bytes, after the current frame. A frame is current from the
+/// call that takes it to the next one.
 #[derive(Drop)]
 pub struct Input<A: Allocator = Global> {
     buffer: Vec<u8, A>,
-    /// The index of the first byte of the frame that was taken last, which ends at `at`.
+    /// The offset of the current frame, which ends at `at`.
     begin: usize,
-    /// Whether that frame has more than 2,000 bytes.
+    /// Whether the current frame has more than 2,000 bytes.
     is_long: bool,
     at: usize,
     end: usize,
@@ -96,7 +98,7 @@ impl<A: Allocator> Model for Input<A> {
 }
 
 impl<A: Allocator> Input<A> {
-    /// Takes the memory for the buffer.
+    /// Allocates the buffer, about 66 KiB; returns `Err` if that fails.
     pub fn new(alloc: A) -> Result<Self, AllocError>
         ensures { IfOk result (λ p.
             p ≡ record { unread = []; taken = 0; ended = false; item = Some [] }) }
@@ -114,7 +116,7 @@ impl<A: Allocator> Input<A> {
         })
     }
 
-    /// The bytes of the frame that was taken last, at most 2,000. `None` if it is too long.
+    /// Returns the bytes of the current frame, at most 2,000; `None` if it is too long.
     pub fn frame(&self) -> Option<&[u8]>
         ensures { MatchOption result (self.now.item ≡ None) (λ bytes.
             (self.now.item ≡ Some bytes.now)
@@ -126,7 +128,8 @@ impl<A: Allocator> Input<A> {
         Some(&self.buffer[self.begin..self.at])
     }
 
-    /// Takes the next frame if the bytes that were read show its end. Returns whether they do; else nothing is taken.
+    /// Takes the next frame if the buffer shows its end. Returns `false`, and takes nothing, if it
+    /// doesn't.
     pub fn take_whole(&mut self) -> bool
         ensures gave { result ≡ true → (rest : Option (List ℕ)) → Agrees self.old rest
             → GaveFirst (filing_kept self.new.item) self.old self.new rest rest }
@@ -159,7 +162,7 @@ impl<A: Allocator> Input<A> {
         self.ended
     }
 
-    /// Takes the unread bytes to the end of this frame, which is the one that was taken last then.
+    /// Takes the unread bytes to the end of this frame, which is the current one then.
     pub(crate) fn take(&mut self, span: Span)
         requires order { span.begin ≤ span.end }
         requires within { span.end ≤ length self.old.unread }
@@ -174,7 +177,7 @@ impl<A: Allocator> Input<A> {
         self.is_long = span.end - span.begin > MAX_BYTES;
     }
 
-    /// Takes so many of the unread bytes, of no frame that is to be shown.
+    /// Drops the first `count` unread bytes, which are of no frame that is to be shown.
     pub(crate) fn skip(&mut self, count: usize)
         requires { count ≤ length self.old.unread }
         ensures unread { self.new.unread ≡ drop count self.old.unread }
@@ -187,7 +190,7 @@ impl<A: Allocator> Input<A> {
         self.is_long = true;
     }
 
-    /// Reads more bytes after the unread ones, which move to the front of the buffer.
+    /// Reads more bytes after the unread ones, which move to the beginning of the buffer.
     pub(crate) fn fill<R: Read>(&mut self, reader: &mut Counted<R>) -> Result<(), IntakeFault>
         requires short { length self.old.unread ≤ MAX_BYTES }
         requires going { self.old.ended ≡ false }

@@ -1,4 +1,4 @@
-//! The next frame of an input, for whose end more bytes may have to be read.
+//! The next frame of an input, for the end of which more bytes may have to be read.
 ghost use Rattle.std.specs.Prelude.{◌≡◌, ◌≢◌, ◌≤◌, ◌<◌, ◌+◌, [], length};
 ghost use Rattle.std.specs.Prelude.{false, true, IsTrue, OnErr, OnOk};
 ghost use Rattle.std.specs.Prelude.{IfOk, IsErrOf, Err, None, Some, IfSome};
@@ -22,7 +22,7 @@ use fpl_message::MAX_BYTES;
 use std::alloc::Allocator;
 use std::io::Read;
 
-/// Reads more bytes if all were taken and the reader has more.
+/// Reads more bytes if all were taken and the reader hasn't ended.
 fn make_ready<R: Read, A: Allocator>(
     reader: &mut Counted<R>,
     input: &mut Input<A>,
@@ -50,7 +50,7 @@ fn make_ready<R: Read, A: Allocator>(
     input.fill(reader)
 }
 
-/// Takes the unread bytes up to the first that stops.
+/// Takes the unread bytes before the first that ends the run.
 fn take_run<A: Allocator>(input: &mut Input<A>, until: Until)
     ensures took { TookRun (stops_at until) input.old input.new }
     ensures stop { BeginsWithStop (stops_at until) input.new.unread }
@@ -63,7 +63,7 @@ fn take_run<A: Allocator>(input: &mut Input<A>, until: Until)
     input.skip(count);
 }
 
-/// Takes the bytes up to the first that stops, or to the end of the input.
+/// Takes the bytes before the first that ends the run, or to the end of the input.
 fn take_until<R: Read, A: Allocator>(
     reader: &mut Counted<R>,
     input: &mut Input<A>,
@@ -98,7 +98,7 @@ fn take_until<R: Read, A: Allocator>(
     }
 }
 
-/// Takes the next byte if it is this one.
+/// Takes the next byte if it equals `byte`.
 fn take_if<A: Allocator>(input: &mut Input<A>, byte: u8)
     ensures took { TakesIf byte input.old input.new }
     ensures ended { input.new.ended ≡ input.old.ended }
@@ -111,7 +111,7 @@ fn take_if<A: Allocator>(input: &mut Input<A>, byte: u8)
     input.skip(1);
 }
 
-/// Takes the rest of a frame that begins with this byte, and is too long to be shown.
+/// Takes the rest of a frame that begins with `byte`, and is too long to be shown.
 fn finish<R: Read, A: Allocator>(
     reader: &mut Counted<R>,
     input: &mut Input<A>,
@@ -141,7 +141,8 @@ fn finish<R: Read, A: Allocator>(
     take_until(reader, input, Until::OrderEnd)
 }
 
-/// Takes the frame with which the unread bytes begin, of which there are more than 2,000 already.
+/// Takes the frame at the beginning of the unread bytes, of which more than 2,000 are there
+/// already.
 fn pass_long<R: Read, A: Allocator>(
     reader: &mut Counted<R>,
     input: &mut Input<A>,
@@ -168,7 +169,7 @@ fn pass_long<R: Read, A: Allocator>(
     finish(reader, input, first)
 }
 
-/// Takes the blanks before the next frame.
+/// Drops the blanks before the next frame.
 fn skip_blanks<A: Allocator>(input: &mut Input<A>)
     ensures took { TookRun is_text input.old input.new }
     ensures stop { BeginsWithStop is_text input.new.unread }
@@ -198,8 +199,13 @@ fn take_rest<A: Allocator>(input: &mut Input<A>) -> bool
     true
 }
 
-/// Takes the next frame of the input, and returns whether there was one: `frame` of the input shows it then. Bytes that
-/// were read and don't belong to it stay unread.
+/// Takes the next frame of the input. Returns `false` if there is none; else `Input::frame` returns
+/// its bytes. Bytes that were read and don't belong to it stay unread.
+///
+/// # Errors
+///
+/// - `Read` if the reader failed.
+/// - `TooMuch` if the input has more than 4,000,000,000 bytes.
 pub fn take_frame<R: Read, A: Allocator>(
     reader: &mut Counted<R>,
     input: &mut Input<A>,
@@ -215,7 +221,7 @@ pub fn take_frame<R: Read, A: Allocator>(
     ensures within { IfOk result (λ found. IsTrue found → input.new.taken ≤ MAX_INPUT) }
     ensures most { OnOk result (input.new.taken ≤ MAX_INPUT) }
 
-    // What the bytes that came show, and when each fault comes.
+    // What the bytes read show, and when each fault comes.
     ensures err { OnErr result
         (Came (R.remaining reader.old.device) (R.remaining reader.new.device)) }
     ensures going { OnErr result (input.old.ended ≡ false) }
