@@ -1,5 +1,5 @@
-//! The chains: a flight that comes in and displaces later ones up to an empty slot, and a hole into which later
-//! ones move up.
+//! The chains: an inserted flight displaces later ones up to an empty slot, and later ones move up
+//! into a hole.
 ghost use Rattle.std.specs.Prelude.{◌≡◌, ◌+◌, ◌-◌, ◌^◌, ◌<◌, ◌++◌, true};
 ghost use Rattle.std.specs.Prelude.{length, map, take, drop, IfSome, IfNone};
 ghost use Rattle.std.specs.Prelude.{None, Some};
@@ -16,8 +16,8 @@ use crate::held_slot::HeldSlot;
 use crate::packed_cell::PackedCell;
 use std::alloc::Allocator;
 
-/// The first of these cells from a place on that is empty or held by a flight that waits and doesn't stand before
-/// `flight`.
+/// The index of the first cell from `from` on that is empty or has a provisional flight that
+/// doesn't precede `flight`.
 #[inline(always)]
 pub(crate) fn first_later(row: &Counting<'_>, from: usize, flight: PackedCell) -> usize
     requires few { length row.now.cells.now < 2 ^ 16 }
@@ -33,8 +33,8 @@ pub(crate) fn first_later(row: &Counting<'_>, from: usize, flight: PackedCell) -
     place
 }
 
-/// Takes `flight` in at place `from`, where no waiting flight up to the next empty cell stands before
-/// it: each flight takes the cell of the next one that waits, the last one the empty cell.
+/// Inserts `flight` at cell `from`, if no provisional flight up to the next empty cell precedes it:
+/// each flight takes the cell of the next provisional one, the last one the empty cell.
 #[inline(always)]
 pub(crate) fn displace(
     row: &mut Counting<'_>,
@@ -75,15 +75,15 @@ pub(crate) fn displace(
     places[coming.flight() as usize] = HeldSlot::of(k as u32);
 }
 
-/// A flight that waits, and its slot.
+/// A flight with its provisional slot.
 #[derive(Clone, Copy, Debug)]
 struct NextUp {
     slot: usize,
     held: PackedCell,
 }
 
-/// The flight that may move up into an empty slot `hole`, with its slot. The row begins with these cells, whose entries
-/// are counted from the start, and empty ones follow.
+/// The flight that may move up into the empty slot `hole`, with its slot. The row begins with these
+/// cells, whose entries are counted from the start of the period; empty cells follow.
 #[inline(always)]
 fn next_up<A: Allocator + Copy>(
     row: &Counting<'_>,
@@ -123,8 +123,8 @@ fn next_up<A: Allocator + Copy>(
     None
 }
 
-/// Takes `flight` out of slot `k`: flights move up into the hole that it leaves. The row begins with these cells, whose
-/// entries are counted from the start, and empty ones follow.
+/// Removes `flight` from slot `k`: flights move up into the hole that it leaves. The row begins
+/// with these cells, whose entries are counted from the start of the period; empty cells follow.
 #[inline(always)]
 pub(crate) fn vacate<A: Allocator + Copy>(
     row: &mut Counting<'_>,
