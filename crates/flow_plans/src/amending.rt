@@ -1,4 +1,4 @@
-//! What a CHG makes of a plan.
+//! The amendments that a CHG makes to a plan.
 ghost use Rattle.std.specs.Prelude.{◌≡◌, ◌≤◌, ◌<◌, Ok, true, IfOk, IfErr};
 ghost use Rattle.std.specs.Prelude.{IfSome, length, option_copied, ◌+◌, ◌-◌};
 ghost use Rattle.std.specs.Prelude.{Err, Some, None, IsOk, OnOk, OnErr};
@@ -24,7 +24,7 @@ use fpl_message::Chg;
 use fpl_text::{Departure, Minute};
 use std::alloc::Allocator;
 
-/// The off-block moment, which an amended field 13 moves as a delay does.
+/// The off-block date and time, which an amended field 13 moves as a delay does.
 fn moved_to(now: Minute, held: Minute, departure: Option<&Departure>) -> Result<Minute, PlanFault>
     requires now { IsDeskTime now }
     requires held { held < off_blocks_end }
@@ -37,8 +37,8 @@ fn moved_to(now: Minute, held: Minute, departure: Option<&Departure>) -> Result<
     }
 }
 
-/// The number of the plan that a message is about, and the name of its flight and the off-block moment with all its
-/// amendments made, or why it is refused.
+/// The number of the plan that a message is about, with the name of its flight and the off-block
+/// date and time after all amendments; or why the message is refused.
 #[tactic(auto, unfolding(crate::specs::Changes::amended))]
 fn checked<A: Allocator + Copy>(
     plans: &[Plan<A>],
@@ -72,7 +72,8 @@ fn checked<A: Allocator + Copy>(
     Ok((number, name, off_block))
 }
 
-/// Amends the plan that a message is about, and answers its number. The last change is then what undoes that.
+/// Amends the plan that a message is about, and returns its number. The amendment is the last
+/// change then.
 #[tactic(auto, unfolding(crate::specs::Changes::amended))]
 pub(crate) fn amend_plan<A: Allocator + Copy>(
     alloc: A,
@@ -104,7 +105,7 @@ pub(crate) fn amend_plan<A: Allocator + Copy>(
     let Ok(texts) = plans.as_slice()[(number - 1) as usize].amended_texts(alloc, message) else {
         return Err(PlanFault::OutOfMemory);
     };
-    // For the name of its flight now, and for the one that it had, should that be taken back.
+    // For the new name of the flight, and for its former one if the change is undone.
     let Ok(()) = chains.reserve(2) else {
         return Err(PlanFault::OutOfMemory);
     };
