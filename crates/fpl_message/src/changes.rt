@@ -19,7 +19,8 @@ use fpl_items::{Other18, is_route};
 use fpl_text::{Craft, Departure, Destination, Fields, Rules, begins_amendment, is_equipment};
 use std::alloc::{Allocator, Global};
 
-/// What a modification changes. An amended text is held by the place of its field 22 among the fields of the message.
+/// What a modification changes. An amended text is stored as the index of its field 22 among the
+/// fields of the message.
 #[derive(Drop)]
 pub struct Changes<A: Allocator + Copy = Global> {
     pub parts: Parts,
@@ -47,7 +48,7 @@ fn amended_number(field: &[u8]) -> u8
     }
 }
 
-/// The text that a field 22 puts in place of the field's.
+/// The text that a field 22 replaces the field's with.
 #[tactic(auto, unfolding(crate::specs::Modifications::amended_text))]
 fn amended_text(field: &[u8]) -> &[u8]
     ensures { result.now ≡ amended_text field.now }
@@ -58,7 +59,7 @@ fn amended_text(field: &[u8]) -> &[u8]
     }
 }
 
-/// The amended text of the field 22 at a place.
+/// The amended text of the field 22 at index `place`.
 pub(crate) fn amended_at<A: Allocator + Copy>(fields: &Fields<A>, place: usize) -> &[u8]
     requires { place < length fields.now }
     ensures { result.now ≡ amended_text (field fields.now place) }
@@ -67,7 +68,6 @@ pub(crate) fn amended_at<A: Allocator + Copy>(fields: &Fields<A>, place: usize) 
 }
 
 impl<A: Allocator + Copy> Changes<A> {
-    /// Field 8.
     fn amend_rules(&mut self, fields: &Fields<A>, place: usize) -> Result<(), Fault>
         requires { place < length fields.now }
         ensures change { Gives (λ _. kept fields.now self.new) result
@@ -84,7 +84,6 @@ impl<A: Allocator + Copy> Changes<A> {
         Ok(())
     }
 
-    /// Field 9.
     fn amend_craft(&mut self, fields: &Fields<A>, place: usize) -> Result<(), Fault>
         requires { place < length fields.now }
         ensures change { Gives (λ _. kept fields.now self.new) result
@@ -100,7 +99,6 @@ impl<A: Allocator + Copy> Changes<A> {
         Ok(())
     }
 
-    /// Field 10.
     fn amend_equipment(&mut self, fields: &Fields<A>, place: usize) -> Result<(), Fault>
         requires { place < length fields.now }
         ensures change { Gives (λ _. kept fields.now self.new) result
@@ -118,7 +116,6 @@ impl<A: Allocator + Copy> Changes<A> {
         Ok(())
     }
 
-    /// Field 13.
     fn amend_departure(&mut self, fields: &Fields<A>, place: usize) -> Result<(), Fault>
         requires { place < length fields.now }
         ensures change { Gives (λ _. kept fields.now self.new) result
@@ -134,7 +131,6 @@ impl<A: Allocator + Copy> Changes<A> {
         Ok(())
     }
 
-    /// Field 15.
     fn amend_route(&mut self, fields: &Fields<A>, place: usize) -> Result<(), Fault>
         requires { place < length fields.now }
         ensures change { Gives (λ _. kept fields.now self.new) result
@@ -168,7 +164,6 @@ impl<A: Allocator + Copy> Changes<A> {
         Ok(())
     }
 
-    /// Field 18.
     fn amend_other(&mut self, alloc: A, fields: &Fields<A>, place: usize) -> Result<(), Fault>
         requires { place < length fields.now }
         ensures change { Gives (λ _. kept fields.now self.new) result
@@ -187,7 +182,7 @@ impl<A: Allocator + Copy> Changes<A> {
         Ok(())
     }
 
-    /// Adds what the field 22 at a place amends.
+    /// Adds what the field 22 at index `place` amends.
     #[tactic(auto, unfolding(crate::specs::Modifications::amend, crate::specs::Modifications::amend_numbered))]
     fn amend(&mut self, alloc: A, fields: &Fields<A>, place: usize) -> Result<(), Fault>
         requires { place < length fields.now }
@@ -214,7 +209,7 @@ impl<A: Allocator + Copy> Changes<A> {
         }
     }
 
-    /// Adds what the fields 22 from that place on amend.
+    /// Adds what the fields 22 from index `first` on amend.
     #[tactic(auto, using(crate::proofs::ModificationLemmas::amended_steps))]
     fn amend_from(&mut self, alloc: A, fields: &Fields<A>, first: usize) -> Result<(), Fault>
         requires { first ≤ length fields.now }
@@ -230,7 +225,7 @@ impl<A: Allocator + Copy> Changes<A> {
         Ok(())
     }
 
-    /// No changes of no plan.
+    /// The changes of a message about no plan.
     pub(crate) fn none() -> Self {
         Changes {
             parts: Parts::none(),
@@ -246,7 +241,7 @@ impl<A: Allocator + Copy> Changes<A> {
         }
     }
 
-    /// Reads the fields of a CHG, from the left, in the place of other changes.
+    /// Reads the fields of a CHG, from the left, and replaces all changes.
     #[tactic(auto, unfolding(crate::specs::Modifications::chg_of))]
     pub(crate) fn read(&mut self, alloc: A, fields: &Fields<A>) -> Result<(), Fault>
         requires { 5 ≤ length fields.now }

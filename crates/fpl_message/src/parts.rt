@@ -1,4 +1,4 @@
-//! What names the plan that a message is about.
+//! What identifies the plan that a message is about.
 ghost use Rattle.std.specs.Prelude.{◌≤◌, ◌<◌, length, IsTrue};
 ghost use Rattle.std.specs.Prelude.{◌≡◌, true};
 ghost use Rattle.fpl_items.specs.Estimates.{noted_of_field};
@@ -11,7 +11,8 @@ use fpl_items::Other18;
 use fpl_text::{Day, Departure, Destination, Fields, Heading, Ident, Text, TimeOfDay};
 use std::alloc::Allocator;
 
-/// What names the plan that a message is about (ICAO Doc 4444, appendix 3, field types 7, 13, 16 and 18).
+/// What identifies the plan that a message is about (ICAO Doc 4444, appendix 3, field types 7, 13,
+/// 16 and 18).
 #[derive(Debug, Drop, PartialEq, Eq)]
 pub struct Parts {
     /// The identification, without the transponder code.
@@ -20,12 +21,12 @@ pub struct Parts {
     pub dep: Text<4>,
     /// The destination aerodrome.
     pub dest: Text<4>,
-    /// The day of its DOF item, where the message has one.
+    /// The day of its DOF item, if the message has one.
     pub day: Option<Day>,
 }
 
 impl Parts {
-    /// Parts that name no plan.
+    /// Parts that identify no plan.
     pub(crate) fn none() -> Self {
         Parts {
             ident: Text::default(),

@@ -29,8 +29,8 @@ pub struct Dep {
     pub time: TimeOfDay,
 }
 
-/// Reads the fields of a DLA, a CNL or a DEP, from the left. The buffer of the text is left for the next one. It takes
-/// memory only for a ninth estimate in field 18.
+/// Reads the fields of a DLA, a CNL or a DEP, from the left. The buffer of the text is left for the
+/// next one. Allocates only for a ninth estimate in field 18.
 pub(crate) fn read_short<A: Allocator + Copy>(
     alloc: A,
     room: &mut Vec<u8, A>,
