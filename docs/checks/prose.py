@@ -36,8 +36,6 @@ REPLACED = {
 
 # Pages, and sections of pages, in which there still are such lines or words. Whoever cleans one takes it off this list.
 NOT_YET = {
-    "docs/DECISIONS.md#the-store-flow_store-slotdesk",
-    "docs/DECISIONS.md#the-programs-and-their-first-build-command_line-slotdesk-slotview-bin",
     "docs/DEFINITIONS.md",
     "docs/FORMATS.md",
     "docs/GUIDE.md",
