@@ -37,7 +37,6 @@ REPLACED = {
 # Pages, and sections of pages, in which there still are such lines or words. Whoever cleans one takes it off this list.
 NOT_YET = {
     "docs/GUIDE.md",
-    "docs/THEOREM.md",
 }
 
 # Crates of which the comments aren't clean yet. Whoever cleans one takes it off this list.
