@@ -35,9 +35,7 @@ REPLACED = {
 }
 
 # Pages, and sections of pages, in which there still are such lines or words. Whoever cleans one takes it off this list.
-NOT_YET = {
-    "docs/GUIDE.md",
-}
+NOT_YET = set()
 
 # Crates of which the comments aren't clean yet. Whoever cleans one takes it off this list.
 CRATES_NOT_YET = {
