@@ -1,5 +1,5 @@
--- A table of words, with a row for each bit of a point's name. What a bit of a word stands for is
--- the table's own.
+-- A table of words, with a row for each kind of point and each bit of a name. What a bit of a word
+-- means is the table's own.
 use Rattle.std.specs.Prelude.{◌≡◌, ℕ, ◌+◌, ◌<◌, List, slice_index_or as get_or}
 use Rattle.std.specs.Int.{bit_at}
 use Rattle.fpl_message.specs.declared.order.Spot.{Spot}

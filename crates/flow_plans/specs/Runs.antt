@@ -9,7 +9,7 @@ use Rattle.fpl_message.specs.Refusals.{◌>>=◌}
 use Rattle.flow_plans.specs.Plans.{Plan}
 use Rattle.flow_plans.specs.Changes.{filed, delayed, cancelled, departed, amended}
 
--- a message, with the desk's time at which it comes and how many plans are accepted, where these
+-- a message, with the desk's time at which it comes and how many plans are accepted, if these
 -- matter
 pub data Change : Type 0 where
   file : ℕ → ℕ → Fpl → Change

@@ -22,7 +22,7 @@ pub(crate) struct Outline {
     dep: u32,
     /// Those of the destination.
     dest: u32,
-    /// The set of the route points, a bit each.
+    /// The set of the route points, by a bit of each name.
     way: u64,
     off_block: Minute,
     /// The minutes from take-off to the last point that the flight enters, or more.

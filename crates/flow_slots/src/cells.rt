@@ -65,8 +65,8 @@ fn make<A: Allocator + Copy>(row: &mut Vec<PackedCell, A>, count: u32)
     }
 }
 
-/// Appends empty cells up to slot `k` of `len`, and one more if there are more slots, so that a
-/// chain ends there.
+/// Appends empty cells, so that the last one is empty and not before slot `k`, unless all `len`
+/// cells exist.
 fn make_to<A: Allocator + Copy>(row: &mut Vec<PackedCell, A>, len: u32, k: u32)
     requires slot { k < len }
     requires made { length row.old.items ≤ len }
