@@ -1,7 +1,7 @@
 use Rattle.std.proofs.Common.{sym, ◌∙◌}
 use Rattle.flow_core.specs.History.{state_of}
 use Rattle.flow_desk.proofs.Resuming.{beyond-next, beyond-here}
-use Rattle.flow_desk.proofs.blank.beyond.Goals as goal
+use Rattle.flow_desk.proofs.blank.first_feeder_beyond.Goals as goal
 
 pub returns-then-from-feeders : goal.returns-then-from-feeders
 returns-then-from-feeders g c =
