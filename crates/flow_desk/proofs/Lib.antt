@@ -6,6 +6,7 @@ pub mod Keeping
 pub mod Owning
 pub mod Filing
 pub mod Slotting
+pub mod Collecting
 pub mod Resuming
 pub mod Faults
 pub mod Running

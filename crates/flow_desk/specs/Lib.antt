@@ -8,4 +8,5 @@ pub mod Locks
 pub mod Blanks
 pub mod Desks
 pub mod Slots
+pub mod Followers
 pub mod Feeds

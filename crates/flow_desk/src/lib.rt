@@ -9,6 +9,8 @@
 //!   until then, and its `step` the step of the one-thread desk. The histories of all passes are beginnings of one, the
 //!   journal of the core that `Desk::close` gives (`passes`).
 //!   `Desk::file_all` takes in several at once: each is a `Filed`, and nobody else's entry comes between (`filed`).
+//!   `Desk::answer_all` does the same and returns their answers (`answers`). A `Follower` files nothing: `Desk::follow`
+//!   gives it the answers to all entries in their order (`answers`), which are those of the journal (`followed`).
 //! - *that begins with all its caller had seen*: `later` of that `Filed`. What a pass has seen is carried from call to
 //!   call, and `Desk::look` and `Desk::slots` add to it (`seen`).
 //! - *it appends one journal entry and answers that entry's outcome*: `step` and `seen` of that `Filed`; after a
@@ -23,11 +25,13 @@
 //! - *and frozen flights keep theirs*: `frozen` of `Core::step` of flow_core.
 #![tactic(auto)]
 
+mod answering;
 mod blank;
 mod board;
 mod changed_rows;
 mod desk;
 mod feeders;
+mod follower;
 mod history;
 pub mod laws;
 mod locked;
@@ -41,6 +45,7 @@ pub use blank::{Blank, DeskFault};
 pub use desk::{CloseFault, Desk};
 pub use feeders::{Done, End, Gate, run_feeders};
 pub use flow_core::MAX_FEEDERS;
+pub use follower::Follower;
 pub use name::Name;
 pub use pass::Pass;
 pub use seat::NoVersion;
