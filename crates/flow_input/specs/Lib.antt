@@ -1,9 +1,11 @@
 pub mod Frames
+pub mod Filings
 pub mod FirstFrame
 pub mod InTurn
 pub mod Reader
 pub mod Until
 pub mod NextFrame
+pub mod Filings
 pub mod Source
 pub mod Cutting
 pub mod Writes

@@ -1,4 +1,10 @@
 //! Files the frames of a feeder that are there, and collects their answers.
+ghost use Rattle.std.specs.Prelude.{◌≡◌, ◌≤◌, ◌<◌, ◌++◌, ◌∷◌, [], List, Option, ℕ, length, OnOk};
+ghost use Rattle.flow_input.specs.NextFrame.{filing_kept};
+ghost use Rattle.flow_input.specs.Reader.{Agrees};
+ghost use Rattle.flow_core.specs.Output.{too_long_line, journal_full_line};
+ghost use Rattle.flow_live.specs.Told.{full_lines};
+ghost use Rattle.flow_live.specs.Feeding.{Prepares, Serves, TakesNext, ServesTaken};
 
 use flow_core::{StepFault, journal_full_line, too_long_line};
 use flow_desk::{Desk, Name, Pass};
@@ -21,7 +27,10 @@ pub(crate) struct Batch<A: Allocator + Copy = Global> {
 }
 
 impl<A: Allocator + Copy> Batch<A> {
-    pub fn new(alloc: A) -> Self {
+    /// Nothing is ready, and nothing was answered.
+    pub fn new(alloc: A) -> Self
+        ensures { (result.ready.items ≡ []) × (result.answers.items ≡ []) }
+    {
         Batch {
             room: Vec::new(alloc),
             ready: VecDeque::new(alloc),
@@ -31,10 +40,9 @@ impl<A: Allocator + Copy> Batch<A> {
 }
 
 /// Appends a line of an answer, and the empty line after it.
-fn append_line<A: Allocator + Copy>(
-    answers: &mut Vec<u8, A>,
-    line: &[u8],
-) -> Result<(), AllocError> {
+fn append_line<A: Allocator + Copy>(answers: &mut Vec<u8, A>, line: &[u8]) -> Result<(), AllocError>
+    ensures { OnOk result (answers.new.items ≡ answers.old.items ++ line.now ++ 10 ∷ []) }
+{
     answers.extend_from_slice(line)?;
     answers.push(b'\n')?;
     Ok(())
@@ -44,7 +52,10 @@ fn append_line<A: Allocator + Copy>(
 fn answer_left<A: Allocator + Copy>(
     ready: &mut VecDeque<Filing<A>, A>,
     answers: &mut Vec<u8, A>,
-) -> Result<(), AllocError> {
+) -> Result<(), AllocError>
+    ensures answers { OnOk result (answers.new.items ≡ answers.old.items ++ full_lines (length ready.old.items)) }
+    ensures none { OnOk result (ready.new.items ≡ []) }
+{
     while let Some(_filing) = ready.pop_front() {
         append_line(answers, journal_full_line())?;
     }
@@ -58,7 +69,12 @@ fn answer_ready<N: Name, Q: Wait + Drop, P: Wait, A: Allocator + Copy>(
     desk: &Desk<N, Q, A>,
     pass: &mut Pass<N, A>,
     batch: &mut Batch<A>,
-) -> Result<(), AllocError> {
+) -> Result<(), AllocError>
+    ensures served { OnOk result ((p : _) (done : List (List ℕ))
+        → Prepares N.setup p done pass.old batch.old.answers.items batch.old.ready.items
+        → Serves N.setup p done pass.new batch.new.answers.items) }
+    ensures none { OnOk result (batch.new.ready.items ≡ []) }
+{
     if batch.ready.is_empty() {
         return Ok(());
     }
@@ -78,7 +94,10 @@ fn take_in<N: Name, Q: Wait + Drop, P: Wait, A: Allocator + Copy>(
     pass: &mut Pass<N, A>,
     input: &Input<A>,
     batch: &mut Batch<A>,
-) -> Result<(), AllocError> {
+) -> Result<(), AllocError>
+    ensures next { OnOk result (TakesNext N.setup (filing_kept input.now.item) pass.old batch.old.answers.items
+        batch.old.ready.items pass.new batch.new.answers.items batch.new.ready.items) }
+{
     let Some(bytes) = input.frame() else {
         answer_ready(wait, alloc, desk, pass, batch)?;
         return append_line(&mut batch.answers, too_long_line());
@@ -106,7 +125,13 @@ pub(crate) fn answer_taken<N: Name, Q: Wait + Drop, P: Wait, A: Allocator + Copy
     pass: &mut Pass<N, A>,
     input: &mut Input<A>,
     batch: &mut Batch<A>,
-) -> Result<(), AllocError> {
+) -> Result<(), AllocError>
+    requires none { (batch.old.ready.items ≡ []) × (batch.old.answers.items ≡ []) }
+    ensures serving { OnOk result (ServesTaken N.setup pass.old pass.new batch.new.answers.items input.old input.new) }
+    ensures agrees { OnOk result ((rest : Option (List ℕ)) → Agrees input.old rest → Agrees input.new rest) }
+    ensures nearer { OnOk result (input.old.taken ≤ input.new.taken) }
+    ensures none { OnOk result (batch.new.ready.items ≡ []) }
+{
     take_in(wait, alloc, desk, pass, input, batch)?;
     'frames: while input.take_whole() {
         take_in(wait, alloc, desk, pass, input, batch)?;

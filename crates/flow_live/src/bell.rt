@@ -1,16 +1,17 @@
-//! What wakes the thread that follows the history, and how feeders learn that the run has ended.
+//! What wakes the thread that follows the history, and how all learn that the run has ended.
+ghost use Rattle.std.specs.Prelude.{◌≡◌};
 
 use crate::fault::{FeedEnd, LiveFault, Watch};
 use std::sync::{Condvar, Mutex, Wait};
 
-/// What the feeders tell the follower.
+/// What the follower of a run hears.
 #[derive(Clone, Copy)]
 pub(crate) struct Heard {
     /// How many times the bell has rung.
     pub rings: u64,
     /// Whether a feed is still open.
     pub is_open: bool,
-    /// The fault with which the run ends, if there is one.
+    /// The fault with which the run ended, if it did.
     pub fault: Option<LiveFault>,
 }
 
@@ -34,12 +35,12 @@ impl Bell {
         }
     }
 
-    /// Tells the follower that there are entries. Returns whether the run goes on.
-    pub fn ring<P: Wait>(&self, wait: &P) -> bool {
+    /// Tells the follower that there are entries. Returns the fault with which the run ended, if it did.
+    pub fn ring<P: Wait>(&self, wait: &P) -> Option<LiveFault> {
         let mut heard = self.heard.lock(wait);
         heard.rings = heard.rings.wrapping_add(1);
         self.changed.notify_all();
-        heard.fault.is_none()
+        heard.fault
     }
 
     /// The last feed has ended.
@@ -54,22 +55,20 @@ impl Bell {
         watch.feed_ended(feeder, end);
     }
 
-    /// Ends the run with this fault, if it hasn't ended yet.
-    pub fn stop<P: Wait, H: Watch>(&self, wait: &P, watch: &H, fault: LiveFault) {
+    /// Ends the run with this fault, if it hasn't ended yet. Returns the fault.
+    pub fn stop<P: Wait, H: Watch>(&self, wait: &P, watch: &H, fault: LiveFault) -> LiveFault
+        ensures { result ≡ fault }
+    {
         let mut heard = self.heard.lock(wait);
         if heard.fault.is_none() {
             heard.fault = Some(fault);
             watch.run_ended(fault);
         }
         self.changed.notify_all();
+        fault
     }
 
-    /// The fault with which the run has ended, if it has.
-    pub fn fault<P: Wait>(&self, wait: &P) -> Option<LiveFault> {
-        self.heard.lock(wait).fault
-    }
-
-    /// Waits until the bell has rung more than so many times, the last feed has ended, or the run has.
+    /// Waits until the bell has rung another number of times, the last feed has ended, or the run has.
     pub fn listen<P: Wait>(&self, wait: &P, rings: u64) -> Heard {
         let mut heard = self.heard.lock(wait);
         for _ in wait.forever() {

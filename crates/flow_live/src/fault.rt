@@ -1,22 +1,8 @@
 //! How feeds end, and why a run does.
-ghost use Rattle.std.specs.Prelude.{◌≡◌, ◌≢◌};
+ghost use Rattle.std.specs.Prelude.{◌≡◌};
+ghost use Rattle.flow_live.specs.declared.fault.LiveFault.TheVariants.{OutOfMemory};
 
 use std::alloc::AllocError;
-
-/// How a feed ended.
-#[derive(Clone, Copy, Debug, PartialEq, Eq)]
-pub enum FeedEnd {
-    /// Its source has ended, and each of its frames was answered.
-    Finished,
-    /// Its source failed. An interrupted call is a failure, too.
-    Read,
-    /// Its source gave more than 4,000,000,000 bytes.
-    TooMuch,
-    /// Its writer failed, or took no byte.
-    Write,
-    /// The run had ended with a fault.
-    Stopped,
-}
 
 /// Why a run ended before its feeds did.
 #[derive(Clone, Copy, Debug, PartialEq, Eq)]
@@ -32,13 +18,28 @@ pub enum LiveFault {
 }
 
 impl From<AllocError> for LiveFault {
-    ghost use Rattle.flow_live.specs.declared.fault.LiveFault.TheVariants.{OutOfMemory};
-
     ghost from_gives = { λ _ made. made ≡ OutOfMemory };
 
     fn from(_error: AllocError) -> LiveFault {
         LiveFault::OutOfMemory
     }
+}
+
+/// How a feed ended.
+#[derive(Clone, Copy, Debug, PartialEq, Eq)]
+pub enum FeedEnd {
+    /// It hasn't ended.
+    Open,
+    /// Its source has ended, and each of its frames was answered.
+    Finished,
+    /// Its source failed. An interrupted call is a failure, too.
+    Read,
+    /// Its source gave more than 4,000,000,000 bytes.
+    TooMuch,
+    /// Its writer failed, or took no byte.
+    Write,
+    /// The run ended with this fault.
+    Stopped(LiveFault),
 }
 
 /// Is told of faults as they come, one at a time.

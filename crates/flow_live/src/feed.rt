@@ -17,11 +17,12 @@ impl<R, W> Feed<R, W> {
     pub fn new(reader: R, writer: W) -> Self
         ensures reader { (result.reader.device ≡ reader) × (result.reader.failures ≡ 0) }
         ensures writer { (result.writer.device ≡ writer) × (result.writer.failures ≡ 0) }
+        ensures open { result.end ≡ FeedEnd.Open }
     {
         Feed {
             reader: Counted::new(reader),
             writer: Counted::new(writer),
-            end: FeedEnd::Stopped,
+            end: FeedEnd::Open,
         }
     }
 }

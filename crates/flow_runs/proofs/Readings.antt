@@ -18,7 +18,8 @@ use Rattle.flow_input.specs.declared.fault.IntakeFault.TheVariants as intake
 use Rattle.flow_runs.specs.declared.fault.RunFault.{RunFault}
 use Rattle.flow_runs.specs.Faults.{fault_of_frame}
 use Rattle.flow_runs.specs.declared.fault.RunFault.TheVariants as fault
-use Rattle.flow_runs.specs.Reading.{filings, long_lines, HasRead, ReadsNext, Reading, ToldFirst, ToldEnded, ToldFront, ToldUntil, LeavesNext}
+use Rattle.flow_input.specs.Filings.{filings}
+use Rattle.flow_runs.specs.Reading.{long_lines, HasRead, ReadsNext, Reading, ToldFirst, ToldEnded, ToldFront, ToldUntil, LeavesNext}
 
 filings-append : (xs ys : List (List ℕ)) → filings (xs ++ ys) ≡ filings xs ++ filings ys
 unfolding filings
