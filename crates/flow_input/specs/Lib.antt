@@ -1,4 +1,5 @@
 pub mod Frames
+pub mod Filings
 pub mod FirstFrame
 pub mod InTurn
 pub mod Reader

@@ -17,7 +17,8 @@ use Rattle.flow_desk.specs.Blanks.{first_beyond}
 use Rattle.flow_core.specs.History.{History, state_of}
 use Rattle.flow_desk.specs.Histories.{after}
 use Rattle.flow_runs.specs.Dealing.{dealt}
-use Rattle.flow_runs.specs.Reading.{filings, long_lines, HasRead, ToldUntil, EndedBefore}
+use Rattle.flow_input.specs.Filings.{filings}
+use Rattle.flow_runs.specs.Reading.{long_lines, HasRead, ToldUntil, EndedBefore}
 use Rattle.flow_runs.proofs.Readings.{ToldFirst-none, ToldEnded-none, ToldFront-none}
 use Rattle.flow_runs.specs.Filing.{HasFiled}
 use Rattle.flow_runs.specs.declared.fault.RunFault.{RunFault}

@@ -19,7 +19,8 @@ use Rattle.flow_desk.specs.Blanks.{first_beyond}
 use Rattle.flow_runs.specs.Dealing.{dealt}
 use Rattle.flow_runs.specs.declared.fault.RunFault.{RunFault}
 use Rattle.flow_runs.specs.declared.fault.RunFault.TheVariants as fault
-use Rattle.flow_runs.specs.Reading.{filings, long_lines, ToldFirst, ToldEnded, ToldFront}
+use Rattle.flow_input.specs.Filings.{filings}
+use Rattle.flow_runs.specs.Reading.{long_lines, ToldFirst, ToldEnded, ToldFront}
 use Rattle.flow_runs.specs.Filing.{texts}
 
 -- ---- what is written

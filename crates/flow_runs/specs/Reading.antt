@@ -2,9 +2,10 @@
 use Rattle.std.specs.Prelude.{◌≡◌, ◌⊎◌, ℕ, List, [], ◌∷◌, ◌++◌, length, take, nat_le, if◌then◌else◌, Option, None, IfSome}
 use Rattle.std.specs.Io.KnownBytes.{Appends, Consumes}
 use Rattle.fpl_message.specs.Filings.{FilingText}
+use Rattle.flow_input.specs.Filings.{filings}
 use Rattle.flow_input.specs.Frames.{frames, ended_frames}
 use Rattle.flow_input.specs.Writes.{AppendsFront}
-use Rattle.flow_input.specs.NextFrame.{second, filing_of}
+use Rattle.flow_input.specs.NextFrame.{filing_of}
 use Rattle.flow_input.specs.Reader.{Ahead}
 use Rattle.flow_input.specs.Cutting.{Cutting}
 use Rattle.flow_core.specs.Output.{too_long_line}
@@ -12,11 +13,6 @@ use Rattle.flow_runs.specs.declared.fault.RunFault.{RunFault}
 use Rattle.flow_runs.specs.declared.fault.RunFault.TheVariants as fault
 use Rattle.flow_runs.specs.Dealing.{AreDealt}
 use Rattle.fpl_message.specs.declared.filed_text.TheConstants.{MAX_BYTES}
-
--- the whole filings among some frames
-unfoldable pub filings : List (List ℕ) → List FilingText
-filings [] = []
-filings (f ∷ fs) = if nat_le (length f) MAX_BYTES then second f ∷ filings fs else filings fs
 
 -- a line for each frame that is too long
 unfoldable pub long_lines : List (List ℕ) → List ℕ

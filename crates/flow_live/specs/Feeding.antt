@@ -1,0 +1,92 @@
+-- What one feeder has filed, and what was written to it.
+use Rattle.std.specs.Prelude.{◌≡◌, ◌≢◌, ℕ, ◌+◌, ◌<◌, ◌≤◌, List, [], ◌∷◌, ◌++◌, length, map, Option, IfSome}
+use Rattle.std.specs.Io.KnownBytes.{Appends}
+use mathlib.Core.List.{IsPrefix}
+use Rattle.fpl_message.specs.Filings.{FilingText}
+use Rattle.flow_plans.specs.Settings.{Settings}
+use Rattle.flow_input.specs.Cutting.{Cutting, CutFront, CutEnded}
+use Rattle.flow_input.specs.Filings.{filings}
+use Rattle.flow_input.specs.Frames.{frames}
+use Rattle.flow_input.specs.Writes.{AppendsFront}
+use Rattle.flow_input.specs.NextFrame.{GaveFirst, filing_of, filing_kept}
+use Rattle.flow_input.specs.Reader.{Ahead, Agrees}
+use Rattle.flow_core.specs.State.{Record}
+use Rattle.flow_desk.specs.Histories.{own, after}
+use Rattle.flow_desk.specs.Passes.{PassView}
+use Rattle.flow_live.specs.Told.{told, texts}
+use Rattle.flow_live.specs.declared.fault.FeedEnd.{FeedEnd}
+use Rattle.flow_live.specs.declared.fault.FeedEnd.TheVariants as end
+
+-- these entries are a history of the desk of one thread
+abbrev pub IsLawful : Settings → List Record → Type 0
+IsLawful setup es = (after setup es).journal ≡ es
+
+-- From p to q these frames were answered with this text. The feeder's entries since p are those of the first filings
+-- among them, and of all of them unless the journal is full; at a full journal there are none.
+pub record Serves (setup : Settings) (p : PassView) (done : List (List ℕ)) (q : PassView) (text : List ℕ) : Type 0 where
+  pub entries : List Record
+  pub later : IsPrefix p.seen q.seen
+  pub feeder : q.feeder ≡ p.feeder
+  pub counted : q.receipts ≡ p.receipts + length entries
+  pub own_are : own q.feeder q.seen ≡ own p.feeder p.seen ++ entries
+  pub lawful : IsLawful setup q.seen
+  pub front : IsPrefix (texts entries) (filings done)
+  pub whole : length q.seen < setup.max_entries → texts entries ≡ filings done
+  pub full : setup.max_entries ≤ length p.seen → entries ≡ []
+  pub text_is : text ≡ told (after setup q.seen) done entries
+
+-- The first of these frames were answered so, and the filings of the others, none of which is too long, are ready.
+pub record Prepares (setup : Settings) (p : PassView) (done : List (List ℕ)) (q : PassView) (text : List ℕ) (ready : List FilingText) : Type 0 where
+  pub answered : List (List ℕ)
+  pub served : Serves setup p answered q text
+  pub frames_are : List (List ℕ)
+  pub done_is : done ≡ answered ++ frames_are
+  pub ready_is : filings frames_are ≡ ready
+  pub each : length ready ≡ length frames_are
+
+-- whatever frame this is the filing of, it is the next that was taken
+abbrev pub TakesNext : Settings → Option FilingText → PassView → List ℕ → List FilingText → PassView → List ℕ → List FilingText → Type 0
+TakesNext setup filing q text ready r longer more =
+    (p : PassView) (done : List (List ℕ)) (frame : List ℕ) → filing ≡ filing_of frame
+    → Prepares setup p done q text ready → Prepares setup p (done ++ frame ∷ []) r longer more
+
+-- ---- how a feed ended
+
+-- which frames of the input were answered when the feed ended so: all, those whose end was read, or first ones
+abbrev pub Took : FeedEnd → List (List ℕ) → Option (List ℕ) → Option (List ℕ) → Type 0
+Took end.Finished done input rest = IfSome input (λ bytes. done ≡ frames bytes)
+Took end.Read done input rest = CutEnded done input rest
+Took _ done input rest = CutFront done input rest
+
+-- what was written then of the text that answers them: all, or a prefix if the writer failed
+abbrev pub Wrote : FeedEnd → Option (List ℕ) → Option (List ℕ) → List ℕ → Type 0
+Wrote end.Write begun written text = AppendsFront begun written text
+Wrote _ begun written text = Appends begun written text
+
+-- a feed of the pass p ended so, unless the run was stopped
+pub record Fed (setup : Settings) (p q : PassView) (end : FeedEnd) (begun written input rest : Option (List ℕ)) : Type 0 where
+  pub done : List (List ℕ)
+  pub text : List ℕ
+  pub served : Serves setup p done q text
+  pub took : Took end done input rest
+  pub wrote : Wrote end begun written text
+
+-- ---- a piece of the input
+
+-- frames were cut from the front of what is unread, and answered
+pub record ServedMore (setup : Settings) (p q : PassView) (text : List ℕ) (ahead left : Ahead) (mid rest : Option (List ℕ)) : Type 0 where
+  pub more : List (List ℕ)
+  pub cutting : (done : List (List ℕ)) (input : Option (List ℕ)) → Cutting done ahead input mid → Cutting (done ++ more) left input rest
+  pub served : Serves setup p more q text
+
+-- the frame that was taken last was answered, and others that were there
+abbrev pub ServesTaken : Settings → PassView → PassView → List ℕ → Ahead → Ahead → Type 0
+ServesTaken setup p q text taken left =
+    IsLawful setup p.seen → (ahead : Ahead) (mid rest : Option (List ℕ)) → GaveFirst (filing_kept taken.item) ahead taken mid rest → Agrees taken rest
+    → ServedMore setup p q text ahead left mid rest
+
+-- a feed ended so, or the run was stopped
+abbrev pub FedUnlessStopped : Settings → PassView → PassView → FeedEnd → Option (List ℕ) → Option (List ℕ) → Option (List ℕ) → Option (List ℕ) → Type 0
+FedUnlessStopped setup p q (end.Stopped fault) begun written input rest = Unit {0}
+FedUnlessStopped setup p q end.Open begun written input rest = ⊥
+FedUnlessStopped setup p q how begun written input rest = Fed setup p q how begun written input rest
