@@ -13,7 +13,7 @@
 - standard output that is closed or full ends the run: its line comes at once, nobody is answered
   from then on, no journal and no REPLAY follow, and the process ends when each read has returned;
 - if no thread can be made feeds are answered one after the other;
-- a folder with a name that isn't UTF-8 is refused;
+- a folder with a name that isn't UTF-8 is refused, and one with more than 64 pairs;
 - a round trip through two named pipes takes at most a millisecond more than through `cat`, by the
   medians;
 - with --long: 4,000,000,000 bytes of one feeder are read, and one more is a read fault, which
@@ -326,6 +326,25 @@ def name_not_text(program, folder):
     return "refused"
 
 
+def most_pairs(program, folder):
+    """64 pairs are feeders 0 to 63, and one more is refused."""
+    for count in range(64):
+        (folder / ("f%02d.in" % count)).touch()
+        (folder / ("f%02d.out" % count)).touch()
+    (folder / "f63.in").write_bytes(b"TIME 2409010501\n")
+    with desk(program, folder, "--journal") as child:
+        lines = read_rest(child.stdout.fileno()).split(b"\n")
+        ended(child, 0, "64 pairs")
+    expect(lines[3] == b"E 63 2 15", "the entry is %r" % lines[3])
+    for end in (".in", ".out"):
+        (folder / ("g" + end)).touch()
+    with desk(program, folder) as child:
+        ended(child, 2, "65 pairs")
+        line = child.stderr.read()
+        expect(line == b"slotdesk: bad feeds\n", "standard error got %r" % line)
+    return "64, and one more is refused"
+
+
 def ends_at(program, folder, size, status, errors):
     """A feeder of which this many bytes come, none of which ends a frame, beside another one."""
     for name, length in (("a.in", size), ("a.out", 0), ("b.out", 0)):
@@ -397,6 +416,7 @@ def main():
         "standard output full": full_output,
         "no threads": no_threads,
         "a name that isn't UTF-8": name_not_text,
+        "the most pairs": most_pairs,
         "round trip": lambda program, folder: round_trip(program, folder, args.trips),
     }
     if args.long:
