@@ -149,16 +149,16 @@ def ended(child, status, what):
 
 def silent_others(program, folder):
     """Each of four feeders is answered while the others are silent."""
-    make_pipes(folder, "p1", "p2", "late")
-    terminals = {name: make_terminal(folder, name) for name in ("t1", "t2")}
+    make_pipes(folder, "pa", "pb", "late")
+    terminals = {name: make_terminal(folder, name) for name in ("ta", "tb")}
     with desk(program, folder) as child:
         out = child.stdout.fileno()
         ends = {name: (ours, ours) for name, (ours, _) in terminals.items()}
-        for name in ("p1", "p2"):
+        for name in ("pa", "pb"):
             ends[name] = writer_of(folder, name), reader_of(folder, name)
         longest, entry = 0.0, 0
         for count in range(1, 26):
-            for name in ("t1", "p1", "p2", "t2"):
+            for name in ("ta", "pa", "pb", "tb"):
                 entry += 1
                 begin = time.monotonic()
                 answer = ask(*ends[name], filing(name.upper(), count), name)
@@ -169,9 +169,9 @@ def silent_others(program, folder):
                 expect(told == wanted, "standard output got %r, wanted %r" % (told, wanted))
         sink, source = writer_of(folder, "late"), reader_of(folder, "late")
         expect(ask(sink, source, filing("L", 1), "late") == b"101 OK FPL 101\n\n", "late")
-        for name in ("t1", "t2"):
+        for name in ("ta", "tb"):
             os.write(ends[name][0], b"\x04")
-        for pipe in (ends["p1"][0], ends["p2"][0], sink):
+        for pipe in (ends["pa"][0], ends["pb"][0], sink):
             os.close(pipe)
         rest = read_rest(out)
         expect(rest == b"101 OK FPL 101\nREPLAY OK\n", "standard output ends with %r" % rest)
