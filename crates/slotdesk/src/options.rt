@@ -1,4 +1,4 @@
-//! The words of the command line.
+//! The arguments of the command line.
 ghost use Rattle.std.specs.Prelude.{◌≤◌, IsTrue};
 ghost use Rattle.flow_core.specs.declared.entry.TheConstants.{MAX_FEEDERS};
 
@@ -34,7 +34,7 @@ const AFTER: &str =
     sed -n '/^SLOTDESK JOURNAL/,$p' answers.txt > journal.txt\n  \
     cat journal.txt later.txt | slotdesk --resume";
 
-/// What the words of the command line ask for.
+/// What the arguments of the command line ask for.
 #[derive(Clone, Copy)]
 pub struct Options<'a> {
     /// The desk's time at the start, as it was given.
@@ -153,7 +153,7 @@ fn command<'a>(alloc: Global) -> Result<Command<'a>, AllocError> {
         .arg(store_argument(alloc))
 }
 
-/// Reads the words of the command line, of which the first is the program's name.
+/// Reads the arguments of the command line, of which the first is the program's name.
 pub fn read_options<'a>(alloc: Global, words: &'a [String]) -> Result<Options<'a>, Error> {
     let matches = command(alloc)?.try_get_matches_from(words)?;
     Ok(Options {
