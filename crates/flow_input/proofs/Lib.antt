@@ -1,4 +1,5 @@
 pub mod Cuttings
+pub mod Filings
 pub mod Texts
 pub mod Sources
 pub mod InTurn

@@ -5,7 +5,6 @@ pub mod InTurn
 pub mod Reader
 pub mod Until
 pub mod NextFrame
-pub mod Filings
 pub mod Source
 pub mod Cutting
 pub mod Writes

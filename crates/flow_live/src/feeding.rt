@@ -1,7 +1,9 @@
 //! Feeders at their desk, each at its own source, in a thread of its own.
-ghost use Rattle.std.specs.Prelude.{◌≡◌, ◌≢◌, ◌<◌, ◌⊎◌, [], ℕ, Some, length, slice_index_or, IfErr};
+ghost use Rattle.std.specs.Prelude.{◌≡◌, ◌≤◌, ◌<◌, [], ℕ, List, Option, length, slice_index_or, IfErr, OnOk};
 ghost use Rattle.flow_input.specs.Writes.{Writes};
-ghost use Rattle.flow_live.specs.Feeding.{Fed, FedUnlessStopped, IsLawful};
+ghost use Rattle.flow_input.specs.Reader.{Agrees};
+ghost use Rattle.flow_desk.specs.Histories.{IsLawful};
+ghost use Rattle.flow_live.specs.Feeding.{FedUnlessStopped, PieceIs};
 
 use crate::answering::{Batch, answer_taken};
 use crate::bell::Bell;
@@ -56,7 +58,14 @@ fn answer_piece<N: Name, Q: Wait + Drop, W: Write, H: Watch, P: Wait, A: Allocat
     batch: &mut Batch<A>,
     pass: &mut Pass<N, A>,
     writer: &mut Counted<W>,
-) -> Result<(), FeedEnd> {
+) -> Result<(), FeedEnd>
+    requires none { batch.old.ready.items ≡ [] }
+    ensures piece { PieceIs result N.setup pass.old pass.new (W.contents writer.old.device)
+        (W.contents writer.new.device) input.old input.new }
+    ensures agrees { OnOk result ((rest : Option (List ℕ)) → Agrees input.old rest → Agrees input.new rest) }
+    ensures nearer { OnOk result (input.old.taken ≤ input.new.taken) }
+    ensures none { OnOk result (batch.new.ready.items ≡ []) }
+{
     batch.answers.clear();
     if answer_taken(wait, alloc, desk, pass, input, batch).is_err() {
         return Err(FeedEnd::Stopped(bell.stop(wait, watch, LiveFault::OutOfMemory)));

@@ -19,16 +19,8 @@ use Rattle.flow_runs.specs.declared.fault.RunFault.{RunFault}
 use Rattle.flow_runs.specs.Faults.{fault_of_frame}
 use Rattle.flow_runs.specs.declared.fault.RunFault.TheVariants as fault
 use Rattle.flow_input.specs.Filings.{filings}
+use Rattle.flow_input.proofs.Filings.{filings-append, one-whole, one-long, is-long, is-whole, whole-is}
 use Rattle.flow_runs.specs.Reading.{long_lines, HasRead, ReadsNext, Reading, ToldFirst, ToldEnded, ToldFront, ToldUntil, LeavesNext}
-
-filings-append : (xs ys : List (List ℕ)) → filings (xs ++ ys) ≡ filings xs ++ filings ys
-unfolding filings
-filings-append [] ys = refl
-filings-append (x ∷ xs) ys = by (leb (length x) 2000) (filings-append xs ys)
-  where
-    by : (b : Bool) → filings (xs ++ ys) ≡ filings xs ++ filings ys → cond b (second x ∷ filings (xs ++ ys)) (filings (xs ++ ys)) ≡ cond b (second x ∷ filings xs) (filings xs) ++ filings ys
-    by true e = ap (λ (q : List FilingText). second x ∷ q) e
-    by false e = e
 
 lines-append : (xs ys : List (List ℕ)) → long_lines (xs ++ ys) ≡ long_lines xs ++ long_lines ys
 unfolding long_lines
@@ -39,14 +31,6 @@ lines-append (x ∷ xs) ys = by (leb (length x) 2000) (lines-append xs ys)
     by true e = e
     by false e = ap (λ (q : List ℕ). codes "- NO 90 TooLong\n" ++ q) e ∙ sym (append_assoc (codes "- NO 90 TooLong\n") (long_lines xs) (long_lines ys))
 
-one-whole : (x : List ℕ) → leb (length x) 2000 ≡ true → filings (x ∷ []) ≡ second x ∷ []
-unfolding filings
-one-whole x e = rw e refl
-
-one-long : (x : List ℕ) → leb (length x) 2000 ≡ false → filings (x ∷ []) ≡ []
-unfolding filings
-one-long x e = rw e refl
-
 line-whole : (x : List ℕ) → leb (length x) 2000 ≡ true → long_lines (x ∷ []) ≡ []
 unfolding long_lines
 line-whole x e = rw e refl
@@ -54,27 +38,6 @@ line-whole x e = rw e refl
 line-long : (x : List ℕ) → leb (length x) 2000 ≡ false → long_lines (x ∷ []) ≡ codes "- NO 90 TooLong\n"
 unfolding long_lines
 line-long x e = rw e (append-nil (codes "- NO 90 TooLong\n"))
-
-is-long : (x : List ℕ) → None ≡ filing_of x → leb (length x) 2000 ≡ false
-is-long x e = by (leb (length x) 2000) e
-  where
-    by : (b : Bool) → None ≡ cond b (Some (second x)) None → b ≡ false
-    by true h = absurd (cc)
-    by false h = refl
-
-is-whole : (x : List ℕ) (f : FilingText) → Some f ≡ filing_of x → leb (length x) 2000 ≡ true
-is-whole x f e = by (leb (length x) 2000) e
-  where
-    by : (b : Bool) → Some f ≡ cond b (Some (second x)) None → b ≡ true
-    by true h = refl
-    by false h = absurd (cc)
-
-whole-is : (x : List ℕ) (f : FilingText) → Some f ≡ filing_of x → f ≡ second x
-whole-is x f e = by (leb (length x) 2000) e
-  where
-    by : (b : Bool) → Some f ≡ cond b (Some (second x)) None → f ≡ second x
-    by true h = cc
-    by false h = absurd (cc)
 
 -- a frame that is too long was told of
 pub ReadsNext-long : (kept : Option (List ℕ)) (feeds : List (List FilingText)) (count : ℕ) (before after : Option (List ℕ)) → kept ≡ None → Appends before after (codes "- NO 90 TooLong\n") → ReadsNext (filing_kept kept) feeds count feeds count before after
