@@ -1,5 +1,5 @@
 -- Frames that are answered, one after the other.
-use Rattle.std.proofs.Common.{◌≡◌, ℕ, suc, ◌+◌, ◌-◌, ◌≤◌, ◌<◌, ◌⊎◌, inl, inr, Bool, true, false, cond, leb, nat_lt, List, [], ◌∷◌, ◌++◌, length, drop, map, filter, refl, ap, sym, ◌∙◌, subst, arith, ◌==◌, Option, Some, None, append_assoc, length-append}
+use Rattle.std.proofs.Common.{◌≡◌, ℕ, suc, ◌+◌, ◌-◌, ◌≤◌, ◌<◌, ◌⊎◌, inl, inr, Bool, true, false, cond, leb, nat_lt, List, [], ◌∷◌, ◌++◌, length, drop, map, filter, refl, ap, sym, ◌∙◌, subst, arith, ◌==◌, Option, Some, None, Result, Ok, Err, OnOk, append_assoc, length-append}
 use Rattle.std.proofs.lemmas.List.{append-nil, map-append, length-map}
 use Rattle.std.proofs.Math.Seq.{drop-append_seam}
 use Rattle.std.proofs.lemmas.Bool.{ltb-true}
@@ -9,7 +9,7 @@ use Rattle.std.proofs.lemmas.List.Elements.{All-contains_itself}
 use mathlib.Core.List.{IsPrefix}
 use Rattle.fpl_message.specs.Filings.{FilingText}
 use Rattle.flow_plans.specs.Settings.{Settings}
-use Rattle.flow_input.specs.NextFrame.{filing_of}
+use Rattle.flow_input.specs.NextFrame.{second, filing_of}
 use Rattle.flow_input.specs.Filings.{filings}
 use Rattle.flow_input.proofs.Filings.{filings-append, one-whole, one-long, is-long, is-whole, whole-is}
 use Rattle.flow_core.specs.declared.receipt.Receipt.{Receipt}
@@ -22,7 +22,7 @@ use Rattle.flow_desk.proofs.Collecting.{answer-early}
 use Rattle.flow_desk.proofs.Fronts.{prefix_self, prefix_trans, prefix_length}
 use Rattle.flow_desk.proofs.Owning.{own-append, own-snoc}
 use Rattle.flow_live.specs.Told.{told, texts, full_lines}
-use Rattle.flow_live.specs.Feeding.{Serves, Prepares}
+use Rattle.flow_live.specs.Feeding.{Serves, Prepares, TakesNext}
 use Rattle.flow_live.proofs.Tolds.{told-none, told-long, told-whole, told-front, told-same, told-filings}
 
 -- ---- texts that were filed in turn
@@ -283,3 +283,54 @@ module _ (s : Settings) (p q : PassView) (done : List (List ℕ)) (text : List �
         ready_is = filings-append h.waiting (frame ∷ []) ∙ (ap (λ (ts : List FilingText). ts ++ filings (frame ∷ [])) h.ready_is ∙ ap (λ (ts : List FilingText). ready ++ ts) one);
         each = omega (arith, h.each, length-append ready (filing ∷ []), length-append h.waiting (frame ∷ []));
       }
+
+-- ---- what a call for a batch does
+
+-- all that were ready were filed
+pub filed-all : (s : Settings) (p q r : PassView) (done : List (List ℕ)) (text : List ℕ) (ready left : List FilingText) (longer : List ℕ) → Prepares s p done q text ready → FiledFront s q ready r left → IsLawful s r.seen → left ≡ []
+    → longer ≡ text ++ newest_answers s (length ready - length left) (10 ∷ []) r.seen → Serves s p done r longer
+filed-all s p q r done text ready left longer h filed lawful none are =
+    let collected : List ℕ = newest_answers s (length ready - length left) (10 ∷ []) r.seen in
+    let same : text ++ (collected ++ full_lines (length left)) ≡ longer =
+    ap (λ (n : ℕ). text ++ (collected ++ full_lines n)) (ap (λ (ts : List FilingText). length ts) none) ∙ (ap (λ (t : List ℕ). text ++ t) (append-nil collected) ∙ sym are) in
+    subst (λ (t : List ℕ). Serves s p done r t) same (Prepares-filed s p q done text ready h r left filed lawful (λ room. none))
+
+-- the others found the journal full
+pub filed-left : {T E : Type 0} (result : Result T E) (s : Settings) (q r : PassView) (text : List ℕ) (ready left : List FilingText) (longer longest : List ℕ) → FiledFront s q ready r left → IsLawful s r.seen → length r.seen ≡ s.max_entries
+    → longer ≡ text ++ newest_answers s (length ready - length left) (10 ∷ []) r.seen → OnOk result (longest ≡ longer ++ full_lines (length left))
+    → OnOk result ((p : PassView) (done : List (List ℕ)) → Prepares s p done q text ready → Serves s p done r longest)
+filed-left (Err e) s q r text ready left longer longest filed lawful full are more = tt
+filed-left (Ok x) s q r text ready left longer longest filed lawful full are more = λ p done h.
+    let collected : List ℕ = newest_answers s (length ready - length left) (10 ∷ []) r.seen in
+    let same : text ++ (collected ++ full_lines (length left)) ≡ longest =
+    sym (append_assoc text collected (full_lines (length left))) ∙ (ap (λ (t : List ℕ). t ++ full_lines (length left)) (sym are) ∙ sym more) in
+    subst (λ (t : List ℕ). Serves s p done r t) same (Prepares-filed s p q done text ready h r left filed lawful (λ room. absurd (omega (arith, room, full))))
+
+-- the frame that was taken is too long: those that were ready were answered, and then it was
+pub takes-long : {T E : Type 0} (result : Result T E) (s : Settings) (kept : Option FilingText) (q r : PassView) (text longer longest line : List ℕ) (ready left : List FilingText) → kept ≡ None → left ≡ [] → line ≡ too_long_line
+    → ((p : PassView) (done : List (List ℕ)) → Prepares s p done q text ready → Serves s p done r longer) → OnOk result (longest ≡ longer ++ (line ++ 10 ∷ []))
+    → OnOk result (TakesNext s kept q text ready r longest left)
+takes-long (Err e) s kept q r text longer longest line ready left none empty is served more = tt
+takes-long (Ok x) s kept q r text longer longest line ready left none empty is served more = λ p done frame of h.
+    let same : longer ++ (too_long_line ++ 10 ∷ []) ≡ longest = ap (λ (l : List ℕ). longer ++ (l ++ 10 ∷ [])) (sym is) ∙ sym more in
+    Prepares-all s p r (done ++ frame ∷ []) longest left empty
+    (subst (λ (t : List ℕ). Serves s p (done ++ frame ∷ []) r t) same (Serves-long s p r done longer frame (sym none ∙ of) (served p done h)))
+
+-- it is ready
+pub takes-one : (s : Settings) (kept : Option FilingText) (bytes : List ℕ) (q : PassView) (text same : List ℕ) (ready more : List FilingText) → kept ≡ Some (second bytes) → more ≡ ready ++ second bytes ∷ [] → same ≡ text
+    → TakesNext s kept q text ready q same more
+takes-one s kept bytes q text same ready more some is text_is p done frame of h =
+    let one = Prepares-one s p q done text ready h frame (second bytes) (sym some ∙ of) in
+    subst (λ (ts : List FilingText). Prepares s p (done ++ frame ∷ []) q same ts) (sym is) (subst (λ (t : List ℕ). Prepares s p (done ++ frame ∷ []) q t (ready ++ second bytes ∷ [])) (sym text_is) one)
+
+-- it was ready, and all were answered
+pub takes-all : {T E : Type 0} (result : Result T E) (s : Settings) (kept : Option FilingText) (q r : PassView) (text mid longer : List ℕ) (ready more left : List FilingText) → TakesNext s kept q text ready q mid more
+    → OnOk result ((p : PassView) (done : List (List ℕ)) → Prepares s p done q mid more → Serves s p done r longer) → OnOk result (left ≡ []) → OnOk result (TakesNext s kept q text ready r longer left)
+takes-all (Err e) s kept q r text mid longer ready more left next served none = tt
+takes-all (Ok x) s kept q r text mid longer ready more left next served none = λ p done frame of h.
+    Prepares-all s p r (done ++ frame ∷ []) longer left none (served p (done ++ frame ∷ []) (next p done frame of h))
+
+-- nothing was taken yet
+pub Prepares-start : (s : Settings) (p : PassView) (text : List ℕ) (ready : List FilingText) → IsLawful s p.seen → ready ≡ [] → text ≡ [] → Prepares s p [] p text ready
+Prepares-start s p text ready lawful none empty =
+    Prepares-all s p p [] text ready none (subst (λ (t : List ℕ). Serves s p [] p t) (sym empty) (Serves-none s p lawful))

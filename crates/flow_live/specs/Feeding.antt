@@ -14,6 +14,9 @@ use Rattle.flow_core.specs.State.{Record}
 use Rattle.flow_desk.specs.Histories.{own, after, IsLawful}
 use Rattle.flow_desk.specs.Passes.{PassView}
 use Rattle.flow_live.specs.Told.{told, texts}
+use Rattle.flow_input.specs.declared.fault.IntakeFault.{IntakeFault}
+use Rattle.flow_input.specs.declared.fault.IntakeFault.TheVariants as intake
+use Rattle.flow_live.specs.declared.fault.LiveFault.TheVariants as live
 use Rattle.flow_live.specs.declared.fault.FeedEnd.{FeedEnd}
 use Rattle.flow_live.specs.declared.fault.FeedEnd.TheVariants as end
 
@@ -74,6 +77,12 @@ PieceIs (Err _) setup p q written now taken left = ⊥
 
 -- ---- how a feed ended
 
+-- the end of a feed from which no frame came
+abbrev pub end_by : IntakeFault → FeedEnd
+end_by intake.Read = end.Read
+end_by intake.TooMuch = end.TooMuch
+end_by intake.OutOfMemory = end.Stopped live.OutOfMemory
+
 -- which frames of the input were answered when the feed ended so: all, those whose end was read, or first ones
 abbrev pub Took : FeedEnd → List (List ℕ) → Option (List ℕ) → Option (List ℕ) → Type 0
 Took end.Finished done input rest = IfSome input (λ bytes. done ≡ frames bytes)
@@ -98,6 +107,10 @@ abbrev pub FedUnlessStopped : Settings → PassView → PassView → FeedEnd →
 FedUnlessStopped setup p q (end.Stopped fault) begun written input rest = Unit {0}
 FedUnlessStopped setup p q end.Open begun written input rest = ⊥
 FedUnlessStopped setup p q how begun written input rest = Fed setup p q how begun written input rest
+
+-- the feed of a pass that had seen a lawful history ended so, unless the run was stopped
+pub record HasRun (setup : Settings) (p q : PassView) (end : FeedEnd) (begun written input rest : Option (List ℕ)) : Type 0 where
+  pub fed : IsLawful setup p.seen → FedUnlessStopped setup p q end begun written input rest
 
 -- as far as a feed has come
 pub record Feeds (setup : Settings) (p q : PassView) (begun written : Option (List ℕ)) (ahead : Ahead) (input mid : Option (List ℕ)) : Type 0 where

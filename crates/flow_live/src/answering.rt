@@ -1,6 +1,7 @@
 //! Files the frames of a feeder that are there, and collects their answers.
 ghost use Rattle.std.specs.Prelude.{◌≡◌, ◌≤◌, ◌++◌, ◌∷◌, [], List, Option, ℕ, length, OnOk};
-ghost use Rattle.flow_input.specs.NextFrame.{filing_kept};
+ghost use Rattle.fpl_message.specs.declared.filed_text.TheConstants.{MAX_BYTES};
+ghost use Rattle.flow_input.specs.NextFrame.{filing_kept, second};
 ghost use Rattle.flow_input.specs.Reader.{Agrees};
 ghost use Rattle.flow_core.specs.Output.{too_long_line, journal_full_line};
 ghost use Rattle.flow_live.specs.Told.{full_lines};
@@ -85,6 +86,27 @@ fn answer_ready<N: Name, Q: Wait + Drop, P: Wait, A: Allocator + Copy>(
     }
 }
 
+/// Reads a frame, to be filed with others.
+fn prepare<A: Allocator + Copy>(
+    alloc: A,
+    frame: &[u8],
+    batch: &mut Batch<A>,
+) -> Result<(), AllocError>
+    requires { length frame.now ≤ MAX_BYTES }
+    ensures ready { OnOk result (batch.new.ready.items ≡ batch.old.ready.items ++ second frame.now ∷ []) }
+    ensures answers { batch.new.answers.items ≡ batch.old.answers.items }
+{
+    batch.ready.reserve(1)?;
+    let Ok(text) = FiledText::new(alloc, frame) else {
+        return Err(AllocError);
+    };
+    let Ok(filing) = Filing::of_text(alloc, &mut batch.room, text) else {
+        return Err(AllocError);
+    };
+    batch.ready.push_back_reserved(filing);
+    Ok(())
+}
+
 /// Reads the frame that was taken last, to be filed with others. If it is too long, it is answered so, after those that
 /// were ready.
 fn take_in<N: Name, Q: Wait + Drop, P: Wait, A: Allocator + Copy>(
@@ -102,15 +124,7 @@ fn take_in<N: Name, Q: Wait + Drop, P: Wait, A: Allocator + Copy>(
         answer_ready(wait, alloc, desk, pass, batch)?;
         return append_line(&mut batch.answers, too_long_line());
     };
-    let Ok(text) = FiledText::new(alloc, bytes) else {
-        return Err(AllocError);
-    };
-    let Ok(filing) = Filing::of_text(alloc, &mut batch.room, text) else {
-        return Err(AllocError);
-    };
-    if batch.ready.push_back(filing).is_err() {
-        return Err(AllocError);
-    }
+    prepare(alloc, bytes, batch)?;
     if batch.ready.len() < AT_ONCE {
         return Ok(());
     }

@@ -3,7 +3,7 @@ ghost use Rattle.std.specs.Prelude.{◌≡◌, ◌≤◌, ◌<◌, [], ℕ, List
 ghost use Rattle.flow_input.specs.Writes.{Writes};
 ghost use Rattle.flow_input.specs.Reader.{Agrees};
 ghost use Rattle.flow_desk.specs.Histories.{IsLawful};
-ghost use Rattle.flow_live.specs.Feeding.{FedUnlessStopped, PieceIs};
+ghost use Rattle.flow_live.specs.Feeding.{FedUnlessStopped, HasRun, PieceIs, end_by};
 
 use crate::answering::{Batch, answer_taken};
 use crate::bell::Bell;
@@ -39,7 +39,9 @@ fn hand_on<W: Write>(writer: &mut Counted<W>, answers: &[u8]) -> Result<(), Feed
 }
 
 /// Why no frame came.
-fn end_of(fault: IntakeFault) -> FeedEnd {
+fn end_of(fault: IntakeFault) -> FeedEnd
+    ensures { result ≡ end_by fault }
+{
     match fault {
         IntakeFault::Read => FeedEnd::Read,
         IntakeFault::TooMuch => FeedEnd::TooMuch,
@@ -67,9 +69,9 @@ fn answer_piece<N: Name, Q: Wait + Drop, W: Write, H: Watch, P: Wait, A: Allocat
     ensures none { OnOk result (batch.new.ready.items ≡ []) }
 {
     batch.answers.clear();
-    if answer_taken(wait, alloc, desk, pass, input, batch).is_err() {
+    let Ok(()) = answer_taken(wait, alloc, desk, pass, input, batch) else {
         return Err(FeedEnd::Stopped(bell.stop(wait, watch, LiveFault::OutOfMemory)));
-    }
+    };
     if let Some(fault) = bell.ring(wait) {
         return Err(FeedEnd::Stopped(fault));
     }
@@ -119,8 +121,7 @@ fn run_feed<N: Name, Q: Wait + Drop, R: Read, W: Write, H: Watch, P: Wait, A: Al
     watch: &H,
     seated: &mut Seated<N, R, W, A>,
 )
-    ensures { IsLawful N.setup seated.old.pass.seen
-        → FedUnlessStopped N.setup seated.old.pass seated.new.pass seated.new.feed.end
+    ensures { HasRun N.setup seated.old.pass seated.new.pass seated.new.feed.end
         (W.contents seated.old.feed.writer.device) (W.contents seated.new.feed.writer.device)
         (R.remaining seated.old.feed.reader.device) (R.remaining seated.new.feed.reader.device) }
 {
@@ -147,7 +148,44 @@ fn run_feed<N: Name, Q: Wait + Drop, R: Read, W: Write, H: Watch, P: Wait, A: Al
     }
 }
 
-/// Runs all feeds at the same time, each in a thread of its own if one can be made.
+/// Runs the feeds of all seats at the same time, each in a thread of its own if one can be made.
+fn run_seats<
+    N: Name + Send + Sync,
+    Q: Wait + Drop + Send,
+    R: Read + Send,
+    W: Write + Send,
+    H: Watch + Sync,
+    T: Threads + Sync,
+    P: Wait + Sync,
+    A: Allocator + Copy + Send + Sync,
+>(
+    rt: &T,
+    wait: &P,
+    alloc: A,
+    desk: &Desk<N, Q, A>,
+    bell: &Bell,
+    watch: &H,
+    seated: &mut Vec<Seated<N, R, W, A>, A>,
+)
+    ensures len { length seated.new.items ≡ length seated.old.items }
+    ensures each { (i : ℕ) (d : _) → i < length seated.old.items
+        → HasRun N.setup (slice_index_or seated.old.items i d).pass (slice_index_or seated.new.items i d).pass
+        (slice_index_or seated.new.items i d).feed.end
+        (W.contents (slice_index_or seated.old.items i d).feed.writer.device)
+        (W.contents (slice_index_or seated.new.items i d).feed.writer.device)
+        (R.remaining (slice_index_or seated.old.items i d).feed.reader.device)
+        (R.remaining (slice_index_or seated.new.items i d).feed.reader.device) }
+{
+    let threads = seated.len().max(1);
+    thread::for_each_mut(
+        rt,
+        seated.as_mut_slice(),
+        threads,
+        &|_, seated| run_feed(wait, alloc, desk, bell, watch, seated),
+    );
+}
+
+/// Runs all feeds at the same time, and tells the follower when the last has ended.
 pub(crate) fn run_all<
     N: Name + Send + Sync,
     Q: Wait + Drop + Send,
@@ -168,20 +206,13 @@ pub(crate) fn run_all<
 )
     ensures len { length seated.new.items ≡ length seated.old.items }
     ensures each { (i : ℕ) (d : _) → i < length seated.old.items
-        → IsLawful N.setup (slice_index_or seated.old.items i d).pass.seen
-        → FedUnlessStopped N.setup (slice_index_or seated.old.items i d).pass (slice_index_or seated.new.items i d).pass
+        → HasRun N.setup (slice_index_or seated.old.items i d).pass (slice_index_or seated.new.items i d).pass
         (slice_index_or seated.new.items i d).feed.end
         (W.contents (slice_index_or seated.old.items i d).feed.writer.device)
         (W.contents (slice_index_or seated.new.items i d).feed.writer.device)
         (R.remaining (slice_index_or seated.old.items i d).feed.reader.device)
         (R.remaining (slice_index_or seated.new.items i d).feed.reader.device) }
 {
-    let threads = seated.len().max(1);
-    thread::for_each_mut(
-        rt,
-        seated.as_mut_slice(),
-        threads,
-        &|_, seated| run_feed(wait, alloc, desk, bell, watch, seated),
-    );
+    run_seats(rt, wait, alloc, desk, bell, watch, seated);
     bell.close(wait);
 }
