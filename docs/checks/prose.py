@@ -1,14 +1,16 @@
-"""Pages are written in lines of at most 100 columns, and in the words of the field.
+"""Pages and comments are written in lines of at most 100 columns, and in the words of the field.
 
 Lines of tables and between fences may be longer. What is between fences, in inline code or the target of a link is quoted,
-and may have any word."""
+and may have any word. Of the crates the comments in src/ and specs/ are looked at, and the length of all lines in src/
+but those of a `tactic`, which `rt fmt` doesn't break."""
 import re
 
+from checks.code import CRATES
 from checks.pages import CODE, LINK, anchor_of, lines_outside_fences, name_of, pages, text_of
 
 LONGEST = 100
 
-# Words of the code that docs/GLOSSARY.md replaces, as far as a script can tell their sense, and what pages say instead.
+# Words of the code that docs/GLOSSARY.md replaces, as far as a script can tell their sense, and what pages and comments say.
 REPLACED = {
     r"behind": "after, appended to",
     r"rooms?": "capacity, buffer",
@@ -26,30 +28,29 @@ REPLACED = {
     r"comes? to (?:a|the|its|that) place": "enters, is planned over",
     r"looks? again at": "reallocates",
     r"off-block moments?": "off-block date and time",
-    r"a front of": "a prefix of",
+    r"(?<![\[/])moments?(?!\.antt)": "time",
+    r"a front": "a prefix",
+    r"places? (?:of|on) the way": "route point",
+    r"(?:comes?|came) to the same": "has the same state",
     r"so many": "the count by its name",
     r"where (?:no|nobody|nothing|none)": "if",
     r"dearest": "slowest",
 }
 
 # Pages, and sections of pages, in which there still are such lines or words. Whoever cleans one takes it off this list.
-NOT_YET = {
-    "docs/DECISIONS.md#the-store-flow_store-slotdesk",
-    "docs/DECISIONS.md#the-programs-and-their-first-build-command_line-slotdesk-slotview-bin",
-    "docs/DEFINITIONS.md",
-    "docs/FORMATS.md",
-    "docs/GUIDE.md",
-    "docs/PROVED.md",
-    "docs/THEOREM.md",
-    "samples/README.md",
-    "samples/departures-and-windows/story.md",
-    "samples/journal-and-going-on/story.md",
-    "samples/quiet-morning/story.md",
-    "samples/rates-and-ways/story.md",
-    "samples/refusals-and-remedies/story.md",
-    "samples/regulated-arrival/story.md",
-    "samples/store-and-going-on/story.md",
-    "tests/README.md",
+NOT_YET = set()
+
+# Crates of which the comments aren't clean yet. Whoever cleans one takes it off this list.
+CRATES_NOT_YET = {
+    "flow_desk",
+    "flow_live",
+    "flow_regulations",
+    "flow_traffic",
+    "flow_view",
+    "fpl_items",
+    "fpl_text",
+    "slotdesk",
+    "slotview",
 }
 
 
@@ -71,7 +72,7 @@ def replaced_words(lines):
     for pattern, instead in REPLACED.items():
         for found in re.finditer(r"\b(?:%s)\b" % pattern.replace(" ", r"(?: |\n(?:> *| *))"), text, re.I):
             words = " ".join(found.group(0).split())
-            yield text.count("\n", 0, found.start()) + 1, "'%s', where pages say: %s" % (words, instead)
+            yield text.count("\n", 0, found.start()) + 1, "'%s', for which to say: %s" % (words, instead)
 
 
 def sections_of(page, lines):
@@ -84,7 +85,36 @@ def sections_of(page, lines):
     return found
 
 
+def comments_of(file):
+    """The comment lines of a file of code by number, without their marks, and blank lines for the others."""
+    mark = re.compile(r"\s*--(.*)" if file.suffix == ".antt" else r"\s*//[/!]?(.*)")
+    found = (mark.fullmatch(line) for line in text_of(file).split("\n"))
+    return {number: comment.group(1).strip() if comment else "" for number, comment in enumerate(found, 1)}
+
+
+def bounded_lines(file):
+    """The lines of a file of code that have a bound: of definitions the comments, of other code all but tactics."""
+    mark = re.compile(r"\s*--" if file.suffix == ".antt" else r"(?!\s*#\[tactic)")
+    return {number: line for number, line in enumerate(text_of(file).split("\n"), 1) if mark.match(line)}
+
+
+def findings_in_crate(crate):
+    for file in [*sorted(crate.glob("src/**/*.rt")), *sorted(crate.glob("specs/**/*.antt"))]:
+        for number, what in sorted([*long_lines(bounded_lines(file)), *replaced_words(comments_of(file))]):
+            yield "%s:%d: %s" % (name_of(file), number, what)
+
+
+def findings_in_crates():
+    for crate in sorted(CRATES.iterdir()):
+        found = list(findings_in_crate(crate))
+        if crate.name not in CRATES_NOT_YET:
+            yield from found
+        elif not found:
+            yield "docs/checks/prose.py: %s is clean: take it off the list" % crate.name
+
+
 def findings():
+    yield from findings_in_crates()
     unclean = set()
     for page in pages():
         lines = dict(lines_outside_fences(text_of(page)))

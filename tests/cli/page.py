@@ -4,7 +4,8 @@
     tests/cli/page.py PROGRAM
 
 A page must be well-formed XML without scripts and without anything from elsewhere; each id is there once, each link leads to
-one, each table has a caption and headings, each picture a title. Where a sample has a page.html, it is the page of its stdout.
+one, each table has headings and a caption outside the box in which it scrolls, each such box a name, each picture a title.
+Where a sample has a page.html, it is the page of its stdout.
 Prints each fault, then 'N pages, M findings'. The status is 1 where there are any.
 """
 import pathlib
@@ -36,9 +37,24 @@ def page_of(program, path):
     return done.stdout.decode() if done.returncode == 0 else None
 
 
-def findings_in_tables(root):
+def ids_in(element):
+    return [inner.get("id") for inner in element.iter() if inner.get("id")]
+
+
+def findings_in_boxes(root, ids):
+    for box in root.iter(HTML + "div"):
+        if box.get("tabindex") is None:
+            continue
+        named = box.get("aria-label") or box.get("aria-labelledby") in ids
+        if box.get("role") != "region" or not named:
+            yield "a box that scrolls without a name"
+        if box.find(".//%scaption" % HTML) is not None or box.get("aria-labelledby") in ids_in(box):
+            yield "a caption in the box that scrolls"
+
+
+def findings_in_tables(root, ids):
     for table in root.iter(HTML + "table"):
-        if table.find(HTML + "caption") is None:
+        if table.get("aria-labelledby") not in ids:
             yield "a table without a caption"
         heads = table.findall("%sthead/%str/%sth" % (HTML, HTML, HTML))
         if not heads or any(head.get("scope") != "col" for head in heads):
@@ -65,7 +81,7 @@ def findings_in(text):
     except tree.ParseError as fault:
         yield "not well-formed: %s" % fault
         return
-    ids = [element.get("id") for element in root.iter() if element.get("id")]
+    ids = ids_in(root)
     for twice in sorted({name for name in ids if ids.count(name) > 1}):
         yield "the id %s more than once" % twice
     for element in root.iter():
@@ -77,7 +93,8 @@ def findings_in(text):
     for address in re.findall(r"\w+://[^\"' )]*|@import|url\(", text):
         if address not in OURS:
             yield "something from elsewhere: %s" % address
-    yield from findings_in_tables(root)
+    yield from findings_in_boxes(root, set(ids))
+    yield from findings_in_tables(root, set(ids))
     yield from findings_in_pictures(root, set(ids))
 
 

@@ -1,4 +1,4 @@
--- Words that may not be text.
+-- Arguments that may not be text.
 use Rattle.std.specs.Prelude.{◌≡◌, ℕ, ◌+◌, ◌/◌, ◌%◌, ◌<◌, List, [], ◌∷◌, ◌++◌, take, drop, slice_index, nat_lt, if◌then◌else◌, IsUtf8, String, string_bytes}
 use Rattle.std.specs.Global.{Global}
 use Rattle.std.specs.Str.{IsValidUpTo}
@@ -20,7 +20,7 @@ pub data IsReadable : List ℕ → List ℕ → Type 0 where
       → IsReadable (drop (valid + 1) bytes) rest
       → text ≡ take valid bytes ++ (escaped (slice_index bytes valid) ++ rest) → IsReadable bytes text
 
--- a fault of the word of this number tells its number and its readable form, if it isn't UTF-8
+-- a fault of the argument of this number has its number and its readable form, if it isn't UTF-8
 pub data Tells : List ℕ → ℕ → WordFault → Type 0 where
   not_text : (bytes : List ℕ) (number : ℕ) (shown : String Global) → 0 < number → ¬ IsUtf8 bytes
       → IsReadable bytes (string_bytes shown) → Tells bytes number (NotText number shown)

@@ -1,4 +1,4 @@
-//! The words of a command line, and a readable form of one that isn't text.
+//! The arguments of a command line, and a readable form of one that isn't text.
 #![tactic(auto)]
 
 mod readable;

@@ -1,11 +1,13 @@
 //! A readable form of bytes that may not be text.
-ghost use Rattle.std.specs.Prelude.{◌≡◌, ◌≤◌, ◌<◌, ◌++◌, length, take, IfOk, OnOk, IsUtf8, string_bytes};
+ghost use Rattle.std.specs.Prelude.{◌≡◌, ◌≤◌, ◌<◌, ◌++◌, length, take};
+ghost use Rattle.std.specs.Prelude.{IfOk, OnOk, IsUtf8, string_bytes};
 ghost use Rattle.command_line.specs.Words.{IsReadable, digit_of, escaped};
 
 use std::alloc::{AllocError, Global};
 use std::str;
 
-/// The bytes with each character of UTF-8 as it is, and each byte that belongs to none as `\x` and two hexadecimal digits.
+/// Returns the bytes with each UTF-8 character unchanged, and each other byte as `\x` and two
+/// hexadecimal digits. Returns `Err` if an allocation fails.
 pub fn readable_form(alloc: Global, bytes: &[u8]) -> Result<String, AllocError>
     ensures { IfOk result (λ text. IsReadable bytes.now (string_bytes text)) }
 {
@@ -26,7 +28,7 @@ pub fn readable_form(alloc: Global, bytes: &[u8]) -> Result<String, AllocError>
     }
 }
 
-/// The text of so many bytes at the front.
+/// The text of the first `end` bytes.
 fn front_of(bytes: &[u8], end: usize) -> &str
     requires within { end ≤ length bytes.now }
     requires text { IsUtf8 (take end bytes.now) }
@@ -47,7 +49,7 @@ fn push_escaped(text: &mut String, byte: u8) -> Result<(), AllocError>
     text.push(digit_of(byte % 16))
 }
 
-/// A hexadecimal digit, in small letters.
+/// The hexadecimal digit of a value below 16, in lower case.
 fn digit_of(value: u8) -> char
     requires { value < 16 }
     ensures { result ≡ digit_of value }

@@ -1,4 +1,4 @@
-//! Words that tests make.
+//! Command lines that tests make.
 use crate::{WordFault, read_words};
 use std::alloc::Global;
 use std::env::{Env, FillError};
@@ -31,7 +31,7 @@ impl Env for Given<'_> {
     }
 }
 
-/// The words that are read, each in brackets, or what is said of a fault.
+/// The arguments that are read, each in brackets, or the text of a fault.
 fn told(alloc: Global, words: &[&[u8]]) -> Result<String, Fail> {
     let mut text = String::new(alloc);
     match read_words(alloc, &Given { words }) {

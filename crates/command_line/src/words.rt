@@ -1,4 +1,4 @@
-//! The words of a command line.
+//! The arguments of a command line.
 ghost use Rattle.std.specs.Prelude.{◌<◌, IfErr, IfOk, IsUtf8, string_bytes};
 ghost use Rattle.command_line.specs.Words.{IsReadable, Tells};
 
@@ -7,13 +7,13 @@ use std::alloc::{AllocError, AllocFailed, Global};
 use std::env::{Env, FillError};
 use std::{fmt, str};
 
-/// The bytes that are allocated for a word at first.
+/// The capacity of the buffer for an argument, which grows if it is longer.
 const FIRST_CAPACITY: usize = 256;
 
-/// Why the words of a command line can't be used.
+/// Why the arguments of a command line can't be used.
 #[derive(Debug, Drop)]
 pub enum WordFault {
-    /// The argument of this number, from 1, isn't UTF-8; `shown` is its readable form.
+    /// Argument `number`, counted from 1, isn't UTF-8; `shown` is its readable form.
     NotText { number: usize, shown: String },
     OutOfMemory,
 }
@@ -42,7 +42,7 @@ impl fmt::Display for WordFault {
     }
 }
 
-/// The words of the command line, of which the first is the program's name.
+/// Returns the arguments of the command line, of which the first is the program's name.
 pub fn read_words<E: Env>(alloc: Global, env: &E) -> Result<Vec<String>, WordFault> {
     let mut words = Vec::new(alloc);
     for number in 0..usize::MAX {
@@ -54,7 +54,7 @@ pub fn read_words<E: Env>(alloc: Global, env: &E) -> Result<Vec<String>, WordFau
     Ok(words)
 }
 
-/// The bytes of a word, or `None` after the last one.
+/// The bytes of argument `number`, or `None` after the last one.
 fn read_word<E: Env>(alloc: Global, env: &E, number: usize) -> Result<Option<Vec<u8>>, AllocError> {
     let mut bytes = Vec::new(alloc);
     let mut capacity = FIRST_CAPACITY;
@@ -74,7 +74,7 @@ fn read_word<E: Env>(alloc: Global, env: &E, number: usize) -> Result<Option<Vec
     Err(AllocError)
 }
 
-/// The text of the word of this number. The program's name, number 0, is taken in its readable form.
+/// The text of argument `number`. The program's name, number 0, is taken in its readable form.
 fn text_of(alloc: Global, number: usize, bytes: &[u8]) -> Result<String, WordFault>
     ensures text { IfOk result (λ text. IsReadable bytes.now (string_bytes text)) }
     ensures taken { IfOk result (λ text. 0 < number → IsUtf8 bytes.now) }

@@ -1,2 +1,2 @@
--- What is told of readings.
+-- What readings say.
 pub mod Readings

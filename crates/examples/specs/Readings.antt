@@ -1,9 +1,9 @@
--- What is told of a reading.
+-- What a reading says.
 use Rattle.std.specs.Prelude.{Option, Some, None}
 use Rattle.fpl_message.specs.Reads.{Reading, msg, ord, bad}
 use Rattle.fpl_message.specs.declared.refusal.Refusal.{Refusal}
 
--- why it is refused for how it is written, if it is
+-- why it is refused for its format, if it is
 abbrev pub refusal_in : Reading → Option Refusal
 refusal_in (bad refusal) = Some refusal
 refusal_in (msg m) = None

@@ -15,19 +15,19 @@ use fpl_text::Text;
 use std::alloc::Allocator;
 use std::io::Write;
 
-/// Why a text got no answer.
+/// Why a text has no answer.
 #[derive(Clone, Copy, Debug, PartialEq, Eq)]
 pub enum AnswerFault {
-    /// It has more than 2,000 bytes, or memory was refused. Nothing was filed.
+    /// It has more than 2,000 bytes, or an allocation failed. Nothing was filed.
     Unread,
-    /// It wasn't filed: the journal is full, or memory was refused.
+    /// It wasn't filed: the journal is full, or an allocation failed.
     Unfiled(StepFault),
     /// It was filed, and the writer failed.
     Unwritten,
 }
 
-/// Files a text at a desk as its feeder 0, and writes the answer behind what the writer has: the line of its receipt,
-/// and one for each slot notice that it caused.
+/// Files a text as feeder 0 of a desk, and writes the answer: the line of its receipt, and one for
+/// each slot notice that it caused.
 pub fn answer<W: Write, A: Allocator + Copy>(
     alloc: A,
     core: &mut Core<A>,
@@ -39,34 +39,39 @@ pub fn answer<W: Write, A: Allocator + Copy>(
       filed = core.old.filed ++ record { feeder = 0; text = second text.now } ∷ [];
       undoable = true;
     }) }
-    ensures answer { OnOk result (Appends (W.contents writer.old.device) (W.contents writer.new.device)
+    ensures answer { OnOk result
+        (Appends (W.contents writer.old.device) (W.contents writer.new.device)
         (answer_text (state_of core.new) (length (state_of core.old).journal))) }
 {
-    // `new` promises a filing of just these bytes, and that only their number and memory can refuse it.
+    // `new` promises a filing of exactly these bytes, and that only their number or a failed
+    // allocation can refuse it.
     let Ok(filing) = Filing::new(alloc, text) else {
         return Err(AnswerFault::Unread);
     };
-    // `step` promises that the desk is then that of one more filing, or after an `Err` as it was.
+    // `step` promises that the desk is then that of one more filing, or unchanged after an `Err`.
     let receipt = match core.step(filing, 0) {
         Ok(receipt) => receipt,
         Err((fault, _)) => return Err(AnswerFault::Unfiled(fault)),
     };
-    // `write_answer` promises the bytes of the answer to that entry, or after an `Err` a front of them.
+    // `write_answer` promises the bytes of the answer to that entry, or a prefix of them after an
+    // `Err`.
     match core.write_answer(receipt.number, writer) {
         Ok(()) => Ok(()),
         Err(_) => Err(AnswerFault::Unwritten),
     }
 }
 
-/// The slot that a plan holds in an open regulation. None where the regulation isn't open, or its plan holds none.
+/// Returns the slot that a plan has in an open regulation; `None` if the regulation isn't open, or
+/// the plan has no slot there.
 pub fn slot_in<A: Allocator + Copy>(core: &Core<A>, id: &Text<8>, plan: u32) -> Option<u32>
-    ensures { result ≡ option_and_then (λ l. held_slot l plan) (slots_of (state_of core.now).traffic id.now) }
+    ensures { result ≡ option_and_then (λ l. held_slot l plan)
+        (slots_of (state_of core.now).traffic id.now) }
 {
-    // `slots` promises the slot list of that regulation, and `slot_of` the place of a flight in it.
+    // `slots` promises the slot list of that regulation, and `slot_of` the flight's position in it.
     core.slots(id)?.slot_of(plan)
 }
 
-/// Writes the journal of a desk. Read again by `read_journal`, it gives the same desk.
+/// Writes the journal of a desk. A desk that `read_journal` makes of it has the same state.
 pub fn write_whole<W: Write, A: Allocator + Copy>(core: &Core<A>, writer: &mut Counted<W>) -> bool
     ensures { result ≡ true → Appends (W.contents writer.old.device) (W.contents writer.new.device)
         (journal_text core.now.setup core.now.filed) }

@@ -1,5 +1,5 @@
-//! How crates are called by themselves: small proved functions over the public calls of each. Tests run those below
-//! the desks.
+//! Proved functions over the public calls of single crates, as examples of their use. Tests run
+//! those that need no threads.
 #![tactic(auto)]
 
 mod desk;

@@ -8,20 +8,23 @@ use fpl_message::Fpl;
 use fpl_text::Minute;
 use std::alloc::Allocator;
 
-/// Whether a flight plan would be accepted at this time: it is filed, and taken back again. With it comes the number
-/// that it would have. The store's last change can't be taken back after that.
+/// Whether a flight plan would be accepted at this time: files it, and undoes that. Returns the
+/// number that it would have. The store's last change can't be undone after that.
 ///
 /// # Errors
-/// Why it would be refused, or OutOfMemory.
+///
+/// Why the plan would be refused, or `OutOfMemory`.
 pub fn would_accept<A: Allocator + Copy>(
     store: &mut PlanStore<A>,
     message: &Fpl<A>,
     now: Minute,
 ) -> Result<u32, PlanFault>
     requires { IsDeskTime now }
-    ensures accepted { IfOk result (λ number. (after : _) × (filed store.old.max_plans now store.old.plans message.now
+    ensures accepted { IfOk result (λ number. (after : _)
+        × (filed store.old.max_plans now store.old.plans message.now
         ≡ Ok after) × (number ≡ length after)) }
-    ensures refused { IfErr result (λ e. IsRefusal e (filed store.old.max_plans now store.old.plans message.now)) }
+    ensures refused { IfErr result (λ e.
+        IsRefusal e (filed store.old.max_plans now store.old.plans message.now)) }
     ensures same { store.new.plans ≡ store.old.plans }
 {
     let number = store.file(message, now)?;

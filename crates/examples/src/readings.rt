@@ -7,10 +7,11 @@ ghost use Rattle.examples.specs.Readings.{refusal_in};
 use fpl_message::{Filing, FilingFault, Reading, Refusal};
 use std::alloc::Allocator;
 
-/// Why these bytes are refused for how they are written, if they are. A desk isn't needed for that.
+/// Returns why these bytes are refused for their format, if they are. Needs no desk.
 ///
 /// # Errors
-/// TooLong where there are more than 2,000 bytes, or OutOfMemory.
+///
+/// `TooLong` if there are more than 2,000 bytes, or `OutOfMemory`.
 pub fn refusal_of<A: Allocator + Copy>(
     alloc: A,
     bytes: &[u8],

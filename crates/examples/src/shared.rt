@@ -11,10 +11,12 @@ use std::alloc::Allocator;
 use std::collections::VecDeque;
 use std::sync::Wait;
 
-/// Files a text for a feeder, and looks at the plan of this number then. Other feeders may have filed between the two:
-/// what is seen is a plan in a history that begins with all that the pass had seen, and this entry.
+/// Files a text for a feeder, and then reads the row of a plan. Other feeders may have filed
+/// between the two: the row is that of a history that begins with all that the pass had seen, and
+/// this entry.
 ///
-/// None where the text wasn't filed, where no version of the board was given, and where no plan has that number.
+/// `None` if the text wasn't filed, if no version of the board was published, or if no plan has
+/// that number.
 pub fn row_after<N: Name, Q: Wait + Drop, W: Wait, A: Allocator + Copy>(
     wait: &W,
     alloc: A,
@@ -32,15 +34,16 @@ pub fn row_after<N: Name, Q: Wait + Drop, W: Wait, A: Allocator + Copy>(
         Ok(_receipt) => {}
         Err(_) => return None,
     }
-    // `look` waits for nobody, and promises a history that begins with what the pass has seen, so with that entry, too.
+    // `look` never waits, and promises a history that begins with what the pass has seen, so with
+    // that entry, too.
     match desk.look(pass, plan) {
         Ok(row) => row,
         Err(_) => None,
     }
 }
 
-/// Files what a feeder has ready, in order and with no other feeder's entry between. False where some of it wasn't
-/// filed: it is left then, and the first of it was refused.
+/// Files what a feeder has ready, in order and with no other feeder's entry between. `false` if
+/// some of it wasn't filed: it is left then, and the first of it was refused.
 pub fn file_ready<N: Name, Q: Wait + Drop, W: Wait, A: Allocator + Copy>(
     wait: &W,
     alloc: A,
@@ -51,6 +54,6 @@ pub fn file_ready<N: Name, Q: Wait + Drop, W: Wait, A: Allocator + Copy>(
     ensures { IsTrue result → (saw : PassView) × SawOthers pass.old saw
         × FiledInTurn N.setup saw ready.old.items pass.new }
 {
-    // `file_all` takes the lock once for all of them, and promises of each what `file` does.
+    // `file_all` takes the lock once for all of them, and promises for each what `file` does.
     desk.file_all(wait, alloc, pass, ready).is_ok()
 }

@@ -1,4 +1,4 @@
-//! Giving slots, with flow_slots alone.
+//! Allocating slots, with flow_slots alone.
 ghost use Rattle.std.specs.Prelude.{◌≡◌, ◌<◌, IsSome};
 ghost use Rattle.flow_slots.specs.Period.{IsWithin};
 ghost use Rattle.flow_slots.specs.Lineup.{held_slot, with_waiting, without_flight};
@@ -7,8 +7,8 @@ use flow_slots::SlotList;
 use fpl_text::Minute;
 use std::alloc::Allocator;
 
-/// Gives a flight that holds a slot another entry moment within the period, and tells the slot that it holds then.
-/// Slots count from 0.
+/// Gives a flight with a slot another entry time within the period, and returns its new slot,
+/// counted from 0.
 pub fn plan_again<A: Allocator + Copy>(
     list: &mut SlotList<A>,
     flight: u32,

@@ -1,4 +1,4 @@
--- The changes of rows, where it is known which plans may have changed.
+-- The changes of rows if it is known which plans may have changed.
 use Rattle.std.proofs.Common.{◌≡◌, ◌∙◌, ◌+◌, ◌-◌, ◌<◌, ◌≤◌, ℕ, zero, suc, List, [], ◌∷◌, ◌++◌, length, map, take, drop, get_or, refl, sym, ap, arith, Bool, true, false, ◌||◌, eqb, Option, Some, None, IsSome, IfSome, slice_get}
 use Rattle.std.specs.Option.{option_map, option_map_or, option_and_then}
 use Rattle.std.specs.List.{All, AllByRecursion, filter_map, cons_option}
@@ -64,7 +64,7 @@ unchanged before after numbers h each_before each n some out =
     ∙ row-was before n (told_of before.told n) (status_at before.plans n) each_before refl refl in
     ap (option_and_then (change_to n (slice_get (rows_in before) (n - 1)))) same ∙ no-change n (slice_get (rows_in before) (n - 1))
 
--- nor has one that stands where it stood and is told the same
+-- nor has one that is as it was with the same slot issued
 alike : (t u : Option Told) (s : Status) → same_told t u ≡ true → same_row (row_with t s) (row_with u s) ≡ true
 unfolding same_row
 alike t u s same = rw (state-same s.state, eq-eqb s.off_block s.off_block refl, same) refl
@@ -139,7 +139,7 @@ next-change : (k : ℕ) (before : List Row) (r : Row) (rs : List Row) → change
 next-change k [] r rs = refl
 next-change k (b ∷ bs) r rs = refl
 
--- the changes of the plans of these numbers are all, where no other plan has one
+-- the changes of the plans of these numbers are all, if no other plan has one
 abbrev AreAll : ℕ → List Row → List Row → List ℕ → Type 0
 AreAll k before after ns =
     Rises k ns → AllByRecursion (λ n. n < k + length after) ns → ((n : ℕ) → k ≤ n → is_in n ns ≡ false → at-from k before after n ≡ None)
@@ -207,7 +207,7 @@ all-changes before after numbers rising within h each_before each =
     (recursion_from_All (λ n. n < 1 + length (rows_in after)) numbers (λ k d inside. omega (arith, (within k d inside).1, rows-count after.plans after.told each)))
     (λ n some out. unchanged before after numbers h each_before each n some out)
 
--- ---- where it is known that there is a traffic before
+-- ---- if it is known that there is a traffic before
 
 pub if-row : (o : Option Traffic) (number : ℕ) (told : Option Told) (status : Option Status) → IfSome o (λ b. length b.told ≡ length b.plans) → IfSome o (λ b. told ≡ told_of b.told number)
     → IfSome o (λ b. status ≡ status_at b.plans number) → IfSome o (λ b. option_map (row_with told) status ≡ slice_get (rows_in b) (number - 1))
@@ -263,7 +263,7 @@ pub if-all : (o : Option Traffic) (after : Traffic) (ns : List ℕ) (cs : List C
 if-all None after ns cs rising within h each_before each e = tt
 if-all (Some b) after ns cs rising within h each_before each e = e ∙ all-changes b after ns rising within h each_before each
 
--- numbers that rise within some are at most as many
+-- an ascending list within another is no longer
 rises-few : (k m : ℕ) (ns : List ℕ) → Rises k ns → AllByRecursion (λ n. n < m) ns → k ≤ m → k + length ns ≤ m
 rises-few k m [] up within h = omega arith
 rises-few k m (n ∷ ns) up within h = omega (arith, up.0, rises-few (n + 1) m ns up.1 within.1 (omega (arith, within.0)))

@@ -1,4 +1,4 @@
--- Digits that are put where they belong, two at a time.
+-- Digits that are written at their index, two at a time.
 use Rattle.std.proofs.Common.{◌≡◌, ◌≤◌, ◌<◌, ◌^◌, ◌++◌, ◌/◌, ◌%◌, ℕ, List, ap, sym, ◌∙◌, append_assoc}
 use Rattle.std.specs.Fmt.{decimal}
 use Rattle.itoa.proofs.Decimal.{decimal_pair, pair}

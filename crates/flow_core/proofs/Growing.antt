@@ -80,7 +80,7 @@ asked-grows t (ord (shut_reg id)) a e = ordered-grows t _ a refl (ok-same _ a (u
 asked-grows t (ord (set_time at)) a e = ordered-grows t _ a refl (ok-same _ a (unless-ok _ refusal.TimeBack _ a e))
 asked-grows t (bad r) a e = absurd (cc)
 
--- each plan was told something or nothing
+-- each plan has an issued slot or none
 to-each : (ps : List Plan) (ts : List (Option Told)) → length (told_to ps ts) ≡ length ps
 to-each [] ts = refl
 to-each (p ∷ ps) [] = ap suc (to-each ps [])

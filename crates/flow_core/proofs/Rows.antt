@@ -19,18 +19,18 @@ rows-beyond (q ∷ ps) [] i a = refl
 rows-beyond (q ∷ ps) (u ∷ ts) zero a = cc
 rows-beyond (q ∷ ps) (u ∷ ts) (suc i) a = rows-beyond ps ts i a
 
--- each plan has its place
+-- each plan has its index
 pub told-there : (ps : List Plan) (ts : List (Option Told)) (i : ℕ) (p : Plan) → length ts ≡ length ps → slice_get ps i ≡ Some p → slice_get ts i ≡ None → ⊥
 told-there [] ts i p e a b = cc
 told-there (q ∷ ps) [] i p e a b = absurd (omega (arith, e))
 told-there (q ∷ ps) (u ∷ ts) zero p e a b = cc
 told-there (q ∷ ps) (u ∷ ts) (suc i) p e a b = told-there ps ts i p (omega (arith, e)) a b
 
--- the row of a plan that stands so
+-- the row of a plan with this status
 abbrev told_to : Standing → Option Told → Row
 told_to s told = record { state = s.state; off_block = s.off_block; told = told }
 
--- plans that stand alike, and were last told the same, have the same rows
+-- equal plans with equal issued slots have equal rows
 pub rows-alike : (ps qs : List Plan) (ts : List (Option Told)) → standings ps ≡ standings qs → rows_of ps ts ≡ rows_of qs ts
 rows-alike [] [] ts e = refl
 rows-alike [] (q ∷ qs) ts e = cc

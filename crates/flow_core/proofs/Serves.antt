@@ -204,14 +204,14 @@ Serving-more first now next begun written then old new input mid rest s more =
           (Appends-trans begun written then (output first s.done) (output now more.frames) s.appended more.appended);
     }
 
--- what was written is handed on
+-- what was written is flushed
 pub Serving-kept : (first now : State) (begun written kept : Option (List ℕ)) (ahead : Ahead) (input mid : Option (List ℕ))
     → Serving first now begun written ahead input mid → Keeps written kept → Serving first now begun kept ahead input mid
 Serving-kept first now begun written kept ahead input mid s k =
     record { done = s.done; cutting = s.cutting; state = s.state; appended = Appends-kept begun written kept (output first s.done) s.appended k }
 
 module _ (first now : State) (begun written : Option (List ℕ)) (old : Ahead) (input mid : Option (List ℕ)) (s : Serving first now begun written old input mid) where
-  -- where handing on failed, nothing more was read
+  -- if flushing failed, nothing more was read
   pub Answered-here : Answered first now begun written input mid
   Answered-here =
       let cut = s.cutting in
@@ -292,7 +292,7 @@ module _ (first now : State) (begun written : Option (List ℕ)) (old : Ahead) (
           appended = subst (λ (w : Option (List ℕ)). Appends begun w (output first s.done)) (sym kept) s.appended;
         }
 
--- memory for serving was refused: nothing was read
+-- an allocation failed: nothing was read
 pub Answered-start : (s : State) (begun input : Option (List ℕ)) → Answered s s begun begun input input
 Answered-start s begun input =
     record {

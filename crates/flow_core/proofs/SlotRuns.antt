@@ -81,7 +81,7 @@ twice-left test (x ∷ xs) h = by (test x) (twice-left test xs h.1) where
 
 -- ---- what a regulation keeps
 
--- pairs of a list of so many flights: by slot, and no flight twice
+-- pairs of a list of flights: by slot, and no flight twice
 pub record AreKept (max : ℕ) (p : Period) (fs : List Placed) : Type 0 where
   pub by_slot : BySlot fs
   pub apart : FixedApart fs

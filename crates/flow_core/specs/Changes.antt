@@ -19,7 +19,7 @@ same_state state.Departed state.Departed = true
 same_state state.Cancelled state.Cancelled = true
 same_state _ _ = false
 
--- the same take-off time, caused by the same regulation, or nothing
+-- the same CTOT, caused by the same regulation, or none issued
 abbrev pub same_told : Option Told → Option Told → Bool
 same_told None None = true
 same_told None (Some u) = false
@@ -29,11 +29,12 @@ same_told (Some t) (Some u) = (t.ctot == u.ctot) && bytes_eq t.regulation u.regu
 unfoldable pub same_row : Row → Row → Bool
 same_row r s = same_state r.state s.state && ((r.off_block == s.off_block) && same_told r.told s.told)
 
--- the row of a plan that stands so and was told this
+-- the row of a plan with this status and issued slot
 abbrev pub row_with : Option Told → Status → Row
 row_with told status = record { state = status.state; off_block = status.off_block; told = told }
 
--- the change of the plan of this number to this row; a new plan's row is a change, and one that is as before is none
+-- the change of the plan of this number to this row; the row of a new plan is a change, and an
+-- equal row is none
 abbrev pub change_to : ℕ → Option Row → Row → Option Change
 change_to number None row = Some (record { plan = number; row = row })
 change_to number (Some before) row = if same_row before row then None else Some (record { plan = number; row = row })

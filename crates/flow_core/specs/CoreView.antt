@@ -1,4 +1,4 @@
--- How a core keeps the state.
+-- How a core stores the state.
 use Rattle.std.specs.Prelude.{◌≡◌, ◌≤◌, ◌<◌, ◌+◌, ◌-◌, List, [], ◌∷◌, ◌++◌, map, length, take, ℕ, Bool, true, Some}
 use Rattle.std.specs.List.{AllByRecursion}
 use Rattle.fpl_message.specs.Reads.{Reading, reading_of}
@@ -19,7 +19,7 @@ use Rattle.flow_plans.specs.declared.setup.TheConstants.{MAX_ENTRIES}
 abbrev pub inputs : List Record → List Input
 inputs journal = map (λ e. e.input) journal
 
--- the state kept in these fields is that of the run
+-- the state in these fields is that of the run
 pub record IsRun (s : State) : Type 0 where
   pub is : s ≡ run s.setup (inputs s.journal)
   pub entries : AllByRecursion (λ e. IsEntry version.Two e.input) s.journal
@@ -31,8 +31,8 @@ pub record IsRun (s : State) : Type 0 where
 abbrev pub without_last : {X : Type 0} → List X → List X
 without_last xs = take (length xs - 1) xs
 
--- The last filing can be taken back: the reader has read its text, for which there is capacity, and what was before it is the run
--- without it.
+-- The last filing can be undone: the reader has read its text, for which there is capacity, and the
+-- state before it is the run without it.
 pub record MayTakeBack (setup : Settings) (traffic : Undoable) (journal : List Record) (read : Reading) (capacity : ℕ) : Type 0 where
   pub before : Traffic
   pub is : traffic.before ≡ Some before
@@ -41,13 +41,14 @@ pub record MayTakeBack (setup : Settings) (traffic : Undoable) (journal : List R
   pub fits : (earlier : List Record) (e : Record) → journal ≡ earlier ++ e ∷ [] → length e.input.text.bytes ≤ capacity
   pub run_then : IsRun (record { setup = setup; traffic = before; journal = without_last journal })
 
--- the state kept in these fields is that of the run, and so is what can be taken back, if anything can
+-- the state in these fields is that of the run, and so is what can be undone, if anything can
 pub record IsRunWith (setup : Settings) (traffic : Undoable) (journal : List Record) (undoable : Bool) (read : Reading) (buffer : List ℕ) (capacity : ℕ) : Type 0 where
   pub run_now : IsRun (record { setup = setup; traffic = traffic.traffic; journal = journal })
   pub empty : buffer ≡ []
   pub back : undoable ≡ true → MayTakeBack setup traffic journal read capacity
 
--- the traffic was answered so: this is the receipt of the entry after so many, and the traffic can be taken back
+-- the result of answering this reading: the receipt of the entry after `entries` others; and the
+-- traffic can be undone
 pub record IsReceipt (read : Reading) (old : Traffic) (new : Undoable) (entries : ℕ) (r : Receipt) : Type 0 where
   pub number : r.number ≡ entries + 1
   pub first : r.first_notice ≡ length old.notices
@@ -57,7 +58,7 @@ pub record IsReceipt (read : Reading) (old : Traffic) (new : Undoable) (entries 
   pub frozen : FrozenPairsStay read old new.traffic r.verdict
   pub before : new.before ≡ Some old
 
--- this entry was made after the others: the state is that of the run with it, and the traffic can be taken back
+-- this entry was appended: the state is that of the run with it, and the traffic can be undone
 pub record Enters (setup : Settings) (old : Traffic) (new : Undoable) (journal longer : List Record) (e : Record) : Type 0 where
   pub entries : longer ≡ journal ++ e ∷ []
   pub number : e.receipt.number ≡ length journal + 1
@@ -65,7 +66,8 @@ pub record Enters (setup : Settings) (old : Traffic) (new : Undoable) (journal l
   pub before : new.before ≡ Some old
   pub frozen : FrozenPairsStay (reading_of e.input.text) old new.traffic e.receipt.verdict
 
--- There is capacity for the rows of all plans, and where the last filing can be taken back these are the rows that it changed.
+-- There is capacity for the rows of all plans, and if the last filing can be undone these are the
+-- rows that it changed.
 pub record IsNoted (h : History) (changes : List Change) (capacity : ℕ) : Type 0 where
   pub room : h.setup.max_plans ≤ capacity
   pub changed : h.undoable ≡ true → changes ≡ changes_between (rows_at (without_last_filing h)) (rows_at h)

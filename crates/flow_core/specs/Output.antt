@@ -1,4 +1,5 @@
--- What is written for an input. The answer lines are this desk's own; the notices are in the manner of ADEXP keywords.
+-- What is written for an input. The answer lines are this desk's own; the notices are in the manner
+-- of ADEXP keywords.
 use Rattle.std.specs.Prelude.{ℕ, ◌+◌, ◌/◌, ◌%◌, List, [], ◌++◌, nat_lt, if◌then◌else◌, codes, decimal, Option, Some, None, slice_get, slice_range}
 use Rattle.std.specs.List.{flat_map}
 use Rattle.std.specs.Option.{option_map_or}
@@ -41,7 +42,7 @@ abbrev pub detail_text : Option ℕ → List ℕ
 detail_text None = []
 detail_text (Some n) = codes " " ++ decimal n
 
--- the number and the name of a refusal, and the place or the field where it has one
+-- the number and the name of a refusal, and the offset or the field if it has one
 abbrev pub refusal_text : Refusal → List ℕ
 refusal_text r = codes " NO " ++ decimal (number_of r) ++ codes " " ++ name_of r ++ detail_text (detail_of r)
 
@@ -54,7 +55,7 @@ verdict_text (Refused r) = refusal_text r
 abbrev pub answer_line : Receipt → List ℕ
 answer_line r = decimal r.number ++ verdict_text r.verdict ++ codes "\n"
 
--- of which flight a notice speaks
+-- the fields that identify the flight of a notice
 abbrev pub flight_text : Notice → List ℕ
 flight_text n =
     codes " -ARCID " ++ n.ident ++ codes " -ADEP " ++ n.dep ++ codes " -ADES " ++ n.dest

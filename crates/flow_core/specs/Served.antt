@@ -1,4 +1,4 @@
--- What a desk that is served an input has answered, and its state then.
+-- The output of a desk that is served an input, and its state after it.
 use Rattle.std.specs.Prelude.{ℕ, List, [], ◌∷◌, ◌++◌, length, nat_le, nat_lt, if◌then◌else◌}
 use Rattle.flow_input.specs.NextFrame.{second}
 use Rattle.flow_core.specs.State.{State, Input}

@@ -19,7 +19,8 @@ use Rattle.flow_core.specs.declared.serving.ServeFault.TheVariants as fault
 abbrev pub AppendsMore : Option (List ℕ) → Option (List ℕ) → List ℕ → Type 0
 AppendsMore old new bytes = (more : List ℕ) × Appends old new (bytes ++ more)
 
--- serving stopped: the first frames of the bytes read were served, and of their output all was written but for an end of what is said of the last one
+-- serving stopped: the first frames of the bytes read were served, and all of their output was
+-- written, except for an end of what is said of the last one
 pub record Stopped (first now : State) (begun written : Option (List ℕ)) (input rest : Option (List ℕ)) : Type 0 where
   pub read : List ℕ
   pub consumed : Consumes input rest read
@@ -32,7 +33,8 @@ pub record Stopped (first now : State) (begun written : Option (List ℕ)) (inpu
   pub most : AppendsMore begun written (output first answered)
   pub front : AppendsFront begun written (output first (answered ++ last))
 
--- it stopped, but not since the writer failed: just the output of the frames that were served was written
+-- it stopped, but not since the writer failed: exactly the output of the frames that were served
+-- was written
 pub record Answered (first now : State) (begun written : Option (List ℕ)) (input rest : Option (List ℕ)) : Type 0 where
   pub read : List ℕ
   pub consumed : Consumes input rest read
@@ -42,20 +44,22 @@ pub record Answered (first now : State) (begun written : Option (List ℕ)) (inp
   pub state : now ≡ after first answered
   pub appended : Appends begun written (output first answered)
 
--- it stopped since the reader failed: just the frames that had ended in the bytes read were served, and answered
+-- it stopped since the reader failed: exactly the frames that had ended in the bytes read were
+-- served, and answered
 pub record Starved (first now : State) (begun written : Option (List ℕ)) (input rest : Option (List ℕ)) : Type 0 where
   pub read : List ℕ
   pub consumed : Consumes input rest read
   pub state : now ≡ after first (ended_frames read)
   pub whole : Appends begun written (output first (ended_frames read))
 
--- the fault where no frame came
+-- the fault of serving for one of taking a frame
 abbrev pub fault_of : IntakeFault → ServeFault
 fault_of intake.Read = fault.Read
 fault_of intake.TooMuch = fault.TooMuch
 fault_of intake.OutOfMemory = fault.OutOfMemory
 
--- how many calls of the reader have failed after serving has ended so: one more only where it failed
+-- how many calls of the reader have failed after serving ended with this result: one more only if
+-- it failed
 abbrev pub reader_failures : Result (Unit {0}) ServeFault → ℕ → ℕ
 reader_failures (Ok x) before = before
 reader_failures (Err fault.Read) before = counted_up before
@@ -73,31 +77,33 @@ writer_failures (Err fault.OutOfMemory) before = before
 
 -- ---- one frame
 
--- whatever frame this is the filing of, it was served, and what is said of it was appended
+-- whatever frame this is the filing of, it was served, and its output was appended
 abbrev pub AnswersFrame : Option FilingText → State → State → Option (List ℕ) → Option (List ℕ) → Type 0
 AnswersFrame filing old new before now = (frame : List ℕ) → filing ≡ filing_of frame → (new ≡ served old frame) × Appends before now (said old frame)
 
--- it was served, and a front of what is said of it was appended
+-- it was served, and a prefix of its output was appended
 abbrev pub AnswersPart : Option FilingText → State → State → Option (List ℕ) → Option (List ℕ) → Type 0
 AnswersPart filing old new before now = (frame : List ℕ) → filing ≡ filing_of frame → (new ≡ served old frame) × AppendsFront before now (said old frame)
 
 -- ---- in the middle of serving
 
--- the frames that were served were cut from the front of the input, and what was said of them was written
+-- the frames that were served were taken from the beginning of the input, and their output was
+-- written
 pub record Serving (first now : State) (begun written : Option (List ℕ)) (ahead : Ahead) (input rest : Option (List ℕ)) : Type 0 where
   pub done : List (List ℕ)
   pub cutting : Cutting done ahead input rest
   pub state : now ≡ after first done
   pub appended : Appends begun written (output first done)
 
--- frames were cut from the front of what is unread, they were served, and what is said of them was appended
+-- frames were taken from the beginning of what is unread, they were served, and their output was
+-- appended
 pub record ServedMore (old new : State) (before now : Option (List ℕ)) (ahead left : Ahead) (mid rest : Option (List ℕ)) : Type 0 where
   pub frames : List (List ℕ)
   pub cutting : (done : List (List ℕ)) (input : Option (List ℕ)) → Cutting done ahead input mid → Cutting (done ++ frames) left input rest
   pub state : new ≡ after old frames
   pub appended : Appends before now (output old frames)
 
--- serving has come on so far, and what is left of the input is the same
+-- serving has come this far, and the rest of the input is unchanged
 abbrev pub ComesOn : State → State → Option (List ℕ) → Option (List ℕ) → Ahead → Ahead → Type 0
 ComesOn old new before now ahead left = (rest : Option (List ℕ)) → Agrees ahead rest → ServedMore old new before now ahead left rest rest
 
@@ -111,7 +117,7 @@ IsAnsweredOn old new before now ahead = (first : State) (begun input rest : Opti
 
 -- ---- after a frame was taken
 
--- serving has come on: that frame was served, and others that were there
+-- serving has advanced: that frame was served, and others that were whole
 abbrev pub AnswersTaken : State → State → Option (List ℕ) → Option (List ℕ) → Ahead → Ahead → Type 0
 AnswersTaken old new before now taken left = (ahead : Ahead) (mid rest : Option (List ℕ)) → GaveFirst (filing_kept taken.item) ahead taken mid rest → Agrees taken rest
     → ServedMore old new before now ahead left mid rest

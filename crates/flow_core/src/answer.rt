@@ -1,11 +1,13 @@
-//! Answer lines and slot notices as text.
+//! The text of answer lines and slot notices.
 ghost use Rattle.std.specs.Prelude.{◌≡◌, ◌≤◌, ◌+◌, ◌++◌, ◌-◌, length, codes, decimal};
 ghost use Rattle.std.specs.List.{flat_map};
 ghost use Rattle.fpl_message.specs.Numbers.{number_of, name_of};
 ghost use Rattle.flow_input.specs.Writes.{Writes};
 ghost use Rattle.arrayvec.specs.ArrayVec.{array_vec_len};
-ghost use Rattle.flow_core.specs.Output.{kind_text, window_text, plan_text, refusal_text, verdict_text, answer_line};
-ghost use Rattle.flow_core.specs.Output.{flight_text, told_text, notice_line, too_long_line, journal_full_line};
+ghost use Rattle.flow_core.specs.Output.{kind_text, window_text, plan_text};
+ghost use Rattle.flow_core.specs.Output.{refusal_text, verdict_text, answer_line};
+ghost use Rattle.flow_core.specs.Output.{flight_text, told_text, notice_line};
+ghost use Rattle.flow_core.specs.Output.{too_long_line, journal_full_line};
 
 use crate::line::{Line, put, put_number};
 use crate::receipt::Receipt;
@@ -16,21 +18,21 @@ use flow_traffic::{Kind, Verdict};
 use fpl_message::Refusal;
 use std::io::Write;
 
-/// What a frame of more than 2,000 bytes is answered.
+/// Returns the answer to a frame of more than 2,000 bytes.
 pub fn too_long_line() -> &'static [u8]
     ensures { result.now ≡ too_long_line }
 {
     b"- NO 90 TooLong\n"
 }
 
-/// What a filing is answered at a full journal.
+/// Returns the answer to a filing at a full journal.
 pub fn journal_full_line() -> &'static [u8]
     ensures { result.now ≡ journal_full_line }
 {
     b"- NO 91 JournalFull\n"
 }
 
-/// What an answer says of an accepted filing before the plan.
+/// The part of an accepted filing's answer that precedes the plan.
 fn accepted_text(kind: Kind) -> &'static [u8]
     ensures text { result.now ≡ codes " OK " ++ kind_text kind }
     ensures short { length result.now ≤ 8 }
@@ -58,7 +60,7 @@ fn window_name(window: Window) -> &'static [u8]
     }
 }
 
-/// Appends the plan that was accepted, where it is one.
+/// Appends the number of the plan, if the filing was about one.
 fn put_plan(line: &mut Line, plan: u32)
     requires { array_vec_len line.old + 21 ≤ 192 }
     ensures items { line.new.items ≡ line.old.items ++ plan_text plan }
@@ -70,9 +72,10 @@ fn put_plan(line: &mut Line, plan: u32)
     }
 }
 
-/// What an answer says of a refused filing before a detail: the number and the name of the reason, in one piece.
+/// The number and the name of a refusal, as one constant for each.
 fn refused_text(refusal: Refusal) -> &'static [u8]
-    ensures text { result.now ≡ codes " NO " ++ decimal (number_of refusal) ++ codes " " ++ name_of refusal }
+    ensures text { result.now ≡ codes " NO " ++ decimal (number_of refusal) ++ codes " "
+        ++ name_of refusal }
     ensures short { length result.now ≤ 28 }
 {
     match refusal {
@@ -105,7 +108,6 @@ fn refused_text(refusal: Refusal) -> &'static [u8]
     }
 }
 
-/// Appends why a filing was refused.
 fn put_refusal(line: &mut Line, refusal: Refusal)
     requires { array_vec_len line.old + 70 ≤ 192 }
     ensures items { line.new.items ≡ line.old.items ++ refusal_text refusal }
@@ -118,7 +120,6 @@ fn put_refusal(line: &mut Line, refusal: Refusal)
     }
 }
 
-/// Appends how a filing went.
 fn put_verdict(line: &mut Line, verdict: Verdict)
     requires { array_vec_len line.old + 70 ≤ 192 }
     ensures items { line.new.items ≡ line.old.items ++ verdict_text verdict }
@@ -139,7 +140,7 @@ fn put_verdict(line: &mut Line, verdict: Verdict)
     }
 }
 
-/// Appends the answer line of a receipt. A line of 192 bytes is filled where it lies, rather than handed over.
+/// Appends the answer line of a receipt. `line` is passed in, so that its 192 bytes aren't copied.
 fn put_answer(line: &mut Line, receipt: &Receipt)
     requires { array_vec_len line.old + 91 ≤ 192 }
     ensures { line.new.items ≡ line.old.items ++ answer_line receipt.now }
@@ -149,7 +150,7 @@ fn put_answer(line: &mut Line, receipt: &Receipt)
     line.push(b'\n');
 }
 
-/// Appends of which flight a notice speaks.
+/// Appends the fields that identify the flight of a notice.
 fn put_flight(line: &mut Line, notice: &Notice)
     requires { array_vec_len line.old + 70 ≤ 192 }
     ensures items { line.new.items ≡ line.old.items ++ flight_text notice.now }
@@ -167,7 +168,7 @@ fn put_flight(line: &mut Line, notice: &Notice)
     put(line, notice.off_block.hhmm().as_bytes());
 }
 
-/// Appends a calculated take-off time and the regulation that causes it.
+/// Appends a calculated take-off time (CTOT) and the regulation that causes it.
 fn put_told(line: &mut Line, told: &Told)
     requires { array_vec_len line.old + 30 ≤ 192 }
     ensures items { line.new.items ≡ line.old.items ++ told_text told.now }
@@ -178,7 +179,6 @@ fn put_told(line: &mut Line, told: &Told)
     put(line, told.regulation.as_bytes());
 }
 
-/// Appends the line of a notice.
 fn put_notice(line: &mut Line, notice: &Notice)
     requires { array_vec_len line.old + 121 ≤ 192 }
     ensures { line.new.items ≡ line.old.items ++ notice_line notice.now }
@@ -204,7 +204,6 @@ fn put_notice(line: &mut Line, notice: &Notice)
     line.push(b'\n');
 }
 
-/// Writes the answer line of a receipt.
 fn write_line<W: Write>(writer: &mut Counted<W>, receipt: &Receipt) -> Result<(), WriteFault>
     ensures { Writes W.contents result writer.old writer.new (answer_line receipt.now) }
 {
@@ -213,7 +212,6 @@ fn write_line<W: Write>(writer: &mut Counted<W>, receipt: &Receipt) -> Result<()
     write_bytes(writer, line.as_slice())
 }
 
-/// Writes the line of a notice.
 fn write_notice<W: Write>(writer: &mut Counted<W>, notice: &Notice) -> Result<(), WriteFault>
     ensures { Writes W.contents result writer.old writer.new (notice_line notice.now) }
 {
@@ -222,7 +220,8 @@ fn write_notice<W: Write>(writer: &mut Counted<W>, notice: &Notice) -> Result<()
     write_bytes(writer, line.as_slice())
 }
 
-/// Writes the answer line of a receipt, and the lines of its notices. After an `Err` a front of that was written.
+/// Writes the answer line of a receipt and the lines of its notices. After an `Err` a prefix of
+/// them was written.
 pub(crate) fn write_lines<W: Write>(
     writer: &mut Counted<W>,
     receipt: &Receipt,

@@ -1,9 +1,10 @@
-//! The rows that a step changed.
+//! The plan rows that a step changed.
 ghost use Rattle.std.specs.Prelude.{◌≡◌, ◌≤◌, ◌<◌, ◌-◌, IfSome, IsSome, length, slice_get};
 ghost use Rattle.std.specs.Vec.{vec_capacity};
 ghost use Rattle.std.specs.Option.{option_map, option_and_then};
 ghost use Rattle.flow_traffic.specs.Traffic.{told_of};
-ghost use Rattle.flow_core.specs.Changes.{same_state, same_told, same_row, row_with, change_to, change_at};
+ghost use Rattle.flow_core.specs.Changes.{same_state, same_told, same_row};
+ghost use Rattle.flow_core.specs.Changes.{row_with, change_to, change_at};
 ghost use Rattle.flow_core.specs.Changes.{changes_between, rows_in};
 
 use crate::row::{Row, row_at};
@@ -20,7 +21,6 @@ pub struct Change {
     pub row: Row,
 }
 
-/// Whether this is the same state.
 fn same_state(state: PlanState, other: PlanState) -> bool
     ensures { result ≡ same_state state other }
 {
@@ -32,7 +32,7 @@ fn same_state(state: PlanState, other: PlanState) -> bool
     }
 }
 
-/// Whether plans that were told this were told the same.
+/// Whether two issued slots have the same CTOT and the same regulation, or neither was issued.
 fn same_told(told: &Option<Told>, other: &Option<Told>) -> bool
     ensures { result ≡ same_told told.now other.now }
 {
@@ -45,7 +45,7 @@ fn same_told(told: &Option<Told>, other: &Option<Told>) -> bool
     }
 }
 
-/// Whether a reader sees no difference between two rows.
+/// Whether a reader of the desk sees no difference between two rows.
 #[tactic(auto, unfolding(crate::specs::Changes::same_row))]
 fn same_row(row: &Row, other: &Row) -> bool
     ensures { result ≡ same_row row.now other.now }
@@ -55,7 +55,7 @@ fn same_row(row: &Row, other: &Row) -> bool
         && same_told(&row.told, &other.told)
 }
 
-/// The row of a plan that stands so, where there is one, and was told this.
+/// The row of a plan with this status and issued slot; `None` if there is no plan.
 fn row_with(status: Option<Status>, told: &Option<Told>) -> Option<Row>
     ensures { result ≡ option_map (row_with told.now) status }
 {
@@ -70,7 +70,7 @@ fn row_with(status: Option<Status>, told: &Option<Told>) -> Option<Row>
     })
 }
 
-/// The row that the plan of this number had before the last reading, when it had been told this.
+/// The row that plan `number` had before the last filing was read, if its slot was `told`.
 fn row_before<A: Allocator + Copy>(
     traffic: &Traffic<A>,
     number: u32,
@@ -80,12 +80,13 @@ fn row_before<A: Allocator + Copy>(
     requires change { IsSome traffic.now.before }
     requires each { IfSome traffic.now.before (λ before. length before.told ≡ length before.plans) }
     requires told { IfSome traffic.now.before (λ before. told.now ≡ told_of before.told number) }
-    ensures { IfSome traffic.now.before (λ before. result ≡ slice_get (rows_in before) (number - 1)) }
+    ensures { IfSome traffic.now.before (λ before.
+        result ≡ slice_get (rows_in before) (number - 1)) }
 {
     row_with(traffic.previous(number), told)
 }
 
-/// The change between two rows of the plan of this number, if it is one.
+/// The change of plan `number` from one row to another; `None` if they are equal.
 fn change_between(number: u32, before: Option<Row>, after: Option<Row>) -> Option<Change>
     ensures { result ≡ option_and_then (change_to number before) after }
 {
@@ -101,7 +102,7 @@ fn change_between(number: u32, before: Option<Row>, after: Option<Row>) -> Optio
     Some(Change { plan: number, row })
 }
 
-/// Whether the plan of this number was last told this. None is told nothing.
+/// Whether `told` is the slot last issued to plan `number`.
 fn is_told<A: Allocator + Copy>(traffic: &Traffic<A>, number: u32, told: &Option<Told>) -> bool
     requires { 0 < number }
     ensures value { result ≡ same_told told.now (told_of traffic.now.traffic.told number) }
@@ -113,7 +114,7 @@ fn is_told<A: Allocator + Copy>(traffic: &Traffic<A>, number: u32, told: &Option
     }
 }
 
-/// The change of the plan of this number, which was told this before the last reading.
+/// The change of plan `number`, whose issued slot was `told` before the last filing was read.
 fn change_at<A: Allocator + Copy>(
     traffic: &Traffic<A>,
     number: u32,
@@ -126,7 +127,8 @@ fn change_at<A: Allocator + Copy>(
     ensures { IfSome traffic.now.before (λ before.
         result ≡ change_at (rows_in before) (rows_in traffic.now.traffic) number) }
 {
-    // Most plans that became due stand where they did and are told what they were: their rows aren't built.
+    // Most plans that became due have the state and the slot that they had: their rows aren't
+    // built.
     if !traffic.may_have_moved_plans() && is_told(traffic, number, told) {
         return None;
     }
@@ -134,7 +136,7 @@ fn change_at<A: Allocator + Copy>(
     change_between(number, before, row_at(traffic, number))
 }
 
-/// Notes the changes of the last reading, by plan number. It takes no memory.
+/// Collects the changes of the last filing, by plan number. Doesn't allocate.
 pub(crate) fn note_changes<A: Allocator + Copy>(traffic: &Traffic<A>, changes: &mut Vec<Change, A>)
     requires change { IsSome traffic.now.before }
     requires room { length (rows_in traffic.now.traffic) ≤ vec_capacity changes.old }

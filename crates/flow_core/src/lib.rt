@@ -1,27 +1,32 @@
-//! A desk on one thread: a journal of filings, and what follows from it.
+//! A desk on one thread: a journal of filings, and the state that follows from it.
 //!
-//! A core is seen as its setup and the filings that it took in. All else (`state_of`) is the run of these: one step
-//! after the other, each of which reads a text, answers it, and puts an entry behind the journal. What the code keeps
-//! beside the journal is that state, ready to be looked at; `IsRunWith` says that it is the run.
+//! Contracts see a core as its setup and its filings. All else (`state_of`) is the run of these,
+//! step by step: each step reads a text, answers it, and appends an entry to the journal. What the
+//! code stores beside the journal is that state, ready to be read; `IsRunWith` says that it is the
+//! run.
 //!
-//! - *A step* (`Core::step`) either gives a receipt, or leaves the core as it was: at a full journal, and where memory
-//!   is refused. The last step can be taken back, without memory.
-//! - *The ledger* (`Ledger::file`) is where all filings are entered: those of a served input, of a journal that is read
-//!   or replayed, and of `step`. The changed rows are noted once, when a call of the core is done.
-//! - *The journal* keeps texts and receipts, one text behind the other in one row of bytes. What a text says isn't
-//!   kept: reading it again tells it, and the last filing alone is kept as it was read.
-//! - *Changes* (`Core::changes`) are the rows of plans that the last step made differ. A board that shows the rows
-//!   before and takes these in shows the rows after: so readers of a shared desk are told little.
-//! - *Serving* (`serve`) cuts an input into frames, files each and writes its answer, and hands answers on before it
-//!   may have to wait. Its contract speaks of bytes alone: what was written is the output of what was read.
-//! - *The journal as a text* (`Core::write_journal`, `read_journal`) names one history. A core that is read from it
-//!   has come to the same as the one that wrote it, and goes on from there.
-//! - *The text of a store* (`read_stored`) is a journal text that can be appended to: a gate stands in the place of its
-//!   last line, and what stands after that counts for nothing.
+//! - *A step* (`Core::step`) returns a receipt, or leaves the core unchanged: at a full journal,
+//!   and if an allocation fails. The last step can be undone without allocating.
+//! - *The ledger* (`Ledger::file`) is where all filings are entered: those that are served, read
+//!   from a journal, replayed, or given to `step`. Each public call collects the changed rows once,
+//!   before it returns.
+//! - *The journal* stores texts and receipts, the texts one after the other in one buffer. What a
+//!   text says isn't stored: reading it again returns that; only of the last filing the reading is
+//!   kept.
+//! - *Changes* (`Core::changes`) are the plan rows that differ after the last step. A board of the
+//!   rows before shows the rows after once they are applied, so readers of a shared desk copy
+//!   little.
+//! - *Serving* (`serve`) splits an input into frames, files each, and writes its answer. It flushes
+//!   the answers before a read that may wait. Its contract speaks of bytes only: what was written
+//!   is the output for what was read.
+//! - *The journal as a text* (`Core::write_journal`, `read_journal`) has one history. A core that
+//!   reads it has the same state as the one that wrote it, and resumes there.
+//! - *A store* (`read_stored`) is a journal text that can be appended to: a gate is in place of the
+//!   last line, and bytes after a closed gate don't count.
 //!
-//! `desk` has the calls and the ledger, `entry` and `entry_list` the journal, `journal_item` and `journal_reading` read its text,
-//! `answer` and `line` have the texts of answers, `change` and `row` what readers see, `laws` and `journal_laws` what follows from
-//! the definitions.
+//! `desk` has the public calls and the ledger; `entry` and `entry_list` the journal; `journal_item`
+//! and `journal_reading` parse its text; `answer` and `line` build the text of answers; `change`
+//! and `row` are what readers see; `laws` and `journal_laws` follow from the definitions.
 #![tactic(auto)]
 
 mod answer;

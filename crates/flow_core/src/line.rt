@@ -1,14 +1,14 @@
-//! Lines, which are built before they are written.
+//! A buffer for a line before it is written.
 ghost use Rattle.std.specs.Prelude.{◌≡◌, ◌≤◌, ◌<◌, ◌+◌, ◌/◌, ◌%◌, ◌++◌, ◌∷◌, [], length, decimal};
 ghost use Rattle.arrayvec.specs.ArrayVec.{array_vec_len};
 
 use arrayvec::ArrayVec;
 use itoa::Buffer;
 
-/// One line.
+/// A line of at most 192 bytes.
 pub(crate) type Line = ArrayVec<u8, 192>;
 
-/// Appends a text to a line that has room for it.
+/// Appends a text to a line that has the capacity.
 pub(crate) fn put(line: &mut Line, text: &[u8])
     requires { array_vec_len line.old + length text.now ≤ 192 }
     ensures items { line.new.items ≡ line.old.items ++ text.now }
@@ -17,11 +17,12 @@ pub(crate) fn put(line: &mut Line, text: &[u8])
     let _all = line.try_extend_from_slice(text);
 }
 
-/// Appends the two digits of a number below 100.
+/// Appends two digits of a number below 100.
 fn put_pair(line: &mut Line, number: u32)
     requires below { number < 100 }
     requires room { array_vec_len line.old + 2 ≤ 192 }
-    ensures items { line.new.items ≡ line.old.items ++ (48 + number / 10) ∷ (48 + number % 10) ∷ [] }
+    ensures items { line.new.items ≡ line.old.items ++ (48 + number / 10)
+        ∷ (48 + number % 10) ∷ [] }
     ensures len { array_vec_len line.new ≡ array_vec_len line.old + 2 }
 {
     line.push(b'0' + (number / 10) as u8);
@@ -73,7 +74,8 @@ fn put_below_1_000_000(line: &mut Line, number: u32)
     put_pair(line, number % 100);
 }
 
-/// Appends a number in decimal digits. Those of a number below a million are put where they belong.
+/// Appends a number in decimal digits; of a number below a million they are written at their index,
+/// two at a time.
 pub(crate) fn put_number(line: &mut Line, number: u64)
     requires { array_vec_len line.old + 20 ≤ 192 }
     ensures items { line.new.items ≡ line.old.items ++ decimal number }

@@ -1,4 +1,4 @@
-//! What a reader of the desk sees of a plan.
+//! What readers of a desk see of a plan.
 ghost use Rattle.std.specs.Prelude.{◌≡◌, ◌<◌, ◌-◌, slice_get};
 ghost use Rattle.flow_core.specs.State.{row_of, rows_of};
 
@@ -8,7 +8,7 @@ use flow_traffic::Traffic;
 use fpl_text::Minute;
 use std::alloc::Allocator;
 
-/// A plan's state, its off-block moment, and what it was last told.
+/// A plan's state, its off-block date and time, and the CTOT last issued.
 #[derive(Clone, Copy, Debug, PartialEq, Eq)]
 pub struct Row {
     pub state: PlanState,
@@ -16,7 +16,6 @@ pub struct Row {
     pub told: Option<Told>,
 }
 
-/// The row of a plan that was last told this.
 fn row_of<A: Allocator + Copy>(plan: &Plan<A>, told: &Option<Told>) -> Row
     ensures { result ≡ row_of plan.now told.now }
 {
@@ -27,10 +26,11 @@ fn row_of<A: Allocator + Copy>(plan: &Plan<A>, told: &Option<Told>) -> Row
     }
 }
 
-/// The row of the plan of this number.
+/// The row of plan `number`; `None` if there is no such plan.
 pub(crate) fn row_at<A: Allocator + Copy>(traffic: &Traffic<A>, number: u32) -> Option<Row>
     requires { 0 < number }
-    ensures { result ≡ slice_get (rows_of traffic.now.traffic.plans traffic.now.traffic.told) (number - 1) }
+    ensures { result ≡ slice_get (rows_of traffic.now.traffic.plans traffic.now.traffic.told)
+        (number - 1) }
 {
     let Some(plan) = traffic.plan(number) else {
         return None;

@@ -1,5 +1,5 @@
 //! Collects the answers to entries, in their order.
-ghost use Rattle.std.specs.Prelude.{◌≡◌, ◌≤◌, ◌++◌, ◌-◌, IfOk, take, drop, length};
+ghost use Rattle.std.specs.Prelude.{◌≡◌, ◌<◌, ◌≤◌, ◌++◌, ◌-◌, IfOk, OnErr, take, drop, length};
 ghost use Rattle.flow_input.specs.Writes.{Writes};
 ghost use Rattle.flow_core.specs.History.{state_of};
 ghost use Rattle.flow_desk.specs.Followers.{answers_with};
@@ -9,7 +9,8 @@ use flow_input::{Counted, WriteFault, write_bytes};
 use std::alloc::{AllocError, Allocator};
 use std::io::Write;
 
-/// Writes the answers to the entries from one index up to another, each followed by these bytes.
+/// Writes the answers to the entries from one index up to another, each followed by these bytes. It
+/// doesn't fail where there are none.
 fn write_answers<W: Write, A: Allocator + Copy>(
     core: &Core<A>,
     from: u32,
@@ -18,8 +19,10 @@ fn write_answers<W: Write, A: Allocator + Copy>(
     writer: &mut Counted<W>,
 ) -> Result<(), WriteFault>
     requires { to ≤ length (state_of core.now).journal }
-    ensures { Writes W.contents result writer.old writer.new (answers_with end.now (state_of core.now)
+    ensures written { Writes W.contents result writer.old writer.new
+        (answers_with end.now (state_of core.now)
         (take (to - from) (drop from (state_of core.now).journal))) }
+    ensures some { OnErr result (from < to) }
 {
     for index in 0..to.saturating_sub(from) {
         core.write_answer(from + index + 1, writer)?;
@@ -28,7 +31,8 @@ fn write_answers<W: Write, A: Allocator + Copy>(
     Ok(())
 }
 
-/// Appends the answers to the entries from one index up to another, each followed by these bytes, and returns the vector.
+/// Appends the answers to the entries from one index up to another, each followed by these bytes,
+/// and returns the vector. It doesn't fail where there are none.
 pub(crate) fn append_answers<A: Allocator + Copy>(
     core: &Core<A>,
     from: u32,
@@ -37,8 +41,10 @@ pub(crate) fn append_answers<A: Allocator + Copy>(
     answers: Vec<u8, A>,
 ) -> Result<Vec<u8, A>, AllocError>
     requires { to ≤ length (state_of core.now).journal }
-    ensures { IfOk result (λ v. v.items ≡ answers.items ++ answers_with end.now (state_of core.now)
+    ensures answers { IfOk result (λ v. v.items ≡ answers.items
+        ++ answers_with end.now (state_of core.now)
         (take (to - from) (drop from (state_of core.now).journal))) }
+    ensures some { OnErr result (from < to) }
 {
     let mut writer = Counted::new(answers);
     match write_answers(core, from, to, end, &mut writer) {

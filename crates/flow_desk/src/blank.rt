@@ -119,8 +119,8 @@ fn feeder_at<A: Allocator + Copy>(core: &Core<A>, index: u32) -> u8
     }
 }
 
-/// The number of the first entry whose feeder isn't below this.
-fn beyond<A: Allocator + Copy>(core: &Core<A>, feeders: usize) -> Option<u32>
+/// The number of the first entry whose feeder isn't below this; None if all are below.
+pub fn first_feeder_beyond<A: Allocator + Copy>(core: &Core<A>, feeders: usize) -> Option<u32>
     ensures { result ≡ first_beyond feeders 1 (state_of core.now).journal }
 {
     for index in 0..core.entries() {
@@ -236,7 +236,7 @@ impl<R: Wait + Drop, A: Allocator + Copy> Blank<R, A> {
         if !is_desk_size(feeders) {
             return Err((DeskFault::Feeders, core));
         }
-        match beyond(&core, feeders) {
+        match first_feeder_beyond(&core, feeders) {
             Some(number) => Err((DeskFault::FeederBeyond(number), core)),
             None => made_of(rt, alloc, core, feeders),
         }

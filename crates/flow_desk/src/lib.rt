@@ -9,8 +9,9 @@
 //!   until then, and its `step` the step of the one-thread desk. The histories of all passes are beginnings of one, the
 //!   journal of the core that `Desk::close` gives (`passes`).
 //!   `Desk::file_all` takes in several at once: each is a `Filed`, and nobody else's entry comes between (`filed`).
-//!   `Desk::answer_all` does the same and returns their answers (`answers`). A `Follower` files nothing: `Desk::follow`
-//!   gives it the answers to all entries in their order (`answers`), which are those of the journal (`followed`).
+//!   `Desk::answer_all` does the same and appends their answers (`answers`). A `Follower` files
+//!   nothing: `Desk::follow` gives it the answers to all entries in their order (`answers`), which
+//!   are those of the journal (`followed` of `Desk::close_followed`).
 //! - *that begins with all its caller had seen*: `later` of that `Filed`. What a pass has seen is carried from call to
 //!   call, and `Desk::look` and `Desk::slots` add to it (`seen`).
 //! - *it appends one journal entry and answers that entry's outcome*: `step` and `seen` of that `Filed`; after a
@@ -41,7 +42,7 @@ mod rule;
 mod seat;
 mod slots;
 
-pub use blank::{Blank, DeskFault};
+pub use blank::{Blank, DeskFault, first_feeder_beyond};
 pub use desk::{CloseFault, Desk};
 pub use feeders::{Done, End, Gate, run_feeders};
 pub use flow_core::MAX_FEEDERS;

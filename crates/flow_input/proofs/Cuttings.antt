@@ -1,4 +1,4 @@
--- Frames that are cut from an input, one after the other.
+-- Frames that are taken from an input, one after the other.
 use Rattle.std.proofs.Common.{◌≡◌, ◌≤◌, ℕ, length, Bool, true, false, List, [], ◌∷◌, ◌++◌, refl, sym, ap, ◌∙◌, subst, arith, Option, Some, append_assoc, append-nil, IfSome, length-append}
 use Rattle.std.proofs.KnownBytes.{Consumes-nil, Consumes-trans, Consumes-whole}
 use Rattle.fpl_message.specs.Filings.{FilingText}
@@ -39,7 +39,7 @@ module _ (done : List (List ℕ)) (old : Ahead) (input mid : Option (List ℕ)) 
   Overrun-came rest m =
       record { read = s.read ++ m.0; consumed = Consumes-trans input mid rest s.read m.0 s.consumed m.1; long = omega (arith, m.2, s.count, length-append s.read m.0) }
 
-  -- at the end all frames were cut
+  -- at the end all frames were taken
   all-cut : (new : Ahead) (rest : Option (List ℕ)) (f : GaveNone old new mid rest) (ended : Bool) → old.ended ≡ ended → frames (s.read ++ f.came) ≡ done
   all-cut new rest f true e =
       let none : f.came ≡ [] = f.quiet e in

@@ -1,4 +1,4 @@
--- What is found by looks at sixteen bytes, and by one at each of the rest, is the first position that passes a test.
+-- What is found by comparing sixteen bytes at once, and the rest one by one, is the first index that passes a test.
 use Rattle.std.proofs.Common.{◌≡◌, ◌+◌, ◌-◌, ◌<◌, ◌≤◌, ◌%◌, ◌^◌, ℕ, Bool, true, false, cond, leb, eqb, ltb, ◌||◌, bit_or, List, [], ◌∷◌, map, replicate, length, take, drop, get_or, Some, None, refl, sym, subst, ap, ◌∙◌, arith, w64, ⊎_elim}
 use Rattle.std.specs.Int.{bit_at, trailing_zeros}
 use Rattle.std.specs.List.{position, position_or_len, slice_range}
@@ -12,7 +12,7 @@ use Rattle.std.proofs.lemmas.Option.{none-some}
 use Rattle.std.proofs.lemmas.Simd.{length-chunk, mask_l-mod, mask_l-lt, bit_mask_l, trailing_mask_l, run_in_chunk_le, run_in_chunk_fails, run_in_chunk_stops, none_from_empty_mask}
 use Rattle.memchr.specs.Find.{is_byte2}
 
--- no byte before place n passes the test
+-- no byte before index n passes the test
 abbrev pub NoneBefore : (ℕ → Bool) → List ℕ → ℕ → Type 0
 NoneBefore test bytes n = (k : ℕ) → k < n → test (get_or bytes k 0) ≡ false
 
@@ -47,7 +47,7 @@ either_bitmask a b xs long =
     long (either_tops a b xs) in
     ap (λ ms. mask_l ms % 2 ^ 64) tops ∙ mask_l-mod (map (is_byte2 a b) xs) 64 (omega (arith, length-map xs (is_byte2 a b), long))
 
--- a look at sixteen bytes that finds one
+-- a vector of sixteen bytes that has one
 pub found-position : (test : ℕ → Bool) (bytes : List ℕ) (at m : ℕ) → at + 16 ≤ length bytes → NoneBefore test bytes at → m ≡ mask_l (map test (chunk at 16 bytes)) → 0 < m
     → Some (at + trailing_zeros w64 m) ≡ position test bytes
 found-position test bytes at m room none is some =
@@ -76,7 +76,7 @@ none-farther test bytes at m room none is zero k l =
 later : (test : ℕ → Bool) (bytes : List ℕ) (at j : ℕ) → at ≤ j → test (get_or (drop at bytes) (j - at) 0) ≡ false → test (get_or bytes j 0) ≡ false
 later test bytes at j h fails = let same : at + (j - at) ≡ j = omega (arith, h) in rw (get_or-drop at bytes (j - at) 0, same) at fails
 
--- the rest, behind bytes that do not pass
+-- the rest, after bytes that do not pass
 pub rest-position : (test : ℕ → Bool) (bytes : List ℕ) (at k : ℕ) → NoneBefore test bytes at → position test (slice_range bytes at (length bytes)) ≡ Some k
     → Some (at + k) ≡ position test bytes
 rest-position test bytes at k none found =

@@ -59,7 +59,7 @@ order-ended first behind at other found =
           ∙ ap (λ (bs : List ℕ). Some (record { frame = first ∷ take at behind; rest = bs; ended = true })) (sym (drop-at behind at within)));
     }
 
--- the same of bytes as they are looked at, behind the first
+-- the same of bytes as they are read, after the first
 pub order-in : (bytes : List ℕ) (at : ℕ) → (get_or bytes 0 0 ≡ 40 → ⊥) → position ends_order (take (length bytes - 1) (drop 1 bytes)) ≡ Some at → EndsAt bytes (at + 1)
 order-in [] at other found = absurd (cc)
 order-in (b ∷ bs) at other found = order-ended b bs at other (rw (take_rest (b ∷ bs) 1) at found)

@@ -119,7 +119,7 @@ ended-none (b ∷ bs) h = by (first_cut (b ∷ bs)) h
     by None h = refl
     by (Some c) h = ap (λ (w : Bool). cond w (c.frame ∷ ended_in (length bs) c.rest) []) h
 
--- ---- a frame that had ended stays as it is, however the input goes on
+-- ---- a frame that had ended stays as it is, however the input continues
 
 until-more : (stops : ℕ → Bool) (b : ℕ) (bs rest more : List ℕ) → since stops bs ≡ b ∷ rest → until stops (bs ++ more) ≡ until stops bs
 until-more stops b [] rest more e = absurd (cc)
@@ -137,7 +137,7 @@ since-more stops b (x ∷ xs) rest more e = by (stops x) e (since-more stops b x
     by true e h = ap (λ (ys : List ℕ). ys ++ more) e
     by false e h = h e
 
--- a frame with more bytes behind it
+-- a frame with more bytes after it
 abbrev pub extended : Cut → List ℕ → Cut
 extended c more = record { frame = c.frame; rest = c.rest ++ more; ended = true }
 

@@ -13,7 +13,7 @@ use Rattle.flow_input.specs.Source.{IsFirst, CutsFirst, SameTotal}
 use Rattle.flow_input.specs.InTurn.{filings_of, IsNext, GivesNext, AnswerInTurn, EndsWithin}
 use Rattle.flow_input.proofs.FrameLists.{frames-some, frames-none}
 
--- an input has no frames where none can be cut off
+-- an input has no frames if none can be taken
 pub frames-no : (bytes : List ℕ) → (first_cut bytes ≡ None) ↔ (frames bytes ≡ [])
 frames-no bytes = (frames-none bytes, (λ e. cases (first_cut bytes) refl e)) where
   cases : (o : Option Cut) → first_cut bytes ≡ o → frames bytes ≡ [] → first_cut bytes ≡ None
@@ -55,7 +55,7 @@ pub EndsWithin-ok : (A : Type 0) (result : Result (Option (Frame A)) IntakeFault
 EndsWithin-ok A (Err e) n m before after c t h = tt
 EndsWithin-ok A (Ok frame) n m before after c t h = EndsWithin-total frame n m before after c t h
 
--- as many bytes in all
+-- the same number of bytes
 SameTotal-given : (A : Type 0) (frame : Option (Frame A)) (old new : Ahead) (before after : Option (List ℕ)) → Gives frame old new before after → SameTotal old.taken (prepend_known old.unread before) new.taken (prepend_known new.unread after)
 SameTotal-given A frame old new None after f = tt
 SameTotal-given A None old new (Some xs) None f = absurd f.consumed

@@ -256,7 +256,7 @@ order-length : (frame u : List ℕ) → length frame ≤ length (order_cut frame
 order-length frame [] = omega arith
 order-length frame (b ∷ rest) = omega arith
 
--- a frame that goes on has the bytes that were there
+-- a frame that continues has the bytes that were there
 longer : (bs more : List ℕ) (c : Cut) → IfSome (cut bs) (λ d. d.ended ≡ false) → cut (bs ++ more) ≡ Some c → (bs ≡ [] → ⊥) → length bs ≤ length c.frame
 longer [] more c goes e some = absurd (some refl)
 longer (b ∷ bs) more c goes e some =

@@ -1,4 +1,4 @@
--- Bytes taken from the front of a range.
+-- Bytes taken from the beginning of a range.
 use Rattle.std.proofs.Common.{◌≡◌, ℕ, ◌+◌, ◌-◌, ◌≤◌, Bool, true, false, cond, ltb, List, ◌++◌, length, refl, sym, ap, ◌∙◌, arith, take, drop, slice_range, Option, None, Some, Result, Ok, Err, IfOk}
 use Rattle.std.specs.List.{copy_within}
 use Rattle.std.specs.Io.{ReadsAtMost}
@@ -39,7 +39,7 @@ pub kept-range : (long : Bool) (n : ℕ) (range bs : List ℕ) → ltb 2000 n �
 kept-range true n range bs test len is = rw (lt-leb (length bs) 2000 (omega (arith, ltb-true 2000 n test, len))) refl
 kept-range false n range bs test len is = rw (le-leb (length bs) 2000 (omega (arith, ltb-false 2000 n test, len))) (ap (λ (r : List ℕ). Some r) is)
 
--- bytes that were read after those at the front
+-- bytes that were read after those at the beginning
 pub filled-front : (front piece : List ℕ) (kept n : ℕ) → kept ≤ length front → n ≤ length piece → take (kept + n) (paste front kept piece (length piece)) ≡ take kept front ++ take n piece
 filled-front front piece kept n h k =
     let len : length (take kept front) ≡ kept = omega (arith, length-take kept front, h) in
@@ -49,7 +49,7 @@ filled-front front piece kept n h k =
     ∙ take-append-add (take kept front) (take (length piece) piece) n
     ∙ ap (λ (ys : List ℕ). take kept front ++ ys) (take-take n (length piece) piece k)
 
--- what a buffer holds once some of its bytes moved to the front, and others were read after them
+-- what a buffer holds once some of its bytes moved to the beginning, and others were read after them
 module _ (buffer front piece : List ℕ) (at end : ℕ) (moved : front ≡ copy_within buffer at end 0) (order : at ≤ end) (within : end ≤ length buffer) (room : end - at + 65536 ≤ length front) where
   moved-front : take (end - at) front ≡ slice_range buffer at end
   moved-front =

@@ -1,4 +1,4 @@
--- The known bytes that frames are cut from.
+-- The known bytes that frames are taken from.
 use Rattle.std.proofs.Common.{◌≡◌, ℕ, Bool, true, false, List, [], ◌++◌, refl, sym, ap, ◌∙◌, Option, Some, None, Result, Ok, Err, IfOk, OnOk, append_assoc, append-nil}
 use Rattle.std.specs.Io.KnownBytes.{prepend_known}
 use Rattle.flow_input.specs.declared.intake.Frame.{Frame}

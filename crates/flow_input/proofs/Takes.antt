@@ -38,7 +38,7 @@ Took-still stops old mid new before during after t f same taken =
       count = taken ∙ t.count;
     }
 
--- so many bytes came meanwhile
+-- bytes were read meanwhile
 pub Took-much : (stops : ℕ → Bool) (old mid : Ahead) (before during after : Option (List ℕ))
     → Took stops old mid before during → CameTooMuch mid during after → CameTooMuch old before after
 Took-much stops old mid before during after t m =
@@ -58,7 +58,7 @@ Agrees-taken stops old new remaining agrees r same e =
     second [] ys h = h
     second (x ∷ xs) ys h = absurd (cc)
 
--- a run of so many bytes was taken
+-- a run of this length was taken
 pub TookRun-of : (stops : ℕ → Bool) (old new : Ahead) (count : ℕ)
     → NoneStops stops (take count old.unread) → new.unread ≡ drop count old.unread → new.taken ≡ old.taken + count → count ≤ length old.unread → TookRun stops old new
 TookRun-of stops old new count none rest taken within =

@@ -95,7 +95,7 @@ ended-in-front (suc n) bs more h = by (first_cut bs) refl (λ c e. ended-in-fron
     by None e rest = refl
     by (Some c) e rest = one c e c.ended refl (rest c e)
 
--- the frames that had ended are the first, however the input goes on
+-- the frames that had ended are the first, however the input continues
 pub ended-front : (bs more : List ℕ) → take (length (ended_frames bs)) (frames (bs ++ more)) ≡ ended_frames bs
 unfolding ended_frames
 ended-front bs more = ended-in-front (length bs) bs more (omega arith)

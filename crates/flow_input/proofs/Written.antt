@@ -42,7 +42,7 @@ AppendsFront-stop (Some o) None new bytes i a k = absurd a
 AppendsFront-stop (Some o) (Some m) None bytes i a k = absurd k
 AppendsFront-stop (Some o) (Some m) (Some n) bytes i a k = (take i bytes, drop i bytes, sym (take-append-drop i bytes), k ∙ a)
 
--- a front of some bytes is a front of more
+-- a prefix of some bytes is a prefix of more
 pub AppendsFront-more : (old new : Option (List ℕ)) (bytes more all : List ℕ) → AppendsFront old new bytes → bytes ++ more ≡ all → AppendsFront old new all
 AppendsFront-more None new bytes more all a e = tt
 AppendsFront-more (Some o) None bytes more all a e = absurd a
@@ -95,7 +95,7 @@ Writes-stopped {contents = contents} {old = old} {new = new} {xs = xs} (Err g) m
 pub Writes-same : {D T E : Type 0} {contents : D → Option (List ℕ)} {result : Result T E} {old new : Counted D} {xs ys : List ℕ} → Writes contents result old new xs → xs ≡ ys → Writes contents result old new ys
 Writes-same {contents = contents} {result = result} {old = old} {new = new} a e = subst (λ (q : List ℕ). Writes contents result old new q) e a
 
--- a text was written whole, as another call answers it
+-- a text was written whole, as another call returns it
 pub Writes-done : {D T E U F : Type 0} {contents : D → Option (List ℕ)} {x : T} {old new : Counted D} {xs ys : List ℕ} (y : U) → Writes {E = E} contents (Ok x) old new xs → xs ≡ ys → Writes {E = F} contents (Ok y) old new ys
 Writes-done {contents = contents} {old = old} {new = new} y a e = record {
   ok = subst (λ (q : List ℕ). Appends (contents old.device) (contents new.device) q) e a.ok;

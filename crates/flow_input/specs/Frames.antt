@@ -1,8 +1,10 @@
--- How an input is cut into frames.
+-- How an input is split into frames.
 --
--- Blanks before a frame are skipped. A frame that begins with an opening bracket ends with the first closing bracket, which belongs to it, or before the
--- next opening bracket, or at the end of the input. Any other frame ends before the first line feed or opening bracket, or at the end of the input.
--- In codes: 40 and 41 are the brackets, 32, 13 and 10 the blanks space, carriage return and line feed.
+-- Blanks before a frame are skipped. A frame that begins with an opening bracket ends with the
+-- first closing bracket, which belongs to it, or before the next opening bracket, or at the end of
+-- the input. Any other frame ends before the first line feed or opening bracket, or at the end of
+-- the input. In codes: 40 and 41 are the brackets, 32, 13 and 10 the blanks space, carriage return
+-- and line feed.
 use Rattle.std.specs.Prelude.{ℕ, zero, suc, Bool, true, false, not, ◌||◌, List, [], ◌∷◌, ◌++◌, length, nat_le, ◌==◌, if◌then◌else◌, Option, Some, None}
 use Rattle.std.specs.Option.{option_map_or}
 use Rattle.fpl_message.specs.declared.filed_text.TheConstants.{MAX_BYTES}
@@ -52,7 +54,7 @@ cut (b ∷ bs) = Some (if b == 40 then closed (until is_bracket bs) (since is_br
 unfoldable pub first_cut : List ℕ → Option Cut
 first_cut bytes = cut (since is_text bytes)
 
--- the frames, at most so many: each takes a byte at least
+-- the first frames, each of which takes a byte at least
 unfoldable pub frames_in : ℕ → List ℕ → List (List ℕ)
 frames_in zero bytes = []
 frames_in (suc n) bytes = option_map_or (λ c. c.frame ∷ frames_in n c.rest) (first_cut bytes) []
@@ -61,7 +63,7 @@ frames_in (suc n) bytes = option_map_or (λ c. c.frame ∷ frames_in n c.rest) (
 unfoldable pub frames : List ℕ → List (List ℕ)
 frames bytes = frames_in (length bytes) bytes
 
--- the frames whose end the bytes show, however the input goes on
+-- the frames whose end the bytes show, however the input continues
 unfoldable pub ended_in : ℕ → List ℕ → List (List ℕ)
 ended_in zero bytes = []
 ended_in (suc n) bytes = option_map_or (λ c. if c.ended then c.frame ∷ ended_in n c.rest else []) (first_cut bytes) []
@@ -69,6 +71,6 @@ ended_in (suc n) bytes = option_map_or (λ c. if c.ended then c.frame ∷ ended_
 unfoldable pub ended_frames : List ℕ → List (List ℕ)
 ended_frames bytes = ended_in (length bytes) bytes
 
--- what is kept of a frame: nothing, where it is too long
+-- the bytes that are shown of a frame: none if it is too long
 abbrev pub kept_of : List ℕ → Option (List ℕ)
 kept_of bytes = if nat_le (length bytes) MAX_BYTES then Some bytes else None

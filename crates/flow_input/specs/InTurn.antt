@@ -1,4 +1,4 @@
--- The frames of an input, as calls for them answer one after the other.
+-- The frames of an input, as successive calls return them.
 use Rattle.std.specs.Prelude.{◌≡◌, ◌+◌, ◌≤◌, ℕ, length, map, List, [], ◌∷◌, Option, Some, None, IfSome}
 use Rattle.fpl_message.specs.Filings.{FilingText}
 use Rattle.flow_input.specs.declared.intake.Frame.{Frame}
@@ -10,24 +10,26 @@ use Rattle.flow_input.specs.declared.input.TheConstants.{MAX_INPUT}
 abbrev pub filings_of : List ℕ → List (Option FilingText)
 filings_of bytes = map filing_of (frames bytes)
 
--- the answer is the first filing of the bytes, and what is left has the others; or they have none, and nothing is left
+-- the result is the first filing of the bytes, and what is left has the others; or they have none,
+-- and nothing is left
 abbrev pub IsNext : {A : Type 0} → Option (Frame A) → List ℕ → List ℕ → Type 0
 IsNext None old new = (filings_of old ≡ []) × (new ≡ [])
 IsNext (Some frame) old new = filings_of old ≡ filing_in frame ∷ filings_of new
 
--- the same where the bytes are known
+-- the same if the bytes are known
 abbrev pub GivesNext : {A : Type 0} → Option (Frame A) → Option (List ℕ) → Option (List ℕ) → Type 0
 GivesNext frame None new = Unit {0}
 GivesNext frame (Some old) None = ⊥
 GivesNext frame (Some old) (Some new) = IsNext frame old new
 
--- calls one after the other, each of which cut the first frame off what the one before left, answered these filings
+-- successive calls, each of which took the first frame of what the one before left, returned these
+-- filings
 abbrev pub AnswerInTurn : List (Option FilingText) → List ℕ → List ℕ → Type 0
 AnswerInTurn [] old new = new ≡ old
 AnswerInTurn (filing ∷ filings) old new =
     (c : Cut) × (first_cut old ≡ Some c) × (filing ≡ filing_of c.frame) × AnswerInTurn filings c.rest new
 
--- where no frame is left, the whole input, so many bytes taken and these, isn't longer than it may be
+-- if no frame is left, the whole input, the bytes taken and these, isn't longer than it may be
 abbrev pub EndsWithin : {A : Type 0} → Option (Frame A) → ℕ → Option (List ℕ) → Type 0
 EndsWithin (Some frame) taken left = Unit {0}
 EndsWithin None taken left = IfSome left (λ bytes. taken + length bytes ≤ MAX_INPUT)

@@ -13,7 +13,7 @@ use Rattle.fpl_message.specs.declared.filed_text.TheConstants.{MAX_BYTES}
 abbrev pub second : List ℕ → FilingText
 second frame = record { edition = edition.Second; bytes = frame }
 
--- the filing of a frame: none, where it is too long
+-- the filing of a frame: none if it is too long
 abbrev pub filing_of : List ℕ → Option FilingText
 filing_of frame = if nat_le (length frame) MAX_BYTES then Some (second frame) else None
 
@@ -22,16 +22,17 @@ abbrev pub filing_in : {A : Type 0} → Frame A → Option FilingText
 filing_in (Whole filing) = Some filing
 filing_in TooLong = None
 
--- the filing of what was kept of a frame
+-- the filing of the bytes that are shown of a frame
 abbrev pub filing_kept : Option (List ℕ) → Option FilingText
 filing_kept None = None
 filing_kept (Some frame) = Some (second frame)
 
--- whatever frame was kept so, this is its filing
+-- whatever frame has these bytes shown, this is its filing
 abbrev pub IsFiled : Option (List ℕ) → Option FilingText → Type 0
 IsFiled kept filing = (frame : List ℕ) → kept ≡ kept_of frame → filing ≡ filing_of frame
 
--- the first frame of the unread bytes and those that came: either its end was seen, or the reader has ended
+-- the first frame of the unread bytes and those that were read: either its end was seen, or the
+-- reader has ended
 pub record GaveFirst (filing : Option FilingText) (old new : Ahead) (before after : Option (List ℕ)) : Type 0 where
   pub came : List ℕ
   pub consumed : Consumes before after came
@@ -52,20 +53,20 @@ pub record GaveNone (old new : Ahead) (before after : Option (List ℕ)) : Type 
   pub count : new.taken + length new.unread ≡ old.taken + length old.unread + length came
   pub quiet : old.ended ≡ true → came ≡ []
 
--- whether a frame was cut off, what was kept of it, and what is left
+-- whether a frame was taken, the bytes that are shown of it, and what is left
 abbrev pub Cuts : Bool → Option (List ℕ) → Ahead → Ahead → Option (List ℕ) → Option (List ℕ) → Type 0
 Cuts false kept old new before after = GaveNone old new before after
 Cuts true kept old new before after = GaveFirst (filing_kept kept) old new before after
 
--- what a call for a frame answers, and leaves
+-- what a call for a frame returns, and leaves
 abbrev pub Gives : {A : Type 0} → Option (Frame A) → Ahead → Ahead → Option (List ℕ) → Option (List ℕ) → Type 0
 Gives None old new before after = GaveNone old new before after
 Gives (Some frame) old new before after = GaveFirst (filing_in frame) old new before after
 
--- a frame was cut off that isn't too long, but its filing isn't answered
+-- a frame that isn't too long was taken, but its filing isn't returned
 abbrev pub Misses : Ahead → Ahead → Option (List ℕ) → Option (List ℕ) → Type 0
 Misses old new before after = (filing : FilingText) × GaveFirst (Some filing) old new before after
 
--- where the reader failed, no frame had ended in the bytes that were there
+-- if the reader failed, no frame had ended in the bytes that were read
 abbrev pub Starves : Ahead → Option (List ℕ) → Option (List ℕ) → Type 0
 Starves old before after = (came : List ℕ) × Consumes before after came × (ended_frames (old.unread ++ came) ≡ [])

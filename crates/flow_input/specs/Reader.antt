@@ -1,18 +1,18 @@
--- What one call takes from a reader, whose bytes come in pieces.
+-- What one call takes from a reader, which gives its bytes in pieces.
 use Rattle.std.specs.Prelude.{◌≡◌, ℕ, ◌+◌, ◌<◌, Bool, true, false, List, [], ◌∷◌, ◌++◌, length, Option, Some, IsTrue, IfSome, ◌⊎◌}
 use Rattle.std.specs.Io.KnownBytes.{Consumes, IsAtEnd}
 use Rattle.flow_input.specs.Frames.{Cut, cut}
 use Rattle.flow_input.specs.declared.input.TheConstants.{MAX_INPUT}
 
--- the bytes read and not yet taken, how many were taken, whether the reader has ended, and the frame that was taken last:
--- none, if it is too long
+-- the bytes read and not yet taken, how many were taken, whether the reader has ended, and the
+-- current frame: none if it is too long
 pub record Ahead : Type 0 where
   pub unread : List ℕ
   pub taken : ℕ
   pub ended : Bool
   pub item : Option (List ℕ)
 
--- where the reader has ended, nothing is left
+-- if the reader has ended, nothing is left
 abbrev pub Agrees : Ahead → Option (List ℕ) → Type 0
 Agrees ahead remaining = IsTrue ahead.ended → (ahead.unread ≡ []) × IsAtEnd remaining
 
@@ -20,11 +20,11 @@ Agrees ahead remaining = IsTrue ahead.ended → (ahead.unread ≡ []) × IsAtEnd
 abbrev pub Came : Option (List ℕ) → Option (List ℕ) → Type 0
 Came before after = (came : List ℕ) × Consumes before after came
 
--- so many bytes came that the input is longer than it may be
+-- the bytes read make the input longer than it may be
 abbrev pub CameTooMuch : Ahead → Option (List ℕ) → Option (List ℕ) → Type 0
 CameTooMuch old before after = (came : List ℕ) × Consumes before after came × (MAX_INPUT < old.taken + length old.unread + length came)
 
--- the bytes that came stand behind those that were unread
+-- the bytes read follow those that were unread
 abbrev pub Filled : Ahead → Ahead → Option (List ℕ) → Option (List ℕ) → Type 0
 Filled old new before after = (came : List ℕ) × Consumes before after came × (new.unread ≡ old.unread ++ came)
 
@@ -38,14 +38,14 @@ abbrev pub BeginsWithStop : (ℕ → Bool) → List ℕ → Type 0
 BeginsWithStop stops [] = Unit {0}
 BeginsWithStop stops (b ∷ bs) = stops b ≡ true
 
--- a run of bytes that don't stop was taken from the front of the unread ones
+-- a run of bytes that don't stop was taken from the unread ones
 pub record TookRun (stops : ℕ → Bool) (old new : Ahead) : Type 0 where
   pub run : List ℕ
   pub whole : old.unread ≡ run ++ new.unread
   pub none : NoneStops stops run
   pub count : new.taken ≡ old.taken + length run
 
--- the same, where bytes came meanwhile
+-- the same if bytes were read meanwhile
 pub record Took (stops : ℕ → Bool) (old new : Ahead) (before after : Option (List ℕ)) : Type 0 where
   pub came : List ℕ
   pub consumed : Consumes before after came
@@ -54,12 +54,12 @@ pub record Took (stops : ℕ → Bool) (old new : Ahead) (before after : Option 
   pub none : NoneStops stops run
   pub count : new.taken ≡ old.taken + length run
 
--- the first byte is another
+-- the first byte is a different one
 abbrev pub BeginsWithOther : ℕ → List ℕ → Type 0
 BeginsWithOther b [] = Unit {0}
 BeginsWithOther b (x ∷ xs) = (x ≡ b) → ⊥
 
--- the byte was taken, where it came next
+-- the byte was taken if it came next
 abbrev pub TakesIf : ℕ → Ahead → Ahead → Type 0
 TakesIf b old new =
     ((old.unread ≡ b ∷ new.unread) × (new.taken ≡ old.taken + 1))
@@ -75,6 +75,6 @@ pub record Finished (first : ℕ) (old new : Ahead) (before after : Option (List
   pub seen : new.ended ≡ false → whole.ended ≡ true
   pub count : new.taken + length new.unread ≡ old.taken + length old.unread + length came
 
--- where the reader failed, the bytes showed no end of the frame
+-- if the reader failed, the bytes showed no end of the frame
 abbrev pub Unfinished : ℕ → Ahead → Option (List ℕ) → Option (List ℕ) → Type 0
 Unfinished first old before after = (came : List ℕ) × Consumes before after came × IfSome (cut (first ∷ (old.unread ++ came))) (λ c. c.ended ≡ false)

@@ -1,8 +1,10 @@
-//! A reader or a writer with the count of its calls that failed.
-ghost use Rattle.std.specs.Prelude.{◌≡◌, ◌+◌, ◌-◌, ◌^◌, ◌<◌, length, MatchResult, OnOk, OnSome, IfOk};
+//! A reader or a writer with the number of its calls that failed.
+ghost use Rattle.std.specs.Prelude.{◌≡◌, ◌+◌, ◌-◌, ◌^◌, ◌<◌, length};
+ghost use Rattle.std.specs.Prelude.{MatchResult, OnOk, OnSome, IfOk};
 ghost use Rattle.std.specs.Prelude.{IfSome, IfNone, OnErr, take, ◌≤◌, if◌then◌else◌, [], ◌∷◌};
 ghost use Rattle.std.specs.Io.{ReadsAtMost, WritesAtMost, StartsWith};
-ghost use Rattle.std.specs.Io.KnownBytes.{ReadConsumes, WriteAppends, Keeps, Appends, Consumes, IsAtEnd};
+ghost use Rattle.std.specs.Io.KnownBytes.{ReadConsumes, WriteAppends, Keeps};
+ghost use Rattle.std.specs.Io.KnownBytes.{Appends, Consumes, IsAtEnd};
 ghost use Rattle.std.specs.Io.BufRead.{Rests, FillKeeps, DropsConsumable};
 ghost use Rattle.flow_input.specs.contracts.counted.Counted.{the_row};
 ghost use types.Logic.{sem};
@@ -12,7 +14,7 @@ ghost use Rattle.flow_input.specs.Source.{counted_up};
 use std::io;
 use std::io::{BufRead, Read, Write};
 
-/// A device, and how many of its calls failed or, writing, took no byte.
+/// A device with the number of its calls that failed or, writing, took no byte.
 #[derive(Drop)]
 pub struct Counted<D> {
     device: D,
@@ -20,7 +22,7 @@ pub struct Counted<D> {
 }
 
 impl<D> Counted<D> {
-    /// A device of which no call was counted yet.
+    /// Creates a device with a count of zero.
     pub fn new(device: D) -> Self
         ensures device { result.device ≡ device }
         ensures failures { result.failures ≡ 0 }
@@ -31,21 +33,22 @@ impl<D> Counted<D> {
         }
     }
 
-    /// How many calls failed or, writing, took no byte. The count stays at its greatest number, 2^64 - 1.
+    /// Returns how many calls failed or, writing, took no byte. The count stays at its maximum,
+    /// 2^64 - 1.
     pub fn failures(&self) -> u64
         ensures { result ≡ self.now.failures }
     {
         self.failures
     }
 
-    /// The device. The count is dropped.
+    /// Returns the device, and drops the count.
     pub fn into_device(self) -> D
         ensures { result ≡ self.device }
     {
         self.device
     }
 
-    /// Counts a call that failed.
+    /// Adds 1 to the count if `failed`.
     fn count(&mut self, failed: bool)
         ensures failures { self.new.failures
             ≡ (if failed then counted_up self.old.failures else self.old.failures) }
@@ -63,7 +66,8 @@ impl<R: Read> Read for Counted<R> {
 
     fn read(&mut self, buf: &mut [u8]) -> io::Result<usize>
         ensures bound { ReadsAtMost result buf.new }
-        ensures bytes { ReadConsumes (R.remaining self.old.device) (R.remaining self.new.device) result buf.new }
+        ensures bytes { ReadConsumes (R.remaining self.old.device) (R.remaining self.new.device)
+            result buf.new }
         ensures counts { MatchResult result (λ _. self.new.failures ≡ self.old.failures) (λ _.
             self.new.failures ≡ counted_up self.old.failures) }
     {
@@ -73,18 +77,21 @@ impl<R: Read> Read for Counted<R> {
     }
 }
 
-/// A call of `ahead` that failed and is still to be counted: only such a call makes one.
+/// A failed call of `ahead` that isn't counted yet: only such a call makes one.
 #[derive(Drop)]
 pub struct ReadFailure(());
 
 impl<R: BufRead> Counted<R> {
-    /// The bytes that come next, as many as the device has at hand: none only at the end of the input. They stay to be
-    /// read until `consume` drops them. A failure is counted by `count_failure`.
+    /// Returns the next bytes, as many as the device has buffered: none only at the end of the
+    /// input. They stay unread until `consume` drops them. A failure is counted by `count_failure`.
     pub fn ahead(&mut self) -> Result<&[u8], ReadFailure>
-        ensures front { IfSome (R.remaining self.old.device) (λ xs. IfOk result (λ s. StartsWith xs s.now)) }
-        ensures end { IfSome (R.remaining self.old.device) (λ xs. IfOk result (λ s. length s.now ≡ 0 → xs ≡ [])) }
+        ensures front { IfSome (R.remaining self.old.device) (λ xs.
+            IfOk result (λ s. StartsWith xs s.now)) }
+        ensures end { IfSome (R.remaining self.old.device) (λ xs.
+            IfOk result (λ s. length s.now ≡ 0 → xs ≡ [])) }
         ensures* after_borrow { sem 𝓛 (Rests (the_row R.row) self.entry (λ new.
-            FillKeeps (R.remaining self.old.device) (R.remaining new.device) (R.consumable_len new.device) result
+            FillKeeps (R.remaining self.old.device) (R.remaining new.device)
+            (R.consumable_len new.device) result
             × (new.failures ≡ self.old.failures))) }
     {
         match self.device.fill_buf() {
@@ -93,7 +100,7 @@ impl<R: BufRead> Counted<R> {
         }
     }
 
-    /// Drops the first of the bytes that come next, as many as `ahead` has shown at most.
+    /// Drops the first `amount` of the bytes that `ahead` returned.
     pub fn consume(&mut self, amount: usize)
         ensures bytes { DropsConsumable (R.remaining self.old.device) (R.remaining self.new.device)
             (R.consumable_len self.old.device) amount }
@@ -102,7 +109,7 @@ impl<R: BufRead> Counted<R> {
         self.device.consume(amount);
     }
 
-    /// Counts a call of `ahead` that failed.
+    /// Counts a failed call of `ahead`.
     pub fn count_failure(&mut self, _failure: ReadFailure)
         ensures failures { self.new.failures ≡ counted_up self.old.failures }
         ensures device { self.new.device ≡ self.old.device }
@@ -116,7 +123,8 @@ impl<W: Write> Write for Counted<W> {
 
     fn write(&mut self, buf: &[u8]) -> io::Result<usize>
         ensures bound { WritesAtMost result buf.now }
-        ensures bytes { WriteAppends (W.contents self.old.device) (W.contents self.new.device) result buf.now }
+        ensures bytes { WriteAppends (W.contents self.old.device) (W.contents self.new.device)
+            result buf.now }
         ensures calm { IfOk result (λ n. 0 < n → self.new.failures ≡ self.old.failures) }
         ensures empty { length buf.now ≡ 0 → OnOk result (self.new.failures ≡ self.old.failures) }
         ensures counts { MatchResult result (λ n. n ≡ 0 → 0 < length buf.now
@@ -147,14 +155,15 @@ impl<W: Write> Write for Counted<W> {
 #[derive(Clone, Copy, Debug, PartialEq, Eq)]
 pub struct WriteFault;
 
-/// Writes some of the bytes, at least one.
+/// Writes some of the bytes, at least one, and returns their number.
 fn write_some<W: Write>(writer: &mut Counted<W>, bytes: &[u8]) -> Option<usize>
     requires { 0 < length bytes.now }
     ensures some { IfSome result (λ n. (0 < n) × (n ≤ length bytes.now)) }
     ensures written { IfSome result (λ n.
         Appends (W.contents writer.old.device) (W.contents writer.new.device) (take n bytes.now)) }
     ensures calm { OnSome result (writer.new.failures ≡ writer.old.failures) }
-    ensures none { IfNone result (Keeps (W.contents writer.old.device) (W.contents writer.new.device)) }
+    ensures none { IfNone result
+        (Keeps (W.contents writer.old.device) (W.contents writer.new.device)) }
     ensures failed { IfNone result (writer.new.failures ≡ counted_up writer.old.failures) }
 {
     match writer.write(bytes) {
@@ -164,7 +173,7 @@ fn write_some<W: Write>(writer: &mut Counted<W>, bytes: &[u8]) -> Option<usize>
     }
 }
 
-/// Writes all the bytes. After an `Err` a front of them was written.
+/// Writes all the bytes. After an `Err` a prefix of them was written.
 pub fn write_bytes<W: Write>(writer: &mut Counted<W>, bytes: &[u8]) -> Result<(), WriteFault>
     ensures { Writes W.contents result writer.old writer.new bytes.now }
 {

@@ -1,9 +1,9 @@
-//! Why no frame came.
+//! Why there is no next frame.
 
-/// Why no frame came.
+/// Why there is no next frame.
 #[derive(Clone, Copy, Debug, PartialEq, Eq)]
 pub enum IntakeFault {
-    /// The reader failed. An interrupted call is a failure, too.
+    /// The reader failed; an interrupted call is a failure, too.
     Read,
     /// The input has more than 4,000,000,000 bytes.
     TooMuch,

@@ -1,21 +1,21 @@
-//! The first frame of some bytes, where they show its end: most frames stand whole in the piece that was read last, and
-//! are taken at once.
+//! The first frame of a slice, if the slice shows its end: most frames are whole in the buffer, and
+//! are taken in one step.
 ghost use Rattle.std.specs.Prelude.{◌≡◌, IfNone, IfSome, false};
 ghost use Rattle.flow_input.specs.FirstFrame.{EndsAt, Shows};
 ghost use Rattle.flow_input.specs.Frames.{cut, first_cut};
 
 use crate::scan::{Until, stop_in, text_in};
 
-/// Where the first frame of some bytes stands in them.
+/// The range of the first frame in a slice.
 #[derive(Clone, Copy)]
 pub(crate) struct Span {
-    /// Behind the blanks.
+    /// The offset of its first byte, after the blanks.
     pub begin: usize,
-    /// Behind the frame.
+    /// The offset after its last byte.
     pub end: usize,
 }
 
-/// How long a frame is with which these bytes begin, if they show its end.
+/// The length of the frame at the beginning of a slice, if the slice shows its end.
 fn frame_len(bytes: &[u8]) -> Option<usize>
     ensures shows { IfSome result (λ len. EndsAt bytes.now len) }
     ensures none { IfNone result (IfSome (cut bytes.now) (λ c. c.ended ≡ false)) }
@@ -37,7 +37,7 @@ fn frame_len(bytes: &[u8]) -> Option<usize>
     }
 }
 
-/// Where the first frame of some bytes stands, if they show its end.
+/// The range of the first frame, if the slice shows its end.
 pub(crate) fn first_frame(bytes: &[u8]) -> Option<Span>
     ensures shows { IfSome result (λ span. Shows bytes.now span.begin span.end) }
     ensures none { IfNone result (IfSome (first_cut bytes.now) (λ c. c.ended ≡ false)) }

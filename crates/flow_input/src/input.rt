@@ -1,10 +1,12 @@
-//! The bytes of an input in one buffer, and its frames, each shown as a slice of it.
+//! The bytes of an input in one buffer, and its frames, each a slice of that buffer.
 //!
-//! Frames are taken from the front of the bytes that were read. If these show no end of the first frame, the bytes of
-//! that frame, at most 2,000, move to the front of the buffer, and more are read after them. The bytes of a longer frame
-//! are dropped as they come.
-ghost use Rattle.std.specs.Prelude.{◌≡◌, ◌≢◌, ◌≤◌, ◌<◌, ◌+◌, [], length, drop, false, true, IsTrue, OnOk, IfOk};
-ghost use Rattle.std.specs.Prelude.{IsErrOf, Err, MatchOption, None, Some, slice_range, IfSome, List, Option, ℕ};
+//! Frames are taken from the unread bytes. If these show no end of the first frame, its bytes, at
+//! most 2,000, move to the beginning of the buffer, and more are read after them. The bytes of a
+//! longer frame are dropped as they come.
+ghost use Rattle.std.specs.Prelude.{◌≡◌, ◌≢◌, ◌≤◌, ◌<◌, ◌+◌, [], length};
+ghost use Rattle.std.specs.Prelude.{drop, false, true, IsTrue, OnOk, IfOk};
+ghost use Rattle.std.specs.Prelude.{IsErrOf, Err, MatchOption, None, Some};
+ghost use Rattle.std.specs.Prelude.{slice_range, IfSome, List, Option, ℕ};
 ghost use Rattle.std.specs.Prelude.{◌-◌, ◌++◌, OnErr, MatchResult};
 ghost use Rattle.std.specs.Io.KnownBytes.{Consumes, IsAtEnd};
 ghost use Rattle.flow_input.specs.Frames.{first_cut, kept_of};
@@ -23,13 +25,14 @@ use std::io;
 use std::io::Read;
 use std::marker::Model;
 
-/// The bytes of an input at most.
+/// The length limit of an input, in bytes.
 pub const MAX_INPUT: u64 = 4_000_000_000;
 
-/// How many bytes are asked for at once.
+/// The number of bytes that one read asks for.
 const PIECE: usize = 65_536;
 
-/// Moves some bytes of a buffer to its front, and reads more after them. Returns how many came.
+/// Moves the bytes `at..end` of a buffer to its beginning, and reads more bytes after it. Returns
+/// the number of bytes read.
 fn read_after<R: Read>(
     reader: &mut Counted<R>,
     buffer: &mut [u8],
@@ -46,7 +49,8 @@ fn read_after<R: Read>(
         × (length came ≡ n)
         × (slice_range buffer.new 0 (end - at + n) ≡ slice_range buffer.old at end ++ came)) }
     ensures end { IfOk result (λ n. n ≡ 0 → IsAtEnd (R.remaining reader.new.device)) }
-    ensures err { OnErr result ((slice_range buffer.new 0 (end - at) ≡ slice_range buffer.old at end)
+    ensures err { OnErr result
+        ((slice_range buffer.new 0 (end - at) ≡ slice_range buffer.old at end)
         × Consumes (R.remaining reader.old.device) (R.remaining reader.new.device) []) }
     ensures failures { MatchResult result (λ _. reader.new.failures ≡ reader.old.failures) (λ _.
         reader.new.failures ≡ counted_up reader.old.failures) }
@@ -56,13 +60,14 @@ fn read_after<R: Read>(
     reader.read(&mut buffer[kept..kept + PIECE])
 }
 
-/// The bytes that were read and not yet taken, after the frame that was taken last.
+/// The buffer of an input: the unread bytes, after the current frame. A frame is current from the
+/// call that takes it to the next one.
 #[derive(Drop)]
 pub struct Input<A: Allocator = Global> {
     buffer: Vec<u8, A>,
-    /// The index of the first byte of the frame that was taken last, which ends at `at`.
+    /// The offset of the current frame, which ends at `at`.
     begin: usize,
-    /// Whether that frame has more than 2,000 bytes.
+    /// Whether the current frame has more than 2,000 bytes.
     is_long: bool,
     at: usize,
     end: usize,
@@ -71,7 +76,8 @@ pub struct Input<A: Allocator = Global> {
 }
 
 impl<A: Allocator> Model for Input<A> {
-    ghost use Rattle.std.specs.Prelude.{◌≡◌, ◌≤◌, ◌-◌, ◌+◌, length, slice_range, false, if◌then◌else◌, None, Some};
+    ghost use Rattle.std.specs.Prelude.{◌≡◌, ◌≤◌, ◌-◌, ◌+◌, length, slice_range};
+    ghost use Rattle.std.specs.Prelude.{false, if◌then◌else◌, None, Some};
     ghost use Rattle.flow_input.specs.Reader.{Ahead};
     ghost use Rattle.flow_input.specs.declared.input.TheConstants.{MAX_INPUT, PIECE};
     ghost use Rattle.fpl_message.specs.declared.filed_text.TheConstants.{MAX_BYTES};
@@ -86,14 +92,16 @@ impl<A: Allocator> Model for Input<A> {
     } };
 
     ghost invariant = { λ p. (p.begin ≤ p.at) × (p.at ≤ p.end) × (p.end ≤ length p.buffer.items)
-        × (length p.buffer.items ≡ MAX_BYTES + PIECE) × (p.end - p.at ≤ p.total) × (p.total ≤ MAX_INPUT)
+        × (length p.buffer.items ≡ MAX_BYTES + PIECE) × (p.end - p.at ≤ p.total)
+        × (p.total ≤ MAX_INPUT)
         × (p.is_long ≡ false → p.at - p.begin ≤ MAX_BYTES) };
 }
 
 impl<A: Allocator> Input<A> {
-    /// Takes the memory for the buffer.
+    /// Allocates the buffer, about 66 KiB; returns `Err` if that fails.
     pub fn new(alloc: A) -> Result<Self, AllocError>
-        ensures { IfOk result (λ p. p ≡ record { unread = []; taken = 0; ended = false; item = Some [] }) }
+        ensures { IfOk result (λ p.
+            p ≡ record { unread = []; taken = 0; ended = false; item = Some [] }) }
     {
         let mut buffer = Vec::with_capacity(alloc, MAX_BYTES + PIECE)?;
         buffer.resize(MAX_BYTES + PIECE, 0)?;
@@ -108,9 +116,10 @@ impl<A: Allocator> Input<A> {
         })
     }
 
-    /// The bytes of the frame that was taken last, at most 2,000. `None` if it is too long.
+    /// Returns the bytes of the current frame, at most 2,000; `None` if it is too long.
     pub fn frame(&self) -> Option<&[u8]>
-        ensures { MatchOption result (self.now.item ≡ None) (λ bytes. (self.now.item ≡ Some bytes.now)
+        ensures { MatchOption result (self.now.item ≡ None) (λ bytes.
+            (self.now.item ≡ Some bytes.now)
             × (length bytes.now ≤ MAX_BYTES)) }
     {
         if self.is_long {
@@ -119,7 +128,8 @@ impl<A: Allocator> Input<A> {
         Some(&self.buffer[self.begin..self.at])
     }
 
-    /// Takes the next frame if the bytes that were read show its end. Returns whether they do; else nothing is taken.
+    /// Takes the next frame if the buffer shows its end. Returns `false`, and takes nothing, if it
+    /// doesn't.
     pub fn take_whole(&mut self) -> bool
         ensures gave { result ≡ true → (rest : Option (List ℕ)) → Agrees self.old rest
             → GaveFirst (filing_kept self.new.item) self.old self.new rest rest }
@@ -152,7 +162,7 @@ impl<A: Allocator> Input<A> {
         self.ended
     }
 
-    /// Takes the unread bytes to the end of this frame, which is the one that was taken last then.
+    /// Takes the unread bytes to the end of this frame, which is the current one then.
     pub(crate) fn take(&mut self, span: Span)
         requires order { span.begin ≤ span.end }
         requires within { span.end ≤ length self.old.unread }
@@ -167,7 +177,7 @@ impl<A: Allocator> Input<A> {
         self.is_long = span.end - span.begin > MAX_BYTES;
     }
 
-    /// Takes so many of the unread bytes, of no frame that is to be shown.
+    /// Drops the first `count` unread bytes, which are of no frame that is to be shown.
     pub(crate) fn skip(&mut self, count: usize)
         requires { count ≤ length self.old.unread }
         ensures unread { self.new.unread ≡ drop count self.old.unread }
@@ -180,18 +190,20 @@ impl<A: Allocator> Input<A> {
         self.is_long = true;
     }
 
-    /// Reads more bytes after the unread ones, which move to the front of the buffer.
+    /// Reads more bytes after the unread ones, which move to the beginning of the buffer.
     pub(crate) fn fill<R: Read>(&mut self, reader: &mut Counted<R>) -> Result<(), IntakeFault>
         requires short { length self.old.unread ≤ MAX_BYTES }
         requires going { self.old.ended ≡ false }
         ensures filled { OnOk result (Filled self.old self.new (R.remaining reader.old.device)
             (R.remaining reader.new.device)) }
-        ensures more { OnOk result (self.new.ended ≡ false → length self.old.unread < length self.new.unread) }
+        ensures more { OnOk result (self.new.ended ≡ false
+            → length self.old.unread < length self.new.unread) }
         ensures end { OnOk result (IsTrue self.new.ended → (self.new.unread ≡ self.old.unread)
             × IsAtEnd (R.remaining reader.new.device)) }
         ensures taken { self.new.taken ≡ self.old.taken }
         ensures within { OnOk result (self.new.taken + length self.new.unread ≤ MAX_INPUT) }
-        ensures err { OnErr result (Came (R.remaining reader.old.device) (R.remaining reader.new.device)) }
+        ensures err { OnErr result
+            (Came (R.remaining reader.old.device) (R.remaining reader.new.device)) }
         ensures read { IsErrOf result IntakeFault.Read → (self.new.unread ≡ self.old.unread)
             × (self.new.ended ≡ false)
             × (Consumes (R.remaining reader.old.device) (R.remaining reader.new.device) []) }

@@ -1,6 +1,8 @@
-//! The frames of an input.
-ghost use Rattle.std.specs.Prelude.{◌≡◌, ◌≢◌, ◌≤◌, ◌<◌, ◌+◌, Some, None, false, length, IfErr, IfOk};
-ghost use Rattle.std.specs.Prelude.{IfNone, IfSome, IsOkAnd, OnErr, OnOk, IsErrOf, Err, IsTrue, IsNone, ◌-◌};
+//! The frames of an input, as filings.
+ghost use Rattle.std.specs.Prelude.{◌≡◌, ◌≢◌, ◌≤◌, ◌<◌, ◌+◌, Some};
+ghost use Rattle.std.specs.Prelude.{None, false, length, IfErr, IfOk};
+ghost use Rattle.std.specs.Prelude.{IfNone, IfSome, IsOkAnd, OnErr, OnOk};
+ghost use Rattle.std.specs.Prelude.{IsErrOf, Err, IsTrue, IsNone, ◌-◌};
 ghost use Rattle.flow_input.specs.InTurn.{EndsWithin, GivesNext};
 ghost use Rattle.flow_input.specs.NextFrame.{Cuts, Gives, Misses, Starves, filing_in, filing_kept};
 ghost use Rattle.flow_input.specs.Source.{CutsFirst, KeepsTotal, MissesFirst, failures_after};
@@ -24,7 +26,7 @@ pub enum Frame<A: Allocator + Copy = Global> {
     TooLong,
 }
 
-/// The frame that was taken last, read.
+/// The current frame as a filing.
 fn frame_of<A: Allocator + Copy>(alloc: A, input: &Input<A>) -> Result<Frame<A>, IntakeFault>
     ensures ok { IfOk result (λ frame. filing_in frame ≡ filing_kept input.now.item) }
     ensures err { IfErr result (λ e. e ≡ IntakeFault.OutOfMemory) }
@@ -40,7 +42,7 @@ fn frame_of<A: Allocator + Copy>(alloc: A, input: &Input<A>) -> Result<Frame<A>,
     }
 }
 
-/// The next frame of the input. Bytes stay in `input` from one call to the next.
+/// Takes the next frame of the input. Bytes stay in `input` from one call to the next.
 fn next_frame<R: Read, A: Allocator + Copy>(
     alloc: A,
     reader: &mut Counted<R>,
@@ -48,7 +50,8 @@ fn next_frame<R: Read, A: Allocator + Copy>(
 ) -> Result<Option<Frame<A>>, IntakeFault>
     requires { Agrees input.old (R.remaining reader.old.device) }
     ensures gives { IfOk result (λ frame.
-        Gives frame input.old input.new (R.remaining reader.old.device) (R.remaining reader.new.device)) }
+        Gives frame input.old input.new (R.remaining reader.old.device)
+        (R.remaining reader.new.device)) }
     ensures ended { IsTrue input.old.ended → IfOk result (λ frame. IsNone frame) }
     ensures still { IsTrue input.old.ended → (input.new ≡ input.old) × (reader.new ≡ reader.old) }
     ensures agrees { OnOk result (Agrees input.new (R.remaining reader.new.device)) }
@@ -99,7 +102,8 @@ impl<R: Read, A: Allocator + Copy> Model for Intake<R, A> {
 }
 
 impl<R: Read, A: Allocator + Copy> Intake<R, A> {
-    /// The frames of what this reader gives. Takes the memory for the buffer.
+    /// Creates the frames of this reader's input. Allocates the buffer; returns `Err` if that
+    /// fails.
     pub fn new(alloc: A, reader: Counted<R>) -> Result<Self, AllocError>
     where
         R: Drop,
@@ -121,36 +125,45 @@ impl<R: Read, A: Allocator + Copy> Intake<R, A> {
         })
     }
 
-    /// How many calls of the reader failed.
+    /// Returns how many calls of the reader failed.
     pub fn failures(&self) -> u64
         ensures { result ≡ self.now.failures }
     {
         self.reader.failures()
     }
 
-    /// The next frame, and none at the end of the input, however often it is asked for. After a fault each further call
-    /// answers `Read` and reads nothing.
+    /// Returns the next frame; `None` at the end of the input, however often it is called.
+    ///
+    /// # Errors
+    ///
+    /// - `Read` if the reader failed, or a call before failed: nothing is read after a fault.
+    /// - `TooMuch` if the input has more than 4,000,000,000 bytes.
+    /// - `OutOfMemory` if an allocation failed.
     pub fn next(&mut self) -> Result<Option<Frame<A>>, IntakeFault>
         ensures cuts { IfOk result (λ frame. CutsFirst frame self.old.left self.new.left) }
         ensures frames { IfOk result (λ frame. GivesNext frame self.old.left self.new.left) }
         ensures taken { OnOk result (KeepsTotal self.old self.new) }
         ensures none { IfOk result (λ frame. IfNone frame (IsTrue self.new.ended)) }
-        ensures ended { IsTrue self.old.ended → self.old.failed ≡ false → IsOkAnd result (λ frame. IsNone frame)
+        ensures ended { IsTrue self.old.ended → self.old.failed ≡ false
+            → IsOkAnd result (λ frame. IsNone frame)
             × (self.new ≡ self.old) }
 
-        // A fault is the last: from then on the answer is `Read`.
+        // A fault is final: each later call returns `Read`.
         ensures ok { OnOk result (self.new.failed ≡ false) }
         ensures err { OnErr result (IsTrue self.new.failed) }
-        ensures failed { IsTrue self.old.failed → IsErrOf result IntakeFault.Read × (self.new ≡ self.old) }
+        ensures failed { IsTrue self.old.failed
+            → IsErrOf result IntakeFault.Read × (self.new ≡ self.old) }
 
         // When the first fault comes.
-        ensures failures { self.old.failed ≡ false → self.new.failures ≡ failures_after result self.old.failures }
+        ensures failures { self.old.failed ≡ false
+            → self.new.failures ≡ failures_after result self.old.failures }
         ensures much { IsErrOf result IntakeFault.TooMuch
             → IfSome self.old.left (λ bytes. MAX_INPUT < self.old.taken + length bytes) }
         ensures memory { IsErrOf result IntakeFault.OutOfMemory
-            → MissesFirst self.old.left self.new.left × KeepsTotal self.old self.new × (self.new.taken ≤ MAX_INPUT) }
+            → MissesFirst self.old.left self.new.left × KeepsTotal self.old self.new
+            × (self.new.taken ≤ MAX_INPUT) }
 
-        // An input of more than 4,000,000,000 bytes has no end that is answered.
+        // No call returns the end of an input of more than 4,000,000,000 bytes.
         ensures most { OnOk result (self.new.taken ≤ MAX_INPUT) }
         ensures end { IfOk result (λ frame. EndsWithin frame self.old.taken self.old.left) }
     {

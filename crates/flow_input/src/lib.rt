@@ -1,13 +1,14 @@
 //! Devices whose failures are counted, and the frames of an input.
 //!
-//! A reader gives its bytes in pieces of any size. `Input` collects them in one buffer, from whose front frames are taken:
-//! a frame stands whole there, up to the first byte that ends it (`first_frame`, `scan`), or more bytes are read after its
-//! first ones. By definition (`frames`) the whole input is cut at once; the contract says that what call after call
-//! takes are these frames, however the pieces came. Frames that have ended in the bytes that came stay frames, however
-//! the input goes on, so each can be answered before the next byte is there.
+//! A reader gives its bytes in pieces of any size. `Input` collects them in one buffer, from which
+//! frames are taken: a frame is whole there, up to the first byte that ends it (`first_frame`,
+//! `scan`), or more bytes are read after its first ones. The definition (`frames`) splits the whole
+//! input at once; the contract says that the frames taken call by call are these, whatever the
+//! pieces were. Frames that have ended in the bytes read stay frames, however the input continues,
+//! so each can be answered before the next byte is there.
 //!
-//! `Counted` is a device with the count of its calls that failed or took no byte, by which contracts tell where a
-//! fault came from. `write_bytes` is the one loop that writes.
+//! `Counted` is a device with the number of its calls that failed or took no byte, by which
+//! contracts say where a fault came from. `write_bytes` is the one loop that writes.
 #![tactic(auto)]
 
 mod counted;

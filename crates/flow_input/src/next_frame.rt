@@ -1,10 +1,12 @@
-//! The next frame of an input, for whose end more bytes may have to be read.
-ghost use Rattle.std.specs.Prelude.{◌≡◌, ◌≢◌, ◌≤◌, ◌<◌, ◌+◌, [], length, false, true, IsTrue, OnErr, OnOk};
+//! The next frame of an input, for the end of which more bytes may have to be read.
+ghost use Rattle.std.specs.Prelude.{◌≡◌, ◌≢◌, ◌≤◌, ◌<◌, ◌+◌, [], length};
+ghost use Rattle.std.specs.Prelude.{false, true, IsTrue, OnErr, OnOk};
 ghost use Rattle.std.specs.Prelude.{IfOk, IsErrOf, Err, None, Some, IfSome};
 ghost use Rattle.std.specs.Io.KnownBytes.{Consumes, IsAtEnd};
 ghost use Rattle.flow_input.specs.Frames.{first_cut, is_text, kept_of};
 ghost use Rattle.flow_input.specs.NextFrame.{Cuts, GaveFirst, Starves, filing_kept};
-ghost use Rattle.flow_input.specs.Reader.{Agrees, BeginsWithStop, Came, CameTooMuch, Filled, Finished, TakesIf};
+ghost use Rattle.flow_input.specs.Reader.{Agrees, BeginsWithStop, Came};
+ghost use Rattle.flow_input.specs.Reader.{CameTooMuch, Filled, Finished, TakesIf};
 ghost use Rattle.flow_input.specs.Reader.{Took, TookRun, Unfinished};
 ghost use Rattle.flow_input.specs.Source.{failures_after};
 ghost use Rattle.flow_input.specs.Until.{stops_at};
@@ -20,7 +22,7 @@ use fpl_message::MAX_BYTES;
 use std::alloc::Allocator;
 use std::io::Read;
 
-/// Reads more bytes if all were taken and the reader has more.
+/// Reads more bytes if all were taken and the reader hasn't ended.
 fn make_ready<R: Read, A: Allocator>(
     reader: &mut Counted<R>,
     input: &mut Input<A>,
@@ -32,7 +34,8 @@ fn make_ready<R: Read, A: Allocator>(
     ensures agrees { OnOk result (Agrees input.new (R.remaining reader.new.device)) }
     ensures taken { input.new.taken ≡ input.old.taken }
     ensures read { IsErrOf result IntakeFault.Read → (input.new.unread ≡ [])
-        × (input.old.unread ≡ []) × (Consumes (R.remaining reader.old.device) (R.remaining reader.new.device) []) }
+        × (input.old.unread ≡ [])
+        × (Consumes (R.remaining reader.old.device) (R.remaining reader.new.device) []) }
     ensures much { IsErrOf result IntakeFault.TooMuch
         → CameTooMuch input.old (R.remaining reader.old.device) (R.remaining reader.new.device) }
     ensures memory { result ≢ Err IntakeFault.OutOfMemory }
@@ -47,7 +50,7 @@ fn make_ready<R: Read, A: Allocator>(
     input.fill(reader)
 }
 
-/// Takes the unread bytes up to the first that stops.
+/// Takes the unread bytes before the first that ends the run.
 fn take_run<A: Allocator>(input: &mut Input<A>, until: Until)
     ensures took { TookRun (stops_at until) input.old input.new }
     ensures stop { BeginsWithStop (stops_at until) input.new.unread }
@@ -60,14 +63,15 @@ fn take_run<A: Allocator>(input: &mut Input<A>, until: Until)
     input.skip(count);
 }
 
-/// Takes the bytes up to the first that stops, or to the end of the input.
+/// Takes the bytes before the first that ends the run, or to the end of the input.
 fn take_until<R: Read, A: Allocator>(
     reader: &mut Counted<R>,
     input: &mut Input<A>,
     until: Until,
 ) -> Result<(), IntakeFault>
     requires { Agrees input.old (R.remaining reader.old.device) }
-    ensures took { OnOk result (Took (stops_at until) input.old input.new (R.remaining reader.old.device)
+    ensures took { OnOk result
+        (Took (stops_at until) input.old input.new (R.remaining reader.old.device)
         (R.remaining reader.new.device)) }
     ensures stop { OnOk result (BeginsWithStop (stops_at until) input.new.unread) }
     ensures end { OnOk result (input.new.unread ≡ [] → IsTrue input.new.ended) }
@@ -94,7 +98,7 @@ fn take_until<R: Read, A: Allocator>(
     }
 }
 
-/// Takes the next byte if it is this one.
+/// Takes the next byte if it equals `byte`.
 fn take_if<A: Allocator>(input: &mut Input<A>, byte: u8)
     ensures took { TakesIf byte input.old input.new }
     ensures ended { input.new.ended ≡ input.old.ended }
@@ -107,7 +111,7 @@ fn take_if<A: Allocator>(input: &mut Input<A>, byte: u8)
     input.skip(1);
 }
 
-/// Takes the rest of a frame that begins with this byte, and is too long to be shown.
+/// Takes the rest of a frame that begins with `byte`, and is too long to be shown.
 fn finish<R: Read, A: Allocator>(
     reader: &mut Counted<R>,
     input: &mut Input<A>,
@@ -119,9 +123,11 @@ fn finish<R: Read, A: Allocator>(
     ensures agrees { OnOk result (Agrees input.new (R.remaining reader.new.device)) }
     ensures item { OnOk result (input.new.item ≡ None) }
     ensures within { OnOk result (input.new.taken ≤ MAX_INPUT) }
-    ensures err { OnErr result (Came (R.remaining reader.old.device) (R.remaining reader.new.device)) }
+    ensures err { OnErr result
+        (Came (R.remaining reader.old.device) (R.remaining reader.new.device)) }
     ensures read { IsErrOf result IntakeFault.Read
-        → Unfinished first input.old (R.remaining reader.old.device) (R.remaining reader.new.device) }
+        → Unfinished first input.old (R.remaining reader.old.device)
+        (R.remaining reader.new.device) }
     ensures much { IsErrOf result IntakeFault.TooMuch
         → CameTooMuch input.old (R.remaining reader.old.device) (R.remaining reader.new.device) }
     ensures memory { result ≢ Err IntakeFault.OutOfMemory }
@@ -135,7 +141,8 @@ fn finish<R: Read, A: Allocator>(
     take_until(reader, input, Until::OrderEnd)
 }
 
-/// Takes the frame with which the unread bytes begin, of which there are more than 2,000 already.
+/// Takes the frame at the beginning of the unread bytes, of which more than 2,000 are there
+/// already.
 fn pass_long<R: Read, A: Allocator>(
     reader: &mut Counted<R>,
     input: &mut Input<A>,
@@ -148,7 +155,8 @@ fn pass_long<R: Read, A: Allocator>(
         (R.remaining reader.old.device) (R.remaining reader.new.device)) }
     ensures agrees { OnOk result (Agrees input.new (R.remaining reader.new.device)) }
     ensures within { OnOk result (input.new.taken ≤ MAX_INPUT) }
-    ensures err { OnErr result (Came (R.remaining reader.old.device) (R.remaining reader.new.device)) }
+    ensures err { OnErr result
+        (Came (R.remaining reader.old.device) (R.remaining reader.new.device)) }
     ensures read { IsErrOf result IntakeFault.Read
         → Starves input.old (R.remaining reader.old.device) (R.remaining reader.new.device) }
     ensures much { IsErrOf result IntakeFault.TooMuch
@@ -161,7 +169,7 @@ fn pass_long<R: Read, A: Allocator>(
     finish(reader, input, first)
 }
 
-/// Takes the blanks before the next frame.
+/// Drops the blanks before the next frame.
 fn skip_blanks<A: Allocator>(input: &mut Input<A>)
     ensures took { TookRun is_text input.old input.new }
     ensures stop { BeginsWithStop is_text input.new.unread }
@@ -176,7 +184,8 @@ fn skip_blanks<A: Allocator>(input: &mut Input<A>)
 /// Takes what is left at the end of the input as its last frame. Returns whether anything is.
 fn take_rest<A: Allocator>(input: &mut Input<A>) -> bool
     requires ended { IsTrue input.old.ended }
-    ensures some { result ≡ true → (input.new.unread ≡ []) × (input.new.item ≡ kept_of input.old.unread)
+    ensures some { result ≡ true → (input.new.unread ≡ [])
+        × (input.new.item ≡ kept_of input.old.unread)
         × (input.new.taken ≡ input.old.taken + length input.old.unread) × (input.old.unread ≢ []) }
     ensures none { result ≡ false → (input.old.unread ≡ []) × (input.new ≡ input.old) }
     ensures ended { IsTrue input.new.ended }
@@ -190,15 +199,21 @@ fn take_rest<A: Allocator>(input: &mut Input<A>) -> bool
     true
 }
 
-/// Takes the next frame of the input, and returns whether there was one: `frame` of the input shows it then. Bytes that
-/// were read and don't belong to it stay unread.
+/// Takes the next frame of the input. Returns `false` if there is none; else `Input::frame` returns
+/// its bytes. Bytes that were read and don't belong to it stay unread.
+///
+/// # Errors
+///
+/// - `Read` if the reader failed.
+/// - `TooMuch` if the input has more than 4,000,000,000 bytes.
 pub fn take_frame<R: Read, A: Allocator>(
     reader: &mut Counted<R>,
     input: &mut Input<A>,
 ) -> Result<bool, IntakeFault>
     requires { Agrees input.old (R.remaining reader.old.device) }
     ensures cuts { IfOk result (λ found.
-        Cuts found input.new.item input.old input.new (R.remaining reader.old.device) (R.remaining reader.new.device)) }
+        Cuts found input.new.item input.old input.new (R.remaining reader.old.device)
+        (R.remaining reader.new.device)) }
     ensures ended { IsTrue input.old.ended → IfOk result (λ found. found ≡ false) }
     ensures still { IsTrue input.old.ended → (input.new ≡ input.old) × (reader.new ≡ reader.old) }
     ensures agrees { OnOk result (Agrees input.new (R.remaining reader.new.device)) }
@@ -206,8 +221,9 @@ pub fn take_frame<R: Read, A: Allocator>(
     ensures within { IfOk result (λ found. IsTrue found → input.new.taken ≤ MAX_INPUT) }
     ensures most { OnOk result (input.new.taken ≤ MAX_INPUT) }
 
-    // What the bytes that came show, and when each fault comes.
-    ensures err { OnErr result (Came (R.remaining reader.old.device) (R.remaining reader.new.device)) }
+    // What the bytes read show, and when each fault comes.
+    ensures err { OnErr result
+        (Came (R.remaining reader.old.device) (R.remaining reader.new.device)) }
     ensures going { OnErr result (input.old.ended ≡ false) }
     ensures read { IsErrOf result IntakeFault.Read
         → Starves input.old (R.remaining reader.old.device) (R.remaining reader.new.device) }

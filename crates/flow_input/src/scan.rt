@@ -16,8 +16,8 @@ pub(crate) enum Until {
     OrderEnd,
 }
 
-/// The index of the first byte that is no blank. Blanks before a frame are few, so a search by vectors would gain
-/// nothing.
+/// The index of the first byte that is no blank. Few blanks precede a frame, so vector loads would
+/// gain nothing.
 #[inline(always)]
 pub(crate) fn text_in(bytes: &[u8]) -> Option<usize>
     ensures { result ≡ position is_text bytes.now }
@@ -36,7 +36,7 @@ pub(crate) fn stop_in(bytes: &[u8], until: Until) -> Option<usize>
     }
 }
 
-/// The index of the first of two bytes, looked for byte by byte.
+/// The index of the first of two bytes, compared byte by byte.
 #[inline(always)]
 fn first_of_few(byte: u8, other: u8, bytes: &[u8]) -> Option<usize>
     ensures { result ≡ position (is_byte2 byte other) bytes.now }
@@ -44,8 +44,8 @@ fn first_of_few(byte: u8, other: u8, bytes: &[u8]) -> Option<usize>
     bytes.iter().position(|it| *it == byte || *it == other)
 }
 
-/// The index of the first of two bytes, looked for among 16 bytes at once. Frames are short, so the wider looks of the
-/// crate `memchr` gain nothing.
+/// The index of the first of two bytes, compared in 16-byte vectors. Frames are short, so the wider
+/// vectors of the crate `memchr` gain nothing.
 pub(crate) fn first_of(byte: u8, other: u8, bytes: &[u8]) -> Option<usize>
     ensures { result ≡ position (is_byte2 byte other) bytes.now }
 {

@@ -1,4 +1,4 @@
--- Changes that are taken back.
+-- Changes that are undone.
 use Rattle.std.proofs.Common.{◌≡◌, ℕ, ◌-◌, ◌<◌, ◌≤◌, refl, List, [], ◌∷◌, arith, length, get_or, ap, sym, ◌∙◌, Some, IfSome, slice_get, slice_set, length-set}
 use Rattle.std.proofs.lemmas.List.{set-set, set-get_or, get_or-set_same, get_or_default}
 use Rattle.std.proofs.lemmas.Option.{slice_get-get_or}
@@ -37,12 +37,12 @@ ended-back s n (x ∷ ps) h filed =
     let e : p ≡ get_or (x ∷ ps) (n - 1) p = get_or_default (x ∷ ps) (n - 1) x p h in
     back-there (with_state state.Filed) (with_state s) n (x ∷ ps) p h e (filed-again s (x ∷ ps) (n - 1) p h e filed)
 
--- a plan that got another off-block moment
+-- a plan that got another off-block time
 pub delayed-back : (moment held n : ℕ) (ps : List Plan) (p : Plan) → n - 1 < length ps → p ≡ get_or ps (n - 1) p → held ≡ p.off_block → changed_at (with_off_block held) n (changed_at (with_off_block moment) n ps) ≡ ps
 delayed-back moment held n ps p h e same =
     back-there (with_off_block held) (with_off_block moment) n ps p h e (ap (λ (m : ℕ). with_off_block m p) same)
 
--- a plan that was changed in its place
+-- a plan that was changed at its index
 pub changed-there : (change : Plan → Plan) (n : ℕ) (ps all : List Plan) (p q : Plan) → ps ≡ all → (0 < n) × (n ≤ length all) → p ≡ get_or ps (n - 1) p → q ≡ change p → slice_set ps (n - 1) q ≡ changed_at change n all
 unfolding changed_at
 changed-there change n ps all p q same within e made =

@@ -17,7 +17,7 @@ there-is [] i R h use-it = absurd (omega (arith, h))
 there-is (x ∷ ps) zero R h use-it = use-it x refl refl
 there-is (x ∷ ps) (suc i) R h use-it = there-is ps i R (omega (arith, h)) use-it
 
--- the place that a walk down a chain came to has a plan of that chain
+-- the index that a walk down a chain reached has a plan of that chain
 abbrev pub IsReached : Chained → FlightName → ℕ → Type 0
 IsReached chains name l = (test : ℕ → Bool) → AreLinks test chains.older → IsNewest test (newest chains.heads name) → test l ≡ true
 
@@ -133,7 +133,7 @@ module _ (chains : Chained) (n : ℕ) (apart : IsApart chains n) where
         (join-later ps n p apart.within.0 few stood chains are held l room a
         (subst (λ (q : FlightName). is_held_there q (others n ps) l ≡ true) (sym own) (reached-held chains (others n ps) name l are reached)) most))
 
--- a plan that is put in the place of another
+-- a plan that replaces another
 module _ (ps qs : List Plan) (n : ℕ) (q : Plan) (some : 0 < n) (most : n ≤ length ps) (changed : qs ≡ with_plan ps n q) where
   pub exchanged-out : (chains left : Chained) (p : Plan) (name : FlightName) → p ≡ get_or ps (n - 1) p → name ≡ flight_of_key p.key
       → AreChained chains ps → LeaveOut chains left name n → AreChained left (others n qs)

@@ -120,7 +120,7 @@ module _ (chains : Chained) (ps qs : List Plan) (i : ℕ) (own : FlightName) (le
         let high : k < newest_held own ps (length ps) = last-above (is_held_there own ps) (length ps) k (passes_at-within (is_held_under own) ps k held) held in
         omega (arith, high, are.heads own, first, last-le (is_held_there name ps) k, e)
 
-  -- or one that a newer one goes on to
+  -- or one that follows a newer one
   pub left-later : (l room : ℕ) → i < l → is_held_there own ps l ≡ true → slice_index chains.older l ≡ i + 1
       → AreChained (record { heads = chains.heads; older = slice_set chains.older l (slice_index chains.older i); room = room }) qs
   left-later l room a held next = record {
@@ -217,7 +217,7 @@ module _ (chains : Chained) (ps qs : List Plan) (i : ℕ) (own : FlightName) (le
         get_or-set_other chains.older i k (newest chains.heads own) 0 ne
         ∙ are.links name k (sym (same name k ne) ∙ t) ∙ old name k ne (sym (same name k ne) ∙ t) (is_held_there name qs i) refl
 
-  -- or behind a newer one
+  -- or after a newer one
   pub joined-later : (l room : ℕ) → i < l → is_held_there own ps l ≡ true → slice_index chains.older l ≤ i + 1
       → AreChained (record { heads = chains.heads; older = slice_set (slice_set chains.older i (slice_index chains.older l)) l (i + 1); room = room }) qs
   joined-later l room a held most = record {

@@ -1,4 +1,4 @@
--- An outline tells the entry at a departure of four letters.
+-- An outline has the entry at a departure of four letters.
 use Rattle.std.proofs.Common.{◌≡◌, ℕ, zero, suc, ◌+◌, ◌-◌, ◌<◌, ◌≤◌, ◌⊎◌, inl, inr, arith, get_or, Bool, true, false, not, ◌&&◌, nat_eq, if◌then◌else◌, List, [], ◌∷◌, length, Option, Some, None, slice_get, unwrap_or, refl, sym, ap, subst, ◌∙◌}
 use Rattle.std.specs.Prelude.{IfSome, codes}
 use Rattle.std.specs.Str.{bytes_eq}
@@ -15,7 +15,7 @@ use Rattle.flow_plans.specs.Entries.{entry_at, in_period, subject}
 use Rattle.flow_plans.specs.Outlines.{may_be_subject, departure, IsOutlineOf, AreOutlines}
 use Rattle.flow_plans.proofs.Letters.{letters-same, letters-tell}
 
--- a place with letters has four
+-- a name with letters has four
 four : (place : List ℕ) → length place ≤ 4 → 0 < letters_of place → length place ≡ 4
 unfolding letters_of
 four place most some = by (cases_lt (length place) 4) where
@@ -25,7 +25,7 @@ four place most some = by (cases_lt (length place) 4) where
     none h = rw (lt-ltb (length place) 4 h) refl
   by (inr long) = omega (arith, most, long)
 
--- whether a flight departs there is told by letters
+-- whether a flight departs there is decided by letters
 at-place : (dep place : List ℕ) → length dep ≤ 4 → AreBytes dep → IsTold place → nat_eq (letters_of dep) (letters_of place) ≡ bytes_eq dep place
 at-place dep place most bytes told =
     let there = four place told.most told.some in
@@ -67,7 +67,7 @@ both-say start end m k c a true e n free same air moment =
 both-say start end m k c a false e n free same air moment =
     nowhere start end c ∙ sym (ap (λ v. if v && not n then in_period start end (Some k) else None) same)
 
--- an outline with the letters of the departure tells the entry there
+-- an outline with the letters of the departure has the entry there
 pub departs-all : (o : Outline) (p : Plan) → may_be_subject p ≡ true → o.off_block ≡ p.off_block → o.dep ≡ letters_of p.key.dep → length p.key.dep ≤ 4 → AreBytes p.key.dep
     → (taxi start end : ℕ) (place : List ℕ) → IsTold place → subject taxi (Dep place) start end p ≡ departure taxi (letters_of place) start end o
 unfolding subject entry_at departure
@@ -80,7 +80,7 @@ departs-all o p may off_block dep most bytes taxi start end place told =
     (λ q. in-air place (four place told.most told.some) told.bytes ∙ ap (λ d. bytes_eq d (codes "AFIL")) (sym ((bytes_decides p.key.dep place).0 q)))
     (ap (λ m. m + taxi) off_block)
 
--- one without letters tells none
+-- one without letters has none
 pub departs-none : (o : Outline) (taxi start end : ℕ) (place : List ℕ) → o.dep ≡ 0 → IsTold place → departure taxi (letters_of place) start end o ≡ None
 unfolding departure
 departs-none o taxi start end place dep told = by (nat_eq o.dep (letters_of place)) refl where
@@ -88,7 +88,7 @@ departs-none o taxi start end place dep told = by (nat_eq o.dep (letters_of plac
   by true e = absurd (omega (arith, eqb-true o.dep (letters_of place) e, dep, told.some))
   by false e = refl
 
--- the outline at the place of a plan
+-- the outline at the index of a plan
 outline-at : (os : List Outline) (ps : List Plan) (i : ℕ) (o : Outline) → AreOutlines os ps → slice_get os i ≡ Some o → IfSome (slice_get ps i) (IsOutlineOf o)
 outline-at [] ps i o h at = absurd (cc)
 outline-at (n ∷ os) [] i o h at = absurd h

@@ -1,4 +1,4 @@
--- What a filing at a moment is, by the tests that it passes.
+-- What a filing at a time gives, by the tests that it passes.
 use Rattle.std.proofs.Common.{◌≡◌, ℕ, ◌+◌, ◌≤◌, ◌<◌, ◌==◌, Bool, true, false, cond, nat_lt, List, [], ◌∷◌, ◌++◌, length, Ok, Err, refl}
 use Rattle.std.proofs.lemmas.Bool.{le-ltb, le-leb, lt-leb}
 use Rattle.std.specs.Ordering.{is_lt, nat_cmp}
@@ -9,7 +9,7 @@ use Rattle.fpl_message.specs.Messages.{Fpl}
 use Rattle.flow_plans.specs.Plans.{Plan, is_held_as}
 use Rattle.flow_plans.specs.Changes.{key_of, plan_of, moment_of, filed}
 
--- an order of moments tells which is earlier
+-- an order of times decides which is earlier
 pub is-earlier : (a b : ℕ) → is_lt (nat_cmp a b) ≡ nat_lt a b
 is-earlier a b = by (nat_lt a b) (a == b)
   where

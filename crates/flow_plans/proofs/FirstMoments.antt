@@ -1,4 +1,4 @@
--- The first moment at a time of day that is not before another.
+-- The first time at a time of day that is not before another.
 use Rattle.std.proofs.Common.{◌≡◌, ℕ, ◌+◌, ◌*◌, ◌/◌, ◌%◌, ◌≤◌, ◌<◌, Bool, true, false, nat_lt, if◌then◌else◌, arith, refl}
 use Rattle.std.proofs.lemmas.Bool.{ltb-true, ltb-false}
 use Rattle.flow_plans.specs.Times.{first_from}

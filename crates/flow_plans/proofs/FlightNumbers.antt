@@ -14,7 +14,7 @@ number-more start bytes k within =
     sym (ap (λ (bs : List ℕ). fold (λ number byte. 256 * number + byte) start bs) (take_more bytes k 0 within)
     ∙ fold_push (λ number byte. 256 * number + byte) start (take k bytes) (get_or bytes k 0))
 
--- the first four bytes are the letters of a place
+-- the first four bytes are the letters of a name
 pub number-front : (bytes : List ℕ) → 4 ≤ length bytes → fold (λ number byte. 256 * number + byte) (letters_of bytes) (slice_range bytes 4 (length bytes)) ≡ base_256 bytes
 unfolding base_256 letters_of
 number-front [] h = absurd (omega (arith, h))

@@ -1,4 +1,4 @@
--- Plans and their chains when a plan is put in the place of another.
+-- Plans and their chains when a plan replaces another.
 use Rattle.std.proofs.Common.{◌≡◌, ℕ, zero, suc, ◌-◌, ◌<◌, ◌≤◌, Bool, true, false, ◌&&◌, ◌⊎◌, inl, inr, List, [], ◌∷◌, ◌++◌, length, take, Option, Some, None, IfSome, slice_get, slice_set, get_or, unwrap_or, refl, sym, ap, subst, ◌∙◌, arith, length-set}
 use Rattle.std.specs.Map.{lookup}
 use Rattle.std.specs.Option.{option_map_or}
@@ -78,7 +78,7 @@ pub chained-unchanged : (chains : Chained) (f : Plan → Plan) (n : ℕ) (ps : L
 chained-unchanged chains f n ps stays are =
     chained-same chains (changed_at f n ps) ps (sym (changed-length f n ps)) (λ name k. sym (changed-held f n ps stays name k)) are
 
--- what stands in the place of a plan that counts as cancelled does not matter
+-- what replaces a plan that counts as cancelled does not matter
 pub others-set : (chains : Chained) (ps : List Plan) (n : ℕ) (p q : Plan) → 0 < n → n ≤ length ps → p ≡ get_or ps (n - 1) p
     → AreChained chains (others n ps) → AreChained chains (others n (slice_set ps (n - 1) q))
 others-set chains ps n p q some within stood are =
@@ -111,7 +111,7 @@ pub changed-is : (f : Plan → Plan) (n : ℕ) (ps : List Plan) (p : Plan) → p
 unfolding changed_at
 changed-is f n ps p there = rw there refl
 
--- chains from which a flight without plans was forgotten, or that got more room
+-- chains from which a flight without plans was removed, or that got more capacity
 pub chained-forgot : (chains later : Chained) (ps : List Plan) → ((q : FlightName) → newest later.heads q ≡ newest chains.heads q) → later.older ≡ chains.older
     → AreChained chains ps → AreChained later ps
 chained-forgot chains later ps heads older are = record {
@@ -166,7 +166,7 @@ any-stays f n ps keeps = by (plan_at ps n) where
   by None = tt
   by (Some p) = keeps p
 
--- what can be taken back with these chains can be with those that stayed
+-- what can be undone with these chains can be with those that stayed
 pub returns-stay : {A : Type 0} (chains later : Chained) (last : last_change.LastChange A) (ps : List Plan) → StayChained chains later → CanReturn chains last ps → CanReturn later last ps
 returns-stay chains later change.Nothing ps stay can = tt
 returns-stay chains later change.Filed ps stay can = tt

@@ -1,4 +1,4 @@
--- The last place that passes a test, and what becomes of it when one place passes no more, or passes now.
+-- The last index that passes a test, and how it changes when one index passes no more, or passes now.
 use Rattle.std.proofs.Common.{◌≡◌, ℕ, zero, suc, ◌+◌, ◌<◌, ◌≤◌, Bool, true, false, if◌then◌else◌, ◌⊎◌, inl, inr, refl, sym, subst, ◌∙◌, arith}
 use Rattle.std.proofs.lemmas.Bool.{cases_eq, cases_lt}
 use Rattle.flow_plans.specs.Chains.{last_number}
@@ -51,12 +51,12 @@ last-same h g n same =
     (λ k e. same k (omega (arith, e, last-le h n)) ∙ last-passes h n k e)
     (λ k a l. same k l ∙ last-none h n k a l)
 
--- the last of fewer places, where it is among them
+-- the last of fewer indices, if it is among them
 pub last-lower : (h : ℕ → Bool) (n m : ℕ) → m ≤ n → last_number h n ≤ m → last_number h m ≡ last_number h n
 last-lower h n m a b =
     last-is h m (last_number h n) b (λ k e. last-passes h n k e) (λ k c l. last-none h n k c (omega (arith, l, a)))
 
--- all places but one pass as before
+-- all indices but one pass as before
 module _ (h g : ℕ → Bool) (i : ℕ) (same : (k : ℕ) → (k ≡ i → ⊥) → g k ≡ h k) where
   pub last-low : (m : ℕ) → m ≤ i → last_number g m ≡ last_number h m
   last-low m a = last-same h g m (λ k l. same k (λ e. omega (arith, e, l, a)))
@@ -96,7 +96,7 @@ module _ (h g : ℕ → Bool) (i : ℕ) (same : (k : ℕ) → (k ≡ i → ⊥) 
       (λ k s. let e : i ≡ k = omega (arith, s) in subst (λ j. g j ≡ true) e here)
       (λ k c l. same k (λ t. omega (arith, c, t)) ∙ last-none h m k (omega (arith, b, c)) l)
 
--- one place more
+-- one index more
 pub last-more : (h : ℕ → Bool) (n : ℕ) (b : Bool) → h n ≡ b → last_number h (n + 1) ≡ (if b then n + 1 else last_number h n)
 unfolding last_number
 last-more h n b e =

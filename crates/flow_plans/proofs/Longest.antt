@@ -1,4 +1,4 @@
--- How long a flight takes to the places of its way.
+-- How long a flight takes to its route points.
 use Rattle.std.proofs.Common.{◌≡◌, ℕ, ◌+◌, ◌-◌, ◌*◌, ◌≤◌, ◌⊎◌, inl, inr, arith, Bool, true, false, ◌&&◌, ◌==◌, nat_lt, if◌then◌else◌, List, [], ◌∷◌, length, take, drop, Option, Some, None, subst}
 use Rattle.std.proofs.lemmas.Bool.{cases_Bool, ltb-true}
 use Rattle.std.specs.Prelude.{IfSome, codes}
@@ -40,7 +40,7 @@ if-below : (b : Bool) (o : Option ℕ) → IfSome o (λ minutes. minutes ≤ 600
 if-below true o p = p
 if-below false o p = tt
 
--- nor does that to any place of the way
+-- nor does that to any route point
 pub way-below : (place : List ℕ) (items : List Item) → IfSome (elapsed_to place items) (λ minutes. minutes ≤ 6000)
 way-below place [] = tt
 way-below place (item ∷ items) =

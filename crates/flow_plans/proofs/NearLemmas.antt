@@ -1,4 +1,4 @@
--- The bits of words in a table by places.
+-- The bits of words in a table by points.
 use Rattle.std.proofs.Common.{◌≡◌, ℕ, ◌+◌, ◌*◌, ◌%◌, ◌<◌, ◌≤◌, length, Bool, true, false, cond, not, ◌&&◌, ltb, List, Option, Some, None, refl, sym, ap, subst, ◌∙◌, ◌⊎◌, inl, inr, arith}
 use Rattle.std.specs.Prelude.{bit_or, slice_index, IsSome, codes}
 use Rattle.std.specs.Int.{bit_at}
@@ -59,7 +59,7 @@ taken-one table places j words word e taken b l h s = cases (cases_eq b j) where
       subst B (sym q) (or-second words word (word_at table (128 + j)) (bits-same word (word_at table (128 + j)) e))
   cases (inr ne) = or-first words word (word_at table (128 + b)) (taken b (omega (arith, l, ne)) h s)
 
--- a place with an estimate has its bit
+-- a point with an estimate has its bit
 pub some-has : (field place : List ℕ) (places : ℕ) (notes : List Estimate) → AreEstimatesOf (items_of (words_of field)) notes
     → ((other : List ℕ) → IsSome (first_for other notes) → may_have places other ≡ true) → IsSome (elapsed_to place (items_of (words_of field))) → may_have places place ≡ true
 some-has field place places notes are has some =

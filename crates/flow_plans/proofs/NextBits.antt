@@ -6,7 +6,7 @@ use Rattle.std.proofs.lemmas.Nat.{pow_pos}
 use Rattle.std.proofs.lemmas.Bool.{ltb-true, ltb-false}
 use Rattle.std.proofs.lemmas.Nat.Bits.{bit_at-zero, bit_at_above, bit_at-trailing_zeros, bit_at_cat_low, bit_at_cat_high}
 
--- a word by its bits below a place, and from there on
+-- a word by its bits below an index, and from there on
 parts : (w k : ℕ) → (w / 2 ^ k) * 2 ^ k + w % 2 ^ k ≡ w
 parts w k = omega (arith, div-add-mod w (2 ^ k))
 

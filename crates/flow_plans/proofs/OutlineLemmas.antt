@@ -45,7 +45,7 @@ outline-of-none o p is off_block dep never = record {
       ∙ sym (departs-none o taxi start end place dep told);
 }
 
--- when a flight enters a place in a period
+-- when a flight enters a point in a period
 record EntersIn (taxi start end : ℕ) (spot : Spot) (p : Plan) : Type 0 where
   moment : ℕ
   enters : entry_at taxi spot p ≡ Some moment
@@ -101,7 +101,7 @@ unfolding may_fly
 flies taxi start end moment o b from to =
     rw (lt-ltb (o.off_block + taxi) end (omega (arith, b.0, to)), le-leb start (o.off_block + taxi + o.longest) (omega (arith, b.1, from))) refl
 
--- an outline with the letters of both ends, and the places of the way, comes where its flight does
+-- an outline with the letters of both ends, and the route points, enters what its flight enters
 outline-comes : (o : Outline) (p : Plan) → o.dep ≡ letters_of p.key.dep → o.dest ≡ letters_of p.key.dest
     → ((place : List ℕ) → IsSome (elapsed_at place p) → may_have o.way place ≡ true) → (taxi start end : ℕ) (spot : Spot) → IsSome (subject taxi spot start end p) → may_come spot o ≡ true
 unfolding entry_at may_come
@@ -114,7 +114,7 @@ outline-comes o p dep dest way taxi start end (Arr place) h =
 outline-comes o p dep dest way taxi start end (Via place) h =
     way place (some-first (elapsed_at place p) (λ elapsed. moment_within (take_off taxi p + elapsed)) (subject-enters taxi start end (Via place) p h))
 
--- with the off-block moment and the longest time it comes when its flight does
+-- with the off-block time and the longest time it is there when its flight is
 pub outline-of-all : (o : Outline) (p : Plan) → o.is_filed ≡ is_filed p.state → o.off_block ≡ p.off_block → o.dep ≡ letters_of p.key.dep → o.dest ≡ letters_of p.key.dest
     → may_be_subject p ≡ true → length p.key.dep ≤ 4 → AreBytes p.key.dep
     → ((place : List ℕ) → IsSome (elapsed_at place p) → may_have o.way place ≡ true)
@@ -129,7 +129,7 @@ outline-of-all o p is off_block dep dest may most bytes way arrival minutes = re
       rw (outline-comes o p dep dest way taxi start end spot h, flies taxi start end at.moment o between at.from at.to) refl);
 }
 
--- as many outlines as plans
+-- one outline for each plan
 pub outlines-long : (os : List Outline) (ps : List Plan) → AreOutlines os ps → length os ≡ length ps
 outlines-long [] [] h = refl
 outlines-long [] (p ∷ ps) h = absurd h
@@ -151,7 +151,7 @@ outlines-take (suc n) [] (p ∷ ps) h = absurd h
 outlines-take (suc n) (o ∷ os) [] h = absurd h
 outlines-take (suc n) (o ∷ os) (p ∷ ps) h = (h.0, outlines-take n os ps h.1)
 
--- another of both at one place
+-- another of both at one index
 pub outlines-set : (os : List Outline) (ps : List Plan) (i : ℕ) (o : Outline) (p : Plan) → AreOutlines os ps → IsOutlineOf o p → AreOutlines (slice_set os i o) (slice_set ps i p)
 outlines-set [] [] i o p h r = tt
 outlines-set [] (q ∷ ps) i o p h r = absurd h
@@ -159,7 +159,7 @@ outlines-set (n ∷ os) [] i o p h r = absurd h
 outlines-set (n ∷ os) (q ∷ ps) zero o p h r = (r, h.1)
 outlines-set (n ∷ os) (q ∷ ps) (suc i) o p h r = (h.0, outlines-set os ps i o p h.1 r)
 
--- where the outline at a place doesn't come in a period, no regulation applies to the flight
+-- if the outline at an index isn't there in a period, no regulation applies to the flight
 pub outline-never : (os : List Outline) (ps : List Plan) (i : ℕ) (o : Outline) (taxi start end : ℕ) (spot : Spot) → AreOutlines os ps → slice_get os i ≡ Some o → (may_come spot o && may_fly taxi start end o) ≡ false
     → IfSome (slice_get ps i) (λ p. subject taxi spot start end p ≡ None)
 outline-never [] ps i o taxi start end spot h at never = absurd (cc)
@@ -169,11 +169,11 @@ outline-never (n ∷ os) (p ∷ ps) zero o taxi start end spot h at never =
     no-entry (subject taxi spot start end p) (may_come spot n && may_fly taxi start end n) same (h.0.comes taxi start end spot)
 outline-never (n ∷ os) (p ∷ ps) (suc i) o taxi start end spot h at never = outline-never os ps i o taxi start end spot h.1 at never
 
--- an outline says whether its plan is filed, and its off-block moment
+-- an outline says whether its plan is filed, and its off-block time
 outlined-same : (o : Outline) (p : Plan) → IsOutlineOf o p → outlined_moment o ≡ filed_moment p
 outlined-same o p h = rw (h.is_filed, h.off_block) refl
 
--- so does that at a place
+-- so does that at an index
 outlined-at : (os : List Outline) (ps : List Plan) (i : ℕ) → AreOutlines os ps → option_and_then outlined_moment (slice_get os i) ≡ option_and_then filed_moment (slice_get ps i)
 outlined-at [] [] i h = refl
 outlined-at [] (p ∷ ps) i h = absurd h
@@ -187,7 +187,7 @@ outlined-number os read ps all number o h same all_read at =
     ap (option_and_then outlined_moment) (at ∙ ap (λ (xs : List Outline). slice_get xs (number - 1)) all_read)
     ∙ outlined-at os ps (number - 1) h ∙ ap (λ (qs : List Plan). filed_off_block qs number) same
 
--- the place of a plan is one of an outline
+-- the index of a plan is one of an outline
 pub outline-within : (number len : ℕ) (os : List Outline) (ps all : List Plan) → len ≡ length os → AreOutlines os ps → ps ≡ all → (0 < number) × (number ≤ length all) → number - 1 < len
 outline-within number len os ps all l h same within =
     let long : length os ≡ length ps = outlines-long os ps h in

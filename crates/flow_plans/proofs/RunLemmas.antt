@@ -159,7 +159,7 @@ turns-made (takes_back ∷ turns) held h = turns-made turns (held_before held he
 pub turns-are-changes : (turns : List Turn) → (cs : List Change) × ((after_turns turns nothing_held).plans ≡ changed_all cs [])
 turns-are-changes turns = (turns-made turns nothing_held (record { now_made = ([], refl); before_made = λ plans is. absurd cc })).now_made
 
--- a change that is taken back at once
+-- a change that is undone at once
 pub back-at-once : (held : Held) (c : Change) (later : List Plan) → change_of held.plans c ≡ Ok later
     → after_turns (changes c ∷ takes_back ∷ []) held ≡ record { plans = held.plans; before = None }
 back-at-once held c later e = ap (λ (r : Result (List Plan) Refusal). after_turn (held_after held r) takes_back) e

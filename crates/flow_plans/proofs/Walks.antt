@@ -22,7 +22,7 @@ use Rattle.flow_plans.proofs.LastNumbers.{last-none, last-passes}
 use Rattle.flow_plans.proofs.ChainLemmas.{and-left, and-right, same_flight-refl}
 use Rattle.flow_plans.proofs.Matches.{counted-more, counted-here, neither-here, passes_at-past, any-none, any-one}
 
--- the plan that passes at a place
+-- the plan that passes at an index
 passing : (test : Plan → Bool) (ps : List Plan) (k : ℕ) → passes_at test ps k ≡ true → (p : Plan) × (slice_get ps k ≡ Some p) × (test p ≡ true)
 passing test [] k t = absurd (cc)
 passing test (p ∷ ps) zero t = (p, refl, t)
@@ -150,7 +150,7 @@ module _ (name : FlightName) (ps : List Plan) where
   pub newest-there : (n : ℕ) → IsNewest (is_held_there name ps) (newest_held name ps n)
   newest-there n k e = last-passes (is_held_there name ps) n k e
 
--- one more place is counted, and all between it and the next
+-- one more index is counted, and all between it and the next
 module _ (parts : Parts) (ps : List Plan) where
   pub counted-at-first : (k : ℕ) → newest_held (flight_of_parts parts) ps (length ps) ≤ k → IsCounted (is_candidate parts) (is_gone parts) ps found.Nothing k
   counted-at-first k a =

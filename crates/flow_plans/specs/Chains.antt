@@ -1,6 +1,7 @@
--- How plans are found by identification, departure and destination, which name a flight. For each flight there is a chain of the
--- plans that are held under its name, the newest first: the number of the newest stands in a map, and beside each plan that of
--- the next older one. Where there is none, the number is 0.
+-- How plans are found by identification, departure and destination, which name a flight. For each
+-- flight there is a chain of the held plans of its name, the newest first: a map has the number of
+-- the newest, and beside each plan is that of the next older one. If there is none, the number is
+-- 0.
 use Rattle.std.specs.Prelude.{◌≡◌, ℕ, zero, suc, ◌+◌, ◌-◌, ◌*◌, ◌<◌, ◌≤◌, Bool, true, ◌==◌, ◌&&◌, if◌then◌else◌, List, [], ◌∷◌, length, cond, Some, None, IfSome, unwrap_or, slice_index}
 use Rattle.std.specs.List.{fold}
 use Rattle.std.specs.Map.{lookup}
@@ -33,11 +34,11 @@ same_flight a b = (a.ident == b.ident) && (a.ends == b.ends)
 abbrev pub is_held_under : FlightName → Plan → Bool
 is_held_under name plan = is_held plan.state && same_flight name (flight_of_key plan.key)
 
--- whether the plan at a place is held under a name
+-- whether the plan at an index is held under a name
 abbrev pub is_held_there : FlightName → List Plan → ℕ → Bool
 is_held_there name plans place = passes_at (is_held_under name) plans place
 
--- one more than the last of the first n places that pass a test, or 0
+-- one more than the last of the first n indices that pass a test, or 0
 unfoldable pub last_number : (ℕ → Bool) → ℕ → ℕ
 last_number test zero = 0
 last_number test (suc n) = if test n then n + 1 else last_number test n
@@ -46,8 +47,8 @@ last_number test (suc n) = if test n then n + 1 else last_number test n
 abbrev pub newest_held : FlightName → List Plan → ℕ → ℕ
 newest_held name plans n = last_number (is_held_there name plans) n
 
--- all chains: from each flight the number of its newest plan, from each plan that of the next older, and for how many more
--- flights there is room
+-- all chains: from each flight the number of its newest plan, from each plan that of the next
+-- older, and the capacity for more flights
 pub record Chained : Type 0 where
   pub heads : List (FlightName × ℕ)
   pub older : List ℕ
@@ -56,12 +57,12 @@ pub record Chained : Type 0 where
 abbrev pub newest : List (FlightName × ℕ) → FlightName → ℕ
 newest heads name = unwrap_or (lookup (same_flight name) heads) 0
 
--- the newest plan of one flight has this number now, those of the others stayed
+-- the newest plan of one flight has this number now, those of the others are unchanged
 abbrev pub IsUpdated : List (FlightName × ℕ) → List (FlightName × ℕ) → FlightName → ℕ → Type 0
 IsUpdated heads later name number =
     (q : FlightName) → lookup (same_flight q) later ≡ cond (same_flight name q) (Some number) (lookup (same_flight q) heads)
 
--- one flight is in the map no more, the others stayed
+-- one flight is in the map no more, the others are unchanged
 abbrev pub IsForgotten : List (FlightName × ℕ) → List (FlightName × ℕ) → FlightName → Type 0
 IsForgotten heads later name =
     (q : FlightName) → lookup (same_flight q) later ≡ cond (same_flight name q) None (lookup (same_flight q) heads)
@@ -70,15 +71,16 @@ IsForgotten heads later name =
 abbrev pub GoDown : List ℕ → Type 0
 GoDown older = (place : ℕ) → slice_index older place ≤ place
 
--- from each place that passes a test the chain goes on to the last before it that does
+-- from each index that passes a test the chain goes on to the last before it that does
 abbrev pub AreLinks : (ℕ → Bool) → List ℕ → Type 0
 AreLinks test older = (place : ℕ) → test place ≡ true → slice_index older place ≡ last_number test place
 
--- the place of this number passes a test
+-- the index of this number passes a test
 abbrev pub IsNewest : (ℕ → Bool) → ℕ → Type 0
 IsNewest test number = (place : ℕ) → number ≡ place + 1 → test place ≡ true
 
--- the chains have, for each flight, the plans that are held under its name, all of them and no others
+-- the chains have, for each flight, the plans that are held under its name, all of them and no
+-- others
 pub record AreChained (chains : Chained) (plans : List Plan) : Type 0 where
   pub count : length chains.older ≡ length plans
   pub heads : (name : FlightName) → newest chains.heads name ≡ newest_held name plans (length plans)
@@ -96,13 +98,14 @@ LeaveOut chains later name number =
     (plans : List Plan) → AreChained chains plans → IfSome (plan_at plans number) (λ p. flight_of_key p.key ≡ name)
     → AreChained later (others number plans)
 
--- of whatever plans but for the one of this number these were the chains, that one, held under this name, is now in its own
+-- of whatever plans but for the one of this number these were the chains, that one, held under this
+-- name, is now in its own
 abbrev pub TakeIn : Chained → Chained → FlightName → ℕ → Type 0
 TakeIn chains later name number =
     (plans : List Plan) → AreChained chains (others number plans)
     → IfSome (plan_at plans number) (λ p. (is_held p.state ≡ true) × (flight_of_key p.key ≡ name)) → AreChained later plans
 
--- the numbers of a chain from this one on, and so many at most
+-- the numbers of a chain from this one on, limited in length
 unfoldable pub chain_from : ℕ → List ℕ → ℕ → List ℕ
 chain_from zero older number = []
 chain_from (suc most) older number =
@@ -114,15 +117,15 @@ held_numbers name plans zero = []
 held_numbers name plans (suc n) =
     if is_held_there name plans n then (n + 1) ∷ held_numbers name plans n else held_numbers name plans n
 
--- a plan can be put into the chain of this flight with no more memory
+-- a plan can be inserted into the chain of this flight without an allocation
 abbrev pub HasRoomFor : Chained → FlightName → Type 0
 HasRoomFor chains name = lookup (same_flight name) chains.heads ≡ None → 0 < chains.room
 
--- no flight is forgotten, and there is as much room
+-- no flight is removed, and the capacity is the same
 abbrev pub KeepNames : Chained → Chained → Type 0
 KeepNames chains later =
     ((name : FlightName) → lookup (same_flight name) later.heads ≡ None → lookup (same_flight name) chains.heads ≡ None) × (chains.room ≤ later.room)
 
--- nothing changed, but there may be more room
+-- nothing changed, except that the capacity may be greater
 abbrev pub StayChained : Chained → Chained → Type 0
 StayChained chains later = (later.heads ≡ chains.heads) × (later.older ≡ chains.older) × (chains.room ≤ later.room)

@@ -1,4 +1,5 @@
--- What messages do to the list of plans, in which plan n is the n-th (ICAO Doc 4444, appendix 2: FPL, DLA, CHG, CNL and DEP).
+-- What messages do to the list of plans, in which plan n is the n-th (ICAO Doc 4444, appendix 2:
+-- FPL, DLA, CHG, CNL and DEP).
 use Rattle.std.specs.Prelude.{◌≡◌, ℕ, ◌/◌, Bool, false, not, ◌||◌, if◌then◌else◌, nat_le, List, [], ◌∷◌, ◌++◌, length, Option, Some, None, unwrap_or, is_some, Result, Ok, Err}
 use Rattle.std.specs.List.{list_any}
 use Rattle.std.specs.Option.{option_map_or}
@@ -22,11 +23,11 @@ use Rattle.flow_plans.specs.Plans.{Plan, Texts, is_held_as, plan_at, with_plan, 
 use Rattle.flow_plans.specs.Times.{unless, off_block_of, unless_out_of_time, delayed_to}
 use Rattle.flow_plans.specs.Matching.{is_on, matching}
 
--- what names the plan that a flight plan message files
+-- the key of the plan that a flight plan message files
 abbrev pub key_of : ℕ → Fpl → Key
 key_of moment m = record { ident = m.ident.name; dep = m.departure.place; dest = m.destination.place; day = moment / 1440 }
 
--- the plan that a flight plan message files, with this off-block moment
+-- the plan that a flight plan message files, with this off-block date and time
 unfoldable pub plan_of : ℕ → Fpl → Plan
 plan_of moment m = record {
   key = key_of moment m;
@@ -45,7 +46,7 @@ plan_of moment m = record {
   };
 }
 
--- the off-block moment that a flight plan message asks for
+-- the off-block date and time that a flight plan message asks for
 abbrev pub moment_of : ℕ → Fpl → ℕ
 moment_of now m = off_block_of now (day_of_items m.items) m.departure.time
 
@@ -92,7 +93,7 @@ is_of_another departure day key =
 unfoldable pub changes_key : Chg → Key → Bool
 changes_key m key = is_of_another m.departure (option_map_or day_of_items m.items None) key
 
--- an amended field 13 moves the off-block moment as a delay does
+-- an amended field 13 moves the off-block date and time as a delay does
 abbrev pub moved_to : ℕ → ℕ → Option Departure → Result ℕ Refusal
 moved_to now held None = Ok held
 moved_to now held (Some departure) = delayed_to now held departure.time
@@ -119,7 +120,7 @@ texts_after held m = record {
 unfoldable pub key_after : Key → Chg → Key
 key_after held m = record held { dest = option_map_or (λ destination. destination.place) m.destination held.dest }
 
--- the plan with all amendments made, and this off-block moment
+-- the plan with all amendments made, and this off-block date and time
 unfoldable pub amended_plan : ℕ → Chg → Plan → Plan
 amended_plan moment m plan = record {
   key = key_after plan.key m;
@@ -146,7 +147,7 @@ amended now plans m =
       number = number;
     }))))))
 
--- the refusal that a fault of a plan is; want of memory is none
+-- the refusal that a fault of a plan is; an allocation failure is none
 abbrev pub refusal_of : PlanFault → Option Refusal
 refusal_of fault.AlreadyHeld = Some refusal.AlreadyHeld
 refusal_of fault.NoPlan = Some refusal.NoPlan
@@ -160,7 +161,7 @@ refusal_of fault.TooEarly = Some refusal.TooEarly
 refusal_of fault.PlansFull = Some refusal.PlansFull
 refusal_of fault.OutOfMemory = None
 
--- the fault of a call is the refusal of the definition, unless memory ran out
+-- the fault of a call is the refusal of the definition, unless an allocation failed
 abbrev pub Refuses : {X : Type 0} → Option Refusal → Result X Refusal → Type 0
 Refuses None expected = Unit {0}
 Refuses (Some r) expected = expected ≡ Err r
@@ -168,7 +169,7 @@ Refuses (Some r) expected = expected ≡ Err r
 abbrev pub IsRefusal : {X : Type 0} → PlanFault → Result X Refusal → Type 0
 IsRefusal e expected = Refuses (refusal_of e) expected
 
--- the fault of a call that takes no memory is the refusal of the definition
+-- the fault of a call that doesn't allocate is the refusal of the definition
 abbrev pub IsRefused : {X : Type 0} → Option Refusal → Result X Refusal → Type 0
 IsRefused None expected = ⊥
 IsRefused (Some r) expected = expected ≡ Err r
@@ -176,7 +177,7 @@ IsRefused (Some r) expected = expected ≡ Err r
 abbrev pub IsJustRefusal : {X : Type 0} → PlanFault → Result X Refusal → Type 0
 IsJustRefusal e expected = IsRefused (refusal_of e) expected
 
--- A call that takes no memory answers what the definition says.
+-- A call that doesn't allocate returns what the definition says.
 abbrev pub Answers : {X : Type 0} → Result X PlanFault → Result X Refusal → Type 0
 Answers (Ok x) expected = expected ≡ Ok x
 Answers (Err e) expected = IsJustRefusal e expected

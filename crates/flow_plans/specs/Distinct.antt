@@ -1,10 +1,11 @@
--- Held plans have different keys, and a plan keeps its number. That a key names one held plan at most is the desk's own rule.
+-- Held plans have different keys, and a plan keeps its number. That a key names one held plan at
+-- most is the desk's own rule.
 use Rattle.std.specs.Prelude.{◌≡◌, ℕ, true, List, slice_get, Option, Some, None}
 use Rattle.std.specs.Option.{option_map_or}
 use Rattle.flow_plans.specs.declared.plan.Key.{Key}
 use Rattle.flow_plans.specs.Plans.{Plan, is_held, plan_at}
 
--- held plans with the same key stand at the same place
+-- held plans with the same key have the same index
 abbrev pub AreDistinct : List Plan → Type 0
 AreDistinct plans =
     (place other : ℕ) (p q : Plan) → slice_get plans place ≡ Some p → slice_get plans other ≡ Some q
@@ -18,7 +19,7 @@ key_at plans number = option_map_or (λ plan. Some plan.key) (plan_at plans numb
 abbrev pub KeepKeys : List Plan → List Plan → Type 0
 KeepKeys plans later = (number : ℕ) (key : Key) → key_at plans number ≡ Some key → key_at later number ≡ Some key
 
--- each number still names a plan with the key that it had, but for the destination
+-- each number still names a plan with the key that it had, except for the destination
 abbrev pub KeepFlights : List Plan → List Plan → Type 0
 KeepFlights plans later =
     (number : ℕ) (key : Key) → key_at plans number ≡ Some key

@@ -1,11 +1,12 @@
--- A table of words, with a row for each kind of place and each bit of a place. What a bit of a word stands for is the table's own.
+-- A table of words, with a row for each kind of point and each bit of a name. What a bit of a word
+-- means is the table's own.
 use Rattle.std.specs.Prelude.{◌≡◌, ℕ, ◌+◌, ◌<◌, List, slice_index_or as get_or}
 use Rattle.std.specs.Int.{bit_at}
 use Rattle.fpl_message.specs.declared.order.Spot.{Spot}
 use Rattle.fpl_message.specs.declared.order.Spot.TheVariants.{Dep, Arr, Via}
 use Rattle.fpl_items.specs.Places.{bit_of}
 
--- the row of a place: departures, arrivals and places on the way have 64 rows each
+-- the row of a point: departures, arrivals and route points have 64 rows each
 unfoldable pub row_of : Spot → ℕ
 row_of (Dep place) = bit_of place
 row_of (Arr place) = 64 + bit_of place

@@ -1,5 +1,6 @@
--- Where and when a regulation may apply to a flight, in few bytes. An outline may seem to come to a place to which its flight
--- doesn't come then, never the other way round. Whether the plan is filed, and its off-block moment, it says just as they are.
+-- Where and when a regulation may apply to a flight, in few bytes. An outline may seem to enter a
+-- point that its flight doesn't enter then, never the other way round. Whether the plan is filed,
+-- and its off-block date and time, it says exactly.
 use Rattle.std.specs.Prelude.{◌≡◌, ℕ, ◌+◌, Bool, true, not, ◌&&◌, ◌==◌, nat_le, nat_lt, if◌then◌else◌, List, Option, Some, None, IsSome, codes}
 use Rattle.std.specs.List.{AllZip}
 use Rattle.fpl_message.specs.declared.order.Spot.{Spot}
@@ -14,7 +15,7 @@ use Rattle.flow_plans.specs.Places.{letters_of, IsTold}
 abbrev pub may_be_subject : Plan → Bool
 may_be_subject plan = is_filed plan.state && not (is_visual plan.rules) && not plan.exempt
 
--- whether the flight of an outline may come to a place
+-- whether the flight of an outline may enter a point
 unfoldable pub may_come : Spot → Outline → Bool
 may_come (Dep place) outline = outline.dep == letters_of place
 may_come (Arr place) outline = outline.dest == letters_of place
@@ -25,26 +26,26 @@ unfoldable pub may_fly : ℕ → ℕ → ℕ → Outline → Bool
 may_fly taxi start end outline =
     nat_lt (outline.off_block + taxi) end && nat_le start (outline.off_block + taxi + outline.longest)
 
--- the off-block moment, where the plan is filed
+-- the off-block date and time, if the plan is filed
 abbrev pub outlined_moment : Outline → Option ℕ
 outlined_moment outline = if outline.is_filed then Some outline.off_block else None
 
--- the entry of its flight at a departure of these letters, where a regulation of that place and period applies to it: to none that
--- departs in the air
+-- the entry of its flight at a departure of these letters, if a regulation of that aerodrome and
+-- period applies to it: to none that departs in the air
 unfoldable pub departure : ℕ → ℕ → ℕ → ℕ → Outline → Option ℕ
 departure taxi letters start end outline =
     if outline.dep == letters && not (letters == letters_of (codes "AFIL"))
     then in_period start end (Some (outline.off_block + taxi))
     else None
 
--- wherever and whenever a regulation applies to the flight of the plan, the outline may come there then; at a departure of four
--- letters it says just where one does
+-- wherever and whenever a regulation applies to the flight of the plan, the outline may be there
+-- then; at a departure of four letters it says exactly whether one does
 pub record IsOutlineOf (outline : Outline) (plan : Plan) : Type 0 where
   pub is_filed : outline.is_filed ≡ is_filed plan.state
   pub off_block : outline.off_block ≡ plan.off_block
   pub comes : (taxi start end : ℕ) (spot : Spot) → IsSome (subject taxi spot start end plan) → (may_come spot outline && may_fly taxi start end outline) ≡ true
   pub departs : (taxi start end : ℕ) (place : List ℕ) → IsTold place → subject taxi (Dep place) start end plan ≡ departure taxi (letters_of place) start end outline
 
--- as many outlines as plans, each of the plan at its place
+-- one outline for each plan, at the same index
 abbrev pub AreOutlines : List Outline → List Plan → Type 0
 AreOutlines outlines plans = AllZip IsOutlineOf outlines plans

@@ -31,7 +31,7 @@ pub record Plan : Type 0 where
   pub exempt : Bool
   pub texts : Texts
 
--- what a plan had before an amendment, but for its state; without texts it kept its own
+-- what a plan had before an amendment, except its state; without texts it has them still
 pub record Former : Type 0 where
   pub key : Key
   pub off_block : ℕ
@@ -41,7 +41,7 @@ pub record Former : Type 0 where
   pub exempt : Bool
   pub texts : Option Texts
 
--- these texts, or the held ones where there are none
+-- these texts, or the held ones if there are none
 abbrev pub texts_or : {A : Type 0} → Option (Box Texts A) → Texts → Texts
 texts_or texts held = unwrap_or (option_map box_value texts) held
 
@@ -87,23 +87,24 @@ text_of field texts =
 abbrev pub plan_at : List Plan → ℕ → Option Plan
 plan_at plans number = slice_get plans (number - 1)
 
--- the off-block moment of a plan, where it is filed
+-- the off-block date and time of a plan, if it is filed
 abbrev pub filed_moment : Plan → Option ℕ
 filed_moment plan = if is_filed plan.state then Some plan.off_block else None
 
--- that of the plan of this number: none where there is no such plan, or where it has departed or was cancelled
+-- that of the plan of this number: none if there is no such plan, or if it has departed or was
+-- cancelled
 abbrev pub filed_off_block : List Plan → ℕ → Option ℕ
 filed_off_block plans number = option_and_then filed_moment (plan_at plans number)
 
--- where a plan stands, and its off-block moment
+-- the state of a plan, and its off-block date and time
 abbrev pub status_of : Plan → Status
 status_of plan = record { state = plan.state; off_block = plan.off_block }
 
--- of the plan of this number, where it is one of these
+-- of the plan of this number, if it is one of these
 abbrev pub status_at : List Plan → ℕ → Option Status
 status_at plans number = option_map status_of (plan_at plans number)
 
--- the plans with another in the place of that number
+-- the plans with another at the index of that number
 abbrev pub with_plan : List Plan → ℕ → Plan → List Plan
 with_plan plans number plan = slice_set plans (number - 1) plan
 

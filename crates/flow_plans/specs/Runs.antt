@@ -1,4 +1,4 @@
--- What a store of plans goes through: changes that messages ask for, and taking the last one back.
+-- The history of a store of plans: changes that messages ask for, and undoing the last one.
 use Rattle.std.specs.Prelude.{ℕ, List, [], ◌∷◌, Option, Some, None, Result, Ok, Err}
 use Rattle.fpl_message.specs.declared.refusal.Refusal.{Refusal}
 use Rattle.fpl_message.specs.declared.short_message.Dla.{Dla}
@@ -9,7 +9,8 @@ use Rattle.fpl_message.specs.Refusals.{◌>>=◌}
 use Rattle.flow_plans.specs.Plans.{Plan}
 use Rattle.flow_plans.specs.Changes.{filed, delayed, cancelled, departed, amended}
 
--- a message, with the desk's time at which it comes and how many plans are accepted, where these matter
+-- a message, with the desk's time at which it comes and how many plans are accepted, if these
+-- matter
 pub data Change : Type 0 where
   file : ℕ → ℕ → Fpl → Change
   delay : ℕ → Dla → Change
@@ -25,7 +26,7 @@ change_of plans (amend now m) = amended now plans m >>= (λ later. Ok later.plan
 change_of plans (cancel m) = cancelled plans m >>= (λ later. Ok later.plans)
 change_of plans (depart m) = departed plans m >>= (λ later. Ok later.plans)
 
--- a refused change leaves all as it was
+-- a refused change leaves all unchanged
 abbrev pub or_same : List Plan → Result (List Plan) Refusal → List Plan
 or_same plans (Ok later) = later
 or_same plans (Err refusal) = plans
@@ -35,12 +36,12 @@ abbrev pub changed_all : List Change → List Plan → List Plan
 changed_all [] plans = plans
 changed_all (change ∷ changes) plans = changed_all changes (or_same plans (change_of plans change))
 
--- a change, or taking the last accepted one back
+-- a change, or undoing the last accepted one
 pub data Turn : Type 0 where
   changes : Change → Turn
   takes_back : Turn
 
--- the plans, and those before the last accepted change, where that can be taken back
+-- the plans, and those before the last accepted change, if that can be undone
 pub record Held : Type 0 where
   pub plans : List Plan
   pub before : Option (List Plan)
@@ -57,7 +58,7 @@ abbrev pub after_turn : Held → Turn → Held
 after_turn held (changes change) = held_after held (change_of held.plans change)
 after_turn held takes_back = held_before held held.before
 
--- what is held after turns, one after the other
+-- the plans after turns, one after the other
 abbrev pub after_turns : List Turn → Held → Held
 after_turns [] held = held
 after_turns (turn ∷ turns) held = after_turns turns (after_turn held turn)

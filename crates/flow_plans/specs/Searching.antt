@@ -1,4 +1,5 @@
--- How the plan that a message is about is searched for: what was found so far, by place in the list from 0.
+-- How the plan that a message is about is searched for: what was found so far, by index in the list
+-- from 0.
 use Rattle.std.specs.Prelude.{◌≡◌, ℕ, ◌+◌, Bool, true, false, ◌==◌, if◌then◌else◌, List, slice_get, Result, Ok, Err}
 use Rattle.std.specs.Option.{option_map_or}
 use Rattle.fpl_message.specs.declared.refusal.Refusal.{Refusal}
@@ -34,7 +35,7 @@ answer_of found.Gone = Err refusal.AlreadyDeparted
 answer_of (found.One place) = Ok (place + 1)
 answer_of found.Several = Err refusal.Ambiguous
 
--- whether the plan at a place passes a test
+-- whether the plan at an index passes a test
 abbrev pub passes_at : (Plan → Bool) → List Plan → ℕ → Bool
 passes_at test plans place = option_map_or test (slice_get plans place) false
 
@@ -45,17 +46,17 @@ IsSound test gone plans found.Gone = (place : ℕ) × (passes_at gone plans plac
 IsSound test gone plans (found.One place) = passes_at test plans place ≡ true
 IsSound test gone plans found.Several = (d : Bool) → the_one d (numbers test 1 plans) ≡ Err refusal.Ambiguous
 
--- the plan at a place is counted in what was found
+-- the plan at an index is counted in what was found
 abbrev pub IsCounted : (Plan → Bool) → (Plan → Bool) → List Plan → Found → ℕ → Type 0
 IsCounted test gone plans found.Nothing place = (passes_at test plans place ≡ false) × (passes_at gone plans place ≡ false)
 IsCounted test gone plans found.Gone place = passes_at test plans place ≡ false
 IsCounted test gone plans (found.One one) place = passes_at test plans place ≡ true → place ≡ one
 IsCounted test gone plans found.Several place = Unit {0}
 
--- the plan at a place is not held with this key, unless that place does not count
+-- the plan at an index is not held with this key, unless that index does not count
 abbrev pub IsFreeAt : Key → List Plan → ℕ → ℕ → Type 0
 IsFreeAt key plans but place = (place ≡ but → ⊥) → passes_at (is_held_as key) plans place ≡ false
 
--- a plan at another place is held with this key
+-- a plan at another index is held with this key
 abbrev pub IsHeldBeside : Key → List Plan → ℕ → Type 0
 IsHeldBeside key plans but = (place : ℕ) × (place ≡ but → ⊥) × (passes_at (is_held_as key) plans place ≡ true)

@@ -8,12 +8,12 @@ pub record Settings : Type 0 where
   pub start : ℕ
   -- from off-block to take-off, in minutes, at every aerodrome
   pub taxi : ℕ
-  -- how many flight plans are accepted in all, cancelled ones counted
+  -- how many flight plans are accepted, cancelled ones counted
   pub max_plans : ℕ
-  -- how many entries the journal holds
+  -- how many entries the journal may have
   pub max_entries : ℕ
 
--- a moment of the years 2000 to 2098
+-- a time in the years 2000 to 2098
 abbrev pub IsDeskTime : ℕ → Type 0
 IsDeskTime minute = (YEAR_2000 ≤ minute) × (minute < YEAR_2099)
 

@@ -3,11 +3,11 @@ use Rattle.std.specs.Prelude.{ℕ, List, Option}
 use Rattle.flow_plans.specs.Plans.{Plan}
 
 pub record Store : Type 0 where
-  -- how many flight plans are accepted in all
+  -- how many flight plans are accepted
   pub max_plans : ℕ
   -- from off-block to take-off, in minutes, at every aerodrome
   pub taxi : ℕ
   -- plan n is the n-th
   pub plans : List Plan
-  -- the plans before the last accepted change, where that can be taken back
+  -- the plans before the last accepted change, if that can be undone
   pub before : Option (List Plan)

@@ -8,7 +8,7 @@ use Rattle.flow_plans.specs.Plans.{Plan, is_held, plan_at, changed_at, with_stat
 use Rattle.flow_plans.specs.declared.setup.TheConstants.{MAX_PLANS, MAX_TAXI}
 use Rattle.flow_plans.specs.Times.{off_blocks_end}
 
--- the plans before this change, where it can be taken back
+-- the plans before this change, if it can be undone
 abbrev pub undone : {A : Type 0} → List Plan → last_change.LastChange A → Option (List Plan)
 undone plans change.Nothing = None
 undone plans change.Filed = Some (take (length plans - 1) plans)
@@ -25,7 +25,7 @@ IsOf (change.Ended number) plans = (0 < number) × (number ≤ length plans)
 IsOf (change.Amended number former) plans =
     (0 < number) × (number ≤ length plans) × IfSome (plan_at plans number) (λ p. is_held p.state ≡ true)
 
--- the chains can have the plan again that the change took out, with no more memory
+-- the chains can have the plan again that the change removed, without an allocation
 abbrev pub CanReturn : {A : Type 0} → Chained → last_change.LastChange A → List Plan → Type 0
 CanReturn chains change.Nothing plans = Unit {0}
 CanReturn chains change.Filed plans = Unit {0}
@@ -33,7 +33,7 @@ CanReturn chains (change.Delayed number moment) plans = Unit {0}
 CanReturn chains (change.Ended number) plans = IfSome (plan_at plans number) (λ p. HasRoomFor chains (flight_of_key p.key))
 CanReturn chains (change.Amended number former) plans = HasRoomFor chains (flight_of_key former.key)
 
--- what a store keeps to
+-- the invariant of a store
 abbrev pub IsKept : {A : Type 0} → ℕ → ℕ → List Plan → Chained → last_change.LastChange A → Type 0
 IsKept max_plans taxi plans chains change =
     (length plans ≤ max_plans) × (max_plans ≤ MAX_PLANS) × (taxi ≤ MAX_TAXI) × IsOf change plans × AreChained chains plans × CanReturn chains change plans

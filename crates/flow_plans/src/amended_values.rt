@@ -1,4 +1,4 @@
-//! What values of a plan are after a CHG.
+//! The values of a plan after a CHG.
 ghost use Rattle.std.specs.Prelude.{◌≡◌, ◌<◌, List, Option, IfSome, unwrap_or, option_copied};
 ghost use Rattle.std.specs.Option.{option_map_or};
 ghost use Rattle.fpl_items.specs.Items.{Item, is_exempt};
@@ -10,7 +10,6 @@ use fpl_items::Other18;
 use fpl_text::{Alternates, Destination, FlightRules, Rules};
 use std::alloc::Allocator;
 
-/// The amended text, or else the one held.
 pub(crate) fn text_after<'a>(held: &'a [u8], amended: Option<&'a [u8]>) -> &'a [u8]
     ensures { result.now ≡ unwrap_or (option_copied amended.entry) held.now }
 {
@@ -20,7 +19,6 @@ pub(crate) fn text_after<'a>(held: &'a [u8], amended: Option<&'a [u8]>) -> &'a [
     }
 }
 
-/// The amended flight rules, or else those held.
 pub(crate) fn rules_after(held: FlightRules, amended: Option<&Rules>) -> FlightRules
     ensures { result ≡ option_map_or (λ rules. rules.rules) (option_copied amended.entry) held }
 {
@@ -30,7 +28,7 @@ pub(crate) fn rules_after(held: FlightRules, amended: Option<&Rules>) -> FlightR
     }
 }
 
-/// Whether an amended field 18 exempts the flight, or else what is held.
+/// Whether an amended field 18 exempts the flight; `held` if it isn't amended.
 pub(crate) fn exempt_after<A: Allocator + Copy>(held: bool, amended: Option<&Other18<A>>) -> bool
     ensures { (items : Option (List Item)) → TellsOfAny items (option_copied amended.entry)
         → result ≡ option_map_or is_exempt items held }
@@ -41,10 +39,11 @@ pub(crate) fn exempt_after<A: Allocator + Copy>(held: bool, amended: Option<&Oth
     }
 }
 
-/// The elapsed time of an amended field 16 that has one, or else the one held.
+/// The elapsed time of an amended field 16 that has one, or else `held`.
 pub(crate) fn elapsed_after(held: u32, amended: Option<&Destination>) -> u32
     requires held { held < ELAPSED_LIMIT }
-    requires amended { IfSome amended (λ amended. IfSome amended.now.elapsed (λ minutes. minutes < ELAPSED_LIMIT)) }
+    requires amended { IfSome amended (λ amended.
+        IfSome amended.now.elapsed (λ minutes. minutes < ELAPSED_LIMIT)) }
     ensures value { result ≡ elapsed_after held (option_copied amended.entry) }
     ensures bound { result < ELAPSED_LIMIT }
 {
@@ -54,7 +53,7 @@ pub(crate) fn elapsed_after(held: u32, amended: Option<&Destination>) -> u32
     }
 }
 
-/// The alternates of an amended field 16 that has an elapsed time, or else those held.
+/// The alternates of an amended field 16 that has an elapsed time, or else `held`.
 pub(crate) fn alternates_after(held: &Alternates, amended: Option<&Destination>) -> Alternates
     ensures { result ≡ alternates_after held.now (option_copied amended.entry) }
 {

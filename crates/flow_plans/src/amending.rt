@@ -1,10 +1,12 @@
-//! What a CHG makes of a plan.
-ghost use Rattle.std.specs.Prelude.{◌≡◌, ◌≤◌, ◌<◌, Ok, true, IfOk, IfErr, IfSome, length, option_copied, ◌+◌, ◌-◌};
+//! The amendments that a CHG makes to a plan.
+ghost use Rattle.std.specs.Prelude.{◌≡◌, ◌≤◌, ◌<◌, Ok, true, IfOk, IfErr};
+ghost use Rattle.std.specs.Prelude.{IfSome, length, option_copied, ◌+◌, ◌-◌};
 ghost use Rattle.std.specs.Prelude.{Err, Some, None, IsOk, OnOk, OnErr};
 ghost use Rattle.flow_plans.specs.Settings.{IsDeskTime};
 ghost use Rattle.flow_plans.specs.Plans.{is_held, plan_at, changed_at};
 ghost use Rattle.flow_plans.specs.Chains.{AreChained, flight_of_key, StayChained};
-ghost use Rattle.flow_plans.specs.Changes.{moved_to, key_after, amended_plan, amended, Answers, IsRefusal};
+ghost use Rattle.flow_plans.specs.Changes.{moved_to, key_after, amended_plan};
+ghost use Rattle.flow_plans.specs.Changes.{amended, Answers, IsRefusal};
 ghost use Rattle.flow_plans.specs.Changes.{IsJustRefusal};
 ghost use Rattle.flow_plans.specs.Matching.{matching};
 ghost use Rattle.flow_plans.specs.Undoing.{undone, IsOf, CanReturn};
@@ -22,7 +24,7 @@ use fpl_message::Chg;
 use fpl_text::{Departure, Minute};
 use std::alloc::Allocator;
 
-/// The off-block moment, which an amended field 13 moves as a delay does.
+/// The off-block date and time, which an amended field 13 moves as a delay does.
 fn moved_to(now: Minute, held: Minute, departure: Option<&Departure>) -> Result<Minute, PlanFault>
     requires now { IsDeskTime now }
     requires held { held < off_blocks_end }
@@ -35,8 +37,8 @@ fn moved_to(now: Minute, held: Minute, departure: Option<&Departure>) -> Result<
     }
 }
 
-/// The number of the plan that a message is about, and the name of its flight and the off-block moment with all its
-/// amendments made, or why it is refused.
+/// The number of the plan that a message is about, with the name of its flight and the off-block
+/// date and time after all amendments; or why the message is refused.
 #[tactic(auto, unfolding(crate::specs::Changes::amended))]
 fn checked<A: Allocator + Copy>(
     plans: &[Plan<A>],
@@ -47,9 +49,10 @@ fn checked<A: Allocator + Copy>(
     requires now { IsDeskTime now }
     requires few { length plans.now ≤ MAX_PLANS }
     requires chained { AreChained chains.now plans.now }
-    ensures ok { IfOk result (λ r. amended now plans.now message.now
-        ≡ Ok (record { plans = changed_at (amended_plan r.2 message.now) r.0 plans.now; number = r.0 })) }
-    ensures within { IfOk result (λ r. (0 < r.0) × (r.0 ≤ length plans.now) × (r.2 < off_blocks_end)) }
+    ensures ok { IfOk result (λ r. amended now plans.now message.now ≡ Ok (
+        record { plans = changed_at (amended_plan r.2 message.now) r.0 plans.now; number = r.0 })) }
+    ensures within { IfOk result (λ r. (0 < r.0) × (r.0 ≤ length plans.now)
+        × (r.2 < off_blocks_end)) }
     ensures held { IfOk result (λ r. IfSome (plan_at plans.now r.0) (λ p. is_held p.state ≡ true)) }
     ensures named { IfOk result (λ r. IfSome (plan_at plans.now r.0)
         (λ p. flight_of_key (key_after p.key message.now) ≡ r.1)) }
@@ -69,7 +72,8 @@ fn checked<A: Allocator + Copy>(
     Ok((number, name, off_block))
 }
 
-/// Amends the plan that a message is about, and answers its number. The last change is then what undoes that.
+/// Amends the plan that a message is about, and returns its number. The amendment is the last
+/// change then.
 #[tactic(auto, unfolding(crate::specs::Changes::amended))]
 pub(crate) fn amend_plan<A: Allocator + Copy>(
     alloc: A,
@@ -89,7 +93,8 @@ pub(crate) fn amend_plan<A: Allocator + Copy>(
     ensures change { OnOk result (IsOf last.new plans.new) }
     ensures room { OnOk result (CanReturn chains.new last.new plans.new) }
     ensures refused { IfErr result (λ e. IsRefusal e (amended now plans.old message.now)) }
-    ensures memory { IfErr result (λ e. e ≡ PlanFault.OutOfMemory → IsOk (amended now plans.old message.now)) }
+    ensures memory { IfErr result (λ e. e ≡ PlanFault.OutOfMemory
+        → IsOk (amended now plans.old message.now)) }
     ensures count { length plans.new ≡ length plans.old }
     ensures err { OnErr result (plans.new ≡ plans.old) }
     ensures last { OnErr result (last.new ≡ last.old) }
@@ -100,7 +105,7 @@ pub(crate) fn amend_plan<A: Allocator + Copy>(
     let Ok(texts) = plans.as_slice()[(number - 1) as usize].amended_texts(alloc, message) else {
         return Err(PlanFault::OutOfMemory);
     };
-    // For the name of its flight now, and for the one that it had, should that be taken back.
+    // For the new name of the flight, and for its former one if the change is undone.
     let Ok(()) = chains.reserve(2) else {
         return Err(PlanFault::OutOfMemory);
     };

@@ -1,11 +1,14 @@
-//! Finding plans by identification, departure and destination, without a walk over all plans.
-ghost use Rattle.std.specs.Prelude.{◌≡◌, ◌≤◌, ◌<◌, ◌+◌, ◌-◌, ◌++◌, ◌∷◌, [], ℕ, Bool, true, false, None, OnOk};
+//! Finds plans by identification, departure and destination, without a scan of all plans.
+ghost use Rattle.std.specs.Prelude.{◌≡◌, ◌≤◌, ◌<◌, ◌+◌, ◌-◌, ◌++◌, ◌∷◌, []};
+ghost use Rattle.std.specs.Prelude.{ℕ, Bool, true, false, None, OnOk};
 ghost use Rattle.std.specs.Prelude.{OnErr, IfSome, length, max, take, slice_index, fold, ◌*◌};
 ghost use Rattle.std.specs.Map.{lookup};
 ghost use Rattle.indexmap.specs.IndexMap.{spare};
 ghost use Rattle.flow_plans.specs.Plans.{Plan as Held, is_held, plan_at, with_plan};
-ghost use Rattle.flow_plans.specs.Chains.{base_256, flight_named, flight_of_key, flight_of_parts, same_flight, newest};
-ghost use Rattle.flow_plans.specs.Chains.{GoDown, AreLinks, IsNewest, AreChained, HasRoomFor, IsUpdated, KeepNames};
+ghost use Rattle.flow_plans.specs.Chains.{base_256, flight_named, flight_of_key};
+ghost use Rattle.flow_plans.specs.Chains.{flight_of_parts, same_flight, newest};
+ghost use Rattle.flow_plans.specs.Chains.{GoDown, AreLinks, IsNewest, AreChained};
+ghost use Rattle.flow_plans.specs.Chains.{HasRoomFor, IsUpdated, KeepNames};
 ghost use Rattle.flow_plans.specs.Chains.{IsForgotten, StayChained, IsApart, LeaveOut, TakeIn};
 ghost use Rattle.flow_plans.specs.declared.setup.TheConstants.{MAX_PLANS};
 
@@ -18,8 +21,8 @@ use std::alloc::{AllocError, Allocator, Global};
 use std::hash::{BuildHasherDefault, FoldHasher};
 use std::marker::Model;
 
-/// What plans of all days of a flight have in common: the identification as one number, and the letters of the
-/// departure and the destination as another. Equal flights have equal names.
+/// What the plans of a flight have in common on all days: the identification as one number, and the
+/// letters of the departure and the destination as another. Equal flights have equal names.
 #[derive(Clone, Copy, PartialEq, Eq, Hash)]
 pub(crate) struct FlightName {
     ident: u64,
@@ -53,7 +56,7 @@ impl FlightName {
     }
 }
 
-/// At most seven bytes as one number to the base 256. The first four are taken at once.
+/// At most seven bytes as one number to the base 256. The first four are read at once.
 #[inline(always)]
 fn number_of(bytes: &[u8]) -> u64
     requires { length bytes.now ≤ 7 }
@@ -65,7 +68,7 @@ fn number_of(bytes: &[u8]) -> u64
     number_with(u64::from(letters_of(bytes)), &bytes[4..])
 }
 
-/// A number of at most four bytes to the base 256, with at most three bytes more.
+/// A number of at most four bytes to the base 256, with at most three bytes appended.
 #[inline(always)]
 fn number_with(front: u64, bytes: &[u8]) -> u64
     requires front { front < 4_294_967_296 }
@@ -79,9 +82,9 @@ fn number_with(front: u64, bytes: &[u8]) -> u64
     number
 }
 
-/// From a flight name to the number of the newest plan that is held under it, and beside each plan the number of the
-/// next older one; 0 where there is none. So a chain has the held plans of one name, from the newest to the oldest, and
-/// no others: a plan that is cancelled or gets another name is taken out.
+/// A map from each flight name to the number of its newest held plan, and for each plan the number
+/// of the next older one; 0 if there is none. So a chain has the held plans of one name, from the
+/// newest to the oldest, and no others: a plan that is cancelled or gets another name is removed.
 #[derive(Drop)]
 pub(crate) struct Chains<A: Allocator + Copy = Global> {
     heads: Heads<A>,
@@ -96,13 +99,13 @@ impl<A: Allocator + Copy> Model for Chains<A> {
 
     ghost Value = { Chained };
 
-    ghost view = { λ c. record { heads = c.heads.entries; older = c.older.items; room = spare c.heads } };
+    ghost view = { λ c.
+        record { heads = c.heads.entries; older = c.older.items; room = spare c.heads } };
 
     ghost invariant = { λ c. GoDown c.older.items };
 }
 
 impl<A: Allocator + Copy> Chains<A> {
-    /// No chains.
     pub(crate) fn new(alloc: A) -> Self
         ensures { AreChained result [] }
     {
@@ -112,14 +115,14 @@ impl<A: Allocator + Copy> Chains<A> {
         }
     }
 
-    /// The number of the newest plan that is held under a name.
+    /// The number of the newest held plan of a name, or 0.
     pub(crate) fn newest(&self, name: &FlightName) -> u32
         ensures { result ≡ newest self.now.heads name.now }
     {
         self.heads.get(name).copied().unwrap_or(0)
     }
 
-    /// Beside each plan the number of the next older one.
+    /// For each plan the number of the next older one.
     pub(crate) fn older(&self) -> &[u32]
         ensures value { result.now ≡ self.now.older }
         ensures down { GoDown result.now }
@@ -127,7 +130,7 @@ impl<A: Allocator + Copy> Chains<A> {
         &self.older
     }
 
-    /// Makes room for the names of as many flights. After an `Err` all chains are as they were.
+    /// Reserves the names of `flights` more flights. After an `Err` all chains are unchanged.
     pub(crate) fn reserve(&mut self, flights: usize) -> Result<(), AllocError>
         ensures kept { StayChained self.old self.new }
         ensures ok { OnOk result (flights ≤ self.new.room) }
@@ -135,7 +138,8 @@ impl<A: Allocator + Copy> Chains<A> {
         self.heads.reserve(flights)
     }
 
-    /// Puts a plan behind these at the front of its chain. After an `Err` all chains are as they were.
+    /// Puts a plan, which follows `plans`, at the head of its chain. After an `Err` all chains are
+    /// unchanged.
     pub(crate) fn append(&mut self, plans: &[Plan<A>], plan: &Plan<A>) -> Result<(), AllocError>
         requires few { length plans.now ≤ MAX_PLANS }
         requires held { is_held plan.now.state ≡ true }
@@ -151,7 +155,7 @@ impl<A: Allocator + Copy> Chains<A> {
         Ok(())
     }
 
-    /// Takes the plan of this number, whose flight has this name, out of its chain. It takes no memory.
+    /// Removes plan `number`, of the flight `name`, from its chain. Doesn't allocate.
     pub(crate) fn leave(&mut self, name: &FlightName, number: u32)
         requires number { (0 < number) × (number ≤ length self.old.older) }
         requires within { newest self.old.heads name.now ≤ length self.old.older }
@@ -169,14 +173,15 @@ impl<A: Allocator + Copy> Chains<A> {
         }
     }
 
-    /// Takes the plan of this number, whose flight has this name, out of its chain, and forgets the flight where no
-    /// other plan is held under that name. It takes no memory.
+    /// Removes plan `number`, of the flight `name`, from its chain, and the flight from the map if
+    /// no other plan has that name. Doesn't allocate.
     pub(crate) fn withdraw(&mut self, name: &FlightName, number: u32)
         requires number { (0 < number) × (number ≤ length self.old.older) }
         requires within { newest self.old.heads name.now ≤ length self.old.older }
         ensures out { LeaveOut self.old self.new name.now number }
         ensures others { (q : FlightName) → same_flight name.now q ≡ false
-            → lookup (same_flight q) self.new.heads ≡ None → lookup (same_flight q) self.old.heads ≡ None }
+            → lookup (same_flight q) self.new.heads ≡ None
+            → lookup (same_flight q) self.old.heads ≡ None }
         ensures room { self.old.room ≤ self.new.room }
     {
         if self.older[(number - 1) as usize] == 0 {
@@ -187,7 +192,7 @@ impl<A: Allocator + Copy> Chains<A> {
         self.leave(name, number);
     }
 
-    /// Puts the plan of this number into the chain of its flight, which has this name, and for which there is room.
+    /// Inserts plan `number` into the chain of the flight `name`, for which there is capacity.
     pub(crate) fn join(&mut self, name: FlightName, number: u32)
         requires apart { IsApart self.old number }
         requires room { HasRoomFor self.old name }
@@ -205,8 +210,8 @@ impl<A: Allocator + Copy> Chains<A> {
         self.older[later] = number;
     }
 
-    /// Takes the plan of this number out of the chain of its flight, and puts it into that of the flight with this name,
-    /// which has room for it. It takes no memory.
+    /// Moves plan `number` from the chain of its flight into that of the flight `name`, for which
+    /// there is capacity. Doesn't allocate.
     pub(crate) fn rename(&mut self, plans: &[Plan<A>], number: u32, name: FlightName)
         requires number { (0 < number) × (number ≤ length plans.now) }
         requires held { IfSome (plan_at plans.now number) (λ p. is_held p.state ≡ true) }
@@ -224,8 +229,8 @@ impl<A: Allocator + Copy> Chains<A> {
         self.join(name, number);
     }
 
-    /// Takes the last of these plans out of its chain, and forgets its flight where no other plan is held under that
-    /// name. It takes no memory.
+    /// Removes the last of these plans from its chain, and its flight from the map if no other plan
+    /// has that name. Doesn't allocate.
     pub(crate) fn pop(&mut self, plans: &[Plan<A>])
         requires some { 0 < length plans.now }
         requires few { length plans.now ≤ MAX_PLANS }
@@ -238,7 +243,7 @@ impl<A: Allocator + Copy> Chains<A> {
     }
 }
 
-/// Gives the newest plan of a flight another number where it had this one, and answers the number before.
+/// Replaces the newest plan of a flight if it is `number`, and returns the number before.
 fn lower_newest<A: Allocator + Copy>(
     heads: &mut Heads<A>,
     name: &FlightName,
@@ -247,7 +252,8 @@ fn lower_newest<A: Allocator + Copy>(
 ) -> u32
     requires { 0 < number }
     ensures before { result ≡ newest heads.old.entries name.now }
-    ensures lowered { result ≡ number → IsUpdated heads.old.entries heads.new.entries name.now next }
+    ensures lowered { result ≡ number
+        → IsUpdated heads.old.entries heads.new.entries name.now next }
     ensures kept { (result ≡ number → ⊥) → (q : FlightName)
         → lookup (same_flight q) heads.new.entries ≡ lookup (same_flight q) heads.old.entries }
     ensures room { spare heads.new ≡ spare heads.old }
@@ -262,7 +268,7 @@ fn lower_newest<A: Allocator + Copy>(
     before
 }
 
-/// Forgets a flight whose newest plan has this number, and answers whether it has.
+/// Removes a flight from the map if its newest plan is `number`, and returns whether it was.
 fn forget_alone<A: Allocator + Copy>(heads: &mut Heads<A>, name: &FlightName, number: u32) -> bool
     ensures newest { result ≡ true → newest heads.old.entries name.now ≡ number }
     ensures gone { result ≡ true → IsForgotten heads.old.entries heads.new.entries name.now }
@@ -279,8 +285,8 @@ fn forget_alone<A: Allocator + Copy>(heads: &mut Heads<A>, name: &FlightName, nu
     true
 }
 
-/// Makes this number that of the newest plan of a flight, for which there is room in the map, unless a newer one has
-/// it, and answers the number before.
+/// Sets the newest plan of a flight, for which the map has capacity, unless a newer one is there;
+/// returns the number before.
 fn raise_newest<A: Allocator + Copy>(heads: &mut Heads<A>, name: FlightName, number: u32) -> u32
     requires some { 0 < number }
     requires room { lookup (same_flight name) heads.old.entries ≡ None → 0 < spare heads.old }
@@ -294,7 +300,8 @@ fn raise_newest<A: Allocator + Copy>(heads: &mut Heads<A>, name: FlightName, num
     before
 }
 
-/// The place of the plan from which the chain that begins with this newest one goes on below a number, or to it.
+/// The index of the plan in the chain from `newest` whose next older plan is `number` or older than
+/// that.
 fn later_than(older: &[u32], newest: u32, number: u32) -> usize
     requires down { GoDown older.now }
     requires within { newest ≤ length older.now }
@@ -302,7 +309,8 @@ fn later_than(older: &[u32], newest: u32, number: u32) -> usize
     ensures within { result < length older.now }
     ensures later { number ≤ result }
     ensures next { slice_index older.now result ≤ number }
-    ensures held { (test : ℕ → Bool) → AreLinks test older.now → IsNewest test newest → test result ≡ true }
+    ensures held { (test : ℕ → Bool) → AreLinks test older.now → IsNewest test newest
+        → test result ≡ true }
 {
     let mut later = (newest - 1) as usize;
     while older[later] > number {

@@ -1,15 +1,16 @@
 //! Why a message about a plan is refused.
 
-/// Why a message about a plan is refused. The numbers are those of [`Refusal`](fpl_message::Refusal).
+/// Why a message about a plan is refused. The numbers are those of
+/// [`Refusal`](fpl_message::Refusal).
 #[derive(Clone, Copy, Debug, PartialEq, Eq)]
 pub enum PlanFault {
     /// A held plan has the same key.
     AlreadyHeld,
-    /// No plan agrees with the message.
+    /// No plan matches the message.
     NoPlan,
-    /// Several plans agree with the message.
+    /// Several plans match the message.
     Ambiguous,
-    /// The plan that agrees with the message has departed.
+    /// The plan that matches the message has departed.
     AlreadyDeparted,
     /// An amendment that would make another flight of the plan.
     KeyChange,
@@ -17,11 +18,11 @@ pub enum PlanFault {
     NotLater,
     /// A delay of more than 720 minutes.
     DelayTooLong,
-    /// An off-block moment before the desk's time.
+    /// An off-block date and time before the desk's time.
     Past,
-    /// An off-block moment more than 120 hours after the desk's time.
+    /// An off-block date and time more than 120 hours after the desk's time.
     TooEarly,
-    /// As many flight plans were accepted as the desk may hold.
+    /// The desk has accepted as many flight plans as its setup allows.
     PlansFull,
     OutOfMemory,
 }

@@ -1,22 +1,24 @@
 //! Flight plans by number: filing them, and what later messages change.
 //!
-//! Plan n is the n-th of a list, for good. A message changes one plan of it or is refused (`specs/Changes`); the last
-//! change can be taken back. What is kept beside the plans only makes them quick to find, and each part has its word
-//! of what it says of them:
+//! Plan n is the n-th of a list, for good. A message changes one plan of it or is refused
+//! (`specs/Changes`); the last change can be undone. What is stored beside the plans only makes
+//! them quick to find, and each part has a definition of what it says of them:
 //!
-//! - *Chains* (`chains`): from each flight, named by identification, departure and destination, to its newest held
-//!   plan, and from each plan to the next older one. A message looks at the held plans of its flight and at no
-//!   others.
-//! - *Outlines* (`outline`): where and when a plan's flight may come, in 24 bytes a plan. OPEN goes over these, and
-//!   reads the plans of those flights that may come to its place in its period. An outline may say too much, never
-//!   too little.
-//! - *Estimates* (`texts`): what the EET items of field 18 say, taken over from the message that was read.
-//! - *Places* (`places`, `near`): a bit for each place that a flight comes to, by which the open regulations near it
-//!   are found.
+//! - *Chains* (`chains`): from each flight, named by identification, departure and destination, to
+//!   its newest held plan, and from each plan to the next older one. A message reads the held plans
+//!   of its flight and no others.
+//! - *Outlines* (`outline`): index entries that say where and when a plan's flight may be, in 24
+//!   bytes a plan. OPEN scans these, and reads the plans of those flights that may enter its point
+//!   in its period. An outline may say too much, never too little.
+//! - *Estimates* (`texts`): what the EET items of field 18 say, copied from the message that was
+//!   read.
+//! - *Places* (`places`, `near`): a bit for each aerodrome or route point that a flight enters, by
+//!   which the open regulations that may apply to it are found.
 //!
-//! `store` has the calls, `matching` finds the plan of a message, `amending` makes amendments (`amended_values` has
-//! their values), `times` says what off-block moment a message gives, `undo` takes the last change back, `setup` has
-//! the limits of a desk, `laws` what holds of plans over all messages to come.
+//! `store` has the calls; `matching` finds the plan of a message; `amending` makes amendments, with
+//! values from `amended_values`; `times` computes the off-block date and time that a message gives;
+//! `undo` undoes the last change; `setup` has the limits of a desk; `laws` what holds of plans
+//! after all messages to come.
 #![tactic(auto)]
 
 mod amended_values;

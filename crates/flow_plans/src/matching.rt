@@ -1,9 +1,11 @@
-//! Finding the plan that a message is about.
-ghost use Rattle.std.specs.Prelude.{◌≡◌, ◌≤◌, ◌<◌, ℕ, true, false, not, ◌&&◌, ◌==◌, length, IfOk, IfSome};
+//! Finds the plan that a message is about.
+ghost use Rattle.std.specs.Prelude.{◌≡◌, ◌≤◌, ◌<◌, ℕ, true, false, not};
+ghost use Rattle.std.specs.Prelude.{◌&&◌, ◌==◌, length, IfOk, IfSome};
 ghost use Rattle.std.specs.List.{list_any};
 ghost use Rattle.flow_plans.specs.Plans.{plan_at, is_held_as};
 ghost use Rattle.flow_plans.specs.Matching.{is_candidate, is_gone, matching};
-ghost use Rattle.flow_plans.specs.Searching.{with_candidate, with_gone, with_one_more, passes_at, IsSound, IsCounted};
+ghost use Rattle.flow_plans.specs.Searching.{with_candidate, with_gone, with_one_more};
+ghost use Rattle.flow_plans.specs.Searching.{passes_at, IsSound, IsCounted};
 ghost use Rattle.flow_plans.specs.Searching.{IsFreeAt, IsHeldBeside};
 ghost use Rattle.flow_plans.specs.Chains.{AreChained, flight_of_key};
 ghost use Rattle.flow_plans.specs.Changes.{Answers, others};
@@ -15,11 +17,11 @@ use crate::plan::{Key, Plan, PlanState};
 use fpl_message::Parts;
 use std::alloc::Allocator;
 
-/// What a search has found so far, by place from 0.
+/// What a search has found so far, by index from 0.
 #[derive(Clone, Copy)]
 pub(crate) enum Found {
     Nothing,
-    /// A plan that agrees, but has departed.
+    /// A plan that matches, but has departed.
     Gone,
     One(usize),
     Several,
@@ -45,9 +47,10 @@ impl Found {
         }
     }
 
-    /// With the plan at a place.
+    /// The result with the plan at `place` counted.
     fn with<A: Allocator + Copy>(self, place: usize, plan: &Plan<A>, parts: &Parts) -> Found
-        ensures { result ≡ with_one_more (is_candidate parts.now plan.now) (is_gone parts.now plan.now) place self }
+        ensures { result ≡ with_one_more (is_candidate parts.now plan.now)
+            (is_gone parts.now plan.now) place self }
     {
         if plan.is_candidate(parts) {
             return self.with_candidate(place);
@@ -59,7 +62,7 @@ impl Found {
     }
 }
 
-/// With the plan at a place, where there is one.
+/// The result with the plan at `place` counted, if there is one.
 fn with_place<A: Allocator + Copy>(
     found: Found,
     plans: &[Plan<A>],
@@ -75,11 +78,12 @@ fn with_place<A: Allocator + Copy>(
     }
 }
 
-/// What the plans give that are held under the name of the flight that a message is about, the newest first.
+/// The result of searching the held plans of the message's flight, the newest first.
 fn found_in<A: Allocator + Copy>(plans: &[Plan<A>], chains: &Chains<A>, parts: &Parts) -> Found
     requires { AreChained chains.now plans.now }
     ensures sound { IsSound (is_candidate parts.now) (is_gone parts.now) plans.now result }
-    ensures all { (place : ℕ) → IsCounted (is_candidate parts.now) (is_gone parts.now) plans.now result place }
+    ensures all { (place : ℕ)
+        → IsCounted (is_candidate parts.now) (is_gone parts.now) plans.now result place }
 {
     let older = chains.older();
     let mut number = chains.newest(&FlightName::of_parts(parts));
@@ -102,7 +106,8 @@ pub(crate) fn matching<A: Allocator + Copy>(
     requires chained { AreChained chains.now plans.now }
     ensures answer { Answers result (matching plans.now parts.now) }
     ensures within { IfOk result (λ n. (0 < n) × (n ≤ length plans.now)) }
-    ensures filed { IfOk result (λ n. IfSome (plan_at plans.now n) (λ p. p.state ≡ PlanState.Filed)) }
+    ensures filed { IfOk result (λ n.
+        IfSome (plan_at plans.now n) (λ p. p.state ≡ PlanState.Filed)) }
 {
     match found_in(plans, chains, parts) {
         Found::Nothing => Err(PlanFault::NoPlan),
@@ -112,7 +117,7 @@ pub(crate) fn matching<A: Allocator + Copy>(
     }
 }
 
-/// Whether the plan at a place is held with this key.
+/// Whether the plan at index `place` is held with this key.
 fn is_held_at<A: Allocator + Copy>(plans: &[Plan<A>], place: usize, key: &Key) -> bool
     ensures { result ≡ passes_at (is_held_as key.now) plans.now place }
 {
@@ -122,7 +127,7 @@ fn is_held_at<A: Allocator + Copy>(plans: &[Plan<A>], place: usize, key: &Key) -
     }
 }
 
-/// The same, but for one place that does not count.
+/// The same, except for the plan at index `but`, which doesn't count.
 fn is_held_beside<A: Allocator + Copy>(
     plans: &[Plan<A>],
     place: usize,
@@ -134,8 +139,8 @@ fn is_held_beside<A: Allocator + Copy>(
     place != but && is_held_at(plans, place, key)
 }
 
-/// Whether a plan, but the one at a place, is held with this key, looked for among those held under the name of its
-/// flight.
+/// Whether a plan other than that at index `but` is held with this key, searched among the held
+/// plans of the flight's name.
 fn is_held_in<A: Allocator + Copy>(
     plans: &[Plan<A>],
     chains: &Chains<A>,
@@ -172,7 +177,7 @@ pub(crate) fn holds_key<A: Allocator + Copy>(
     is_held_in(plans, chains, &FlightName::of_key(key), key, plans.len())
 }
 
-/// Whether a plan but that one is held with this key, whose flight has this name.
+/// Whether a plan other than `number` is held with this key, whose flight has this name.
 pub(crate) fn others_hold_key<A: Allocator + Copy>(
     plans: &[Plan<A>],
     chains: &Chains<A>,

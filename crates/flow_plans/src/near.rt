@@ -1,7 +1,6 @@
-//! What stands in a table of words for the places to which a flight comes.
+//! The words of a table of bit masks for the aerodromes and route points that a flight enters.
 //!
-//! The table has a row for each kind of place and each bit of a place: departures, arrivals and places on the way have
-//! 64 each.
+//! The table has 64 rows each for departures, arrivals and route points, by a bit of the name.
 ghost use Rattle.std.specs.Prelude.{◌≡◌, ◌+◌, ◌<◌, ◌≤◌, ℕ};
 ghost use Rattle.std.specs.Int.{bit_at};
 ghost use Rattle.flow_plans.specs.Near.{row_of, word_at, HasBitsOf};
@@ -10,10 +9,10 @@ ghost use Rattle.fpl_items.specs.Places.{bit_of};
 use fpl_items::bit_of;
 use fpl_message::Spot;
 
-/// The rows of a table of words by places.
+/// The number of rows of a table of masks.
 pub const ROWS: u32 = 192;
 
-/// The row of a place in a table of words by places.
+/// Returns the row of an aerodrome or route point in a table of masks.
 #[tactic(auto, unfolding(crate::specs::Near::row_of))]
 pub fn row_of(spot: &Spot) -> usize
     ensures value { result ≡ row_of spot.now }
@@ -26,7 +25,7 @@ pub fn row_of(spot: &Spot) -> usize
     }
 }
 
-/// The word of a row. One that the table doesn't have has each bit.
+/// The word of a row. A row that the table doesn't have has each bit.
 #[inline(always)]
 fn word_at(table: &[u64], row: usize) -> u64
     ensures { result ≡ word_at table.now row }
@@ -37,7 +36,7 @@ fn word_at(table: &[u64], row: usize) -> u64
     }
 }
 
-/// The bits of the words of a departure and a destination.
+/// The masks of a departure and a destination.
 pub(crate) fn words_of_ends(table: &[u64], dep: &[u8], dest: &[u8]) -> u64
     ensures dep { HasBitsOf result (word_at table.now (bit_of dep.now)) }
     ensures dest { HasBitsOf result (word_at table.now (64 + bit_of dest.now)) }
@@ -45,7 +44,7 @@ pub(crate) fn words_of_ends(table: &[u64], dep: &[u8], dest: &[u8]) -> u64
     word_at(table, bit_of(dep) as usize) | word_at(table, 64 + bit_of(dest) as usize)
 }
 
-/// The next bit of a word from this one on, 64 or more where there is none.
+/// The index of the next set bit from `from` on, 64 or more if there is none.
 #[inline(always)]
 fn next_bit(word: u64, from: usize) -> usize
     ensures from { from ≤ result }
@@ -61,9 +60,10 @@ fn next_bit(word: u64, from: usize) -> usize
     from + later.trailing_zeros() as usize
 }
 
-/// The bits of the words of a set of places on the way.
+/// The masks of a set of route points.
 pub(crate) fn words_on_way(table: &[u64], places: u64) -> u64
-    ensures { (b : ℕ) → b < 64 → bit_at places b ≡ 1 → HasBitsOf result (word_at table.now (128 + b)) }
+    ensures { (b : ℕ) → b < 64 → bit_at places b ≡ 1
+        → HasBitsOf result (word_at table.now (128 + b)) }
 {
     let mut words = 0;
     let mut bit = next_bit(places, 0);

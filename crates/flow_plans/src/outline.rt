@@ -1,9 +1,11 @@
 //! Where and when a regulation may apply to a flight, and whether its plan is filed, in few bytes.
 //!
-//! Most flights never come to the place of a regulation, or not while it lasts. Their outlines say so without a look at
-//! their plans. When a flight enters a regulated departure its outline tells, too.
+//! Most flights never enter a regulated point, or not in its period. Their outlines, the index
+//! entries of the plans, say so without a read of the plan. The outline also has the entry of a
+//! flight at a regulated departure.
 ghost use Rattle.std.specs.Prelude.{◌≡◌, ◌≤◌};
-ghost use Rattle.flow_plans.specs.Outlines.{may_come, may_fly, outlined_moment, departure, IsOutlineOf};
+ghost use Rattle.flow_plans.specs.Outlines.{may_come, may_fly, outlined_moment};
+ghost use Rattle.flow_plans.specs.Outlines.{departure, IsOutlineOf};
 ghost use Rattle.flow_plans.specs.declared.setup.TheConstants.{MAX_TAXI};
 
 use crate::places::letters_of;
@@ -13,18 +15,17 @@ use fpl_message::Spot;
 use fpl_text::Minute;
 use std::alloc::Allocator;
 
-/// The places at which a regulation may apply to a flight and when, and whether its plan is filed.
+/// The points at which a regulation may apply to a flight and when, and whether its plan is filed.
 #[derive(Clone, Copy, Debug)]
 pub(crate) struct Outline {
-    /// The letters of the departure, as `letters_of` gives them.
+    /// The letters of the departure, as `letters_of` returns them.
     dep: u32,
     /// Those of the destination.
     dest: u32,
-    /// The set of the places on the way.
+    /// The set of the route points, by a bit of each name.
     way: u64,
-    /// The off-block moment.
     off_block: Minute,
-    /// The minutes from take-off to the last place that the flight comes to, or more.
+    /// The minutes from take-off to the last point that the flight enters, or more.
     longest: u16,
     is_filed: bool,
 }
@@ -32,7 +33,8 @@ pub(crate) struct Outline {
 const _: () = prove!(size_of::<Outline>() <= 24);
 
 impl Outline {
-    /// The outline of a plan. It comes nowhere where no regulation applies to the flight, wherever it is.
+    /// The outline of a plan. If no regulation applies to the flight, wherever it is, the outline
+    /// enters no point.
     pub(crate) fn of<A: Allocator + Copy>(plan: &Plan<A>) -> Outline
         ensures { IsOutlineOf result plan.now }
     {
@@ -59,7 +61,7 @@ impl Outline {
         }
     }
 
-    /// Whether the flight may come to a place.
+    /// Whether the flight may enter a point.
     #[inline(always)]
     #[tactic(auto, unfolding(crate::specs::Outlines::may_come))]
     pub(crate) fn may_come(&self, spot: &Spot) -> bool
@@ -72,8 +74,8 @@ impl Outline {
         }
     }
 
-    /// The entry of the flight at its departure of these letters, where a regulation of that place and period applies
-    /// to it. None applies to a flight that departs in the air.
+    /// The entry of the flight at its departure of these letters, if a regulation of that aerodrome
+    /// and period applies to it. None applies to a flight that departs in the air.
     #[inline(always)]
     #[tactic(auto, unfolding(crate::specs::Outlines::departure))]
     pub(crate) fn departure(
@@ -96,7 +98,7 @@ impl Outline {
         Some(Minute::from_minutes(take_off))
     }
 
-    /// The off-block moment, where the plan is filed.
+    /// The off-block date and time, if the plan is filed.
     #[inline(always)]
     pub(crate) fn filed_off_block(&self) -> Option<Minute>
         ensures { result ≡ outlined_moment self.now }
@@ -108,7 +110,7 @@ impl Outline {
         }
     }
 
-    /// The minutes from take-off to the last place that the flight comes to, or more.
+    /// The minutes from take-off to the last point that the flight enters, or more.
     #[inline(always)]
     fn longest(&self) -> u16
         ensures { result ≡ self.now.longest }
@@ -116,7 +118,8 @@ impl Outline {
         self.longest
     }
 
-    /// Whether the flight takes off before the end of a period, and may not yet be over at its start.
+    /// Whether the flight takes off before the end of a period, and may not yet be over at its
+    /// start.
     #[inline(always)]
     #[tactic(auto, unfolding(crate::specs::Outlines::may_fly))]
     pub(crate) fn may_fly(&self, taxi: u32, start: Minute, end: Minute) -> bool

@@ -1,8 +1,8 @@
-//! Places as numbers.
+//! Aerodromes and route points as numbers.
 ghost use Rattle.std.specs.Prelude.{◌≡◌};
 ghost use Rattle.flow_plans.specs.Places.{letters_of, AreBytes};
 
-/// The first four letters of a place as one number, 0 of a shorter one.
+/// Returns the first four letters of a name as one number, 0 for a shorter one.
 #[inline(always)]
 #[tactic(auto, unfolding(crate::specs::Places::letters_of))]
 pub fn letters_of(place: &[u8]) -> u32

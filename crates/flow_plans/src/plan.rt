@@ -1,5 +1,6 @@
 //! One flight plan.
-ghost use Rattle.std.specs.Prelude.{◌≡◌, ◌≤◌, ◌<◌, ℕ, List, Option, true, IfOk, IfSome, IsSome, None, option_copied};
+ghost use Rattle.std.specs.Prelude.{◌≡◌, ◌≤◌, ◌<◌, ℕ, List, Option, true, IfOk};
+ghost use Rattle.std.specs.Prelude.{IfSome, IsSome, None, option_copied};
 ghost use Rattle.fpl_items.specs.Items.{Item, day_of_items};
 ghost use Rattle.fpl_items.specs.Told.{TellsOfAny};
 ghost use Rattle.flow_plans.specs.Entries.{take_off, elapsed_at, entry_at, subject};
@@ -7,10 +8,12 @@ ghost use Rattle.fpl_message.specs.declared.order.Spot.{Spot};
 ghost use Rattle.flow_plans.specs.Near.{row_of, word_at, HasBitsOf};
 ghost use Rattle.flow_plans.specs.Outlines.{may_be_subject};
 ghost use Rattle.fpl_items.specs.Places.{may_have};
-ghost use Rattle.flow_plans.specs.Plans.{is_held, is_filed, same_key, is_held_as, text_of, status_of};
+ghost use Rattle.flow_plans.specs.Plans.{is_held, is_filed, same_key};
+ghost use Rattle.flow_plans.specs.Plans.{is_held_as, text_of, status_of};
 ghost use Rattle.flow_plans.specs.Plans.{with_state, with_off_block, with_former, texts_or};
 ghost use Rattle.flow_plans.specs.Matching.{agrees, is_candidate, is_gone};
-ghost use Rattle.flow_plans.specs.Changes.{plan_of, key_of, changes_key, key_after, texts_after, amended_plan};
+ghost use Rattle.flow_plans.specs.Changes.{plan_of, key_of, changes_key};
+ghost use Rattle.flow_plans.specs.Changes.{key_after, texts_after, amended_plan};
 ghost use Rattle.std.specs.Option.{option_map_or};
 ghost use Rattle.std.specs.Str.{bytes_eq};
 ghost use Rattle.flow_plans.specs.declared.setup.TheConstants.{MAX_TAXI};
@@ -27,7 +30,7 @@ use std::alloc::{AllocError, Allocator, Global};
 use std::marker::Model;
 use std::mem;
 
-/// Where a plan stands.
+/// Whether a plan is filed, departed or cancelled.
 #[derive(Clone, Copy, Debug, PartialEq, Eq)]
 pub enum PlanState {
     Filed,
@@ -35,26 +38,25 @@ pub enum PlanState {
     Cancelled,
 }
 
-/// Where a plan stands, and its off-block moment.
+/// The state of a plan, and its off-block date and time.
 #[derive(Clone, Copy, Debug, PartialEq, Eq)]
 pub struct Status {
     pub state: PlanState,
     pub off_block: Minute,
 }
 
-/// What names a plan: two held plans never have the same key.
+/// What identifies a plan: two held plans never have the same key.
 #[derive(Debug, Drop, PartialEq, Eq, Hash)]
 pub struct Key {
     /// The identification, without the transponder code.
     pub ident: Text<7>,
     pub dep: Text<4>,
     pub dest: Text<4>,
-    /// The day of the off-block moment as first filed.
+    /// The day of the off-block date and time as first filed.
     pub day: Day,
 }
 
 impl Key {
-    /// Whether this is the same key.
     #[tactic(auto, unfolding(crate::specs::Plans::same_key))]
     pub(crate) fn is(&self, key: &Key) -> bool
         ensures { result ≡ same_key self.now key.now }
@@ -65,7 +67,7 @@ impl Key {
             && self.dest.is(&key.dest)
     }
 
-    /// Whether it agrees with the parts of a message: in the day too where they name one.
+    /// Whether the key matches the parts of a message: in the day too, if they have one.
     #[tactic(auto, unfolding(crate::specs::Matching::agrees))]
     pub(crate) fn agrees(&self, parts: &Parts) -> bool
         ensures { result ≡ agrees parts.now self.now }
@@ -78,8 +80,8 @@ impl Key {
         self.ident.is(&parts.ident) && self.dep.is(&parts.dep) && self.dest.is(&parts.dest)
     }
 
-    /// Whether a message would make another flight of the plan: it amends the departure to another place, or field 18
-    /// to a DOF item of another day.
+    /// Whether a message would make another flight of the plan: it amends the departure to another
+    /// aerodrome, or field 18 to a DOF item of another day.
     #[tactic(auto, unfolding(crate::specs::Changes::changes_key))]
     pub(crate) fn is_changed_by<A: Allocator + Copy>(&self, message: &Chg<A>) -> bool
         ensures { result ≡ changes_key message.now self.now }
@@ -97,7 +99,8 @@ impl Key {
 
     /// The destination after a message, which may amend it.
     fn dest_after<A: Allocator + Copy>(&self, message: &Chg<A>) -> Text<4>
-        ensures { result ≡ option_map_or (λ destination. destination.place) message.now.destination self.now.dest }
+        ensures { result ≡ option_map_or (λ destination. destination.place) message.now.destination
+            self.now.dest }
     {
         match message.destination() {
             Some(destination) => destination.place,
@@ -130,7 +133,8 @@ fn day_of<A: Allocator + Copy>(amended: Option<&Other18<A>>) -> Option<Day>
     }
 }
 
-/// Whether an aerodrome is that place. Places of four letters, as nearly all are, are compared as one number.
+/// Whether an aerodrome is `place`. Names of four letters, as nearly all are, are compared as one
+/// number.
 #[inline(always)]
 fn is_place(aerodrome: &[u8], place: &[u8]) -> bool
     ensures { result ≡ bytes_eq aerodrome.now place.now }
@@ -141,7 +145,6 @@ fn is_place(aerodrome: &[u8], place: &[u8]) -> bool
     is_same(aerodrome, place)
 }
 
-/// Whether both are the same bytes.
 #[inline(never)]
 fn is_same(aerodrome: &[u8], place: &[u8]) -> bool
     ensures { result ≡ bytes_eq aerodrome.now place.now }
@@ -151,8 +154,9 @@ fn is_same(aerodrome: &[u8], place: &[u8]) -> bool
 
 /// A flight plan as the desk holds it.
 ///
-/// What says where the flight enters a place stands together, since opening a regulation looks at it in each plan whose
-/// flight may come there: from the key to the estimates, with which the texts begin.
+/// The fields that say where the flight enters a point are adjacent, from the key to the estimates,
+/// with which the texts begin: opening a regulation reads them in each plan whose flight may enter
+/// its point.
 #[derive(Drop)]
 pub struct Plan<A: Allocator + Copy = Global> {
     alternates: Alternates,
@@ -188,7 +192,8 @@ impl<A: Allocator + Copy> Model for Plan<A> {
     ghost invariant = { λ p. (p.off_block < off_blocks_end) × (p.elapsed < ELAPSED_LIMIT) };
 }
 
-/// What a plan had before an amendment, but for its state. It takes few bytes, since most messages amend no text.
+/// What a plan had before an amendment, except its state. It takes few bytes, since most messages
+/// amend no text.
 #[derive(Drop)]
 pub(crate) struct Former<A: Allocator + Copy = Global> {
     alternates: Alternates,
@@ -198,7 +203,7 @@ pub(crate) struct Former<A: Allocator + Copy = Global> {
     elapsed: u16,
     rules: FlightRules,
     exempt: bool,
-    /// None where the plan kept its texts.
+    /// `None` if the plan has its texts still.
     texts: Option<Box<Texts<A>, A>>,
 }
 
@@ -225,14 +230,12 @@ impl<A: Allocator + Copy> Model for Former<A> {
 }
 
 impl<A: Allocator + Copy> Former<A> {
-    /// The key that the plan had.
     pub(crate) fn key(&self) -> &Key
         ensures { result.now ≡ self.now.key }
     {
         &self.key
     }
 
-    /// The off-block moment that the plan had.
     pub(crate) fn off_block(&self) -> Minute
         ensures { result ≡ self.now.off_block }
     {
@@ -241,7 +244,7 @@ impl<A: Allocator + Copy> Former<A> {
 }
 
 impl<A: Allocator + Copy> Plan<A> {
-    /// The plan that a flight plan message files, with this off-block moment. Refused where memory is.
+    /// Creates the plan that a flight plan message files, with this off-block date and time.
     #[tactic(auto, unfolding(crate::specs::Changes::plan_of))]
     pub(crate) fn new(alloc: A, message: &Fpl<A>, off_block: Minute) -> Result<Self, AllocError>
         requires { off_block < off_blocks_end }
@@ -269,19 +272,20 @@ impl<A: Allocator + Copy> Plan<A> {
         })
     }
 
-    /// The texts that the plan has after a message. None where it keeps its own. Refused where memory is.
+    /// The texts that the plan has after a message; `None` if it keeps its own.
     pub(crate) fn amended_texts(
         &self,
         alloc: A,
         message: &Chg<A>,
     ) -> Result<Option<Box<Texts<A>, A>>, AllocError>
-        ensures { IfOk result (λ texts. texts_or texts self.now.texts ≡ texts_after self.now.texts message.now) }
+        ensures { IfOk result (λ texts.
+            texts_or texts self.now.texts ≡ texts_after self.now.texts message.now) }
     {
         self.texts.amended(alloc, message)
     }
 
-    /// Makes the amendments of a message, with that off-block moment and its texts, and answers what the plan had
-    /// before.
+    /// Makes the amendments of a message, with its off-block date and time and its texts, and
+    /// returns the former values.
     #[tactic(auto, unfolding(crate::specs::Changes::amended_plan, crate::specs::Changes::key_after))]
     pub(crate) fn amend(
         &mut self,
@@ -316,7 +320,7 @@ impl<A: Allocator + Copy> Plan<A> {
         }
     }
 
-    /// Gives the plan back what it had before an amendment.
+    /// Sets the former values of an amendment again.
     pub(crate) fn restore(&mut self, mut former: Former<A>)
         ensures { self.new ≡ with_former former self.old }
     {
@@ -336,7 +340,7 @@ impl<A: Allocator + Copy> Plan<A> {
         self.is_held() && self.key.is(key)
     }
 
-    /// Whether the plan was filed and not cancelled.
+    /// Whether the plan is filed or departed, and not cancelled.
     pub fn is_held(&self) -> bool
         ensures { result ≡ is_held self.now.state }
     {
@@ -346,7 +350,7 @@ impl<A: Allocator + Copy> Plan<A> {
         }
     }
 
-    /// Whether the plan was filed, and neither departed nor was cancelled.
+    /// Whether the plan is filed: neither departed nor cancelled.
     #[inline]
     pub(crate) fn is_filed(&self) -> bool
         ensures { result ≡ is_filed self.now.state }
@@ -354,14 +358,14 @@ impl<A: Allocator + Copy> Plan<A> {
         matches!(self.state, PlanState::Filed)
     }
 
-    /// Where the plan stands.
+    /// Returns the plan's state.
     pub fn state(&self) -> PlanState
         ensures { result ≡ self.now.state }
     {
         self.state
     }
 
-    /// Where the plan stands, and its off-block moment.
+    /// Returns the plan's state, and its off-block date and time.
     pub fn status(&self) -> Status
         ensures { result ≡ status_of self.now }
     {
@@ -371,14 +375,14 @@ impl<A: Allocator + Copy> Plan<A> {
         }
     }
 
-    /// What names the plan.
+    /// Returns the plan's key.
     pub fn key(&self) -> &Key
         ensures { result.now ≡ self.now.key }
     {
         &self.key
     }
 
-    /// Whether the plan is filed and agrees with the parts of a message.
+    /// Whether the plan is filed and matches the parts of a message.
     pub(crate) fn is_candidate(&self, parts: &Parts) -> bool
         ensures { result ≡ is_candidate parts.now self.now }
     {
@@ -388,7 +392,7 @@ impl<A: Allocator + Copy> Plan<A> {
         }
     }
 
-    /// Whether the plan has departed and agrees with the parts of a message.
+    /// Whether the plan has departed and matches the parts of a message.
     pub(crate) fn is_gone(&self, parts: &Parts) -> bool
         ensures { result ≡ is_gone parts.now self.now }
     {
@@ -398,14 +402,12 @@ impl<A: Allocator + Copy> Plan<A> {
         }
     }
 
-    /// Gives the plan another state.
     pub(crate) fn set_state(&mut self, state: PlanState)
         ensures { self.new ≡ with_state state self.old }
     {
         self.state = state;
     }
 
-    /// Gives the plan another off-block moment.
     pub(crate) fn set_off_block(&mut self, moment: Minute)
         requires { moment < off_blocks_end }
         ensures { self.new ≡ with_off_block moment self.old }
@@ -413,7 +415,7 @@ impl<A: Allocator + Copy> Plan<A> {
         self.off_block = moment;
     }
 
-    /// The off-block moment, which lies before 2099-01-06.
+    /// Returns the off-block date and time, which is before 2099-01-06.
     pub fn off_block(&self) -> Minute
         ensures value { result ≡ self.now.off_block }
         ensures bound { result < off_blocks_end }
@@ -421,7 +423,7 @@ impl<A: Allocator + Copy> Plan<A> {
         self.off_block
     }
 
-    /// The squeezed text that the plan holds of field 8, 9, 10, 15 or 18. None for a field of another number.
+    /// Returns the squeezed text of field 8, 9, 10, 15 or 18; `None` for a field of another number.
     #[tactic(auto, unfolding(crate::specs::Plans::text_of))]
     pub fn text(&self, field: u8) -> Option<&[u8]>
         ensures { option_copied result ≡ text_of field self.now.texts }
@@ -436,14 +438,15 @@ impl<A: Allocator + Copy> Plan<A> {
         }
     }
 
-    /// The alternate aerodromes, at most two.
+    /// Returns the alternate aerodromes, at most two.
     pub fn alternates(&self) -> &Alternates
         ensures { result.now ≡ self.now.alternates }
     {
         &self.alternates
     }
 
-    /// The minutes from take-off to a place of the way, by the first estimate for it in the EET items of field 18.
+    /// Returns the minutes from take-off to a route point, by the first estimate for it in the EET
+    /// items of field 18; `None` if there is no estimate for it.
     #[inline(always)]
     pub fn elapsed(&self, place: &[u8]) -> Option<u32>
         ensures value { result ≡ elapsed_at place.now self.now }
@@ -452,7 +455,7 @@ impl<A: Allocator + Copy> Plan<A> {
         self.texts.elapsed(place)
     }
 
-    /// The moment of take-off, at most 120 minutes after the off-block moment.
+    /// The time of take-off, at most 120 minutes after off-block.
     #[inline]
     #[tactic(auto, unfolding(fpl_text::specs::Moments::moment_within))]
     pub(crate) fn take_off(&self, taxi: u32) -> Minute
@@ -462,7 +465,7 @@ impl<A: Allocator + Copy> Plan<A> {
         self.off_block.plus(taxi).unwrap()
     }
 
-    /// The moment of entry at a place.
+    /// The time at which the flight enters a point.
     #[inline(always)]
     #[tactic(auto, unfolding(crate::specs::Entries::entry_at))]
     pub(crate) fn entry_at(&self, taxi: u32, spot: &Spot) -> Option<Minute>
@@ -488,7 +491,7 @@ impl<A: Allocator + Copy> Plan<A> {
         }
     }
 
-    /// The moment of entry at a place of the way.
+    /// The time at which the flight enters a route point.
     #[inline(always)]
     #[tactic(auto, unfolding(crate::specs::Entries::entry_at))]
     fn entry_on_way(&self, taxi: u32, place: &Text<11>) -> Option<Minute>
@@ -499,7 +502,7 @@ impl<A: Allocator + Copy> Plan<A> {
         self.take_off(taxi).plus(minutes)
     }
 
-    /// The entry at the place of a regulation that applies to the flight.
+    /// The entry at a regulated point, if the regulation applies to the flight.
     #[inline(always)]
     #[tactic(auto, unfolding(crate::specs::Entries::subject))]
     pub(crate) fn subject(
@@ -528,8 +531,8 @@ impl<A: Allocator + Copy> Plan<A> {
         Some(moment)
     }
 
-    /// The bits of the words in a table that stand in the rows of the places to which the flight comes. None where no
-    /// regulation applies to it, wherever it is.
+    /// The bits in the table's rows of the points that the flight enters; 0 if no regulation
+    /// applies to it, wherever it is.
     #[inline]
     pub(crate) fn near(&self, table: &[u64]) -> u64
         ensures { (taxi start end : ℕ) (spot : Spot) → IsSome (subject taxi spot start end self.now)
@@ -545,31 +548,33 @@ impl<A: Allocator + Copy> Plan<A> {
         ends | self.texts.near(table)
     }
 
-    /// Whether regulations may apply to the flight, wherever they are: the plan is filed, not flown by visual rules
-    /// throughout and not exempt.
+    /// Whether a regulation may apply to the flight, wherever it is: the plan is filed, not flown
+    /// by visual rules throughout and not exempt.
     pub(crate) fn may_be_subject(&self) -> bool
         ensures { result ≡ may_be_subject self.now }
     {
         self.is_filed() && self.rules != FlightRules::Visual && !self.exempt
     }
 
-    /// A set that has each place of the way.
+    /// A set that has each route point.
     pub(crate) fn way(&self) -> u64
-        ensures { (place : List ℕ) → IsSome (elapsed_at place self.now) → may_have result place ≡ true }
+        ensures { (place : List ℕ) → IsSome (elapsed_at place self.now)
+            → may_have result place ≡ true }
     {
         self.texts.way()
     }
 
-    /// The minutes from take-off to the last place that the flight comes to, or more.
+    /// The minutes from take-off to the last point that the flight enters, or more.
     pub(crate) fn longest(&self) -> u16
         ensures destination { self.now.elapsed ≤ result }
-        ensures way { (place : List ℕ) → IfSome (elapsed_at place self.now) (λ minutes. minutes ≤ result) }
+        ensures way { (place : List ℕ)
+            → IfSome (elapsed_at place self.now) (λ minutes. minutes ≤ result) }
     {
         let way = self.texts.longest().min(ELAPSED_LIMIT) as u16;
         way.max(self.elapsed)
     }
 
-    /// The total elapsed time, in minutes, at most 5,999.
+    /// Returns the total elapsed time in minutes, at most 5,999.
     pub fn elapsed_time(&self) -> u32
         ensures value { result ≡ self.now.elapsed }
         ensures bound { result < ELAPSED_LIMIT }
@@ -577,14 +582,14 @@ impl<A: Allocator + Copy> Plan<A> {
         u32::from(self.elapsed)
     }
 
-    /// The flight rules.
+    /// Returns the flight rules.
     pub fn rules(&self) -> FlightRules
         ensures { result ≡ self.now.rules }
     {
         self.rules
     }
 
-    /// Whether field 18 exempts the flight from slots.
+    /// Whether field 18 exempts the flight from slots (STS/ATFMX).
     pub fn exempt(&self) -> bool
         ensures { result ≡ self.now.exempt }
     {

@@ -1,8 +1,9 @@
-//! Plans, each beside its outline.
+//! Plans, each with its outline.
 //!
-//! The outlines stand in a dense row of their own, so that a look at which flights may come to a place reads little
-//! memory.
-ghost use Rattle.std.specs.Prelude.{◌≡◌, ◌+◌, ◌≤◌, ◌<◌, ◌-◌, ◌++◌, ◌∷◌, ℕ, [], None, true, false, length, take, OnOk};
+//! The outlines are in an array of their own, so that a scan for flights that may enter a point
+//! reads little memory.
+ghost use Rattle.std.specs.Prelude.{◌≡◌, ◌+◌, ◌≤◌, ◌<◌, ◌-◌, ◌++◌, ◌∷◌, ℕ, []};
+ghost use Rattle.std.specs.Prelude.{None, true, false, length, take, OnOk};
 ghost use Rattle.std.specs.Prelude.{OnErr, IfSome};
 ghost use Rattle.flow_plans.specs.Chains.{AreChained, StayChained};
 ghost use Rattle.flow_plans.specs.Entries.{subject};
@@ -44,7 +45,6 @@ impl<A: Allocator + Copy> Model for PlanList<A> {
 }
 
 impl<A: Allocator + Copy> PlanList<A> {
-    /// No plans.
     pub(crate) fn new(alloc: A) -> Self
         ensures { result ≡ [] }
     {
@@ -54,7 +54,6 @@ impl<A: Allocator + Copy> PlanList<A> {
         }
     }
 
-    /// The plans.
     #[inline(always)]
     pub(crate) fn as_slice(&self) -> &[Plan<A>]
         ensures { result.now ≡ self.now }
@@ -62,14 +61,13 @@ impl<A: Allocator + Copy> PlanList<A> {
         self.plans.as_slice()
     }
 
-    /// How many plans there are.
     pub(crate) fn len(&self) -> usize
         ensures { result ≡ length self.now }
     {
         self.plans.len()
     }
 
-    /// The off-block moment of the plan of this number, where it is filed.
+    /// The off-block date and time of plan `number`, if it is filed.
     #[inline(always)]
     pub(crate) fn filed_off_block(&self, number: u32) -> Option<Minute>
         requires { 0 < number }
@@ -81,8 +79,8 @@ impl<A: Allocator + Copy> PlanList<A> {
         }
     }
 
-    /// Whether the flight of the plan of this number may come to a place in a period. Where it may not, no regulation
-    /// of that place and period applies to it.
+    /// Whether the flight of plan `number` may enter a point in a period. If it may not, no
+    /// regulation of that point and period applies to it.
     #[inline(always)]
     pub(crate) fn may_come(
         &self,
@@ -100,8 +98,8 @@ impl<A: Allocator + Copy> PlanList<A> {
         outline.may_come(spot) && outline.may_fly(taxi, start, end)
     }
 
-    /// The entry of the plan of this number at its departure, where a regulation of a place of these letters and that
-    /// period applies to its flight.
+    /// The entry of plan `number` at its departure, if a regulation of an aerodrome of these
+    /// letters and that period applies to its flight.
     #[inline(always)]
     pub(crate) fn departure(
         &self,
@@ -119,8 +117,8 @@ impl<A: Allocator + Copy> PlanList<A> {
         self.outlines[(number - 1) as usize].departure(taxi, letters, start, end)
     }
 
-    /// The entry of the plan of this number, where a regulation of that place and period applies to its flight. That at
-    /// a departure of four letters its outline tells.
+    /// The entry of plan `number`, if a regulation of that point and period applies to its flight.
+    /// At a departure of four letters it is read from the outline.
     #[inline(always)]
     pub(crate) fn subject(
         &self,
@@ -132,7 +130,8 @@ impl<A: Allocator + Copy> PlanList<A> {
     ) -> Option<Minute>
         requires number { (0 < number) × (number ≤ length self.now) }
         requires taxi { taxi ≤ MAX_TAXI }
-        ensures { IfSome (plan_at self.now number) (λ plan. result ≡ subject taxi spot.now start end plan) }
+        ensures { IfSome (plan_at self.now number) (λ plan.
+            result ≡ subject taxi spot.now start end plan) }
     {
         if let Spot::Dep(place) = spot {
             let letters = letters_of(place.as_bytes());
@@ -143,8 +142,9 @@ impl<A: Allocator + Copy> PlanList<A> {
         self.plans[(number - 1) as usize].subject(taxi, spot, start, end)
     }
 
-    /// The first number from this one on of a plan whose flight may come to a place in a period, or one more than there
-    /// are. To the flights of the plans before it no regulation of that place and period applies.
+    /// The first number from `from` on of a plan whose flight may enter a point in a period, or the
+    /// number of plans plus 1. To the flights of the plans before it no regulation of that point
+    /// and period applies.
     #[inline(always)]
     pub(crate) fn next_coming(
         &self,
@@ -170,7 +170,8 @@ impl<A: Allocator + Copy> PlanList<A> {
         number
     }
 
-    /// Appends a plan, also to the chain of its flight. After an `Err` the plans and all chains are as they were.
+    /// Appends a plan, also to the chain of its flight. After an `Err` the plans and all chains are
+    /// unchanged.
     pub(crate) fn append(&mut self, chains: &mut Chains<A>, plan: Plan<A>) -> Result<(), AllocError>
         requires few { length self.old ≤ MAX_PLANS }
         requires held { is_held plan.state ≡ true }
@@ -188,7 +189,7 @@ impl<A: Allocator + Copy> PlanList<A> {
         Ok(())
     }
 
-    /// Takes the last plan away.
+    /// Removes the last plan.
     pub(crate) fn pop(&mut self)
         ensures { self.new ≡ take (length self.old - 1) self.old }
     {
@@ -196,7 +197,6 @@ impl<A: Allocator + Copy> PlanList<A> {
         self.plans.pop();
     }
 
-    /// Gives the plan of this number another state.
     #[tactic(auto, unfolding(crate::specs::Plans::changed_at))]
     pub(crate) fn set_state(&mut self, number: u32, state: PlanState)
         requires { (0 < number) × (number ≤ length self.old) }
@@ -208,7 +208,6 @@ impl<A: Allocator + Copy> PlanList<A> {
         self.outlines[place] = Outline::of(plan);
     }
 
-    /// Gives the plan of this number another off-block moment.
     #[tactic(auto, unfolding(crate::specs::Plans::changed_at))]
     pub(crate) fn set_off_block(&mut self, number: u32, moment: Minute)
         requires number { (0 < number) × (number ≤ length self.old) }
@@ -221,8 +220,8 @@ impl<A: Allocator + Copy> PlanList<A> {
         self.outlines[place] = Outline::of(plan);
     }
 
-    /// Makes the amendments of a message to the plan of this number, with that off-block moment and its texts, and
-    /// answers what the plan had before.
+    /// Makes the amendments of a message to plan `number`, with its off-block date and time and its
+    /// texts, and returns the former values.
     #[tactic(auto, unfolding(crate::specs::Plans::changed_at))]
     pub(crate) fn amend(
         &mut self,
@@ -235,7 +234,8 @@ impl<A: Allocator + Copy> PlanList<A> {
         requires off_block { off_block < off_blocks_end }
         requires texts { IfSome (plan_at self.old number)
             (λ plan. texts_or texts plan.texts ≡ texts_after plan.texts message.now) }
-        ensures changed { self.new ≡ changed_at (amended_plan off_block message.now) number self.old }
+        ensures changed { self.new ≡ changed_at (amended_plan off_block message.now)
+            number self.old }
         ensures back { changed_at (with_former result) number self.new ≡ self.old }
         ensures count { length self.new ≡ length self.old }
     {
@@ -246,7 +246,7 @@ impl<A: Allocator + Copy> PlanList<A> {
         former
     }
 
-    /// Gives the plan of this number back what it had before an amendment.
+    /// Sets the former values of plan `number` again.
     #[tactic(auto, unfolding(crate::specs::Plans::changed_at))]
     pub(crate) fn restore(&mut self, number: u32, former: Former<A>)
         requires { (0 < number) × (number ≤ length self.old) }

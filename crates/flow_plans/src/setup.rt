@@ -5,14 +5,15 @@ ghost use Rattle.flow_plans.specs.Settings.{IsWithinLimits, IsDeskTime};
 use fpl_text::{Minute, YEAR_2000, YEAR_2099};
 use std::marker::Model;
 
-/// The taxi time at most, in minutes.
+/// The limit of the taxi time, in minutes.
 pub const MAX_TAXI: u32 = 120;
-/// The flight plans that a desk accepts at most, cancelled ones counted.
+/// The limit of accepted flight plans, cancelled ones counted.
 pub const MAX_PLANS: u32 = 20_000;
-/// The entries of a journal at most.
+/// The limit of journal entries.
 pub const MAX_ENTRIES: u32 = 1_000_000;
 
-/// When a desk starts, the taxi time of every aerodrome, and how much the desk takes in.
+/// The start of a desk, the taxi time of every aerodrome, and how many plans and entries the desk
+/// accepts.
 #[derive(Clone, Copy, Debug, PartialEq, Eq)]
 pub struct Setup {
     start: Minute,
@@ -49,9 +50,10 @@ impl Model for Setup {
 }
 
 impl Setup {
-    /// The setup of a desk that begins at `now`, a moment of the years 2000 to 2098.
+    /// Creates the setup of a desk that starts at `now`, in the years 2000 to 2098.
     ///
-    /// None where a limit is passed: a taxi time of 0 to 120 minutes, 1 to 20,000 flight plans, 1 to 1,000,000 entries.
+    /// `None` if a limit is exceeded: a taxi time of 0 to 120 minutes, 1 to 20,000 flight plans, 1
+    /// to 1,000,000 entries.
     pub fn new(now: Minute, taxi: u32, max_plans: u32, max_entries: u32) -> Option<Setup>
         ensures limits { IsSome result ↔ IsWithinLimits (record
             { start = now; taxi = taxi; max_plans = max_plans; max_entries = max_entries }) }
@@ -79,7 +81,7 @@ impl Setup {
         })
     }
 
-    /// The desk's time at the start.
+    /// Returns the desk's time at its start.
     pub fn start(&self) -> Minute
         ensures value { result ≡ self.now.start }
         ensures years { IsDeskTime result }
@@ -87,7 +89,7 @@ impl Setup {
         self.start
     }
 
-    /// The minutes from off-block to take-off.
+    /// Returns the minutes from off-block to take-off.
     pub fn taxi(&self) -> u32
         ensures value { result ≡ self.now.taxi }
         ensures bound { result ≤ MAX_TAXI }
@@ -95,7 +97,7 @@ impl Setup {
         self.taxi
     }
 
-    /// How many flight plans are accepted in all.
+    /// Returns the limit of accepted flight plans, cancelled ones counted.
     pub fn max_plans(&self) -> u32
         ensures value { result ≡ self.now.max_plans }
         ensures some { 1 ≤ result }
@@ -104,7 +106,7 @@ impl Setup {
         self.max_plans
     }
 
-    /// How many entries the journal holds.
+    /// Returns the limit of journal entries.
     pub fn max_entries(&self) -> u32
         ensures value { result ≡ self.now.max_entries }
         ensures some { 1 ≤ result }
@@ -114,7 +116,7 @@ impl Setup {
     }
 }
 
-/// Whether a moment lies in the years that a desk runs in, 2000 to 2098.
+/// Whether a time is in the years that a desk runs in, 2000 to 2098.
 pub fn is_desk_time(moment: Minute) -> bool
     ensures { IsTrue result ↔ IsDeskTime moment }
 {

@@ -1,6 +1,8 @@
-//! The plans by number.
-ghost use Rattle.std.specs.Prelude.{◌≡◌, ◌≢◌, ◌≤◌, ◌<◌, ◌+◌, ◌-◌, ◌++◌, ◌∷◌, ℕ, [], Ok, Err, Some, None, IfOk};
-ghost use Rattle.std.specs.Prelude.{IfErr, IsOk, OnOk, OnErr, IfSome, IsSome, IsTrue, ◌↔◌, true, length};
+//! The plans of a desk, by number.
+ghost use Rattle.std.specs.Prelude.{◌≡◌, ◌≢◌, ◌≤◌, ◌<◌, ◌+◌, ◌-◌, ◌++◌, ◌∷◌};
+ghost use Rattle.std.specs.Prelude.{ℕ, [], Ok, Err, Some, None, IfOk};
+ghost use Rattle.std.specs.Prelude.{IfErr, IsOk, OnOk, OnErr, IfSome};
+ghost use Rattle.std.specs.Prelude.{IsSome, IsTrue, ◌↔◌, true, length};
 ghost use Rattle.std.specs.Prelude.{slice_get, option_copied};
 ghost use Rattle.flow_plans.specs.Settings.{IsDeskTime};
 ghost use Rattle.flow_plans.specs.Entries.{take_off, entry_at, subject};
@@ -13,7 +15,8 @@ ghost use Rattle.fpl_message.specs.declared.order.Spot.{Spot};
 ghost use Rattle.flow_plans.specs.Near.{row_of, word_at, HasBitsOf};
 ghost use Rattle.flow_plans.specs.Matching.{matching};
 ghost use Rattle.flow_plans.specs.Times.{delayed_to, off_blocks_end};
-ghost use Rattle.flow_plans.specs.Changes.{plan_of, moment_of, filed, cancelled, departed, delayed, amended, IsRefusal};
+ghost use Rattle.flow_plans.specs.Changes.{plan_of, moment_of, filed, cancelled};
+ghost use Rattle.flow_plans.specs.Changes.{departed, delayed, amended, IsRefusal};
 ghost use Rattle.flow_plans.specs.Changes.{IsJustRefusal, Answers};
 ghost use Rattle.flow_plans.specs.declared.setup.TheConstants.{MAX_PLANS};
 
@@ -32,8 +35,8 @@ use std::alloc::{Allocator, Global};
 use std::marker::Model;
 use std::mem;
 
-/// Flight plans by number, from 1. Contracts see how many are accepted, the taxi time, the plans, and those before the
-/// last accepted change.
+/// Flight plans by number, from 1. Contracts see the limit of accepted plans, the taxi time, the
+/// plans, and those before the last accepted change.
 #[derive(Drop)]
 pub struct PlanStore<A: Allocator + Copy = Global> {
     alloc: A,
@@ -62,7 +65,7 @@ impl<A: Allocator + Copy> Model for PlanStore<A> {
 }
 
 impl<A: Allocator + Copy> PlanStore<A> {
-    /// A store with no plans.
+    /// Creates a store without plans, with the limit and the taxi time of a setup.
     pub fn new(alloc: A, setup: &Setup) -> Self
         ensures limit { result.max_plans ≡ setup.now.max_plans }
         ensures taxi { result.taxi ≡ setup.now.taxi }
@@ -79,7 +82,7 @@ impl<A: Allocator + Copy> PlanStore<A> {
         }
     }
 
-    /// How many plans were accepted, cancelled ones counted.
+    /// Returns the number of accepted plans, cancelled ones counted.
     pub fn count(&self) -> u32
         ensures count { result ≡ length self.now.plans }
         ensures limit { result ≤ self.now.max_plans }
@@ -88,7 +91,7 @@ impl<A: Allocator + Copy> PlanStore<A> {
         self.plans.len() as u32
     }
 
-    /// The plan of this number, from 1. None where no plan has it.
+    /// Returns plan `number`, counted from 1; `None` if there is no such plan.
     pub fn plan(&self, number: u32) -> Option<&Plan<A>>
         ensures plan { 0 < number → option_copied result ≡ slice_get self.now.plans (number - 1) }
         ensures zero { number ≡ 0 → result ≡ None }
@@ -99,17 +102,25 @@ impl<A: Allocator + Copy> PlanStore<A> {
         self.plans.as_slice().get((number - 1) as usize)
     }
 
-    /// Takes in a flight plan, and answers its number, the next one. After an `Err` the store is as it was.
+    /// Files a flight plan, and returns its number, the next one. With a DOF item its off-block
+    /// date is that day, without one the time is the first not before the desk's time.
     ///
-    /// With a DOF item its off-block moment is that day's, without one the first at its time that is not before the
-    /// desk's time. It must not be before the desk's time (Past) nor more than 120 hours after it (TooEarly), no held
-    /// plan may have the same key (AlreadyHeld), and there must be room (PlansFull).
+    /// # Errors
+    ///
+    /// The store is unchanged.
+    /// - `Past` if the off-block date and time is before the desk's time, `TooEarly` if it is more
+    ///   than 120 hours after it.
+    /// - `AlreadyHeld` if a held plan has the same key.
+    /// - `PlansFull` if the limit of accepted plans is reached.
+    /// - `OutOfMemory` if an allocation fails.
     pub fn file(&mut self, message: &Fpl<A>, now: Minute) -> Result<u32, PlanFault>
         requires { IsDeskTime now }
-        ensures ok { IfOk result (λ n. (filed self.old.max_plans now self.old.plans message.now ≡ Ok self.new.plans)
+        ensures ok { IfOk result (λ n.
+            (filed self.old.max_plans now self.old.plans message.now ≡ Ok self.new.plans)
             × (n ≡ length self.new.plans)) }
         ensures next { IfOk result (λ n. n ≡ length self.old.plans + 1) }
-        ensures refused { IfErr result (λ e. IsRefusal e (filed self.old.max_plans now self.old.plans message.now)) }
+        ensures refused { IfErr result (λ e.
+            IsRefusal e (filed self.old.max_plans now self.old.plans message.now)) }
         ensures memory { IfErr result (λ e. e ≡ PlanFault.OutOfMemory
             → IsOk (filed self.old.max_plans now self.old.plans message.now)) }
         ensures before { OnOk result (self.new.before ≡ Some self.old.plans) }
@@ -138,11 +149,14 @@ impl<A: Allocator + Copy> PlanStore<A> {
         Ok(self.plans.len() as u32)
     }
 
-    /// The number of the plan that a message with these parts is about.
+    /// Returns the number of the plan that a message with these parts is about: the one filed plan
+    /// with that identification, departure and destination, and with that day if the message has
+    /// one.
     ///
-    /// It is the one filed plan with that identification, departure and destination, and with that day where the
-    /// message names one. Several such plans are Ambiguous. Where there is none, it is AlreadyDeparted if a departed
-    /// plan agrees, else NoPlan.
+    /// # Errors
+    ///
+    /// - `Ambiguous` if several such plans are filed.
+    /// - `AlreadyDeparted` if none is filed and a departed plan matches, else `NoPlan`.
     pub fn find(&self, parts: &Parts) -> Result<u32, PlanFault>
         ensures value { Answers result (matching self.now.plans parts.now) }
         ensures within { IfOk result (λ n. (0 < n) × (n ≤ length self.now.plans)) }
@@ -150,14 +164,15 @@ impl<A: Allocator + Copy> PlanStore<A> {
         matching(self.plans.as_slice(), &self.chains, parts)
     }
 
-    /// Cancels the plan that a message is about, which frees its key, and answers its number. It takes no memory. After
-    /// an `Err` the store is as it was.
+    /// Cancels the plan that a message is about, which frees its key, and returns its number.
+    /// Doesn't allocate. After an `Err`, as of `find`, the store is unchanged.
     #[tactic(auto, unfolding(crate::specs::Changes::cancelled))]
     pub fn cancel(&mut self, message: &Cnl) -> Result<u32, PlanFault>
         ensures ok { IfOk result (λ n. cancelled self.old.plans message.now
             ≡ Ok (record { plans = self.new.plans; number = n })) }
         ensures within { IfOk result (λ n. (0 < n) × (n ≤ length self.new.plans)) }
-        ensures refused { IfErr result (λ e. IsJustRefusal e (cancelled self.old.plans message.now)) }
+        ensures refused { IfErr result (λ e.
+            IsJustRefusal e (cancelled self.old.plans message.now)) }
         ensures before { OnOk result (self.new.before ≡ Some self.old.plans) }
         ensures err { OnErr result (self.new ≡ self.old) }
         ensures count { length self.new.plans ≡ length self.old.plans }
@@ -174,14 +189,15 @@ impl<A: Allocator + Copy> PlanStore<A> {
         Ok(number)
     }
 
-    /// Notes the departure of the plan that a message is about, and answers its number. It takes no memory. After an
-    /// `Err` the store is as it was.
+    /// Records the departure of the plan that a message is about, and returns its number. Doesn't
+    /// allocate. After an `Err`, as of `find`, the store is unchanged.
     #[tactic(auto, unfolding(crate::specs::Changes::departed))]
     pub fn depart(&mut self, message: &Dep) -> Result<u32, PlanFault>
         ensures ok { IfOk result (λ n. departed self.old.plans message.now
             ≡ Ok (record { plans = self.new.plans; number = n })) }
         ensures within { IfOk result (λ n. (0 < n) × (n ≤ length self.new.plans)) }
-        ensures refused { IfErr result (λ e. IsJustRefusal e (departed self.old.plans message.now)) }
+        ensures refused { IfErr result (λ e.
+            IsJustRefusal e (departed self.old.plans message.now)) }
         ensures before { OnOk result (self.new.before ≡ Some self.old.plans) }
         ensures err { OnErr result (self.new ≡ self.old) }
         ensures count { length self.new.plans ≡ length self.old.plans }
@@ -198,17 +214,22 @@ impl<A: Allocator + Copy> PlanStore<A> {
         Ok(number)
     }
 
-    /// Delays the plan that a message is about to the first moment at its time of day after the off-block moment held,
-    /// and answers its number. It takes no memory. After an `Err` the store is as it was.
+    /// Delays the plan that a message is about to the first time at its time of day after the
+    /// off-block date and time held, and returns its number. Doesn't allocate.
     ///
-    /// The same time of day is NotLater, more than 720 minutes DelayTooLong, a moment before the desk's time Past, and
-    /// one more than 120 hours after it TooEarly, the first of these that applies.
+    /// # Errors
+    ///
+    /// The store is unchanged. Of these the first that applies, after those of `find`:
+    /// - `NotLater` for the same time of day.
+    /// - `DelayTooLong` for more than 720 minutes.
+    /// - `Past` for a time before the desk's, `TooEarly` for one more than 120 hours after it.
     pub fn delay(&mut self, message: &Dla, now: Minute) -> Result<u32, PlanFault>
         requires { IsDeskTime now }
         ensures ok { IfOk result (λ n. delayed now self.old.plans message.now
             ≡ Ok (record { plans = self.new.plans; number = n })) }
         ensures within { IfOk result (λ n. (0 < n) × (n ≤ length self.new.plans)) }
-        ensures refused { IfErr result (λ e. IsJustRefusal e (delayed now self.old.plans message.now)) }
+        ensures refused { IfErr result (λ e.
+            IsJustRefusal e (delayed now self.old.plans message.now)) }
         ensures before { OnOk result (self.new.before ≡ Some self.old.plans) }
         ensures err { OnErr result (self.new ≡ self.old) }
         ensures count { length self.new.plans ≡ length self.old.plans }
@@ -220,12 +241,17 @@ impl<A: Allocator + Copy> PlanStore<A> {
         Ok(number)
     }
 
-    /// Amends the plan that a message is about, and answers its number: each amended field replaces the one held, all
-    /// of them or none. After an `Err` the store is as it was.
+    /// Amends the plan that a message is about, and returns its number: each amended field replaces
+    /// the one held, all of them or none. An amended field 16 without a time keeps the elapsed time
+    /// and the alternates. An amended field 13 moves the off-block date and time as a delay does.
     ///
-    /// An amended field 16 without a time keeps the elapsed time and the alternates. An amended field 13 moves the
-    /// off-block moment as a delay does. One that names another departure, and a DOF item of another day in an amended
-    /// field 18, are KeyChange, before any fault of the delay; last, another held plan with the new key is AlreadyHeld.
+    /// # Errors
+    ///
+    /// The store is unchanged. Of these the first that applies, after those of `find`:
+    /// - `KeyChange` if field 13 has another departure, or field 18 a DOF item of another day.
+    /// - The faults of a delay.
+    /// - `AlreadyHeld` if another held plan has the new key.
+    /// - `OutOfMemory` if an allocation fails.
     pub fn amend(&mut self, message: &Chg<A>, now: Minute) -> Result<u32, PlanFault>
         requires { IsDeskTime now }
         ensures ok { IfOk result (λ n. amended now self.old.plans message.now
@@ -250,7 +276,8 @@ impl<A: Allocator + Copy> PlanStore<A> {
         )
     }
 
-    /// Whether the last change can be taken back: from an accepted change until the next one or until it is taken back.
+    /// Whether the last change can be undone: from an accepted change until the next one or until
+    /// it is undone.
     pub fn can_take_back(&self) -> bool
         ensures { IsTrue result ↔ IsSome self.now.before }
     {
@@ -260,8 +287,8 @@ impl<A: Allocator + Copy> PlanStore<A> {
         }
     }
 
-    /// Where the plan of this number stood before the last change, and its off-block moment then. None where it wasn't
-    /// filed yet.
+    /// Returns the state of plan `number` before the last change, and its off-block date and time
+    /// then. `None` if it wasn't filed yet.
     pub fn previous(&self, number: u32) -> Option<Status>
         requires some { 0 < number }
         requires change { IsSome self.now.before }
@@ -270,7 +297,7 @@ impl<A: Allocator + Copy> PlanStore<A> {
         previous(self.plans.as_slice(), &self.last, number)
     }
 
-    /// Takes the last change back: the plans are as they were before it. It takes no memory.
+    /// Undoes the last change: the plans are as before it. Doesn't allocate.
     pub fn take_back(&mut self)
         requires { IsSome self.old.before }
         ensures plans { self.old.before ≡ Some self.new.plans }
@@ -282,16 +309,19 @@ impl<A: Allocator + Copy> PlanStore<A> {
         undo(&mut self.plans, &mut self.chains, last);
     }
 
-    /// The moment of take-off of the plan of this number: its off-block moment and the taxi time.
+    /// Returns the time of take-off of plan `number`: its off-block date and time plus the taxi
+    /// time.
     pub fn take_off(&self, number: u32) -> Minute
         requires some { 0 < number }
         requires within { number ≤ length self.now.plans }
-        ensures { IfSome (plan_at self.now.plans number) (λ plan. result ≡ take_off self.now.taxi plan) }
+        ensures { IfSome (plan_at self.now.plans number) (λ plan.
+            result ≡ take_off self.now.taxi plan) }
     {
         self.plans.as_slice()[(number - 1) as usize].take_off(self.taxi)
     }
 
-    /// The off-block moment of the plan of this number, where it is filed. It reads its outline alone.
+    /// Returns the off-block date and time of plan `number`, if it is filed. Reads only its
+    /// outline.
     #[inline(always)]
     pub fn filed_off_block(&self, number: u32) -> Option<Minute>
         requires { 0 < number }
@@ -300,19 +330,21 @@ impl<A: Allocator + Copy> PlanStore<A> {
         self.plans.filed_off_block(number)
     }
 
-    /// The moment at which the plan of this number enters a place: its take-off at the departure, and later by the
-    /// elapsed times of fields 16 and 18 at the destination and on the way. None where the flight does not come there.
+    /// Returns the time at which plan `number` enters a point: its take-off at the departure, and
+    /// later by the elapsed times of fields 16 and 18 at the destination and at route points.
+    /// `None` if the flight doesn't enter it.
     pub fn entry(&self, number: u32, spot: &Spot) -> Option<Minute>
         requires some { 0 < number }
         requires within { number ≤ length self.now.plans }
-        ensures { IfSome (plan_at self.now.plans number) (λ plan. result ≡ entry_at self.now.taxi spot.now plan) }
+        ensures { IfSome (plan_at self.now.plans number) (λ plan.
+            result ≡ entry_at self.now.taxi spot.now plan) }
     {
         self.plans.as_slice()[(number - 1) as usize].entry_at(self.taxi, spot)
     }
 
-    /// The entry of the plan of this number, where a regulation of that place applies to it: one from `start` to before
-    /// `end`, of a filed plan that is not flown by visual rules throughout, does not depart in the air (AFIL) and is
-    /// not exempt.
+    /// Returns the entry of plan `number`, if a regulation of that point applies to it: one from
+    /// `start` to before `end`, of a filed plan that is not flown by visual rules throughout, does
+    /// not depart in the air (AFIL) and is not exempt.
     #[inline(always)]
     pub fn subject(&self, number: u32, spot: &Spot, start: Minute, end: Minute) -> Option<Minute>
         requires some { 0 < number }
@@ -323,35 +355,38 @@ impl<A: Allocator + Copy> PlanStore<A> {
         self.plans.subject(number, self.taxi, spot, start, end)
     }
 
-    /// The entry of the plan of this number at its departure, where a regulation of that period and of a place of these
-    /// letters, as `letters_of` gives them, applies to it. It reads its outline alone.
+    /// Returns the entry of plan `number` at its departure, if a regulation of that period and of
+    /// an aerodrome of these letters, as `letters_of` returns them, applies to it. Reads only its
+    /// outline.
     #[inline(always)]
     pub fn departure(&self, number: u32, letters: u32, start: Minute, end: Minute) -> Option<Minute>
         requires some { 0 < number }
         requires within { number ≤ length self.now.plans }
         ensures { (spot : Spot) → IsDepartureOf letters spot
-            → IfSome (plan_at self.now.plans number) (λ plan. result ≡ subject self.now.taxi spot start end plan) }
+            → IfSome (plan_at self.now.plans number) (λ plan.
+            result ≡ subject self.now.taxi spot start end plan) }
     {
         self.plans.departure(number, self.taxi, letters, start, end)
     }
 
-    /// The first number from this one on of a plan to whose flight a regulation of that place and period may apply;
-    /// where there is none, the first number that no plan has, or `from` where that is later. To the flights of the
-    /// plans before it none applies. It reads 24 bytes a plan.
+    /// Returns the first number from `from` on of a plan to whose flight a regulation of that point
+    /// and period may apply; if there is none, the first number that no plan has, or `from` if that
+    /// is greater. To the flights of the plans before it none applies. Reads 24 bytes a plan.
     #[inline(always)]
     pub fn next_coming(&self, from: u32, spot: &Spot, start: Minute, end: Minute) -> u32
         requires { 0 < from }
         ensures from { from ≤ result }
         ensures passed { (n : ℕ) → from ≤ n → n < result
-            → IfSome (plan_at self.now.plans n) (λ plan. subject self.now.taxi spot.now start end plan ≡ None) }
+            → IfSome (plan_at self.now.plans n) (λ plan.
+            subject self.now.taxi spot.now start end plan ≡ None) }
         ensures end { length self.now.plans < from → result ≡ from }
         ensures most { from ≤ length self.now.plans → result ≤ length self.now.plans + 1 }
     {
         self.plans.next_coming(from, self.taxi, spot, start, end)
     }
 
-    /// The bits of the words in a table that stand in the rows of the places to which the flight of the plan of this
-    /// number comes: wherever a regulation applies to it, at any time, the bits of that row are among them.
+    /// Returns the bits in the table's rows of the points that the flight of plan `number` enters:
+    /// wherever a regulation applies to it, at any time, the bits of that row are among them.
     pub fn near(&self, number: u32, table: &[u64]) -> u64
         requires some { 0 < number }
         requires within { number ≤ length self.now.plans }
@@ -363,7 +398,8 @@ impl<A: Allocator + Copy> PlanStore<A> {
     }
 }
 
-/// Gives the filed plan that a message is about another state. A cancelled plan leaves the chain of its flight.
+/// Sets the state of the filed plan that a message is about. A cancelled plan is removed from the
+/// chain of its flight.
 #[tactic(auto, unfolding(crate::specs::Plans::changed_at))]
 fn end_plan<A: Allocator + Copy>(
     plans: &mut PlanList<A>,
@@ -376,11 +412,13 @@ fn end_plan<A: Allocator + Copy>(
     ensures found { Answers result (matching plans.old parts.now) }
     ensures changed { IfOk result (λ n. plans.new ≡ changed_at (with_state state) n plans.old) }
     ensures within { IfOk result (λ n. (0 < n) × (n ≤ length plans.new)) }
-    ensures back { IfOk result (λ n. changed_at (with_state PlanState.Filed) n plans.new ≡ plans.old) }
+    ensures back { IfOk result (λ n. changed_at (with_state PlanState.Filed) n plans.new
+        ≡ plans.old) }
     ensures count { length plans.new ≡ length plans.old }
     ensures err { OnErr result (plans.new ≡ plans.old) }
     ensures chained { AreChained chains.new plans.new }
-    ensures room { IfOk result (λ n. IfSome (plan_at plans.new n) (λ p. HasRoomFor chains.new (flight_of_key p.key))) }
+    ensures room { IfOk result (λ n.
+        IfSome (plan_at plans.new n) (λ p. HasRoomFor chains.new (flight_of_key p.key))) }
     ensures kept { OnErr result (chains.new ≡ chains.old) }
 {
     let number = matching(plans.as_slice(), chains, parts)?;
@@ -392,7 +430,8 @@ fn end_plan<A: Allocator + Copy>(
     Ok(number)
 }
 
-/// Gives the plan that a delay is about its new off-block moment, and answers its number and the moment that it had.
+/// Sets the off-block date and time of the plan that a delay is about, and returns its number and
+/// the former one.
 #[tactic(auto, unfolding(crate::specs::Changes::delayed, crate::specs::Plans::changed_at))]
 fn delay_plan<A: Allocator + Copy>(
     plans: &mut PlanList<A>,
@@ -405,7 +444,8 @@ fn delay_plan<A: Allocator + Copy>(
     requires chained { AreChained chains.now plans.old }
     ensures ok { IfOk result (λ r. delayed now plans.old message.now
         ≡ Ok (record { plans = plans.new; number = r.0 })) }
-    ensures within { IfOk result (λ r. (0 < r.0) × (r.0 ≤ length plans.new) × (r.1 < off_blocks_end)) }
+    ensures within { IfOk result (λ r. (0 < r.0) × (r.0 ≤ length plans.new)
+        × (r.1 < off_blocks_end)) }
     ensures back { IfOk result (λ r. changed_at (with_off_block r.1) r.0 plans.new ≡ plans.old) }
     ensures refused { IfErr result (λ e. IsJustRefusal e (delayed now plans.old message.now)) }
     ensures count { length plans.new ≡ length plans.old }
@@ -418,7 +458,7 @@ fn delay_plan<A: Allocator + Copy>(
     Ok((number, held))
 }
 
-/// The off-block moment of the plan that a message files, or why it is refused.
+/// The off-block date and time of the plan that a message files, or why it is refused.
 #[tactic(auto, unfolding(crate::specs::Changes::filed, crate::specs::Changes::plan_of))]
 fn why_refused<A: Allocator + Copy>(
     plans: &[Plan<A>],
@@ -433,7 +473,8 @@ fn why_refused<A: Allocator + Copy>(
         ≡ Ok (plans.now ++ plan_of moment message.now ∷ [])) }
     ensures room { OnOk result (length plans.now < max_plans) }
     ensures bound { IfOk result (λ moment. moment < off_blocks_end) }
-    ensures refused { IfErr result (λ e. IsJustRefusal e (filed max_plans now plans.now message.now)) }
+    ensures refused { IfErr result (λ e.
+        IsJustRefusal e (filed max_plans now plans.now message.now)) }
 {
     let Some(off_block) = moment_of(message, now) else {
         return Err(PlanFault::TooEarly);

@@ -1,5 +1,6 @@
-//! The field texts that a plan holds.
-ghost use Rattle.std.specs.Prelude.{◌≡◌, ◌≤◌, ◌<◌, ◌+◌, ◌++◌, true, length, List, ℕ, option_copied, MatchOption, IfOk};
+//! The field texts of a plan.
+ghost use Rattle.std.specs.Prelude.{◌≡◌, ◌≤◌, ◌<◌, ◌+◌, ◌++◌, true, length};
+ghost use Rattle.std.specs.Prelude.{List, ℕ, option_copied, MatchOption, IfOk};
 ghost use Rattle.std.specs.Prelude.{IfSome, IsSome, Option};
 ghost use Rattle.fpl_text.specs.Words.{words_of};
 ghost use Rattle.fpl_items.specs.Items.{Item, items_of, elapsed_to};
@@ -19,11 +20,10 @@ use std::alloc::{AllocError, Allocator, Global};
 use std::marker::Model;
 use std::mem;
 
-/// The squeezed texts of fields 8, 9, 10, 15 and 18, one after the other in one piece of memory. Plans are many, so where
-/// they end takes two bytes each.
+/// The squeezed texts of fields 8, 9, 10, 15 and 18, one after the other in one buffer. Plans are
+/// many, so each of their end offsets takes two bytes.
 #[derive(Drop)]
 pub(crate) struct Texts<A: Allocator + Copy = Global> {
-    /// What the EET items of field 18 say.
     estimates: KeptEstimates<A>,
     bytes: Vec<u8, A>,
     end8: u16,
@@ -51,11 +51,12 @@ impl<A: Allocator + Copy> Model for Texts<A> {
 
     ghost invariant = { λ t. (t.end8 ≤ t.end9) × (t.end9 ≤ t.end10) × (t.end10 ≤ t.end15)
         × (t.end15 ≤ length t.bytes.items)
-        × AreEstimatesOf (items_of (words_of (slice_range t.bytes.items t.end15 (length t.bytes.items)))) t.estimates };
+        × AreEstimatesOf (items_of
+        (words_of (slice_range t.bytes.items t.end15 (length t.bytes.items)))) t.estimates };
 }
 
-/// Appends a text, and answers where it ends. Refused where memory is, and behind 65,535 bytes, where the texts of no
-/// filings end: each has at most 2,000 bytes.
+/// Appends a text, and returns the offset of its end. Returns `Err` if an allocation fails, or at
+/// more than 65,535 bytes, which no filing reaches: each has at most 2,000.
 fn push_text<A: Allocator>(bytes: &mut Vec<u8, A>, text: &[u8]) -> Result<u16, AllocError>
     ensures items { IfOk result (λ end. bytes.new.items ≡ bytes.old.items ++ text.now) }
     ensures end { IfOk result (λ end. end ≡ length (bytes.old.items ++ text.now)) }
@@ -64,7 +65,7 @@ fn push_text<A: Allocator>(bytes: &mut Vec<u8, A>, text: &[u8]) -> Result<u16, A
     u16::try_from(bytes.len()).map_err(|_| AllocError)
 }
 
-/// Whether a message leaves all of these texts as they are.
+/// Whether a message amends none of these texts.
 #[tactic(auto, unfolding(crate::specs::Changes::texts_after))]
 fn keeps_texts<A: Allocator + Copy>(message: &Chg<A>) -> bool
     ensures { result ≡ true → (held : Held) → texts_after held message.now ≡ held }
@@ -76,13 +77,14 @@ fn keeps_texts<A: Allocator + Copy>(message: &Chg<A>) -> bool
         && message.field18().is_none()
 }
 
-/// The estimates of an amended field 18, or else those held, to be kept.
+/// A copy of the estimates of an amended field 18, or else of those held.
 fn estimates_after<A: Allocator + Copy>(
     alloc: A,
     held: &KeptEstimates<A>,
     amended: Option<&Other18<A>>,
 ) -> Result<KeptEstimates<A>, AllocError>
-    ensures { IfOk result (λ after. (items : Option (List Item)) → TellsOfAny items (option_copied amended.entry)
+    ensures { IfOk result (λ after. (items : Option (List Item))
+        → TellsOfAny items (option_copied amended.entry)
         → MatchOption items (after ≡ held.now) (λ items. AreEstimatesOf items after)) }
 {
     match amended {
@@ -91,7 +93,7 @@ fn estimates_after<A: Allocator + Copy>(
     }
 }
 
-/// Exchanges the texts of a plan with others, where there are any.
+/// Exchanges the texts of a plan with others, if there are any.
 pub(crate) fn exchange_texts<A: Allocator + Copy>(
     held: &mut Texts<A>,
     others: &mut Option<Box<Texts<A>, A>>,
@@ -147,13 +149,14 @@ impl<A: Allocator + Copy> Texts<A> {
         })
     }
 
-    /// Texts in which each that a message amends stands in place of the one held. None where it amends none.
+    /// The texts after a message that replaces some; `None` if it amends none.
     pub(crate) fn amended(
         &self,
         alloc: A,
         message: &Chg<A>,
     ) -> Result<Option<Box<Self, A>>, AllocError>
-        ensures { IfOk result (λ texts. texts_or texts self.now ≡ texts_after self.now message.now) }
+        ensures { IfOk result (λ texts.
+            texts_or texts self.now ≡ texts_after self.now message.now) }
     {
         if keeps_texts(message) {
             return Ok(None);
@@ -161,7 +164,8 @@ impl<A: Allocator + Copy> Texts<A> {
         Ok(Some(self.rewritten(alloc, message)?))
     }
 
-    /// The same where the message amends some. Most amend none, and go past the locals of this.
+    /// The same if the message amends some. It is a function of its own, so that most messages,
+    /// which amend none, don't set up its locals.
     #[inline(never)]
     #[tactic(auto, unfolding(crate::specs::Changes::texts_after))]
     fn rewritten(&self, alloc: A, message: &Chg<A>) -> Result<Box<Self, A>, AllocError>
@@ -210,14 +214,14 @@ impl<A: Allocator + Copy> Texts<A> {
         &self.bytes[usize::from(self.end15)..]
     }
 
-    /// What the EET items of field 18 say.
     fn estimates(&self) -> &KeptEstimates<A>
         ensures { AreEstimatesOf (items_of (words_of self.now.field18)) result.now }
     {
         &self.estimates
     }
 
-    /// The minutes from take-off to a place of the way, by the first estimate for it in the EET items of field 18.
+    /// The minutes from take-off to a route point, by the first estimate for it in the EET items of
+    /// field 18.
     #[inline(always)]
     pub(crate) fn elapsed(&self, place: &[u8]) -> Option<u32>
         ensures value { result ≡ elapsed_to place.now (items_of (words_of self.now.field18)) }
@@ -226,26 +230,29 @@ impl<A: Allocator + Copy> Texts<A> {
         self.estimates.elapsed(place)
     }
 
-    /// The bits of the words in a table that stand in the rows of the places of the way, by the EET items of field 18.
+    /// The bits in the table's rows of the route points, by the EET items of field 18.
     #[inline]
     pub(crate) fn near(&self, table: &[u64]) -> u64
-        ensures { (place : List ℕ) → IsSome (elapsed_to place (items_of (words_of self.now.field18)))
+        ensures { (place : List ℕ)
+            → IsSome (elapsed_to place (items_of (words_of self.now.field18)))
             → HasBitsOf result (word_at table.now (128 + bit_of place)) }
     {
         words_on_way(table, self.estimates.places())
     }
 
-    /// A set that has each place of the way, by the EET items of field 18.
+    /// A set that has each route point, by the EET items of field 18.
     pub(crate) fn way(&self) -> u64
-        ensures { (place : List ℕ) → IsSome (elapsed_to place (items_of (words_of self.now.field18)))
+        ensures { (place : List ℕ)
+            → IsSome (elapsed_to place (items_of (words_of self.now.field18)))
             → may_have result place ≡ true }
     {
         self.estimates.places()
     }
 
-    /// The minutes from take-off to the last place of the way, by the EET items of field 18, or more.
+    /// The minutes from take-off to the last route point, by the EET items of field 18, or more.
     pub(crate) fn longest(&self) -> u32
-        ensures { (place : List ℕ) → IfSome (elapsed_to place (items_of (words_of self.now.field18)))
+        ensures { (place : List ℕ)
+            → IfSome (elapsed_to place (items_of (words_of self.now.field18)))
             (λ minutes. minutes ≤ result) }
     {
         self.estimates.longest()

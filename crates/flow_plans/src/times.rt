@@ -1,5 +1,6 @@
-//! Off-block moments: what a flight plan asks for, and what a delay makes of one.
-ghost use Rattle.std.specs.Prelude.{◌≡◌, ◌≤◌, ◌<◌, ◌+◌, ◌-◌, ◌*◌, Ok, Err, Some, None, IfOk, MatchOption};
+//! The off-block date and time: what a flight plan asks for, and what a delay makes of one.
+ghost use Rattle.std.specs.Prelude.{◌≡◌, ◌≤◌, ◌<◌, ◌+◌, ◌-◌, ◌*◌, Ok};
+ghost use Rattle.std.specs.Prelude.{Err, Some, None, IfOk, MatchOption};
 ghost use Rattle.flow_plans.specs.Settings.{IsDeskTime};
 ghost use Rattle.flow_plans.specs.Times.{first_from, delayed_to, off_blocks_end};
 ghost use Rattle.flow_plans.specs.Changes.{moment_of, Answers};
@@ -10,13 +11,13 @@ use fpl_message::Fpl;
 use fpl_text::{Day, Minute, TimeOfDay};
 use std::alloc::Allocator;
 
-/// How many minutes a message may delay a flight at most.
+/// The limit of a delay, in minutes.
 const LONGEST_DELAY: u32 = 720;
 
-/// How many minutes after the desk's time an off-block moment may lie.
+/// How many minutes after the desk's time the off-block time may be.
 pub(crate) const FURTHEST_AHEAD: u32 = 7200;
 
-/// The off-block moment after a delay to a time of day.
+/// The off-block date and time after a delay to a time of day.
 #[tactic(auto, unfolding(crate::specs::Times::delayed_to))]
 pub(crate) fn delayed_to(now: Minute, held: Minute, time: TimeOfDay) -> Result<Minute, PlanFault>
     requires now { IsDeskTime now }
@@ -40,7 +41,7 @@ pub(crate) fn delayed_to(now: Minute, held: Minute, time: TimeOfDay) -> Result<M
     Ok(moment)
 }
 
-/// The first moment at a time of day that is not before another.
+/// The first time with this time of day that is not before `moment`.
 #[tactic(auto, unfolding(crate::specs::Times::first_from))]
 fn first_from(moment: Minute, time: TimeOfDay) -> Minute
     requires { moment ≤ off_blocks_end }
@@ -55,7 +56,6 @@ fn first_from(moment: Minute, time: TimeOfDay) -> Minute
     }
 }
 
-/// The moment of these minutes.
 #[tactic(auto, unfolding(fpl_text::specs::Moments::moment_within))]
 fn minute_of(minutes: u32) -> Minute
     requires { minutes ≤ GREATEST_MINUTE }
@@ -64,15 +64,17 @@ fn minute_of(minutes: u32) -> Minute
     Minute::new(minutes).unwrap()
 }
 
-/// The moment at a time of a day. None where it lies too far ahead for any desk.
+/// A time of day on a day; `None` if it is too far ahead for any desk.
 #[tactic(auto, unfolding(fpl_text::specs::Moments::moment_within))]
 fn moment_on(day: Day, time: TimeOfDay) -> Option<Minute>
-    ensures { MatchOption result (GREATEST_MINUTE < 1440 * day + time) (λ moment. moment ≡ 1440 * day + time) }
+    ensures { MatchOption result (GREATEST_MINUTE < 1440 * day + time) (λ moment.
+        moment ≡ 1440 * day + time) }
 {
     Minute::new(1440 * day.number() + u32::from(time.minutes()))
 }
 
-/// The off-block moment that a flight plan asks for. None where it lies too far ahead for any desk.
+/// The off-block date and time that a flight plan asks for; `None` if it is too far ahead for any
+/// desk.
 pub(crate) fn moment_of<A: Allocator + Copy>(message: &Fpl<A>, now: Minute) -> Option<Minute>
     requires { IsDeskTime now }
     ensures { MatchOption result (GREATEST_MINUTE < moment_of now message.now)

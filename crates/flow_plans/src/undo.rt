@@ -1,4 +1,4 @@
-//! What undoes the last change of a store.
+//! Undoes the last change of a store.
 ghost use Rattle.std.specs.Prelude.{◌≡◌, ◌≤◌, ◌<◌, ◌+◌, ◌-◌, Some, None, IfSome, IsSome, length};
 ghost use Rattle.flow_plans.specs.Undoing.{undone, IsOf, CanReturn};
 ghost use Rattle.flow_plans.specs.Chains.{flight_of_key, AreChained, HasRoomFor};
@@ -14,19 +14,19 @@ use std::alloc::{Allocator, Global};
 /// The last accepted change, with what it replaced.
 #[derive(Drop)]
 pub(crate) enum LastChange<A: Allocator + Copy = Global> {
-    /// None, or it was taken back.
+    /// None, or it was undone.
     Nothing,
     /// The last plan was filed.
     Filed,
-    /// The plan of this number had that off-block moment.
+    /// The off-block date and time of plan `number` was this.
     Delayed { number: u32, off_block: Minute },
-    /// The plan of this number was filed, and is now cancelled or has departed.
+    /// Plan `number` was filed, and is now cancelled or departed.
     Ended { number: u32 },
-    /// The plan of this number had this before.
+    /// Plan `number` had these values before.
     Amended { number: u32, former: Former<A> },
 }
 
-/// Undoes the last change of these plans. It takes no memory.
+/// Undoes the last change of these plans. Doesn't allocate.
 #[tactic(auto, unfolding(crate::specs::Plans::changed_at))]
 pub(crate) fn undo<A: Allocator + Copy>(
     plans: &mut PlanList<A>,
@@ -62,11 +62,12 @@ pub(crate) fn undo<A: Allocator + Copy>(
     }
 }
 
-/// Makes the plan of this number filed again, and puts it into the chain of its flight where it is in none. It takes no
-/// memory.
+/// Makes plan `number` filed again, and inserts it into the chain of its flight if it is in none.
+/// Doesn't allocate.
 fn file_again<A: Allocator + Copy>(plans: &mut PlanList<A>, chains: &mut Chains<A>, number: u32)
     requires number { (0 < number) × (number ≤ length plans.old) }
-    requires room { IfSome (plan_at plans.old number) (λ p. HasRoomFor chains.old (flight_of_key p.key)) }
+    requires room { IfSome (plan_at plans.old number) (λ p.
+        HasRoomFor chains.old (flight_of_key p.key)) }
     requires chained { AreChained chains.old plans.old }
     ensures changed { plans.new ≡ changed_at (with_state PlanState.Filed) number plans.old }
     ensures chained { AreChained chains.new plans.new }
@@ -79,7 +80,7 @@ fn file_again<A: Allocator + Copy>(plans: &mut PlanList<A>, chains: &mut Chains<
     }
 }
 
-/// Where the plan of this number stands.
+/// The state of plan `number`; `None` if there is no such plan.
 fn status_at<A: Allocator + Copy>(plans: &[Plan<A>], number: u32) -> Option<Status>
     requires { 0 < number }
     ensures { result ≡ status_at plans.now number }
@@ -90,7 +91,7 @@ fn status_at<A: Allocator + Copy>(plans: &[Plan<A>], number: u32) -> Option<Stat
     }
 }
 
-/// Where the plan of this number stood before the last change of these plans.
+/// The state of plan `number` before the last change of these plans.
 pub(crate) fn previous<A: Allocator + Copy>(
     plans: &[Plan<A>],
     last: &LastChange<A>,

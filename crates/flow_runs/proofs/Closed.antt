@@ -73,7 +73,7 @@ run-at s Q E (p ∷ ps) (f ∷ fs) (q ∷ qs) (l ∷ ls) (e ∷ es) h all ends (
       is_end = i.is_end;
     }
 
--- of the entries behind those read, this feeder's are its feed up to what is left
+-- of the entries after those read, this feeder's are its feed up to what is left
 filed-at : (s : Settings) (E : End → Type 0) (n : ℕ) (read entries : List Record) (ps qs : List PassView) (k : ℕ) (feed : List FilingText) (r : RunAt s (Agrees (read ++ entries)) E ps qs k feed)
     → AreOpened n read ps → texts (own k entries) ++ r.left ≡ feed
 filed-at s E n read entries ps qs k feed r opened =
@@ -100,7 +100,7 @@ whole-at s read entries ps qs k feed r room filed = elim r.is_end [
       absurd (omega (arith, ends.1 refl, prefix_length r.q.seen (read ++ entries) r.is_q.later, room))
 ]
 
--- what holds of all entries holds of those behind
+-- what holds of all entries holds of those after
 all-behind : {X : Type 0} (P : X → Type 0) (xs ys : List X) → All P (xs ++ ys) → All P ys
 all-behind P xs ys all = λ k d lt.
     let there : get_or (xs ++ ys) (length xs + k) d ≡ get_or ys k d = get_or-append_right xs ys (length xs) (length xs + k) d refl (omega arith) ∙ ap (λ (i : ℕ). get_or ys i d) (omega arith) in
@@ -138,7 +138,7 @@ closed s n read ps fs qs qs' ls es core stop some wide opened ran well few same 
       whole = λ none room k feed at. (let r = run-at s (Agrees (read ++ entries)) EndsWell ps fs qs ls es ran agrees (well none (subst (λ (j : List Record). length j < s.max_entries) front.1 room)) k feed at in whole-at s read entries ps qs k feed r room (filed-at s EndsWell n read entries ps qs k feed r opened));
     }
 
--- as many passes come back as there were
+-- all passes are returned
 pub as-many : (s : Settings) (ps : List PassView) (fs : List (List FilingText)) (qs : List PassView) (ls : List (List FilingText)) (es : List End) → RanFeeds s ps fs qs ls es → length qs ≡ length ps
 as-many s [] [] [] ls es h = refl
 as-many s [] (f ∷ fs) qs ls es h = absurd h

@@ -71,7 +71,7 @@ next-feed n fs f feeds turn a is in_turn k in_k (no other) =
     get-other feeds turn k (dealt n turn fs ++ f ∷ []) h (λ (e : k ≡ turn). other (sym e))
     ∙ (a.each k in_k ∙ ap (λ (q : List FilingText). Some q) (sym (dealt-later n k fs f (λ (e : length fs % n ≡ k). other (is ∙ e)))))
 
--- the next filing was put behind the feed whose turn it is
+-- the next filing was appended to the feed whose turn it is
 pub AreDealt-next : {V : Type 0} (v : V → List FilingText) (n : ℕ) (fs : List FilingText) (f : FilingText) (feeds : List V) (turn : ℕ) (feed longer : V)
     → AreDealt n fs (map v feeds) → turn ≡ length fs % n → turn < length feeds → feed ≡ get_or feeds turn feed → v longer ≡ v feed ++ f ∷ [] → AreDealt n (fs ++ f ∷ []) (map v (slice_set feeds turn longer))
 AreDealt-next v n fs f feeds turn feed longer a is in_turn at longer_is =

@@ -14,7 +14,7 @@ use Rattle.flow_runs.specs.declared.fault.RunFault.TheVariants as fault
 use Rattle.flow_runs.specs.ManyRuns.{WritesWithReplay}
 use Rattle.flow_runs.specs.Faults.{fault_of_frame, fault_of_journal, IsFaultOfDesk, reader_failures_with, writer_failures_with, reader_failures, writer_failures}
 
--- where no frame came the reader may have failed, and nothing was written
+-- if no frame came the reader may have failed, and nothing was written
 pub frame-reader : (e : IntakeFault) (n : ℕ) → failures_with e n ≡ reader_failures_with (fault_of_frame e) n
 frame-reader intake.Read n = refl
 frame-reader intake.TooMuch n = refl
@@ -53,7 +53,7 @@ pub stop-writer : (e : RunFault) (n : ℕ) → (e ≡ fault.OutOfMemory) ⊎ (e 
 stop-writer e n (inl is) = rw is refl
 stop-writer e n (inr is) = rw is refl
 
--- where no journal was read nothing was written
+-- if no journal was read nothing was written
 pub journal-reader : (e : JournalFault) (n : ℕ) → journal_failures e n ≡ reader_failures_with (fault_of_journal e) n
 journal-reader reading.Read n = refl
 journal-reader reading.NotAJournal n = refl
@@ -81,7 +81,7 @@ bad-journal reading.Read is = absurd (cc)
 bad-journal reading.NotAJournal is = refl
 bad-journal reading.OutOfMemory is = absurd (cc)
 
--- where no desk was made no device was called
+-- if no desk was made no device was called
 pub record NoDevice (e : RunFault) : Type 0 where
   pub reads : (n : ℕ) → reader_failures_with e n ≡ n
   pub writes : (n : ℕ) → writer_failures_with e n ≡ n
@@ -116,7 +116,7 @@ pub writer-failed : {T : Type 0} (r : Result T RunFault) (old new : ℕ) → OnO
 writer-failed (Ok x) old new calm failed kind = calm
 writer-failed (Err e) old new calm failed kind = subst (λ (k : RunFault). new ≡ writer_failures_with k old) (sym kind) failed
 
--- what stands after the answers
+-- what follows the answers
 pub replay-writer : {D : Type 0} (contents : D → Option (List ℕ)) (r : Result (Unit {0}) RunFault) (old new : Counted D) (text : List ℕ) → WritesWithReplay contents r old new text → new.failures ≡ writer_failures r old.failures
 replay-writer contents (Ok x) old new text w = w.calm
 replay-writer contents (Err fault.Write) old new text w = w.failed

@@ -58,7 +58,7 @@ module _ (setup : Settings) (read : List Record) (feeders : ℕ) (journal : Bool
             (long_lines input ++ (answers (after setup (read ++ f.entries)) f.entries ++ end_lines (after setup (read ++ f.entries)) (length (filings input) - length f.entries) journal)) h.told a same-ended;
       }
 
-  -- so are the answers alone, and what stands before the replay
+  -- so are the answers alone, and what precedes the replay
   same-answered : long_lines input ++ answers (state_of core) (drop r (state_of core).journal) ≡ answered setup read input f.entries
   same-answered =
       ap (λ (q : List Record). long_lines input ++ answers (state_of core) q) behind ∙ ap (λ (q : State). long_lines input ++ answers q f.entries) f.one_thread
@@ -112,7 +112,7 @@ pub RanMany-all : (setup : Settings) (read : List Record) (feeders : ℕ) (journ
 RanMany-all setup read feeders journal None feeds count begun mid written core stop r h f none start a = tt
 RanMany-all setup read feeders journal (Some bytes) feeds count begun mid written core stop r h f none start a = RanMany-made setup read feeders journal (frames bytes) feeds count begun mid written core stop r h f start none a
 
--- the answers were written, and then what stands after them, or how far that was
+-- the answers were written, and then what follows them, or how far that was
 pub answered-rest : {D E : Type 0} {contents : D → Option (List ℕ)} {x : Unit {0}} {old mid : Counted D} (r : Result (Unit {0}) RunFault) (new : Counted D) (stop : Option RunFault) (s : State) (read count : ℕ) (journal : Bool) → stop ≡ None
     → Writes {E = E} contents (Ok x) old mid (answers s (drop read s.journal)) → WritesWithReplay contents r mid new (end_before_replay s (count - (length s.journal - read)) journal)
     → IfErr r (λ e. AnsweredUntil e stop s read count journal (contents old.device) (contents new.device))
@@ -174,7 +174,7 @@ module _ (setup : Settings) (read : List Record) (feeders : ℕ) (journal : Bool
   ended-filed fault.NotStarted (Some bytes) rest feeds count begun mid written core stop r h f start a = answers-filed setup read feeders journal (frames bytes) feeds count begun mid written core stop r h f start a
   ended-filed _ input rest feeds count begun mid written core stop r h f start a = absurd a
 
--- before any frame behind the journal text was read
+-- before any frame after the journal text was read
 pub ended-on-first : (e : RunFault) (feeders : ℕ) (journal : Bool) (begun input rest : Option (List ℕ)) → e ≢ fault.TooMuch → e ≢ fault.Write → e ≢ fault.NotStarted → EndedOnBy e feeders journal begun begun input rest
 ended-on-first fault.Read feeders journal begun input rest much write started = inl (Keeps-refl begun)
 ended-on-first fault.TooMuch feeders journal begun input rest much write started = absurd (much refl)
@@ -183,7 +183,7 @@ ended-on-first fault.OutOfMemory feeders journal begun input rest much write sta
 ended-on-first fault.NotStarted feeders journal begun input rest much write started = absurd (started refl)
 ended-on-first _ feeders journal begun input rest much write started = Keeps-refl begun
 
--- behind it
+-- after it
 pub ended-on : (e : RunFault) (feeders : ℕ) (journal : Bool) (begun written input rest : Option (List ℕ)) → (e ≢ fault.BadJournal) × (e ≢ fault.BadFeeders) × (e ≢ fault.NoReader) → EndedBehind e feeders journal begun written input rest
     → EndedOnBy e feeders journal begun written input rest
 ended-on fault.Read feeders journal begun written input rest others b = inr b
@@ -193,7 +193,7 @@ ended-on fault.BadJournal feeders journal begun written input rest others b = ab
 ended-on fault.BadFeeders feeders journal begun written input rest others b = absurd (others.1 refl)
 ended-on _ feeders journal begun written input rest others b = b
 
--- ---- behind a journal text
+-- ---- after a journal text
 
 -- the journal text was read, and the run went on from there
 pub RanOn-made : (setup : Settings) (filed : List Input) (feeders : ℕ) (journal : Bool) (input mid begun written : Option (List ℕ)) → HoldsJournal setup filed input mid → first_beyond feeders 1 (run setup filed).journal ≡ None
@@ -241,7 +241,7 @@ ended-at (Ok x) s t es fs feeders journal begun written input rest same equal h 
 ended-at (Err e) s t es fs feeders journal begun written input rest same equal h =
     subst (λ (q : Settings). EndedBy e q fs feeders journal begun written input rest) same (subst (λ (q : List Record). EndedBy e s q feeders journal begun written input rest) equal h)
 
--- and behind a journal text
+-- and after a journal text
 pub ended-behind : {T : Type 0} (r : Result T RunFault) (setup s : Settings) (filed : List Input) (es : List Record) (feeders : ℕ) (journal : Bool) (begun written input mid rest : Option (List ℕ)) → HoldsJournal setup filed input mid
     → first_beyond feeders 1 (run setup filed).journal ≡ None → s ≡ setup → es ≡ (run setup filed).journal → IfErr r (λ e. (e ≢ fault.BadJournal) × (e ≢ fault.BadFeeders) × (e ≢ fault.NoReader))
     → IfErr r (λ e. EndedBy e s es feeders journal begun written mid rest) → IfErr r (λ e. EndedOnBy e feeders journal begun written input rest)
@@ -250,11 +250,11 @@ ended-behind (Err e) setup s filed es feeders journal begun written input mid re
     EndedBehind-made setup filed e feeders journal begun written input mid rest others h within
     (subst (λ (q : Settings). EndedBy e q (run setup filed).journal feeders journal begun written mid rest) same (subst (λ (q : List Record). EndedBy e s q feeders journal begun written mid rest) equal ended))
 
--- want of memory is none of these
+-- an allocation failure is none of these
 pub memory-others : (e : RunFault) → e ≡ fault.OutOfMemory → (e ≢ fault.BadJournal) × (e ≢ fault.BadFeeders) × (e ≢ fault.NoReader)
 memory-others e is = (λ b. absurd (cc (is, b)), λ b. absurd (cc (is, b)), λ b. absurd (cc (is, b)))
 
--- it doesn't end for want of a reader's place
+-- it doesn't end since the board has no reader left
 pub no-reader : {T : Type 0} (r : Result T RunFault) → IfErr r (λ e. (e ≢ fault.BadJournal) × (e ≢ fault.BadFeeders) × (e ≢ fault.NoReader)) → IsErrOf r fault.NoReader → ⊥
 no-reader (Ok x) others is = absurd (cc)
 no-reader (Err e) others is = others.2 (cc)

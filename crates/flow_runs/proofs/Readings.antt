@@ -39,7 +39,7 @@ line-long : (x : List ℕ) → leb (length x) 2000 ≡ false → long_lines (x �
 unfolding long_lines
 line-long x e = rw e (append-nil (codes "- NO 90 TooLong\n"))
 
--- a frame that is too long was told of
+-- the line of a frame that is too long was written
 pub ReadsNext-long : (kept : Option (List ℕ)) (feeds : List (List FilingText)) (count : ℕ) (before after : Option (List ℕ)) → kept ≡ None → Appends before after (codes "- NO 90 TooLong\n") → ReadsNext (filing_kept kept) feeds count feeds count before after
 ReadsNext-long kept feeds count before after none a feeders frames frame begun is h =
     let long : leb (length frame) 2000 ≡ false = is-long frame (ap filing_kept (sym none) ∙ is) in
@@ -126,7 +126,7 @@ front-none (Some xs) bytes = ([], bytes, refl, sym (append-nil xs))
 pub ToldFront-none : (begun input : Option (List ℕ)) → ToldFront begun begun input input
 ToldFront-none begun input = record { read = []; consumed = Consumes-nil input; told = front-none begun (long_lines (frames [])) }
 
--- where no frame came
+-- if no frame came
 pub told-no_frame : (e : IntakeFault) (begun written input rest : Option (List ℕ)) → (e ≡ intake.Read → ToldEnded begun written input rest) → ToldFirst begun written input rest → ToldUntil (fault_of_frame e) begun written input rest
 told-no_frame intake.Read begun written input rest starved first = starved refl
 told-no_frame intake.TooMuch begun written input rest starved first = first

@@ -13,8 +13,8 @@ use Rattle.flow_runs.specs.declared.fault.RunFault.TheVariants as fault
 abbrev pub EndsWell : End → Type 0
 EndsWell end = (end ≡ Finished) ⊎ (end ≡ Stopped step.JournalFull)
 
--- how a feed ended whose texts are read just before they are filed: with nothing left; or with the first of what is left refused, as
--- full only where the journal was
+-- how a feed ended whose texts are read just before they are filed: with nothing left; or with the
+-- first text of what is left refused, as full only if the journal was
 abbrev pub EndsFeed : Settings → End → PassView → List FilingText → Type 0
 EndsFeed s Finished q left = left ≡ []
 EndsFeed s (Stopped why) q left = (left ≢ []) × (why ≡ step.JournalFull → length q.seen ≡ s.max_entries)
@@ -24,8 +24,8 @@ EndsFeed s NotStarted q left = ⊥
 abbrev pub IsStop : Option RunFault → Type 0
 IsStop stop = IfSome stop (λ e. (e ≡ fault.OutOfMemory) ⊎ (e ≡ fault.NotStarted))
 
--- the fault that some feeds ended with, if one did, with one more feed that ended so: a feed to which memory was refused comes before
--- one that was never begun
+-- the fault that some feeds ended with, if one did, with one more feed that ended so: an allocation
+-- failure precedes a feed that was never begun
 abbrev pub stop_of : Option RunFault → End → Option RunFault
 stop_of stop Finished = stop
 stop_of stop (Stopped step.JournalFull) = stop

@@ -1,4 +1,4 @@
--- Which fault a run ends with, and how many calls of its devices have failed then.
+-- Which fault a run ends with, and how many calls of its devices have failed by then.
 use Rattle.std.specs.Prelude.{◌≡◌, ℕ, Result, Ok, Err}
 use Rattle.flow_input.specs.Source.{counted_up}
 use Rattle.flow_input.specs.declared.fault.IntakeFault.{IntakeFault}
@@ -10,19 +10,19 @@ use Rattle.flow_desk.specs.declared.blank.DeskFault.TheVariants as desk
 use Rattle.flow_runs.specs.declared.fault.RunFault.{RunFault}
 use Rattle.flow_runs.specs.declared.fault.RunFault.TheVariants as fault
 
--- the fault where no frame came
+-- the fault of a run for one of taking a frame
 abbrev pub fault_of_frame : IntakeFault → RunFault
 fault_of_frame intake.Read = fault.Read
 fault_of_frame intake.TooMuch = fault.TooMuch
 fault_of_frame intake.OutOfMemory = fault.OutOfMemory
 
--- where no journal was read
+-- for one of reading a journal
 abbrev pub fault_of_journal : JournalFault → RunFault
 fault_of_journal reading.Read = fault.Read
 fault_of_journal reading.NotAJournal = fault.BadJournal
 fault_of_journal reading.OutOfMemory = fault.OutOfMemory
 
--- and where no desk was made for a number of feeders that a desk may have
+-- and for one of opening a desk with a number of feeders that a desk may have
 abbrev pub IsFaultOfDesk : DeskFault → RunFault → Type 0
 IsFaultOfDesk desk.Feeders why = ⊥
 IsFaultOfDesk (desk.FeederBeyond number) why = why ≡ fault.BadFeeders
@@ -39,7 +39,7 @@ abbrev pub writer_failures_with : RunFault → ℕ → ℕ
 writer_failures_with fault.Write before = counted_up before
 writer_failures_with _ before = before
 
--- after a run that ended so: one more only where the device failed
+-- after a run that ended so: one more only if the device failed
 abbrev pub reader_failures : {T : Type 0} → Result T RunFault → ℕ → ℕ
 reader_failures (Ok x) before = before
 reader_failures (Err why) before = reader_failures_with why before

@@ -1,4 +1,4 @@
--- What the feeders of a desk have filed, all in all.
+-- What the feeders of a desk have filed in total.
 use Rattle.std.specs.Prelude.{◌≡◌, ◌≢◌, ℕ, ◌<◌, List, [], ◌∷◌, ◌++◌, length, map, Option, Some, None, slice_get}
 use Rattle.std.specs.List.{All}
 use mathlib.Core.List.{IsPrefix}
@@ -34,9 +34,10 @@ RanFeeds s [] [] [] [] [] = Unit {0}
 RanFeeds s (p ∷ ps) (feed ∷ feeds) (q ∷ qs) (left ∷ ls) (end ∷ es) = RanFeed s p feed q left end × RanFeeds s ps feeds qs ls es
 RanFeeds s _ _ _ _ _ = ⊥
 
--- a desk was closed: behind the entries read stand those of the feeders alone, all in one history of the desk of one thread. Of its feed
--- each feeder has filed a front; where none ended with a fault and the journal isn't full, all of it. One ended with a fault only where
--- the journal has room for more: where it is full, each text that is left found it so
+-- A desk was closed: after the entries read there are only those of the feeders, all in one history
+-- of the desk of one thread. Each feeder has filed a prefix of its feed; if none ended with a fault
+-- and the journal isn't full, all of it. One ended with a fault only if the journal isn't full:
+-- otherwise each text that is left has found it full, whichever fault was seen.
 pub record HasFiled (setup : Settings) (read : List Record) (feeders : ℕ) (feeds : List (List FilingText)) (core : History) (stop : Option RunFault) : Type 0 where
   pub entries : List Record
   pub setup_is : core.setup ≡ setup

@@ -29,41 +29,44 @@ use Rattle.flow_runs.specs.Filing.{texts}
 abbrev pub answers : State → List Record → List ℕ
 answers s entries = flat_map (answer_of s) entries
 
--- a line for each of so many filings at a full journal
+-- a line for each of `count` filings at a full journal
 abbrev pub full_lines : ℕ → List ℕ
 full_lines zero = []
 full_lines (suc n) = journal_full_line ++ full_lines n
 
--- the journal text, where it is asked for
+-- the journal text, if it is asked for
 abbrev pub asked_journal : Bool → State → List ℕ
 asked_journal false s = []
 asked_journal true s = journal_text s.setup (inputs s.journal)
 
--- after the last answer: a line for each filing that has no entry, and the journal text where it is asked for
+-- after the last answer: a line for each filing that has no entry, and the journal text if it is
+-- asked for
 abbrev pub end_before_replay : State → ℕ → Bool → List ℕ
 end_before_replay s left journal = full_lines left ++ asked_journal journal s
 
--- and that a replay comes to the same
+-- and that a replay has the same state
 abbrev pub end_lines : State → ℕ → Bool → List ℕ
 end_lines s left journal = end_before_replay s left journal ++ codes "REPLAY OK\n"
 
--- What a call leaves that writes this text, and behind it that a replay comes to the same. Where memory was refused to the replay its
--- line alone is missing, and no call of the device failed.
+-- What a call leaves that writes this text, and after it that a replay has the same state. If an
+-- allocation for the replay failed, its line alone is missing, and no call of the device failed.
 abbrev pub WritesWithReplay : {D : Type 0} → (D → Option (List ℕ)) → Result (Unit {0}) RunFault → Counted D → Counted D → List ℕ → Type 0
 WritesWithReplay contents (Ok x) old new text = Writes {E = RunFault} contents (Ok x) old new (text ++ codes "REPLAY OK\n")
 WritesWithReplay contents (Err fault.Write) old new text = Writes {T = Unit {0}} contents (Err fault.Write) old new (text ++ codes "REPLAY OK\n")
 WritesWithReplay contents (Err fault.OutOfMemory) old new text = Writes {E = RunFault} contents (Ok (tt {0})) old new text
 WritesWithReplay contents (Err _) old new text = ⊥
 
--- the answers to the entries behind so many, and what stands after them, where so many filings were dealt
+-- the answers to the entries after the first `read`, and what follows them, if `count` filings were
+-- dealt
 abbrev pub answers_and_end : State → ℕ → ℕ → Bool → List ℕ
 answers_and_end s read count journal = answers s (drop read s.journal) ++ end_lines s (count - (length s.journal - read)) journal
 
--- for an input: a line for each frame that is too long, and the answers to these entries, behind those read
+-- for an input: a line for each frame that is too long, and the answers to these entries, which
+-- follow those read
 abbrev pub answered : Settings → List Record → List (List ℕ) → List Record → List ℕ
 answered setup read input entries = long_lines input ++ answers (after setup (read ++ entries)) entries
 
--- and what stands after the last answer, with its last line or without it
+-- and what follows the last answer, with its last line or without it
 abbrev pub ended : Settings → List Record → Bool → List (List ℕ) → List Record → List ℕ
 ended setup read journal input entries =
     long_lines input ++ (answers (after setup (read ++ entries)) entries ++ end_lines (after setup (read ++ entries)) (length (filings input) - length entries) journal)
@@ -74,9 +77,10 @@ ended_before_replay setup read journal input entries =
 
 -- ---- a run
 
--- Behind the entries read there are these. They are of the feeders, and together they are a history of the desk of one thread. Of what is
--- dealt to it each feeder has filed a front, and all of it where the journal has fewer entries than it may have. What was written is a
--- line for each frame that is too long, the answers to these entries, and what stands after the last answer.
+-- After the entries read there are these. They are of the feeders, and together they are a history
+-- of the desk of one thread. Each feeder has filed a prefix of what is dealt to it, and all of it
+-- if the journal isn't full. What was written is a line for each frame that is too long, the
+-- answers to these entries, and what follows the last answer.
 pub record RanMany (setup : Settings) (read : List Record) (feeders : ℕ) (journal : Bool) (input : List (List ℕ)) (begun written : Option (List ℕ)) : Type 0 where
   pub entries : List Record
   pub one_thread : (after setup (read ++ entries)).journal ≡ read ++ entries
@@ -85,8 +89,8 @@ pub record RanMany (setup : Settings) (read : List Record) (feeders : ℕ) (jour
   pub whole : length (read ++ entries) < setup.max_entries → (k : ℕ) → k < feeders → texts (own k entries) ≡ dealt feeders k (filings input)
   pub output : Appends begun written (ended setup read journal input entries)
 
--- the input begins with a journal text, all of whose entries are of the feeders, and the run goes on from there; what follows the
--- text is no longer than an input may be
+-- the input begins with a journal text, all of whose entries are of the feeders, and the run
+-- resumes there; what follows the text is no longer than an input may be
 pub record RanOn (bytes : List ℕ) (feeders : ℕ) (journal : Bool) (begun written : Option (List ℕ)) : Type 0 where
   pub setup : Settings
   pub filed : List Input
@@ -100,7 +104,8 @@ pub record RanOn (bytes : List ℕ) (feeders : ℕ) (journal : Bool) (begun writ
 
 -- ---- how it is refused
 
--- the input begins with a journal text, of which an entry's feeder is none of so many; all after it is left
+-- the input begins with a journal text, of which an entry's feeder isn't below `feeders`; all after
+-- it is left
 pub record HoldsBeyond (feeders : ℕ) (input rest : Option (List ℕ)) : Type 0 where
   pub setup : Settings
   pub filed : List Input
@@ -116,9 +121,10 @@ pub record OverrunAfter (input rest : Option (List ℕ)) : Type 0 where
   pub holds : HoldsJournal setup filed input mid
   pub overrun : Overrun mid rest
 
--- ---- what was written where a run ended with a fault
+-- ---- what was written if a run ended with a fault
 
--- Behind the entries read there are entries of the feeders, as in a run that is answered, and this is so of them.
+-- After the entries read there are entries of the feeders, as in a run that is answered, and they
+-- satisfy P.
 pub record HaveFiled (setup : Settings) (read : List Record) (feeders : ℕ) (input : List (List ℕ)) (Is : List Record → Type 0) : Type 0 where
   pub entries : List Record
   pub one_thread : (after setup (read ++ entries)).journal ≡ read ++ entries
@@ -126,16 +132,18 @@ pub record HaveFiled (setup : Settings) (read : List Record) (feeders : ℕ) (in
   pub fronts : (k : ℕ) → k < feeders → IsPrefix (texts (own k entries)) (dealt feeders k (filings input))
   pub is : Is entries
 
--- each feeder has filed all that is dealt to it, where the journal has fewer entries than it may have
+-- each feeder has filed all that is dealt to it, if the journal isn't full
 abbrev pub FiledAll : Settings → List Record → ℕ → List (List ℕ) → List Record → Type 0
 FiledAll setup read feeders input entries = length (read ++ entries) < setup.max_entries → (k : ℕ) → k < feeders → texts (own k entries) ≡ dealt feeders k (filings input)
 
--- where a feed was refused memory or never begun, and the journal has room for more: the answers were written and nothing more
+-- if an allocation for a feed failed or it was never begun, and the journal isn't full: the answers
+-- were written and nothing more
 abbrev pub IsCutShort : Settings → List Record → List (List ℕ) → Option (List ℕ) → Option (List ℕ) → List Record → Type 0
 IsCutShort setup read input begun written entries = (length (read ++ entries) < setup.max_entries) × Appends begun written (answered setup read input entries)
 
--- The answers to the core's entries behind so many, where so many filings were dealt, and a feed ended with a fault or none did: those
--- that were written, and what stands after them, where this fault came.
+-- The answers to the core's entries after the first `read`, if `count` filings were dealt, and a
+-- feed ended with a fault or none did: those that were written, and what follows them, if this
+-- fault came.
 abbrev pub AnsweredUntil : RunFault → Option RunFault → State → ℕ → ℕ → Bool → Option (List ℕ) → Option (List ℕ) → Type 0
 AnsweredUntil fault.Write stop s read count journal begun written = AppendsFront begun written (answers_and_end s read count journal)
 AnsweredUntil fault.OutOfMemory stop s read count journal begun written =
@@ -144,16 +152,16 @@ AnsweredUntil fault.OutOfMemory stop s read count journal begun written =
 AnsweredUntil fault.NotStarted stop s read count journal begun written = (stop ≢ None) × Appends begun written (answers s (drop read s.journal))
 AnsweredUntil _ stop s read count journal begun written = ⊥
 
--- where memory was refused when all was read: before a feeder began; to a feed, where the journal has room for more; or to the replay of
--- the journal, so that its line alone is missing
+-- if an allocation failed when all was read: before a feeder began; for a feed, if the journal
+-- isn't full; or for the replay of the journal, so that its line alone is missing
 abbrev pub EndedByMemory : Settings → List Record → ℕ → Bool → List (List ℕ) → Option (List ℕ) → Option (List ℕ) → Type 0
 EndedByMemory setup read feeders journal input begun written =
     Appends begun written (long_lines input)
     ⊎ HaveFiled setup read feeders input (λ entries. IsCutShort setup read input begun written entries ⊎ (FiledAll setup read feeders input entries × Appends begun written (ended_before_replay setup read journal input entries)))
 
--- What was written where a run ended with this fault. Before the feeders begin nothing is filed, and what is written are lines for
--- frames that are too long. Once they file, want of memory never stands in place of a full journal: where it is full the run goes on
--- to its end.
+-- What was written if a run ended with this fault. Before the feeders begin nothing is filed, and
+-- what is written are lines for frames that are too long. Once they file, an allocation failure is
+-- never returned in place of a full journal: if it is full the run goes on to its end.
 abbrev pub EndedBy : RunFault → Settings → List Record → ℕ → Bool → Option (List ℕ) → Option (List ℕ) → Option (List ℕ) → Option (List ℕ) → Type 0
 EndedBy fault.Read setup read feeders journal begun written input rest = ToldEnded begun written input rest
 EndedBy fault.TooMuch setup read feeders journal begun written input rest = ToldFirst begun written input rest
@@ -167,7 +175,8 @@ EndedBy fault.NoReader setup read feeders journal begun written input rest = Kee
 EndedBy fault.BadJournal setup read feeders journal begun written input rest = Keeps begun written
 EndedBy fault.BadFeeders setup read feeders journal begun written input rest = Keeps begun written
 
--- the input begins with a journal text, all of whose entries are of the feeders, and behind it the run ended with this fault
+-- the input begins with a journal text, all of whose entries are of the feeders, and after it the
+-- run ended with this fault
 pub record EndedBehind (why : RunFault) (feeders : ℕ) (journal : Bool) (begun written input rest : Option (List ℕ)) : Type 0 where
   pub setup : Settings
   pub filed : List Input
@@ -176,7 +185,8 @@ pub record EndedBehind (why : RunFault) (feeders : ℕ) (journal : Bool) (begun 
   pub within : first_beyond feeders 1 (run setup filed).journal ≡ None
   pub ended : EndedBy why setup (run setup filed).journal feeders journal begun written mid rest
 
--- what was written where a run that begins with a journal text ended with this fault: nothing before a frame is read
+-- what was written if a run that begins with a journal text ended with this fault: nothing before a
+-- frame is read
 abbrev pub EndedOnBy : RunFault → ℕ → Bool → Option (List ℕ) → Option (List ℕ) → Option (List ℕ) → Option (List ℕ) → Type 0
 EndedOnBy fault.Read feeders journal begun written input rest = Keeps begun written ⊎ EndedBehind fault.Read feeders journal begun written input rest
 EndedOnBy fault.TooMuch feeders journal begun written input rest = EndedBehind fault.TooMuch feeders journal begun written input rest

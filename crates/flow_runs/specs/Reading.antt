@@ -19,7 +19,8 @@ unfoldable pub long_lines : List (List ℕ) → List ℕ
 long_lines [] = []
 long_lines (f ∷ fs) = if nat_le (length f) MAX_BYTES then long_lines fs else too_long_line ++ long_lines fs
 
--- of these frames the whole filings are dealt and counted, and of the others it was told that they are too long
+-- of these frames the whole filings are dealt and counted, and for each of the others its line is
+-- there
 pub record HasRead (feeders : ℕ) (frames : List (List ℕ)) (feeds : List (List FilingText)) (count : ℕ) (begun written : Option (List ℕ)) : Type 0 where
   pub dealt : AreDealt feeders (filings frames) feeds
   pub counted : count ≡ length (filings frames)
@@ -30,34 +31,36 @@ abbrev pub ReadsNext : Option FilingText → List (List FilingText) → ℕ → 
 ReadsNext filing old count new longer before after =
     (feeders : ℕ) (frames : List (List ℕ)) (frame : List ℕ) (begun : Option (List ℕ)) → filing ≡ filing_of frame → HasRead feeders frames old count begun before → HasRead feeders (frames ++ frame ∷ []) new longer begun after
 
--- how far reading has come: these frames were cut from the front of the input
+-- how far reading has come: these frames were taken from the beginning of the input
 pub record Reading (feeders : ℕ) (feeds : List (List FilingText)) (count : ℕ) (begun written : Option (List ℕ)) (ahead : Ahead) (input rest : Option (List ℕ)) : Type 0 where
   pub done : List (List ℕ)
   pub cutting : Cutting done ahead input rest
   pub has : HasRead feeders done feeds count begun written
 
--- ---- where reading ended with a fault
+-- ---- if reading ended with a fault
 
--- bytes were read of the input, and a line was written for each frame that is too long among some first ones of theirs
+-- bytes were read of the input, and a line was written for each frame that is too long among their
+-- first frames
 pub record ToldFirst (begun written input rest : Option (List ℕ)) : Type 0 where
   pub read : List ℕ
   pub consumed : Consumes input rest read
   pub count : ℕ
   pub told : Appends begun written (long_lines (take count (frames read)))
 
--- the same, of just those frames that had ended in the bytes read
+-- the same, for exactly those frames that had ended in the bytes read
 pub record ToldEnded (begun written input rest : Option (List ℕ)) : Type 0 where
   pub read : List ℕ
   pub consumed : Consumes input rest read
   pub told : Appends begun written (long_lines (ended_frames read))
 
--- bytes were read of the input, and a front of the lines for those frames of theirs that are too long was written
+-- bytes were read of the input, and a prefix of the lines for their frames that are too long was
+-- written
 pub record ToldFront (begun written input rest : Option (List ℕ)) : Type 0 where
   pub read : List ℕ
   pub consumed : Consumes input rest read
   pub told : AppendsFront begun written (long_lines (frames read))
 
--- what was written where reading ended with this fault
+-- what was written if reading ended with this fault
 abbrev pub ToldUntil : RunFault → Option (List ℕ) → Option (List ℕ) → Option (List ℕ) → Option (List ℕ) → Type 0
 ToldUntil fault.Read begun written input rest = ToldEnded begun written input rest
 ToldUntil fault.TooMuch begun written input rest = ToldFirst begun written input rest
@@ -65,13 +68,14 @@ ToldUntil fault.Write begun written input rest = ToldFront begun written input r
 ToldUntil fault.OutOfMemory begun written input rest = ToldFirst begun written input rest
 ToldUntil _ begun written input rest = ⊥
 
--- what was written of one frame, of which this is the filing, where the fault came with it
+-- what was written for one frame, of which this is the filing, if the fault came with it
 abbrev pub LeavesNext : RunFault → Option FilingText → Option (List ℕ) → Option (List ℕ) → Type 0
 LeavesNext fault.Write filing before after = (filing ≡ None) × AppendsFront before after too_long_line
 LeavesNext fault.OutOfMemory filing before after = after ≡ before
 LeavesNext _ filing before after = ⊥
 
--- the same where the run ended before a feeder began: while it was read, or when all was, for want of memory
+-- the same if the run ended before a feeder began: while the input was read, or by an allocation
+-- failure after that
 abbrev pub EndedBefore : RunFault → Option (List ℕ) → Option (List ℕ) → Option (List ℕ) → Option (List ℕ) → Type 0
 EndedBefore why begun written input rest =
     ToldUntil why begun written input rest ⊎ ((why ≡ fault.OutOfMemory) × IfSome input (λ bytes. Appends begun written (long_lines (frames bytes))))

@@ -10,14 +10,14 @@ use std::alloc::AllocError;
 /// Why a run ended before all was answered.
 #[derive(Clone, Copy, Debug, PartialEq, Eq)]
 pub enum RunFault {
-    /// The reader failed. An interrupted call is a failure, too.
+    /// The reader failed; an interrupted call is a failure, too.
     Read,
-    /// The input has more than 4,000,000,000 bytes, a journal text that it begins with not counted.
+    /// The input has more than 4,000,000,000 bytes, without the journal text that it begins with.
     TooMuch,
     /// The writer failed, or took no byte.
     Write,
     OutOfMemory,
-    /// A feeder got no place among the readers of the board.
+    /// The board has no reader left for a feeder.
     NoReader,
     /// A feed was never begun.
     NotStarted,
@@ -67,7 +67,7 @@ impl From<JournalFault> for RunFault {
     }
 }
 
-/// Where the number of feeders is that of some desk.
+/// The fault of a run for one of opening its desk.
 pub(crate) fn why_no_desk(fault: DeskFault) -> RunFault
     requires { fault ≢ DeskFault.Feeders }
     ensures { IsFaultOfDesk fault result }

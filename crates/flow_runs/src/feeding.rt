@@ -1,5 +1,6 @@
 //! Feeders at their desk: each files the texts that were dealt to it, in a thread of its own.
-ghost use Rattle.std.specs.Prelude.{◌≡◌, ◌≢◌, ◌≤◌, ◌<◌, ◌+◌, ◌++◌, ℕ, [], length, map, vec_len, vec_capacity};
+ghost use Rattle.std.specs.Prelude.{◌≡◌, ◌≢◌, ◌≤◌, ◌<◌, ◌+◌, ◌++◌, ℕ, []};
+ghost use Rattle.std.specs.Prelude.{length, map, vec_len, vec_capacity};
 ghost use Rattle.std.specs.Prelude.{slice_index_or, IsTrue, IsFalse, IfOk, OnOk, OnErr};
 ghost use Rattle.std.specs.VecDeque.{deque_len, deque_capacity};
 ghost use Rattle.flow_runs.specs.Ends.{EndsFeed};
@@ -14,7 +15,7 @@ use std::sync::Wait;
 use std::thread;
 use std::thread::Threads;
 
-/// A feed as it runs: the texts that have no entry yet, and how it ended.
+/// The state of a feed: the texts that have no entry yet, and how it ended.
 #[derive(Drop)]
 pub(crate) struct Feed<N: Name, A: Allocator + Copy = Global> {
     pub pass: Pass<N, A>,
@@ -22,15 +23,16 @@ pub(crate) struct Feed<N: Name, A: Allocator + Copy = Global> {
     pub end: End,
 }
 
-/// So many texts all feeders together have read while they wait for the lock: 16 each of 4 feeders, one each of 64.
-/// A feeder files those that it has read while it holds the lock once. Each time the lock goes to another feeder it goes
-/// to another processor, and the core's memory with it: with 16 filings a lock this is no longer what most time goes
-/// into. But the more of them are filed at once, the less their order is that of the input.
+/// The number of texts that all feeders together have read while they wait for the lock: 16 each of
+/// 4 feeders, one each of 64. A feeder files the texts that it has read in one critical section.
+/// Whenever the lock goes to another feeder, the core's memory moves to another processor; with 16
+/// filings a lock this is no longer the largest cost. But the more of them are filed at once, the
+/// less their order is that of the input.
 const AHEAD: usize = 64;
 
-/// Reads texts from the front of a feed in this room, as many as are filed at once, or all that are left; one at least.
-/// Where memory is refused those that were read before are ready, and the text that wasn't read is the first that is
-/// left.
+/// Reads the first texts of a feed into `ready`, as many as are filed at once, or all that are
+/// left; at least one. If an allocation fails, the texts read before are ready, and the one that
+/// wasn't read is the first that is left.
 fn read_ahead<A: Allocator + Copy>(
     alloc: A,
     at_once: usize,
@@ -62,7 +64,7 @@ fn read_ahead<A: Allocator + Copy>(
     Ok(())
 }
 
-/// Puts what wasn't filed back in front of what is left, in its order.
+/// Moves what wasn't filed back to the beginning of what is left, in its order.
 fn put_back<A: Allocator + Copy>(
     ready: &mut VecDeque<Filing<A>, A>,
     left: &mut VecDeque<FiledText<A>, A>,
@@ -76,12 +78,12 @@ fn put_back<A: Allocator + Copy>(
     }
 }
 
-/// Reads the next texts of a feed, and files them while it holds the lock once. False where one was refused or nothing
-/// is left.
+/// Reads the next texts of a feed, and files them in one critical section. Returns `false` if one
+/// was refused or nothing is left.
 ///
-/// A text is read just before it is filed: of all texts of a feed only these take the memory of what they say, and the
-/// others wait for the lock the less, the longer each reads. Where memory is refused for reading, what was read before
-/// is filed all the same: a text is left only where it or one before it was refused.
+/// A text is read just before it is filed, so only the texts of one batch take the memory of what
+/// they say. If reading a text fails to allocate, those before it are filed all the same: a text is
+/// left only if it or one before it was refused.
 fn file_next<N: Name, Q: Wait + Drop, P: Wait, A: Allocator + Copy>(
     wait: &P,
     alloc: A,
@@ -95,7 +97,8 @@ fn file_next<N: Name, Q: Wait + Drop, P: Wait, A: Allocator + Copy>(
     ensures none { ready.new.items ≡ [] }
     ensures ran { (p : _) (texts : _) → FiledTo p texts feed.old.pass feed.old.left.items
         → FiledTo p texts feed.new.pass feed.new.left.items }
-    ensures ends { IsFalse result → EndsFeed N.setup feed.new.end feed.new.pass feed.new.left.items }
+    ensures ends { IsFalse result
+        → EndsFeed N.setup feed.new.end feed.new.pass feed.new.left.items }
     ensures goes { IsTrue result → length feed.new.left.items < length feed.old.left.items }
 {
     if feed.left.is_empty() {
@@ -115,7 +118,7 @@ fn file_next<N: Name, Q: Wait + Drop, P: Wait, A: Allocator + Copy>(
     true
 }
 
-/// Files a feed until it ends, so many texts at once.
+/// Files a feed until it ends, a batch at a time.
 fn run_feed<N: Name, Q: Wait + Drop, P: Wait, A: Allocator + Copy>(
     wait: &P,
     alloc: A,
@@ -123,14 +126,15 @@ fn run_feed<N: Name, Q: Wait + Drop, P: Wait, A: Allocator + Copy>(
     at_once: usize,
     feed: &mut Feed<N, A>,
 )
-    ensures { RanFeed N.setup feed.old.pass feed.old.left.items feed.new.pass feed.new.left.items feed.new.end }
+    ensures { RanFeed N.setup feed.old.pass feed.old.left.items feed.new.pass
+        feed.new.left.items feed.new.end }
 {
     let mut room = Vec::new(alloc);
     let mut ready = VecDeque::new(alloc);
     while file_next(wait, alloc, desk, at_once, &mut room, &mut ready, feed) {}
 }
 
-/// Runs all feeds at the same time, each in a thread of its own where one can be made.
+/// Runs all feeds at the same time, each in a thread of its own if one can be created.
 fn run_all<
     N: Name + Send + Sync,
     Q: Wait + Drop + Send,
@@ -140,7 +144,8 @@ fn run_all<
 >(rt: &T, wait: &P, alloc: A, desk: &Desk<N, Q, A>, feeds: &mut Vec<Feed<N, A>, A>)
     ensures len { length feeds.new.items ≡ length feeds.old.items }
     ensures each { (i : ℕ) (d : _) → i < length feeds.old.items
-        → RanFeed N.setup (slice_index_or feeds.old.items i d).pass (slice_index_or feeds.old.items i d).left.items
+        → RanFeed N.setup (slice_index_or feeds.old.items i d).pass
+        (slice_index_or feeds.old.items i d).left.items
         (slice_index_or feeds.new.items i d).pass (slice_index_or feeds.new.items i d).left.items
         (slice_index_or feeds.new.items i d).end }
 {
@@ -154,7 +159,7 @@ fn run_all<
     );
 }
 
-/// Makes a feed of each pass and its texts, in their order.
+/// Pairs the passes with their texts, in their order.
 fn gather<N: Name, A: Allocator + Copy>(
     passes: &mut Vec<Pass<N, A>, A>,
     texts: &mut Vec<Vec<FiledText<A>, A>, A>,
@@ -162,7 +167,8 @@ fn gather<N: Name, A: Allocator + Copy>(
 )
     requires each { length passes.old.items ≡ length texts.old.items }
     requires room { vec_len feeds.old + length passes.old.items ≤ vec_capacity feeds.old }
-    ensures passes { map (λ f. f.pass) feeds.new.items ≡ map (λ f. f.pass) feeds.old.items ++ passes.old.items }
+    ensures passes { map (λ f. f.pass) feeds.new.items
+        ≡ map (λ f. f.pass) feeds.old.items ++ passes.old.items }
     ensures texts { map (λ f. f.left.items) feeds.new.items
         ≡ map (λ f. f.left.items) feeds.old.items ++ map (λ v. v.items) texts.old.items }
     ensures len { vec_len feeds.new ≡ vec_len feeds.old + length passes.old.items }
@@ -182,7 +188,7 @@ fn gather<N: Name, A: Allocator + Copy>(
     });
 }
 
-/// Has each pass file its texts, at the same time as the others. Where memory is refused before any feed is begun
+/// Files the texts of all passes at the same time. If an allocation fails before any feed begins,
 /// nothing was filed.
 pub(crate) fn file_texts<
     N: Name + Send + Sync,
@@ -200,7 +206,8 @@ pub(crate) fn file_texts<
 ) -> Result<Vec<Feed<N, A>, A>, AllocError>
     requires { length passes.items ≡ length texts.items }
     ensures { IfOk result (λ feeds. RanFeeds N.setup passes.items (map (λ v. v.items) texts.items)
-        (map (λ f. f.pass) feeds.items) (map (λ f. f.left.items) feeds.items) (map (λ f. f.end) feeds.items)) }
+        (map (λ f. f.pass) feeds.items) (map (λ f. f.left.items) feeds.items)
+        (map (λ f. f.end) feeds.items)) }
 {
     let mut feeds = Vec::new(alloc);
     feeds.reserve(passes.len())?;

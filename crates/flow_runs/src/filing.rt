@@ -1,5 +1,6 @@
 //! Runs the feeders of a desk over their feeds, and closes it.
-ghost use Rattle.std.specs.Prelude.{◌≡◌, ◌≢◌, ◌<◌, ◌≤◌, ◌+◌, ◌++◌, None, Some, length, map, vec_len};
+ghost use Rattle.std.specs.Prelude.{◌≡◌, ◌≢◌, ◌<◌, ◌≤◌, ◌+◌, ◌++◌};
+ghost use Rattle.std.specs.Prelude.{None, Some, length, map, vec_len};
 ghost use Rattle.std.specs.Prelude.{vec_capacity, IfOk, IfErr, IfNone};
 ghost use Rattle.std.specs.List.{All, fold};
 ghost use Rattle.flow_core.specs.History.{state_of};
@@ -16,15 +17,15 @@ use std::alloc::{Allocator, Global};
 use std::sync::Wait;
 use std::thread::Threads;
 
-/// The core of a desk at which feeders have filed, and the fault that a feed ended with, if one did and the journal has
-/// room for more.
+/// The core of a desk at which feeders have filed, and the fault that a feed ended with, if one did
+/// and the journal isn't full.
 #[derive(Drop)]
 pub(crate) struct Filed<A: Allocator + Copy = Global> {
     pub core: Core<A>,
     pub stop: Option<RunFault>,
 }
 
-/// The fault that some feeds ended with, if one did, with one more feed that ended so: want of memory before a feed
+/// Combines the fault of some feeds with the end of one more: an allocation failure precedes a feed
 /// that was never begun.
 fn stop_with(stop: Option<RunFault>, end: End) -> Option<RunFault>
     ensures is { result ≡ stop_of stop end }
@@ -44,7 +45,8 @@ fn stop_with(stop: Option<RunFault>, end: End) -> Option<RunFault>
     }
 }
 
-/// The fault that a feed ended with, if one did: want of memory before a feed that was never begun.
+/// The fault that a feed ended with, if one did: an allocation failure precedes a feed that was
+/// never begun.
 fn stop_among<N: Name, A: Allocator + Copy>(feeds: &[Feed<N, A>]) -> Option<RunFault>
     ensures is { result ≡ fold (λ stop f. stop_of stop f.end) None feeds.now }
     ensures none { IfNone result (All (λ f. EndsWell f.end) feeds.now) }
@@ -59,8 +61,8 @@ fn stop_among<N: Name, A: Allocator + Copy>(feeds: &[Feed<N, A>]) -> Option<RunF
     stop
 }
 
-/// The fault that a run ends with if its feeds ended so: none if the journal is full, since each filing that is left
-/// has found it full then.
+/// The fault of a run whose feeds ended with `stop`: none if the journal is full, since each filing
+/// that is left has found it full then.
 fn stop_with_room<A: Allocator + Copy>(core: &Core<A>, stop: Option<RunFault>) -> Option<RunFault>
     ensures room { result ≢ None → length (state_of core.now).journal < core.now.setup.max_entries }
     ensures is { length (state_of core.now).journal < core.now.setup.max_entries → result ≡ stop }
@@ -72,7 +74,6 @@ fn stop_with_room<A: Allocator + Copy>(core: &Core<A>, stop: Option<RunFault>) -
     stop
 }
 
-/// Takes the passes out, in their order.
 fn take_passes<N: Name, A: Allocator + Copy>(
     feeds: &mut Vec<Feed<N, A>, A>,
     passes: &mut Vec<Pass<N, A>, A>,
@@ -89,8 +90,8 @@ fn take_passes<N: Name, A: Allocator + Copy>(
     passes.push_reserved(feed.pass);
 }
 
-/// Opens the desk, has its feeders file what was dealt to them, and closes it. Where memory is refused before any feed
-/// is begun nothing was filed.
+/// Opens the desk, files what was dealt to its feeders, and closes it. If an allocation fails
+/// before any feed begins, nothing was filed.
 pub(crate) fn file_all<
     N: Name + Send + Sync,
     Q: Wait + Drop + Send,

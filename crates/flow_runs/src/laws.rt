@@ -8,23 +8,31 @@ ghost use Rattle.flow_store.specs.Serving.{IsSafe, IsKept};
 ghost use Rattle.flow_store.specs.Store.{IsStoreFile};
 ghost use Rattle.flow_runs.specs.StoredRuns.{IsSafeRun, IsKeptRun, HasAll};
 
-/// Whoever files at a desk that is kept in a store, one feeder or many: at whatever moment that has crashed, the file has all
-/// entries with which it was opened. So what was answered in one run is in the file after every later one, too.
+/// Whoever files at a desk with a store, one feeder or many: whenever that crashes, the file has
+/// all entries with which it was opened. So what was answered in one run is in the file after every
+/// later one, too.
 pub fn stored_runs_keep_all()
     ensures one { (opened : History) (begun : List ℕ) (input : Option (List ℕ)) (l : Left)
         → IsSafe (state_of opened) begun input l → HasAll opened l.file }
-    ensures many { (opened : History) (feeders : ℕ) (journal : Bool) (input : List (List ℕ)) (begun : List ℕ) (l : Left)
-        → IsSafeRun opened.setup (state_of opened).journal feeders journal input begun l → HasAll opened l.file }
+    ensures many { (opened : History) (feeders : ℕ) (journal : Bool) (input : List (List ℕ))
+        (begun : List ℕ) (l : Left)
+        → IsSafeRun opened.setup (state_of opened).journal feeders journal input begun l
+        → HasAll opened l.file }
 
     // What was answered by one feeder, and what by many, stays in a file that has all entries.
-    ensures later_one { (first : State) (begun : List ℕ) (input : Option (List ℕ)) (given file new : List ℕ) (opened : History)
-        → IsKept first begun input given file → IsStoreFile opened.setup opened.filed file → HasAll opened new
+    ensures later_one { (first : State) (begun : List ℕ) (input : Option (List ℕ))
+        (given file new : List ℕ) (opened : History)
+        → IsKept first begun input given file → IsStoreFile opened.setup opened.filed file
+        → HasAll opened new
         → IsKept first begun input given new }
-    ensures answered { (setup : Settings) (read : List Record) (feeders : ℕ) (journal : Bool) (input : List (List ℕ))
+    ensures answered { (setup : Settings) (read : List Record) (feeders : ℕ) (journal : Bool)
+        (input : List (List ℕ))
         (begun : List ℕ) (l : Left) → IsSafeRun setup read feeders journal input begun l
         → IsKeptRun setup read feeders journal input begun l.given l.file }
-    ensures later_many { (setup : Settings) (read : List Record) (feeders : ℕ) (journal : Bool) (input : List (List ℕ))
+    ensures later_many { (setup : Settings) (read : List Record) (feeders : ℕ) (journal : Bool)
+        (input : List (List ℕ))
         (begun given file new : List ℕ) (opened : History)
-        → IsKeptRun setup read feeders journal input begun given file → IsStoreFile opened.setup opened.filed file
+        → IsKeptRun setup read feeders journal input begun given file
+        → IsStoreFile opened.setup opened.filed file
         → HasAll opened new → IsKeptRun setup read feeders journal input begun given new }
 {}

@@ -1,6 +1,16 @@
-//! Runs with many feeders: an input is read whole, its filings are dealt to the feeders in turn, these file at the same
-//! time, and then all is answered in the order of the journal. At a desk that is kept in a store nothing is answered before
-//! all that was filed is on the disk (`stored`).
+//! Runs with many feeders. An input is read whole, and its filings are dealt to the feeders in
+//! turn.
+//!
+//! - *Feeding* (`feeding`): each feeder files its texts in a thread of its own. It reads some of
+//!   them while it waits for the desk's lock, and files these in one critical section.
+//! - *Answers* (`answers`): once the desk is closed, all is answered in the order of the journal.
+//!   Then each filing that found the journal full gets its line, and a replay says whether it has
+//!   the same state.
+//! - *Stores* (`stored`): at a desk with a store nothing is flushed before all that was filed is on
+//!   the disk.
+//!
+//! What a run may leave if it ends with a fault is said by `RunFault` and its clauses: nothing is
+//! filed before the feeders start, and no fault takes the place of a full journal after it.
 #![tactic(auto)]
 
 mod answers;
@@ -12,6 +22,7 @@ pub mod laws;
 mod run;
 mod stored;
 
+pub use answers::write_end;
 pub use fault::RunFault;
 pub use run::{run_many, run_resumed};
 pub use stored::{StoredRunFault, has_feeders_below, run_stored};

@@ -1,4 +1,4 @@
--- A flight that isn't held is none of the waiting and none of the fixed ones.
+-- A flight that has no slot is none of the provisional and none of the frozen ones.
 use Rattle.std.proofs.Common.{◌≡◌, ℕ, ◌++◌, Bool, true, false, cond, eqb, List, [], ◌∷◌, None, Some, refl}
 use Rattle.std.proofs.lemmas.Bool.{eqb-false}
 use Rattle.flow_slots.specs.declared.cell.Planned.{Planned}

@@ -1,4 +1,4 @@
--- The cells that were made, beside the row that they stand for, where a flight leaves: empty cells behind them change
+-- The cells that were made, beside the row that they represent, where a flight leaves: empty cells after them change
 -- nothing.
 use Rattle.std.proofs.Common.{◌≡◌, ℕ, zero, suc, ◌+◌, ◌-◌, ◌<◌, ◌≤◌, ◌++◌, List, [], ◌∷◌, map, length, take, drop, replicate, Option, None, Some, refl, sym, ap, subst, ◌∙◌, add-one, arith}
 use Rattle.std.proofs.lemmas.List.{length-map, map-append}

@@ -23,7 +23,7 @@ lineup-fixes : (p : Period) (capacity f k : ℕ) (row new : List Cell) (ws : Lis
 lineup-fixes p capacity f k row new ws r =
     ap (λ v. let l : Lineup = record { period = p; capacity = capacity; waiting = v; fixed = fixed_of 0 new } in l) r.waiting ∙ ap (λ v. let l : Lineup = record { period = p; capacity = capacity; waiting = ws; fixed = v } in l) r.fixed
 
--- a flight that waits in slot `k` is fixed there
+-- a provisional flight in slot `k` is frozen there
 pub row-fix : (p : Period) (capacity k : ℕ) (w : Planned) (row : List Cell) (places : List (Option ℕ)) → IsKept p capacity row places → cell_at row k ≡ Waiting w → Fixes (λ e. first_slot p e) 0 w.flight k row (set row k (Fixed w.flight)) (without w.flight (waiting_of row))
 row-fix p capacity k w row places kept e =
     fix-fixes (λ v. first_slot p v) 0 k k w row (omega arith) e (stands_only places row w.flight k kept.tied (ap flight_of e)) kept.settled
@@ -46,7 +46,7 @@ pub lineup-fix : (p : Period) (capacity k : ℕ) (w : Planned) (row : List Cell)
 lineup-fix p capacity k w row places kept e =
     lineup-fixes p capacity w.flight k row (set row k (Fixed w.flight)) (without w.flight (waiting_of row)) (row-fix p capacity k w row places kept e)
 
--- a waiting flight further on has its first slot after an empty one
+-- a provisional flight further on has its first slot after an empty one
 AllAfter-at : (first : ℕ → ℕ) (o k : ℕ) (w : Planned) (cs : List Cell) → AllAfter first o (waiting_of cs) → cell_at cs k ≡ Waiting w → o < first w.entry
 AllAfter-at first o k w [] a e = cc
 AllAfter-at first o zero w (Empty ∷ cs) a e = cc
@@ -56,7 +56,7 @@ AllAfter-at first o (suc k) w (Empty ∷ cs) a e = AllAfter-at first o k w cs a 
 AllAfter-at first o (suc k) w (Fixed f ∷ cs) a e = AllAfter-at first o k w cs a e
 AllAfter-at first o (suc k) w (Waiting v ∷ cs) a e = AllAfter-at first o k w cs a.1 e
 
--- where a flight waits in slot `k`, the empty cells from its first slot on lie behind `k`
+-- if a provisional flight is in slot `k`, the empty cells from its first slot on lie after `k`
 empty_behind : (first : ℕ → ℕ) (o n k : ℕ) (w : Planned) (cs : List Cell) → IsSettled first o cs → cell_at cs k ≡ Waiting w → first w.entry ≤ o + n → n ≤ k → has_empty (drop n cs) ≡ true → has_empty (drop (suc k) cs) ≡ true
 empty_behind first o n k w [] s e early l m = cc
 empty_behind first o (suc n) zero w (c ∷ cs) s e early l m = absurd (omega arith)
@@ -70,7 +70,7 @@ empty_behind first o zero (suc k) w (Empty ∷ cs) s e early l m = absurd (omega
 empty_behind first o zero (suc k) w (Fixed f ∷ cs) s e early l m = empty_behind first (o + 1) zero k w cs s e (omega arith) (omega arith) m
 empty_behind first o zero (suc k) w (Waiting v ∷ cs) s e early l m = empty_behind first (o + 1) zero k w cs s.2 e (omega arith) (omega arith) m
 
--- for a flight without a place there is room behind each slot in which a flight waits
+-- for a flight without a slot there is an empty slot after each slot with a provisional flight
 pub room-behind : (p : Period) (capacity : ℕ) (row : List Cell) (places : List (Option ℕ)) (x k : ℕ) (w : Planned) → IsKept p capacity row places → 0 < x → x ≤ capacity → place_at places x ≡ None → cell_at row k ≡ Waiting w → has_empty (drop (k + 1) row) ≡ true
 room-behind p capacity row places x k w kept some most none e = cases (cases_lt k (slots_before_end p)) where
   cases : (k < slots_before_end p) ⊎ (slots_before_end p ≤ k) → has_empty (drop (k + 1) row) ≡ true
@@ -80,7 +80,7 @@ room-behind p capacity row places x k w kept some most none e = cases (cases_lt 
       let behind = empty_behind (λ v. first_slot p v) 0 (slots_before_end p) k w row kept.settled e early h (room p capacity row places x (slots_before_end p) kept some most none (omega arith)) in
       rw add-one behind
 
--- a flight without a place is fixed in slot `k`
+-- a flight without a slot is frozen in slot `k`
 pub row-put : (p : Period) (capacity x k : ℕ) (row : List Cell) (places : List (Option ℕ)) → IsKept p capacity row places → k < length row → ((f : ℕ) → cell_at row k ≡ Fixed f → ⊥) → ((w : Planned) → cell_at row k ≡ Waiting w → has_empty (drop (k + 1) row) ≡ true) → Fixes (λ e. first_slot p e) 0 x k row (take k row ++ push x (drop k row)) (waiting_of row)
 row-put p capacity x k row places kept l open' room' = cases (cell_at row k) refl where
   cases : (c : Cell) → cell_at row k ≡ c → Fixes (λ e. first_slot p e) 0 x k row (take k row ++ push x (drop k row)) (waiting_of row)

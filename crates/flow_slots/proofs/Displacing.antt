@@ -21,7 +21,7 @@ same_ahead start row k e =
     let there : get_or start k Empty ≡ get_or (drop k start) 0 Empty = (let q : k ≡ k + 0 = omega arith in ap (λ i. get_or start i Empty) q ∙ sym (get_or-drop k start 0 Empty)) in
     ap flight_of (here ∙ (ap (λ l. get_or l 0 Empty) e ∙ sym there))
 
--- `coming` stands nowhere, and comes to the cells from `k` on, which no write has reached; the outcome
+-- `coming` has no slot, and comes to the cells from `k` on, which no write has reached; the outcome
 -- is that of `x` coming to the cells of `start` from `from` on
 pub record Displacing (start : List Cell) (flights first_writes from : ℕ) (x : Planned) (row : List Cell) (writes : ℕ) (places : List (Option ℕ)) (coming : Planned) (k : ℕ) : Type 0 where
   pub len : length row ≡ length start
@@ -65,7 +65,7 @@ Displacing-fixed start flights first_writes from x row writes places coming k f 
       target = sym (displace-fixed row k f coming h e) ∙ d.target;
     }
 
--- so is what isn't empty and in which no flight waits
+-- so is a cell that is neither empty nor provisional
 pub Displacing-passed : (start : List Cell) (flights first_writes from : ℕ) (x : Planned) (row : List Cell) (writes : ℕ) (places : List (Option ℕ)) (coming : Planned) (k : ℕ) (cell : Cell) → Displacing start flights first_writes from x row writes places coming k → k < length row → cell ≡ get_or row k Empty → waits cell ≡ false → (cell ≡ Empty → ⊥) → Displacing start flights first_writes from x row writes places coming (k + 1)
 Displacing-passed start flights first_writes from x row writes places coming k Empty d h e w n = absurd (n refl)
 Displacing-passed start flights first_writes from x row writes places coming k (Waiting v) d h e w n = cc
@@ -98,7 +98,7 @@ Displacing-later start flights first_writes from x row writes places coming k he
       target = sym (displace-later row k held coming h e next.0) ∙ d.target;
     }
 
--- so where both are known as cells in which a flight waits
+-- so where both are known as cells with a provisional flight
 pub Displacing-taken : (start : List Cell) (flights first_writes from : ℕ) (x : Planned) (row : List Cell) (writes : ℕ) (places : List (Option ℕ)) (coming held : Cell) (k : ℕ) → Displacing start flights first_writes from x row writes places (planned_in coming) k → k < length row → held ≡ get_or row k Empty → waits coming ≡ true → waits held ≡ true → Displacing start flights first_writes from x (set row k coming) (writes + 1) (set places (flight_number coming) (Some k)) (planned_in held) (k + 1)
 Displacing-taken start flights first_writes from x row writes places Empty held k d h e c w = cc
 Displacing-taken start flights first_writes from x row writes places (Fixed f) held k d h e c w = cc

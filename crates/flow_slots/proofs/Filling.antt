@@ -30,7 +30,7 @@ all-at P [] i d l a = absurd (omega arith)
 all-at P (x ∷ xs) zero d l a = a.0
 all-at P (x ∷ xs) (suc i) d l a = all-at P xs i d (omega arith) a.1
 
--- those before a flight of the order stand before it, and have other numbers
+-- those before a flight of the order precede it, and have other numbers
 all_before : (ws : List Planned) (i : ℕ) (d : Planned) → i < length ws → InOrder ws → AllByRecursion (λ v. stands_before v (get_or ws i d) ≡ true) (take i ws)
 all_before [] i d l o = absurd (omega arith)
 all_before (w ∷ ws) zero d l o = tt
@@ -42,7 +42,7 @@ none_is (w ∷ ws) zero d l a = tt
 none_is (w ∷ ws) (suc i) d l a =
     ((λ e. all-at (λ v. v.flight ≡ w.flight → ⊥) ws i d (omega arith) a.1 (sym e)), none_is ws i d (omega arith) a.2)
 
--- a flight behind all others comes in as the last
+-- a flight after all others is appended
 insert-last : (x : Planned) (ws : List Planned) → AllByRecursion (λ v. stands_before v x ≡ true) ws → insert x ws ≡ ws ++ x ∷ []
 insert-last x [] a = refl
 insert-last x (w ∷ ws) a =
@@ -51,7 +51,7 @@ insert-last x (w ∷ ws) a =
 later-entry : (v w : Planned) → stands_before v w ≡ true → v.entry ≤ w.entry
 later-entry v w h = grind (arith, nat_tests)
 
--- The first flights wait in the row, and all slots from `next` on are empty. A flight that stands behind them finds none empty
+-- The first flights wait in the row, and all slots from `next` on are empty. A flight that is after them finds none empty
 -- from its first slot to `next`.
 pub record Filling (p : Period) (capacity : ℕ) (ws : List Planned) (i next : ℕ) (row : List Cell) (places : List (Option ℕ)) : Type 0 where
   pub kept : IsKept p capacity row places

@@ -16,7 +16,7 @@ Follows-fixed row k f x h e a = rw (drop_at row k (Fixed f) h e) at a
 pub Follows-waiting : (row : List Cell) (k : ℕ) (w x : Planned) → k < length row → Waiting w ≡ get_or row k Empty → Follows x (drop k row) → (stands_before w x ≡ false) × Follows w (drop (k + 1) row)
 Follows-waiting row k w x h e a = rw (drop_at row k (Waiting w) h e) at a
 
--- in a settled row each waiting flight may go on
+-- in a settled row each provisional flight may go on
 Follows-settled : (first : ℕ → ℕ) (k : ℕ) (w : Planned) (cs : List Cell) → NoneBefore w (waiting_of cs) → IsSettled first k cs → Follows w cs
 Follows-settled first k w [] a s = tt
 Follows-settled first k w (Empty ∷ cs) a s = tt
@@ -70,7 +70,7 @@ pub record Passed (row : List Cell) (from : ℕ) (x : Planned) (k : ℕ) : Type 
   pub room : has_empty (drop k row) ≡ true
   pub reached : from ≤ k
 
--- a flight that stands before `x` is passed by
+-- a flight that precedes `x` is passed by
 pub passed-one : (row : List Cell) (from k : ℕ) (x : Planned) → Passed row from x k → waits_before x (get_or row k Empty) ≡ true → Passed row from x (k + 1)
 passed-one row from k x p h = by (get_or row k Empty) refl h where
   l : k < length row
@@ -91,7 +91,7 @@ passed-count row from k (suc n) next x e h p =
 pub passed-earlier : (row : List Cell) (from k next : ℕ) (x : Planned) → k ≤ next → ((i : ℕ) → k ≤ i → i < next → waits_before x (get_or row i Empty) ≡ true) → Passed row from x k → Passed row from x next
 passed-earlier row from k next x l h p = passed-count row from k (next - k) next x (omega arith) h p
 
--- so is a fixed one
+-- so is a frozen one
 pub passed-fixed : (row : List Cell) (from k : ℕ) (x : Planned) → Passed row from x k → IsFixedCell (get_or row k Empty) → Passed row from x (k + 1)
 passed-fixed row from k x p h = by (get_or row k Empty) refl h where
   l : k < length row

@@ -40,11 +40,11 @@ flight_in-other k x xs ne = ap (λ b. cond b (Some x.flight) (flight_in k xs)) (
 pub flight_in-here : (k : ℕ) (x : Placed) (xs : List Placed) → x.slot ≡ k → flight_in k (x ∷ xs) ≡ Some x.flight
 flight_in-here k x xs e = ap (λ b. cond b (Some x.flight) (flight_in k xs)) (eq-eqb x.slot k e)
 
--- a flight that stands in no cell
+-- a flight that is in no cell
 abbrev pub IsAway : ℕ → List Cell → Type 0
 IsAway f cs = (j : ℕ) → flight_at cs j ≡ Some f → ⊥
 
--- a flight that stands in no cell but one
+-- a flight that is in no cell but one
 abbrev pub StandsOnlyAt : ℕ → ℕ → List Cell → Type 0
 StandsOnlyAt f k cs = (j : ℕ) → flight_at cs j ≡ Some f → j ≡ k
 
@@ -95,7 +95,7 @@ slot_found-is f o (suc k) i (Fixed g ∷ cs) q e a =
 slot_found-is f o (suc k) i (Waiting w ∷ cs) q e a =
     ap (first_of (slot_in f (fixed_of (o + 1) cs))) (slot_in-other f (record { flight = w.flight; slot = o }) (placed_of (o + 1) cs) (λ s. StandsOnlyAt-first f k (Waiting w) cs a (ap Some s))) ∙ slot_found-is f (o + 1) k i cs (omega arith) e (StandsOnlyAt-tail f k (Waiting w) cs a)
 
--- the flights of the cells from slot `o` on stand at `o` or later
+-- the flights of the cells from slot `o` on are at `o` or later
 pub fixed_of-later : (k o : ℕ) (cs : List Cell) → k < o → flight_in k (fixed_of o cs) ≡ None
 fixed_of-later k o [] h = refl
 fixed_of-later k o (Empty ∷ cs) h = fixed_of-later k (o + 1) cs (omega arith)
@@ -127,7 +127,7 @@ flight_found-is o (suc k) i (Fixed f ∷ cs) q =
 flight_found-is o (suc k) i (Waiting w ∷ cs) q =
     ap (first_of (flight_in i (fixed_of (o + 1) cs))) (flight_in-other i (record { flight = w.flight; slot = o }) _ (λ e. omega arith)) ∙ flight_found-is (o + 1) k i cs (omega arith)
 
--- the places say where a flight stands
+-- the table says which slot a flight has
 pub tied-found : (places : List (Option ℕ)) (row : List Cell) (f : ℕ) → IsTied places row → slot_in f (fixed_of 0 row ++ placed_of 0 row) ≡ place_at places f
 tied-found places row f t = slot_in-append f _ _ ∙ cases (place_at places f) refl where
   cases : (o : Option ℕ) → place_at places f ≡ o → slot_found f 0 row ≡ place_at places f
@@ -150,13 +150,13 @@ pub held_flight-is : (p : Period) (capacity n : ℕ) (row : List Cell) (places :
 held_flight-is p capacity n row places k kept =
     ap (λ v. flight_in k (fixed_of 0 row ++ v)) (greedy-row (λ e. first_slot p e) (first_slot-monotone p) row kept.settled) ∙ row-found row k
 
--- a place is below the number of slots
+-- a stored slot is below the number of slots
 pub place_at-below : (p : Period) (capacity : ℕ) (row : List Cell) (places : List (Option ℕ)) (f : ℕ) (o : Option ℕ) → IsKept p capacity row places → o ≡ place_at places f → IfSome o (λ k. k < slots_before_end p + capacity)
 place_at-below p capacity row places f None kept e = tt
 place_at-below p capacity row places f (Some k) kept e =
     omega (arith, kept.len, flight_at-within row k f ((kept.tied.each f k).0 (sym e)))
 
--- where a fixed flight and a waiting one stand, by the fixed flights alone
+-- where a frozen flight and a provisional one are, by the frozen flights alone
 fixed_found-is : (f o k i : ℕ) (cs : List Cell) → i ≡ o + k → cell_at cs k ≡ Fixed f → StandsOnlyAt f k cs → slot_in f (fixed_of o cs) ≡ Some i
 fixed_found-is f o k i [] q e a = cc
 fixed_found-is f o zero i (Empty ∷ cs) q e a = cc
@@ -213,7 +213,7 @@ fixed_slot-waiting places row f k w t e h =
 pub fixed_flight-fixed : (row : List Cell) (f k : ℕ) → cell_at row k ≡ Fixed f → flight_in k (fixed_of 0 row) ≡ Some f
 fixed_flight-fixed row f k h = fixed_flight-is f 0 k k row (omega arith) h
 
--- what stands where a flight that isn't fixed has its place
+-- the cell of a flight that isn't frozen
 pub record Waits (row : List Cell) (f k : ℕ) : Type 0 where
   pub held : Planned
   pub stands : cell_at row k ≡ Waiting held
@@ -229,7 +229,7 @@ waits places row f k t e none = cases (cell_at row k) refl where
       let same : Some w.flight ≡ Some f = sym (ap flight_of h) ∙ stands in
       record { held = w; stands = h; flight = (let is : w.flight ≡ f = cc in is) }
 
--- a flight that was taken out isn't held
+-- a flight that was taken out has no slot
 slot_in-without : (f : ℕ) (xs : List Placed) → slot_in f (without_fixed f xs) ≡ None
 slot_in-without f [] = refl
 slot_in-without f (x ∷ xs) = cases (slot_in-without f xs) (eqb x.flight f) refl where
@@ -250,7 +250,7 @@ pub held_slot-without : (f : ℕ) (l : Lineup) → held_slot (without_flight f l
 held_slot-without f l =
     slot_in-append f (without_fixed f l.fixed) (greedy (λ e. first_slot l.period e) (slots (without_fixed f l.fixed)) (without f l.waiting)) ∙ (ap (λ v. first_of v (slot_in f (greedy (λ e. first_slot l.period e) (slots (without_fixed f l.fixed)) (without f l.waiting)))) (slot_in-without f l.fixed) ∙ slot_in-greedy (λ e. first_slot l.period e) f (slots (without_fixed f l.fixed)) l.waiting)
 
--- a fixed flight is held
+-- a frozen flight has a slot
 pub held_slot-fixed : (f : ℕ) (l : Lineup) → IsSome (fixed_slot l f) → IsSome (held_slot l f)
 held_slot-fixed f l h = cases (slot_in f l.fixed) refl h where
   cases : (o : Option ℕ) → slot_in f l.fixed ≡ o → IsSome o → IsSome (held_slot l f)
@@ -258,7 +258,7 @@ held_slot-fixed f l h = cases (slot_in f l.fixed) refl h where
   cases (Some k) e s =
       ap is_some (slot_in-append f l.fixed (greedy (λ v. first_slot l.period v) (slots l.fixed) l.waiting) ∙ ap (λ v. first_of v (slot_in f (greedy (λ v. first_slot l.period v) (slots l.fixed) l.waiting))) e)
 
--- a flight that has a place isn't fixed where its cell isn't
+-- a flight that has a slot isn't frozen if its cell isn't
 pub fixed_slot-not : (places : List (Option ℕ)) (row : List Cell) (f k : ℕ) → IsTied places row → place_at places f ≡ Some k → ((g : ℕ) → cell_at row k ≡ Fixed g → ⊥) → slot_in f (fixed_of 0 row) ≡ None
 fixed_slot-not places row f k t e not_fixed = cases (cell_at row k) refl where
   cases : (c : Cell) → cell_at row k ≡ c → slot_in f (fixed_of 0 row) ≡ None
@@ -266,12 +266,12 @@ fixed_slot-not places row f k t e not_fixed = cases (cell_at row k) refl where
   cases (Fixed g) h = absurd (not_fixed g h)
   cases (Waiting w) h = fixed_slot-waiting places row f k w t e h
 
--- the number of a flight that has a place
+-- the number of a flight that has a slot
 pub place_at-number : (p : Period) (capacity f k : ℕ) (row : List Cell) (places : List (Option ℕ)) (l : Lineup) → IsKept p capacity row places → capacity ≡ l.capacity → place_at places f ≡ Some k → (0 < f) × (f ≤ l.capacity)
 place_at-number p capacity f k row places l kept same e =
     (IsTied-some places row k f kept.tied ((kept.tied.each f k).0 e), omega (arith, kept.places_len, place_at-within places f k e))
 
--- the entry of a flight that stands in one cell alone
+-- the entry of a flight that is in one cell alone
 entry_in-away : (f : ℕ) (cs : List Cell) → IsAway f cs → entry_in f (waiting_of cs) ≡ None
 entry_in-away f [] a = refl
 entry_in-away f (Empty ∷ cs) a = entry_in-away f cs (IsAway-tail f Empty cs a)
@@ -311,7 +311,7 @@ entry-waiting places row f k w t e h =
     let same : Some w.flight ≡ Some f = sym (ap flight_of h) ∙ stands in
     entry_in-is f k w row h (let is : w.flight ≡ f = cc in is) (stands_only places row f k t stands)
 
--- a flight that has a place and doesn't wait there has no entry
+-- a flight that has a slot and isn't provisional there has no entry
 pub entry-not : (places : List (Option ℕ)) (row : List Cell) (f k : ℕ) → IsTied places row → place_at places f ≡ Some k → ((w : Planned) → cell_at row k ≡ Waiting w → ⊥) → entry_in f (waiting_of row) ≡ None
 entry-not places row f k t e not_waiting = cases (cell_at row k) refl where
   stands : flight_at row k ≡ Some f

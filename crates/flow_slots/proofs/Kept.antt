@@ -40,7 +40,7 @@ length-parts zero row cs e = e
 length-parts (suc n) [] cs e = e
 length-parts (suc n) (c ∷ row) cs e = ap suc (length-parts n row cs e)
 
--- a flight comes in at its first slot
+-- a flight is inserted at its first slot
 pub insert-takes_in : (p : Period) (capacity : ℕ) (row : List Cell) (places : List (Option ℕ)) (x : Planned) → IsKept p capacity row places → has_empty (drop (first_slot p x.entry) row) ≡ true → TakesIn (λ e. first_slot p e) 0 x row (take (first_slot p x.entry) row ++ displace x (drop (first_slot p x.entry) row))
 insert-takes_in p capacity row places x kept room =
     enter-takes_in (λ e. first_slot p e) (first_slot-monotone p) 0 (first_slot p x.entry) x row (omega arith) room kept.settled
@@ -62,7 +62,7 @@ IsKept-insert p capacity row new places after x kept room within is tied len =
       flights = kept.flights;
     }
 
--- the lineup that a row stands for
+-- the lineup that a row represents
 abbrev pub lineup_of : Period → ℕ → List Cell → Lineup
 lineup_of p capacity row = record { period = p; capacity = capacity; waiting = waiting_of row; fixed = fixed_of 0 row }
 
@@ -73,7 +73,7 @@ lineup-insert p capacity row new places x kept room is =
     let f : fixed_of 0 new ≡ fixed_of 0 row = ap (fixed_of 0) is ∙ r.fixed in
     ap (λ ws. let l : Lineup = record { period = p; capacity = capacity; waiting = ws; fixed = fixed_of 0 new } in l) w ∙ ap (λ fs. let l : Lineup = record { period = p; capacity = capacity; waiting = insert x (waiting_of row); fixed = fs } in l) f
 
--- What a call for a flight that isn't held finds: it has no place, and there is room for it.
+-- What a call for a flight without a slot finds: the table has none for it, and there is capacity.
 pub record MayComeIn (p : Period) (row : List Cell) (places : List (Option ℕ)) (x : Planned) : Type 0 where
   pub absent : place_at places x.flight ≡ None
   pub some : 0 < x.flight

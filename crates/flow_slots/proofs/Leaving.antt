@@ -29,7 +29,7 @@ without_fixed-here f a xs e = ap (λ b. cond (not b) (a ∷ without_fixed f xs) 
 without_fixed-other : (f : ℕ) (a : Placed) (xs : List Placed) → (a.flight ≡ f → ⊥) → without_fixed f (a ∷ xs) ≡ a ∷ without_fixed f xs
 without_fixed-other f a xs ne = ap (λ b. cond (not b) (a ∷ without_fixed f xs) (without_fixed f xs)) (ne_eqb a.flight f ne)
 
--- a flight that stands nowhere is missed by nobody
+-- a flight that has no slot is missed by nobody
 pub without-away : (f : ℕ) (cs : List Cell) → IsAway f cs → without f (waiting_of cs) ≡ waiting_of cs
 without-away f [] a = refl
 without-away f (Empty ∷ cs) a = without-away f cs (IsAway-tail f Empty cs a)

@@ -1,4 +1,4 @@
--- The cells that were made, beside the row that they stand for: entries are counted from a start there, and empty cells
+-- The cells that were made, beside the row that they represent: entries are counted from a start there, and empty cells
 -- follow.
 use Rattle.std.proofs.Common.{◌≡◌, ℕ, zero, suc, ◌+◌, ◌-◌, ◌<◌, ◌≤◌, ◌++◌, ◌⊎◌, inl, inr, Bool, true, false, cond, List, [], ◌∷◌, map, length, take, drop, replicate, Option, refl, sym, ap, ◌∙◌, arith}
 use Rattle.std.proofs.lemmas.Bool.{cases_lt, false≢true}
@@ -15,7 +15,7 @@ use Rattle.flow_slots.proofs.Filled.{cell_at-filled}
 use Rattle.flow_slots.proofs.Gained.{gained-same}
 use Rattle.flow_slots.proofs.Started.{started, cell_at-started, before-started}
 
--- these cells, their entries counted from the start, and so many empty ones
+-- these cells, their entries counted from the start, and empty ones
 abbrev shown : ℕ → List Cell → ℕ → List Cell
 shown start cells n = map (from_start start) (cells ++ replicate n Empty)
 
@@ -28,7 +28,7 @@ pub flight_at-lifted : (start : ℕ) (cells : List Cell) (len k : ℕ) → fligh
 flight_at-lifted start cells len k =
     ap flight_of (cell_at-started start (filled cells len) k) ∙ (flight_of-lifted start (cell_at (filled cells len) k) ∙ ap flight_of (cell_at-filled cells len k))
 
--- the same flights stand in the same places
+-- the same flights have the same slots
 pub IsTied-made : (places : List (Option ℕ)) (start : ℕ) (cells : List Cell) (len : ℕ) → IsTied places (started start cells len) → IsTied places cells
 IsTied-made places start cells len t = record {
   each = λ f k. ((λ e. sym (flight_at-lifted start cells len k) ∙ (t.each f k).0 e), (λ e. (t.each f k).1 (flight_at-lifted start cells len k ∙ e)));
@@ -61,7 +61,7 @@ AllFollow-from start n (suc from) (c ∷ cs) h = AllFollow-from start n from cs 
 pub AllFollow-made : (start : ℕ) (cells : List Cell) (len from : ℕ) → AllFollow (drop from (started start cells len)) → AllFollow (drop from cells)
 AllFollow-made start cells len from h = AllFollow-from start (len - length cells) from cells h
 
--- a flight comes in, where there is an empty cell
+-- a flight is inserted, where there is an empty cell
 displace-shown : (start n : ℕ) (x : Planned) (cs : List Cell) → has_empty cs ≡ true → shown start (displace x cs) n ≡ displace (flight_from start x) (shown start cs n)
 displace-shown start n x [] e = absurd (false≢true e)
 displace-shown start n x (Empty ∷ cs) e = refl
@@ -87,7 +87,7 @@ displaced-lifted start cells new len from x y room is same e =
     ∙ (displace-from start (len - length cells) from x cells room
     ∙ ap (λ v. take from (started start cells len) ++ displace v (drop from (started start cells len))) is))
 
--- as many cells have gained a flight
+-- the number of cells that gained a flight is the same
 gained-shown : (start n : ℕ) (cs bs : List Cell) → length cs ≡ length bs → gained (shown start cs n) (shown start bs n) ≡ gained cs bs
 gained-shown start n [] [] e = gained-same (shown start [] n)
 gained-shown start n [] (b ∷ bs) e = absurd (omega arith)

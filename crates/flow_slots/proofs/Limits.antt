@@ -76,6 +76,6 @@ front [] [] = refl
 front [] (z ∷ zs) = refl
 front (x ∷ xs) zs = ap (λ q. x ∷ q) (front xs zs)
 
--- the parts that were copied to the front of others
+-- the parts that were copied over the first of others
 pub take-front : (xs ys zs : List Part) → ys ≡ xs → take (length xs) (ys ++ zs) ≡ xs
 take-front xs ys zs e = ap (λ q. take (length xs) (q ++ zs)) e ∙ front xs zs

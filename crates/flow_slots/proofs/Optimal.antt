@@ -46,7 +46,7 @@ first_free_within-least (suc n) k j taken h f = cases (λ q. first_free_within-l
     other (inl q) = absurd (false≢true (sym f ∙ (ap (λ i. is_in i taken) (sym q) ∙ e)))
     other (inr q) = omega arith
 
--- g and k change places
+-- g and k are exchanged
 abbrev exchange : ℕ → ℕ → ℕ → ℕ
 exchange g k x = cond (eqb x g) k (cond (eqb x k) g x)
 

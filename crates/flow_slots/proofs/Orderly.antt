@@ -1,4 +1,4 @@
--- The waiting flights of a row stand in the order, and the fixed ones by slot.
+-- The provisional flights of a row are in the order, and the frozen ones by slot.
 use Rattle.std.proofs.Common.{◌≡◌, ℕ, suc, ◌+◌, ◌<◌, true, false, List, [], ◌∷◌, Option, Some, refl, sym, ap, subst, arith}
 use Rattle.std.specs.List.{AllByRecursion}
 use Rattle.std.proofs.lemmas.Bool.Decides.{nat_tests}
@@ -15,7 +15,7 @@ use Rattle.flow_slots.specs.Row.{waiting_of, fixed_of, placed_of, flight_of, fli
 use Rattle.flow_slots.specs.Lineup.{InOrder, BySlot, NoneIs, NoneFixed, FixedApart, WaitingApart, IsLineup}
 use Rattle.flow_slots.proofs.Held.{IsAway, IsAway-tail}
 
--- no flight stands in two cells
+-- no flight is in two cells
 abbrev AreApart : List Cell → Type 0
 AreApart cs = (i j f : ℕ) → flight_at cs i ≡ Some f → flight_at cs j ≡ Some f → i ≡ j
 
@@ -108,7 +108,7 @@ row-lineup first p capacity places row s t =
       waiting_apart = waiting-apart 0 row (tied-apart places row t);
     }
 
--- the slots of the waiting flights rise
+-- the slots of the provisional flights rise
 placed-behind : (j k : ℕ) (cs : List Cell) → j < k → AllByRecursion (λ i. j < i) (slots (placed_of k cs))
 placed-behind j k [] h = tt
 placed-behind j k (Empty ∷ cs) h = placed-behind j (k + 1) cs (omega arith)

@@ -39,7 +39,7 @@ start-time_from e s q (p ∷ ps) k a =
       cases again true = omega arith
       cases again false = omega (arith, a.0)
 
--- a later moment has no earlier first slot
+-- of a later time the first slot isn't earlier
 pub first_from-monotone : (s q : ℕ) (ps : List Part) → IsMonotone (first_from s q ps)
 first_from-monotone s q [] a b h = slots_in-more q (a - s) (b - s) (omega arith)
 first_from-monotone s q (p ∷ ps) a b h =

@@ -13,7 +13,7 @@ use Rattle.flow_slots.proofs.Held.{flight_in-here, fixed_of-later, placed_of-lat
 use Rattle.flow_slots.proofs.Kept.{lineup_of}
 use Rattle.flow_slots.proofs.Periods.{first_slot-monotone}
 
--- no flight of the cells after slot `k` stands in it
+-- no flight of the cells after slot `k` is in it
 fixed_of-none : (k : ℕ) (a : Placed) (xs : List Placed) (rest : List Cell) → a.slot ≡ k → fixed_of (k + 1) rest ≡ a ∷ xs → ⊥
 fixed_of-none k a xs rest at e =
     let here = flight_in-here k a xs at in
@@ -26,7 +26,7 @@ placed_of-none k a xs rest at e =
     let none : flight_in k (a ∷ xs) ≡ None = ap (flight_in k) (sym e) ∙ placed_of-later k (k + 1) rest (omega arith) in
     cc
 
--- cells are told by how many there are, and by the flights that wait and those that are fixed, with their slots
+-- cells are determined by their number, and by the provisional flights and those that are frozen, with their slots
 row-told : (k : ℕ) (cs ds : List Cell) → length cs ≡ length ds → waiting_of cs ≡ waiting_of ds → placed_of k cs ≡ placed_of k ds → fixed_of k cs ≡ fixed_of k ds → cs ≡ ds
 row-told k [] [] n w p f = refl
 row-told k [] (b ∷ ds) n w p f = absurd (omega arith)
@@ -53,7 +53,7 @@ row-told k (Fixed h ∷ cs) (Fixed g ∷ ds) n w p f =
     let others = row-told (k + 1) cs ds (omega arith) w p fixed in
     ap (λ c. Fixed c ∷ cs) same ∙ ap (λ rest. Fixed g ∷ rest) others
 
--- the slots of the waiting flights of a lineup
+-- the slots of the provisional flights of a lineup
 abbrev placed_in : Lineup → List Placed
 placed_in l = greedy (λ e. first_slot l.period e) (slots l.fixed) l.waiting
 
@@ -73,7 +73,7 @@ lineup-same p q m n cs ds e c r =
 abbrev period : ℕ → ℕ → ℕ → List Part → Period
 period a b r ps = record { start = a; end = b; rate = r; parts = ps }
 
--- two periods are the same where their first and last moments and rates are and their further parts
+-- two periods are the same where their first and last times and rates are and their further parts
 pub period-same : (a b r a' b' r' : ℕ) (ps qs : List Part) (t : Bool) → a ≡ a' → b ≡ b' → r ≡ r' → Decides t (ps ≡ qs) → Decides t (period a b r ps ≡ period a' b' r' qs)
 period-same a b r a' b' r' ps qs t x y z d =
     let whole : ps ≡ qs → period a b r ps ≡ period a' b' r' qs = λ e. (ap (λ v. period v b r ps) x ∙ (ap (λ v. period a' v r ps) y ∙ (ap (λ v. period a' b' v ps) z ∙ ap (period a' b' r') e))) in

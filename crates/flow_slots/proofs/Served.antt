@@ -80,7 +80,7 @@ entry_in-in f e (w ∷ ws) h = cases (entry_in-in f e ws) (eqb w.flight f) refl 
       inl (ap (planned w.entry) (eqb-true w.flight f q) ∙ ap (λ t. planned t f) time)
   cases again false q h = inr (again h)
 
--- and one of the list is found, where none is twice
+-- and one of the list is found, if none is twice
 pub in-slot_in : (a : Placed) (xs : List Placed) → NoneTwice xs → In a xs → slot_in a.flight xs ≡ Some a.slot
 in-slot_in a [] n i = absurd i
 in-slot_in a (x ∷ xs) n (inl e) =
@@ -105,7 +105,7 @@ in-entry_in fixed w (x ∷ xs) a (inr i) =
     let other = all-in (λ v. v.flight ≡ x.flight → ⊥) xs w a.1 i in
     ap (λ b. cond b (Some x.entry) (entry_in w.flight xs)) (ne_eqb x.flight w.flight (λ q. other (sym q))) ∙ in-entry_in fixed w xs a.2 i
 
--- the flights that wait are none of the fixed ones
+-- the provisional flights are none of the frozen ones
 pub waiting_not_fixed : (fixed : List Placed) (ws : List Planned) (w : Planned) (a : Placed) → WaitingApart fixed ws → In w ws → In a fixed → a.flight ≡ w.flight → ⊥
 waiting_not_fixed fixed [] w a h i j q = absurd i
 waiting_not_fixed fixed (x ∷ xs) w a h (inl e) j q =
@@ -149,7 +149,7 @@ greedy-free first taken (w ∷ ws) a (inr i) =
     let k = first_free taken (first w.entry) in
     false_right (eqb k a.slot) (is_in a.slot taken) (greedy-free first (k ∷ taken) ws a i)
 
--- and go to flights that wait
+-- and go to provisional flights
 pub record Serves (ws : List Planned) (a : Placed) : Type 0 where
   pub waits : Planned
   pub one : In waits ws
@@ -171,7 +171,7 @@ NoneTwice-greedy first fixed taken (w ∷ ws) h =
     let k = first_free taken (first w.entry) in
     (in-all (λ b. (b.flight ≢ w.flight) × (b.slot ≢ k)) (greedy first (k ∷ taken) ws) (λ b i. (none_serves w.flight ws b h.1 (greedy-serves first (k ∷ taken) ws b i), not_taken b.slot k taken (greedy-free first (k ∷ taken) ws b i))), NoneTwice-greedy first fixed (k ∷ taken) ws h.2)
 
--- each waiting flight is given a slot
+-- each provisional flight is given a slot
 pub greedy-found : (first : ℕ → ℕ) (f : ℕ) (taken : List ℕ) (ws : List Planned) → is_some (slot_in f (greedy first taken ws)) ≡ is_some (entry_in f ws)
 greedy-found first f taken [] = refl
 greedy-found first f taken (w ∷ ws) =
@@ -223,7 +223,7 @@ greedy-from first fixed taken (x ∷ ws) w k h (inr i) j =
     let other = all-in (λ v. v.flight ≡ x.flight → ⊥) ws w h.1 i in
     greedy-from first fixed (first_free taken (first x.entry) ∷ taken) ws w k h.2 i (later-slot first taken x ws (pair w.flight k) (λ q. other (sym q)) j)
 
--- what stands in a slot before that of `w`: a taken one, or a waiting flight that stands before `w`
+-- what is in a slot before that of `w`: a taken one, or a provisional flight that precedes `w`
 pub record Earlier (first : ℕ → ℕ) (taken : List ℕ) (ws : List Planned) (w : Planned) (j : ℕ) : Type 0 where
   pub waits : Planned
   pub one : In waits ws
@@ -300,7 +300,7 @@ greedy-order first mono fixed taken (x ∷ ws) v w j k o h (inr i) (inr m) b p q
     let w_other = all-in (λ u. u.flight ≡ x.flight → ⊥) ws w h.1 m in
     greedy-order first mono fixed (first_free taken (first x.entry) ∷ taken) ws v w j k o.1 h.2 i m b (later-slot first taken x ws (pair v.flight j) (λ r. v_other (sym r)) p) (later-slot first taken x ws (pair w.flight k) (λ r. w_other (sym r)) q)
 
--- the first free number is at most as many behind as numbers are taken
+-- the first free number is at most the count of the taken ones away
 abbrev from_count : ℕ → List ℕ → ℕ
 from_count k [] = 0
 from_count k (x ∷ xs) = cond (nat_le k x) 1 0 + from_count k xs

@@ -51,7 +51,7 @@ all_held l f = (
 pub fixed_held : (l : Lineup) (f k : ℕ) → fixed_slot l f ≡ Some k → held_slot l f ≡ Some k
 fixed_held l f k e = slot_in-append f l.fixed (served l) ∙ ap (λ o. first_of o (slot_in f (served l))) e
 
--- a waiting flight's pair is one of those that are served
+-- a provisional flight's pair is one of those that are served
 waiting_served : (l : Lineup) (w : Planned) (k : ℕ) → IsLineup l → Waits l w → held_slot l w.flight ≡ Some k → In (pair w.flight k) (served l)
 waiting_served l w k i e h = cases (in-either (pair w.flight k) l.fixed (served l) (slot_in-in w.flight k (assigned l) h)) where
   one : In w l.waiting

@@ -14,7 +14,7 @@ use Rattle.flow_slots.specs.Row.{cell_at, IsFixedCell}
 use Rattle.flow_slots.specs.Walk.{waits, waits_before}
 use Rattle.flow_slots.proofs.Filled.{length-filled, filled-more, filled-set}
 
--- the row that cells with such entries stand for
+-- the row that cells with such entries represent
 abbrev pub started : ℕ → List Cell → ℕ → List Cell
 started start cells len = map (from_start start) (filled cells len)
 
@@ -52,7 +52,7 @@ row-new start len cells is =
     ap (λ cs. let r : CellRow = record { row = started start cs len; writes = 0; start = start } in r) is
     ∙ ap (λ v. let r : CellRow = record { row = v; writes = 0; start = start } in r) (started-empty start (len - 0) ∙ ap (λ n. replicate n Empty) left)
 
--- a cell in which a flight waits has its entry and its number
+-- a cell with a provisional flight has its entry and its number
 pub waits-is : (c : Cell) → waits c ≡ true → Waiting (planned_in c) ≡ c
 waits-is Empty e = absurd (false≢true e)
 waits-is (Waiting w) e = refl
@@ -61,7 +61,7 @@ waits-is (Fixed f) e = absurd (false≢true e)
 pub waits-started : (start : ℕ) (c : Cell) → waits c ≡ true → from_start start c ≡ Waiting (flight_from start (planned_in c))
 waits-started start c e = sym (ap (from_start start) (waits-is c e))
 
--- a flight keeps its slot where nobody waits and somebody stands
+-- a slot is frozen if it has a flight that isn't provisional
 pub fixed-started : (start : ℕ) (c : Cell) → waits c ≡ false → (c ≡ Empty → ⊥) → IsFixedCell (from_start start c)
 fixed-started start Empty w n = n refl
 fixed-started start (Waiting v) w n = absurd (false≢true (sym w))

@@ -124,7 +124,7 @@ sound-insert l w s n g number entry =
       fixed_slots = s.fixed_slots;
     }
 
--- the waiting flights but one
+-- the provisional flights but one
 abbrev not_waiting : ℕ → Lineup → Lineup
 not_waiting f l = record { period = l.period; capacity = l.capacity; waiting = without f l.waiting; fixed = l.fixed }
 
@@ -177,7 +177,7 @@ sound-put l a s n g unkept number slot =
       fixed_slots = all-insert_fixed (λ b. b.slot < len_of l) a l.fixed slot s.fixed_slots;
     }
 
--- nobody keeps a slot that may be taken
+-- nobody has a frozen slot that may be taken
 unkept_slot : (l : Lineup) (k : ℕ) → IsLineup l → IfSome (held_flight l k) (λ holder. fixed_slot l holder ≡ None) → AllByRecursion (λ b. b.slot ≢ k) l.fixed
 unkept_slot l k i unkept = in-all (λ b. b.slot ≢ k) l.fixed (λ b j. taken b j) where
   taken : (b : Placed) → In b l.fixed → b.slot ≢ k
@@ -200,7 +200,7 @@ without-none_is f [] = tt
 without-none_is f (w ∷ ws) =
     elim (eqb w.flight f) as (λ b. eqb w.flight f ≡ b → NoneIs f (cond (not b) (w ∷ without f ws) (without f ws))) [ true ↦ λ q. without-none_is f ws | false ↦ λ q. (eqb-false w.flight f q, without-none_is f ws) ] refl
 
--- a flight that waits is fixed in its slot
+-- a provisional flight is frozen in its slot
 pub sound-fix : (l : Lineup) (f k : ℕ) → IsSound l → held_slot l f ≡ Some k → fixed_slot l f ≡ None → IsSound (fixed_at (pair f k) l)
 sound-fix l f k s h e =
     sound-put (not_waiting f l) (pair f k) (sound-not_waiting l f s) (without-none_is f l.waiting) (none_found f l.fixed e) unkept number (held_within l f k s h) where

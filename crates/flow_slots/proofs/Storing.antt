@@ -1,4 +1,4 @@
--- What a cell of four bytes has room for: a flight of a row and its entry.
+-- What a cell of four bytes has bits for: a flight of a row and its entry.
 use Rattle.std.proofs.Common.{◌≡◌, ℕ, ◌<◌, ◌≤◌, arith}
 use Rattle.flow_slots.specs.declared.cell.Cell.TheVariants.{Waiting}
 use Rattle.flow_slots.specs.declared.cell.Planned.{Planned}

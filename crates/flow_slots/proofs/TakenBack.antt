@@ -8,7 +8,7 @@ use Rattle.flow_slots.specs.Assignment.{Placed, greedy, slots}
 use Rattle.flow_slots.specs.Lineup.{Lineup, IsLineup, NoneIs, NoneFixed, FixedApart, WaitingApart, entry_in, waiting_entry, slot_in, held_slot, fixed_slot, with_waiting, with_fixed, without_flight, without_fixed, fixed_at}
 use Rattle.flow_slots.proofs.Undone.{IsOne, IsOneFixed, without_flight-undone, without_flight-put_back, fixed_at-undone}
 
--- a flight that waits with an entry is one of the waiting ones, and none of the fixed ones
+-- a provisional flight with an entry is one of the provisional ones, and none of the frozen ones
 pub entry_in-one : (fixed : List Placed) (w : Planned) (ws : List Planned) → WaitingApart fixed ws → entry_in w.flight ws ≡ Some w.entry → IsOne w ws × NoneFixed w.flight fixed
 entry_in-one fixed w [] a e = cc
 entry_in-one fixed w (v ∷ ws) a e = cases (entry_in-one fixed w ws a.2) (eqb v.flight w.flight) refl e where
@@ -22,7 +22,7 @@ entry_in-one fixed w (v ∷ ws) a e = cases (entry_in-one fixed w ws a.2) (eqb v
       let r = again h in
       (inr (eqb-false v.flight w.flight q, r.0), r.1)
 
--- a fixed flight is one of the fixed ones, and none of the waiting ones
+-- a frozen flight is one of the frozen ones, and none of the provisional ones
 slot_in-one : (a : Placed) (xs : List Placed) → FixedApart xs → slot_in a.flight xs ≡ Some a.slot → IsOneFixed a xs
 slot_in-one a [] d e = cc
 slot_in-one a (x ∷ xs) d e = cases (slot_in-one a xs d.1) (eqb x.flight a.flight) refl e where
@@ -46,13 +46,13 @@ fixed-none_waits f k fixed [] a e = tt
 fixed-none_waits f k fixed (w ∷ ws) a e =
     ((λ q. NoneFixed-found f k fixed (subst (λ v. NoneFixed v fixed) q a.0) e), fixed-none_waits f k fixed ws a.2 e)
 
--- no fixed flight has the number of one that was taken out
+-- no frozen flight has the number of one that was taken out
 pub without_fixed-gone : (f : ℕ) (xs : List Placed) → NoneFixed f (without_fixed f xs)
 without_fixed-gone f [] = tt
 without_fixed-gone f (x ∷ xs) =
     elim (eqb x.flight f) as (λ b. eqb x.flight f ≡ b → NoneFixed f (cond (not b) (x ∷ without_fixed f xs) (without_fixed f xs))) [ true ↦ λ q. without_fixed-gone f xs | false ↦ λ q. (eqb-false x.flight f q, without_fixed-gone f xs) ] refl
 
--- where a fixed flight is held, the look-up among the fixed ones finds the same slot
+-- where a frozen flight has a slot, the look-up among the frozen ones finds the same slot
 held-fixed : (f k : ℕ) (xs ys : List Placed) → slot_in f (xs ++ ys) ≡ Some k → is_some (slot_in f xs) ≡ true → slot_in f xs ≡ Some k
 held-fixed f k [] ys e s = absurd (false≢true s)
 held-fixed f k (x ∷ xs) ys e s = cases (held-fixed f k xs ys) (eqb x.flight f) e s where

@@ -103,7 +103,7 @@ insert-without_fixed a (x ∷ xs) s (inr q) =
     let before = lt-ltb x.slot a.slot (later-fixed x a xs s.0 q.1) in
     ap (insert_fixed a) (without_fixed-other a.flight x xs q.0) ∙ (ap (λ b. cond b (x ∷ insert_fixed a (without_fixed a.flight xs)) (a ∷ x ∷ without_fixed a.flight xs)) before ∙ ap (λ u. x ∷ u) again)
 
--- a fixed flight that was taken out is put back into its slot
+-- a frozen flight that was taken out is put back into its slot
 pub without_flight-put_back : (a : Placed) (l : Lineup) → BySlot l.fixed → IsOneFixed a l.fixed → NoneIs a.flight l.waiting → with_fixed a (without_flight a.flight l) ≡ l
 without_flight-put_back a l s o n =
     ap (λ ws. let m : Lineup = record { period = l.period; capacity = l.capacity; waiting = ws; fixed = insert_fixed a (without_fixed a.flight l.fixed) } in m) (without-none a.flight l.waiting n) ∙ ap (λ fs. let m : Lineup = record { period = l.period; capacity = l.capacity; waiting = l.waiting; fixed = fs } in m) (insert-without_fixed a l.fixed s o)
@@ -115,7 +115,7 @@ without-twice f (w ∷ ws) = cases (without-twice f ws) (eqb w.flight f) refl wh
   cases again true e = again
   cases again false e = ap (λ b. cond (not b) (w ∷ without f (without f ws)) (without f (without f ws))) e ∙ ap (λ u. w ∷ u) again
 
--- a flight that was fixed where it waited waits again
+-- a flight that was frozen in its provisional slot is provisional again
 pub fixed_at-undone : (w : Planned) (k : ℕ) (l : Lineup) → InOrder l.waiting → IsOne w l.waiting → NoneFixed w.flight l.fixed → with_waiting w (without_flight w.flight (fixed_at (record { flight = w.flight; slot = k }) l)) ≡ l
 fixed_at-undone w k l s o n =
     ap (λ ws. let m : Lineup = record { period = l.period; capacity = l.capacity; waiting = insert w ws; fixed = without_fixed w.flight (insert_fixed (record { flight = w.flight; slot = k }) l.fixed) } in m) (without-twice w.flight l.waiting) ∙ (ap (λ ws. let m : Lineup = record { period = l.period; capacity = l.capacity; waiting = ws; fixed = without_fixed w.flight (insert_fixed (record { flight = w.flight; slot = k }) l.fixed) } in m) (insert-without w l.waiting s o) ∙ ap (λ fs. let m : Lineup = record { period = l.period; capacity = l.capacity; waiting = l.waiting; fixed = fs } in m) (without-insert_fixed (record { flight = w.flight; slot = k }) l.fixed n))

@@ -68,7 +68,7 @@ put-held : (a : Placed) (l : Lineup) → IsSome (held_slot (with_fixed a l) a.fl
 put-held a l =
     held_slot-fixed a.flight (with_fixed a l) (slot_in-some a.flight (insert_fixed a l.fixed) a (in-insert_fixed a l.fixed) refl)
 
--- where a kept slot is left, nobody keeps it
+-- a slot that its frozen flight leaves isn't frozen
 none_fixed-found : (f : ℕ) (xs : List Placed) → NoneFixed f xs → slot_in f xs ≡ None
 none_fixed-found f [] n = refl
 none_fixed-found f (x ∷ xs) n = slot_in-other f x xs n.0 ∙ none_fixed-found f xs n.1

@@ -1,4 +1,4 @@
--- Rows in which no flight keeps a slot.
+-- Rows in which no flight has a frozen slot.
 use Rattle.std.proofs.Common.{◌≡◌, ℕ, zero, suc, ◌+◌, ◌-◌, ◌++◌, ◌↔◌, [], ◌∷◌, List, map, length, replicate, refl, sym, ap, ◌∙◌, arith}
 use Rattle.std.specs.List.{All}
 use Rattle.flow_slots.specs.declared.cell.Cell.{Cell}
@@ -38,7 +38,7 @@ filled-fixed start o n (Empty ∷ cs) = filled-fixed start (o + 1) n cs
 filled-fixed start o n (Waiting w ∷ cs) = filled-fixed start (o + 1) n cs
 filled-fixed start o n (Fixed f ∷ cs) = ap (λ v. record { flight = f; slot = o } ∷ v) (filled-fixed start (o + 1) n cs)
 
--- so is the row that such cells stand for
+-- so is the row that such cells represent
 pub started-unfixed : (start len : ℕ) (cells : List Cell) → AreUnfixed cells ↔ (fixed_of 0 (started start cells len) ≡ [])
 started-unfixed start len cells =
     let same = filled-fixed start 0 (len - length cells) cells in

@@ -1,4 +1,4 @@
--- Fixing a flight in the slot where it waits moves nobody.
+-- Freezing a flight in its provisional slot moves nobody.
 use Rattle.std.proofs.Common.{◌≡◌, ◌≢◌, ℕ, ◌||◌, Bool, true, false, not, cond, eqb, ltb, List, [], ◌∷◌, None, Some, refl, sym, ap, subst, ◌∙◌}
 use Rattle.std.proofs.lemmas.Bool.{eqb-true, eqb-false, ne_eqb}
 use Rattle.flow_slots.specs.declared.cell.Planned.{Planned}
@@ -50,7 +50,7 @@ none_served : (first : ℕ → ℕ) (f : ℕ) (taken : List ℕ) (ws : List Plan
 none_served first f taken [] n = tt
 none_served first f taken (w ∷ ws) n = (n.0, none_served first f (first_free taken (first w.entry) ∷ taken) ws n.1)
 
--- a waiting flight goes, and its slot is taken: all others get the slots that they had
+-- a provisional flight goes, and its slot is taken: all others get the slots that they had
 greedy-without : (first : ℕ → ℕ) (f k : ℕ) (fixed : List Placed) (taken more : List ℕ) (ws : List Planned) → WaitingApart fixed ws → TakenAlike more (k ∷ taken) → slot_in f (greedy first taken ws) ≡ Some k → greedy first more (without f ws) ≡ without_fixed f (greedy first taken ws)
 greedy-without first f k fixed taken more [] apart same e = cc
 greedy-without first f k fixed taken more (w ∷ ws) apart same e = cases (λ old new alike later. greedy-without first f k fixed old new ws apart.2 alike later) (eqb w.flight f) refl where
@@ -81,7 +81,7 @@ greedy-without first f k fixed taken more (w ∷ ws) apart same e = cases (λ ol
       ap (λ i. let a : Placed = record { flight = w.flight; slot = i } in a ∷ greedy first (i ∷ more) (without f ws)) stays
       ∙ ap (λ v. here ∷ v) (again (j ∷ taken) (j ∷ more) alike later)
 
--- where one more flight is fixed
+-- if one more flight is frozen
 taken-insert_fixed : (a : Placed) (xs : List Placed) → TakenAlike (slots (insert_fixed a xs)) (a.slot ∷ slots xs)
 taken-insert_fixed a [] = λ j. refl
 taken-insert_fixed a (x ∷ xs) = λ j. cases j (taken-insert_fixed a xs j) (ltb x.slot a.slot) where

@@ -1,5 +1,5 @@
--- The slot list made afresh (ATFCM Users Manual, slot allocation): the waiting flights in their order
--- around the flights whose slots are fixed. Slots are numbered from 0.
+-- The slot list made afresh (ATFCM Users Manual, slot allocation): the provisional flights in their
+-- order around the flights with frozen slots. Slots are numbered from 0.
 use Rattle.std.specs.Prelude.{ℕ, zero, suc, Bool, false, ◌+◌, ◌||◌, ◌==◌, if◌then◌else◌, List, [], ◌∷◌, map, max}
 use Rattle.flow_slots.specs.declared.cell.Planned.{Planned}
 
@@ -12,12 +12,12 @@ abbrev pub is_in : ℕ → List ℕ → Bool
 is_in k [] = false
 is_in k (x ∷ xs) = (x == k) || is_in k xs
 
--- a number above all of the list
+-- a number greater than all of the list
 abbrev pub above : List ℕ → ℕ
 above [] = 0
 above (x ∷ xs) = max (x + 1) (above xs)
 
--- the first of `k`, `k + 1`, .. that is not taken, of at most so many tries
+-- the first of `k`, `k + 1`, .. that is not taken, within a number of tries
 abbrev pub first_free_within : ℕ → List ℕ → ℕ → ℕ
 first_free_within zero taken k = k
 first_free_within (suc tries) taken k =

@@ -5,7 +5,7 @@ use Rattle.flow_slots.specs.declared.change_list.Change.TheVariants.{Insert, Rem
 use Rattle.flow_slots.specs.Period.{IsWithin}
 use Rattle.flow_slots.specs.Lineup.{Lineup, len_of, held_slot, held_flight, fixed_slot, with_waiting, with_fixed, without_flight, fixed_at}
 
--- a flight that isn't held, with a number of the list
+-- a flight without a slot, with a number of the list
 pub record IsNew (l : Lineup) (flight : ℕ) : Type 0 where
   pub absent : held_slot l flight ≡ None
   pub first : 0 < flight
@@ -19,7 +19,7 @@ May (Fix f) l = IsSome (held_slot l f) × (fixed_slot l f ≡ None)
 May (Release f e) l = IsSome (fixed_slot l f) × IsWithin l.period e
 May (PutFixed f k) l = IsNew l f × (k < len_of l) × IfSome (held_flight l k) (λ holder. fixed_slot l holder ≡ None)
 
--- a flight is fixed in the slot that it has
+-- a flight is frozen in the slot that it has
 abbrev pub fixed_there : Option ℕ → ℕ → Lineup → Lineup
 fixed_there None f l = l
 fixed_there (Some k) f l = fixed_at (record { flight = f; slot = k }) l

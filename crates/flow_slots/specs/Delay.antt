@@ -1,4 +1,5 @@
--- The delays of the waiting flights, slot time less entry, and the other choices of slots for them.
+-- The delays of the provisional flights, slot time less entry, and the other choices of slots for
+-- them.
 use Rattle.std.specs.Prelude.{◌≡◌, ℕ, ◌+◌, ◌-◌, ◌<◌, ◌≤◌, false, List, [], ◌∷◌}
 use Rattle.std.specs.List.{AllByRecursion}
 use Rattle.flow_slots.specs.declared.cell.Planned.{Planned}
@@ -12,7 +13,7 @@ total_delay p [] ks = 0
 total_delay p (w ∷ ws) [] = 0
 total_delay p (w ∷ ws) (k ∷ ks) = slot_time p k - w.entry + total_delay p ws ks
 
--- as many slots as flights, none twice, none taken and none before its flight's entry
+-- one slot for each flight, none twice, none taken and none before its flight's entry
 abbrev pub IsChoice : Period → List ℕ → List Planned → List ℕ → Type 0
 IsChoice p taken [] [] = Unit {0}
 IsChoice p taken [] (k ∷ ks) = ⊥
@@ -20,7 +21,7 @@ IsChoice p taken (w ∷ ws) [] = ⊥
 IsChoice p taken (w ∷ ws) (k ∷ ks) =
     (w.entry ≤ slot_time p k) × (is_in k taken ≡ false) × IsChoice p (k ∷ taken) ws ks
 
--- the slots that the waiting flights are assigned
+-- the slots that the provisional flights are assigned
 abbrev pub waiting_slots : Lineup → List ℕ
 waiting_slots l = slots (greedy (λ e. first_slot l.period e) (slots l.fixed) l.waiting)
 
@@ -29,7 +30,7 @@ abbrev pub Rise : List ℕ → Type 0
 Rise [] = Unit {0}
 Rise (k ∷ ks) = AllByRecursion (λ j. k < j) ks × Rise ks
 
--- they are a choice around the fixed slots, and no other choice has a smaller sum of delays
+-- they are a choice around the frozen slots, and no other choice has a smaller sum of delays
 pub record HasLeastDelay (l : Lineup) : Type 0 where
   pub choice : IsChoice l.period (slots l.fixed) l.waiting (waiting_slots l)
   pub least : (ks : List ℕ) → IsChoice l.period (slots l.fixed) l.waiting ks → total_delay l.period l.waiting (waiting_slots l) ≤ total_delay l.period l.waiting ks

@@ -1,5 +1,5 @@
 -- First planned, first served (ATFCM Users Manual, slot allocation), as a relation: what the
--- assignment is, with no word of how it is found.
+-- allocation is, with no word of how it is computed.
 use Rattle.std.specs.Prelude.{◌≡◌, ℕ, ◌≤◌, false, List, [], ◌∷◌}
 use Rattle.flow_slots.specs.declared.cell.Planned.{Planned}
 use Rattle.flow_slots.specs.Period.{Period, first_slot, slot_time}
@@ -20,7 +20,7 @@ AreFirstServed p taken (w ∷ ws) [] = ⊥
 AreFirstServed p taken (w ∷ ws) (a ∷ others) =
     (a.flight ≡ w.flight) × IsLeastFree p taken w.entry a.slot × AreFirstServed p (a.slot ∷ taken) ws others
 
--- the waiting flights of a lineup are first served around its fixed ones
+-- the provisional flights of a lineup are first served around its frozen ones
 abbrev pub IsFirstServed : Lineup → Type 0
 IsFirstServed l =
     AreFirstServed l.period (slots l.fixed) l.waiting (greedy (λ e. first_slot l.period e) (slots l.fixed) l.waiting)

@@ -1,5 +1,6 @@
--- The limits of a regulation: its period of 1 to 1,440 minutes, whose sub-periods begin one after the other within it, and
--- its hourly rates of at most 240, the last one at least 1. The desk's own rule.
+-- The limits of a regulation: its period of 1 to 1,440 minutes, whose sub-periods begin one after
+-- the other within it, and its hourly rates of at most 240, the last one at least 1. The desk's own
+-- rule.
 use Rattle.std.specs.Prelude.{ℕ, ◌-◌, Bool, ◌&&◌, nat_lt, nat_le, if◌then◌else◌, List, [], ◌∷◌, Option, Some, None}
 use Rattle.fpl_text.specs.declared.part.Part.{Part}
 use Rattle.flow_slots.specs.declared.shape.Limit.{Limit}

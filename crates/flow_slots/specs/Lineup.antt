@@ -1,5 +1,5 @@
--- What a slot list stands for (ATFCM Users Manual, slot allocation): the flights that wait, and those
--- that keep their slots.
+-- What a slot list represents (ATFCM Users Manual, slot allocation): the flights with provisional
+-- slots, and those with frozen ones.
 use Rattle.std.specs.Prelude.{◌≡◌, ℕ, ◌+◌, ◌<◌, ◌≤◌, not, true, ◌==◌, nat_lt, if◌then◌else◌, List, [], ◌∷◌, ◌++◌, length, filter, Option, None, Some}
 use Rattle.std.specs.List.{AllByRecursion}
 use Rattle.flow_slots.specs.declared.cell.Planned.{Planned}
@@ -9,7 +9,7 @@ use Rattle.flow_slots.specs.Order.{stands_before, insert, without}
 use Rattle.flow_slots.specs.Assignment.{Placed, greedy, slots}
 use Rattle.flow_slots.specs.Row.{waiting_of, IsSettled, IsTied, AllWithin}
 
--- the waiting flights in the order, and the fixed ones with their slots, by slot; flights are
+-- the provisional flights in the order, and the frozen ones with their slots, by slot; flights are
 -- numbered from 1 to `capacity`
 pub record Lineup : Type 0 where
   pub period : Period
@@ -17,11 +17,11 @@ pub record Lineup : Type 0 where
   pub waiting : List Planned
   pub fixed : List Placed
 
--- how many slots the list has
+-- the number of slots of the list
 abbrev pub len_of : Lineup → ℕ
 len_of l = slots_before_end l.period + l.capacity
 
--- the fixed flights in their slots, and the waiting ones afresh around them
+-- the frozen flights in their slots, and the provisional ones afresh around them
 abbrev pub assigned : Lineup → List Placed
 assigned l = l.fixed ++ greedy (λ e. first_slot l.period e) (slots l.fixed) l.waiting
 
@@ -43,11 +43,11 @@ held_flight l slot = flight_in slot (assigned l)
 abbrev pub fixed_slot : Lineup → ℕ → Option ℕ
 fixed_slot l flight = slot_in flight l.fixed
 
--- the fixed flights but one
+-- the frozen flights but one
 abbrev pub without_fixed : ℕ → List Placed → List Placed
 without_fixed flight fs = filter (λ a. not (a.flight == flight)) fs
 
--- one more fixed flight, at its place by slot
+-- one more frozen flight, inserted by slot
 abbrev pub insert_fixed : Placed → List Placed → List Placed
 insert_fixed a [] = a ∷ []
 insert_fixed a (b ∷ bs) = if nat_lt b.slot a.slot then b ∷ insert_fixed a bs else a ∷ b ∷ bs
@@ -70,7 +70,7 @@ without_flight flight l =
       fixed = without_fixed flight l.fixed;
     }
 
--- a waiting flight is fixed in a slot
+-- a provisional flight is frozen in a slot
 abbrev pub fixed_at : Placed → Lineup → Lineup
 fixed_at a l =
     record {
@@ -85,7 +85,7 @@ pub record Slots : Type 0 where
   pub lineup : Lineup
   pub writes : ℕ
 
--- what a slot list keeps of its row and of the places of the flights
+-- what a slot list stores of its row and of the slots of the flights
 pub record IsKept (p : Period) (capacity : ℕ) (row : List Cell) (places : List (Option ℕ)) : Type 0 where
   pub settled : IsSettled (λ e. first_slot p e) 0 row
   pub tied : IsTied places row
@@ -101,7 +101,7 @@ pub record IsKeptFrom (start : ℕ) (p : Period) (capacity : ℕ) (row : List Ce
   pub kept : IsKept p capacity row places
   pub from : start ≡ p.start
 
--- the waiting flights stand in the order, and the fixed ones by slot
+-- the provisional flights are in the order, and the frozen ones by slot
 abbrev pub InOrder : List Planned → Type 0
 InOrder [] = Unit {0}
 InOrder (w ∷ ws) = AllByRecursion (λ v. stands_before w v ≡ true) ws × InOrder ws
@@ -132,7 +132,7 @@ pub record IsLineup (l : Lineup) : Type 0 where
   pub fixed_apart : FixedApart l.fixed
   pub waiting_apart : WaitingApart l.fixed l.waiting
 
--- the entry of a flight that waits
+-- the entry of a provisional flight
 abbrev pub entry_in : ℕ → List Planned → Option ℕ
 entry_in flight [] = None
 entry_in flight (w ∷ ws) = if w.flight == flight then Some w.entry else entry_in flight ws
@@ -140,12 +140,12 @@ entry_in flight (w ∷ ws) = if w.flight == flight then Some w.entry else entry_
 abbrev pub waiting_entry : Lineup → ℕ → Option ℕ
 waiting_entry l flight = entry_in flight l.waiting
 
--- a lineup with these flights waiting and none fixed
+-- a lineup with these provisional flights and none frozen
 abbrev pub with_all_waiting : List Planned → Lineup → Lineup
 with_all_waiting ws l = record { period = l.period; capacity = l.capacity; waiting = ws; fixed = [] }
 
--- flights that an empty list may take in at once: they stand in the order, none twice, with numbers from 1 to `capacity` and
--- entries in the period
+-- flights that may be inserted into an empty list at once: they are in the order, none twice, with
+-- numbers from 1 to `capacity` and entries in the period
 pub record MayFill (ws : List Planned) (l : Lineup) : Type 0 where
   pub none_waiting : l.waiting ≡ []
   pub none_fixed : l.fixed ≡ []

@@ -1,5 +1,5 @@
--- What the fresh assignment of a lineup is, whichever way it is made: one slot a flight, slots that rise, and no free
--- slot between a flight's entry and its slot.
+-- What the fresh allocation of a lineup is, however it is computed: one slot a flight, slots that
+-- rise, and no free slot between a flight's entry and its slot.
 use Rattle.std.specs.Prelude.{◌≡◌, ◌≢◌, ℕ, ◌<◌, ◌≤◌, ◌⊎◌, true, List, [], ◌∷◌, Some, IsSome}
 use Rattle.std.specs.List.{AllByRecursion}
 use Rattle.std.specs.Option.{IsSomeAnd}
@@ -14,8 +14,8 @@ use Rattle.flow_slots.specs.Lineup.{Lineup, IsLineup, len_of, held_flight, fixed
 abbrev pub IsNumber : Lineup → ℕ → Type 0
 IsNumber l flight = (0 < flight) × (flight ≤ l.capacity)
 
--- what the lineup of each slot list is: flights in the order and none twice, entries in the period, and kept slots of
--- the list
+-- what the lineup of each slot list is: flights in the order and none twice, entries in the period,
+-- and frozen slots of the list
 pub record IsSound (l : Lineup) : Type 0 where
   pub lined : IsLineup l
   pub regular : IsRegular l.period
@@ -30,11 +30,12 @@ NoneTwice [] = Unit {0}
 NoneTwice (a ∷ others) =
     AllByRecursion (λ b. (b.flight ≢ a.flight) × (b.slot ≢ a.slot)) others × NoneTwice others
 
--- a flight waits, with this entry
+-- a flight is provisional, with this entry
 abbrev pub Waits : Lineup → Planned → Type 0
 Waits l w = waiting_entry l w.flight ≡ Some w.entry
 
--- what may stand in a slot that `w` would take otherwise: a flight that keeps it, or one that waits and stands before `w`
+-- what may be in a slot that `w` would take otherwise: a frozen flight, or a provisional one that
+-- precedes `w`
 abbrev pub GoesFirst : Lineup → Planned → ℕ → Type 0
 GoesFirst l w flight =
     IsSome (fixed_slot l flight)

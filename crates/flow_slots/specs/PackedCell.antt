@@ -1,4 +1,5 @@
--- A cell as one number of 32 bits: the minutes of an entry from a start, times 2 ^ 15, and a flight.
+-- A cell as one number of 32 bits: the minutes of an entry from a start, times 2 ^ 15, and a
+-- flight.
 use Rattle.std.specs.Prelude.{◌≡◌, ℕ, Bool, true, false, ◌+◌, ◌*◌, ◌/◌, ◌%◌, ◌<◌, ◌≤◌, eqb, ◌==◌, cond, if◌then◌else◌}
 use Rattle.std.proofs.Common.{refl, sym, ap, ◌∙◌}
 use Rattle.std.proofs.Math.Nat.{div-add-mod}
@@ -8,8 +9,8 @@ use Rattle.flow_slots.specs.declared.cell.Cell.TheVariants.{Empty, Waiting, Fixe
 use Rattle.flow_slots.specs.declared.cell.Planned.{Planned}
 use Rattle.flow_slots.specs.declared.packed_cell.TheConstants.{FLIGHTS, NO_ENTRY}
 
--- what a number can say beside a start: an entry that isn't before it and not so late as that of no flight, and a
--- flight's number below 2 ^ 15, where 0 is no flight that is fixed
+-- what a word can store beside a start: an entry that isn't before it and not so late as that of no
+-- flight, and a flight's number below 2 ^ 15, where 0 is no flight of a frozen slot
 abbrev pub IsStored : ℕ → Cell → Type 0
 IsStored start Empty = Unit {0}
 IsStored start (Waiting w) = (start ≤ w.entry) × (w.entry < start + NO_ENTRY) × (w.flight < FLIGHTS)
@@ -25,13 +26,13 @@ from_start start Empty = Empty
 from_start start (Waiting w) = Waiting (flight_from start w)
 from_start start (Fixed f) = Fixed f
 
--- the cell that an entry and a flight stand for
+-- the cell of an entry and a flight
 abbrev pub unpacked : ℕ → ℕ → Cell
 unpacked entry flight =
     if entry == NO_ENTRY then (if flight == 0 then Empty else Fixed flight)
     else Waiting (record { entry = entry; flight = flight })
 
--- the cell that a number stands for
+-- the cell of a word
 abbrev pub cell_of : ℕ → Cell
 cell_of word = unpacked (word / FLIGHTS) (word % FLIGHTS)
 
@@ -46,15 +47,15 @@ flight_number Empty = 0
 flight_number (Waiting w) = w.flight
 flight_number (Fixed f) = f
 
--- both, as a flight: of a cell in which one waits it is that flight
+-- both, as a flight: that of a provisional cell
 abbrev pub planned_in : Cell → Planned
 planned_in cell = record { entry = entry_number cell; flight = flight_number cell }
 
--- the number of a cell
+-- the word of a cell
 abbrev pub word_of : Cell → ℕ
 word_of cell = FLIGHTS * entry_number cell + flight_number cell
 
--- a cell gives its numbers back
+-- the numbers of a cell are those that it was made of
 pub entry_back : (entry flight : ℕ) → entry_number (unpacked entry flight) ≡ entry
 entry_back entry flight = none (eqb entry NO_ENTRY) refl where
   none : (b : Bool) → eqb entry NO_ENTRY ≡ b → entry_number (cond b (cond (eqb flight 0) Empty (Fixed flight)) (Waiting (record { entry = entry; flight = flight }))) ≡ entry

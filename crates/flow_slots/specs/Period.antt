@@ -1,22 +1,22 @@
--- The slots of a regulation: a list made from its period and its hourly rates (ATFCM Users Manual, slot
--- allocation: the slot allocation list), sub-period after sub-period. Moments are in minutes from
--- 1970-01-01 00:00 UTC.
+-- The slots of a regulation: a list made from its period and its hourly rates (ATFCM Users Manual,
+-- slot allocation: the slot allocation list), sub-period after sub-period. Times are in minutes
+-- from 1970-01-01 00:00 UTC.
 use Rattle.std.specs.Prelude.{◌≡◌, ℕ, ◌+◌, ◌-◌, ◌*◌, ◌/◌, ◌<◌, ◌≤◌, nat_lt, if◌then◌else◌, List, [], ◌∷◌, length, slice_index_or}
 use Rattle.fpl_text.specs.declared.part.Part.{Part}
 use Rattle.flow_slots.specs.declared.shape.TheConstants.{MOST_AN_HOUR, LONGEST_PERIOD}
 use Rattle.fpl_text.specs.declared.part.TheConstants.{MOST_PARTS}
 use Rattle.fpl_text.specs.declared.minute.TheConstants.{YEAR_2000, YEAR_2099}
 
--- a regulation's period, from `start` to before `end`: it begins with so many slots an hour, and each
--- of the parts begins a further sub-period with a rate of its own
+-- a regulation's period, from `start` to before `end`: it begins with `rate` slots an hour, and
+-- each of the parts begins a further sub-period with a rate of its own
 pub record Period : Type 0 where
   pub start : ℕ
   pub end : ℕ
   pub rate : ℕ
   pub parts : List Part
 
--- each sub-period begins before the next one, the last one before the end; at most 240 slots an hour,
--- and at least 1 in the last sub-period, whose slots run on after the end
+-- each sub-period begins before the next one, the last one before the end; at most 240 slots an
+-- hour, and at least 1 in the last sub-period, whose slots continue after the end
 abbrev pub AreSubperiods : ℕ → ℕ → ℕ → List Part → Type 0
 AreSubperiods end start rate [] = (start < end) × (rate ≤ MOST_AN_HOUR) × (0 < rate)
 AreSubperiods end start rate (p ∷ ps) = (start < p.from) × (rate ≤ MOST_AN_HOUR) × AreSubperiods end p.from p.rate ps
@@ -29,46 +29,46 @@ pub record IsRegular (p : Period) : Type 0 where
   pub few : length p.parts ≤ MOST_PARTS
   pub subperiods : AreSubperiods p.end p.start p.rate p.parts
 
--- a moment in the period
+-- a time in the period
 abbrev pub IsWithin : Period → ℕ → Type 0
 IsWithin p moment = (p.start ≤ moment) × (moment < p.end)
 
--- how many slots lie in so many minutes: `minutes * rate / 60`, rounded up
+-- the number of slots in a number of minutes: `minutes * rate / 60`, rounded up
 abbrev pub slots_in : ℕ → ℕ → ℕ
 slots_in rate minutes = (minutes * rate + 59) / 60
 
--- slot `k` where a sub-period with this rate begins at `start` and the others follow: the slots of a
--- sub-period lie `60 * k / rate` minutes after its beginning, rounded down, and before its end
+-- slot `k` of a sub-period with this rate that begins at `start` and of those after it: the slots
+-- of a sub-period are `60 * k / rate` minutes after its beginning, rounded down, and before its end
 abbrev pub time_from : ℕ → ℕ → List Part → ℕ → ℕ
 time_from start rate [] k = start + 60 * k / rate
 time_from start rate (p ∷ ps) k =
     let n = slots_in rate (p.from - start) in
     if nat_lt k n then start + 60 * k / rate else time_from p.from p.rate ps (k - n)
 
--- the number of the first slot not before a moment, where a sub-period begins at `start`
+-- the number of the first slot not before a time, from a sub-period on that begins at `start`
 abbrev pub first_from : ℕ → ℕ → List Part → ℕ → ℕ
 first_from start rate [] moment = slots_in rate (moment - start)
 first_from start rate (p ∷ ps) moment =
     if nat_lt moment p.from then slots_in rate (moment - start)
     else slots_in rate (p.from - start) + first_from p.from p.rate ps moment
 
--- slot `k` is at this minute; the list runs on after the end at the last rate
+-- slot `k` is at this minute; the list continues after the end at the last rate
 abbrev pub slot_time : Period → ℕ → ℕ
 slot_time p k = time_from p.start p.rate p.parts k
 
--- the number of the first slot not before a moment
+-- the number of the first slot not before a time
 abbrev pub first_slot : Period → ℕ → ℕ
 first_slot p moment = first_from p.start p.rate p.parts moment
 
--- how many slots lie before the end
+-- the number of slots before the end
 abbrev pub slots_before_end : Period → ℕ
 slots_before_end p = first_slot p p.end
 
--- so many of the longest period at the greatest rate, and of no other more
+-- the number of slots of the longest period at the greatest rate; no other has more
 abbrev pub most_before_end : ℕ
 most_before_end = MOST_AN_HOUR * LONGEST_PERIOD / 60
 
--- so many flights at most may stand in a list, and its slots are numbered below this
+-- the limit of flights in a list; its slots are numbered below this
 abbrev pub most_flights : ℕ
 most_flights = 20_000
 

@@ -1,4 +1,4 @@
--- A row of slots, read from the left: what ties it to the lineup that it stands for.
+-- A row of slots, read from the left, and the lineup that it represents.
 use Rattle.std.specs.Prelude.{◌≡◌, ℕ, ◌+◌, ◌<◌, ◌≤◌, ◌↔◌, false, List, [], ◌∷◌, Option, None, Some, slice_index_or, length}
 use Rattle.std.specs.List.{AllByRecursion}
 use Rattle.flow_slots.specs.declared.cell.Planned.{Planned}
@@ -8,37 +8,37 @@ use Rattle.flow_slots.specs.Order.{stands_before}
 use Rattle.flow_slots.specs.Assignment.{Placed}
 use Rattle.flow_slots.specs.Period.{Period, IsWithin, first_slot}
 
--- the flights that wait
+-- the provisional flights
 abbrev pub waiting_of : List Cell → List Planned
 waiting_of [] = []
 waiting_of (Empty ∷ cs) = waiting_of cs
 waiting_of (Waiting w ∷ cs) = w ∷ waiting_of cs
 waiting_of (Fixed f ∷ cs) = waiting_of cs
 
--- the fixed flights with their slots, where the row begins with slot `k`
+-- the frozen flights with their slots, if the row begins with slot `k`
 abbrev pub fixed_of : ℕ → List Cell → List Placed
 fixed_of k [] = []
 fixed_of k (Empty ∷ cs) = fixed_of (k + 1) cs
 fixed_of k (Waiting w ∷ cs) = fixed_of (k + 1) cs
 fixed_of k (Fixed f ∷ cs) = record { flight = f; slot = k } ∷ fixed_of (k + 1) cs
 
--- the waiting flights with their slots, where the row begins with slot `k`
+-- the provisional flights with their slots, if the row begins with slot `k`
 abbrev pub placed_of : ℕ → List Cell → List Placed
 placed_of k [] = []
 placed_of k (Empty ∷ cs) = placed_of (k + 1) cs
 placed_of k (Waiting w ∷ cs) = record { flight = w.flight; slot = k } ∷ placed_of (k + 1) cs
 placed_of k (Fixed f ∷ cs) = placed_of (k + 1) cs
 
--- no waiting flight of the list stands before `w` in the order
+-- no provisional flight of the list precedes `w` in the order
 abbrev pub NoneBefore : Planned → List Planned → Type 0
 NoneBefore w ws = AllByRecursion (λ v. stands_before v w ≡ false) ws
 
--- the first slots of all of the list lie after slot `k`
+-- the first slots of all of the list are after slot `k`
 abbrev pub AllAfter : (ℕ → ℕ) → ℕ → List Planned → Type 0
 AllAfter first k ws = AllByRecursion (λ v. k < first v.entry) ws
 
--- In a settled row that begins with slot `k`, no flight further on could stand in an empty slot; a
--- waiting flight stands not before its first slot, and in the order.
+-- In a settled row that begins with slot `k`, no later flight could be in an empty slot; a
+-- provisional flight isn't before its first slot, and is in the order.
 abbrev pub IsSettled : (ℕ → ℕ) → ℕ → List Cell → Type 0
 IsSettled first k [] = Unit {0}
 IsSettled first k (Empty ∷ cs) = AllAfter first k (waiting_of cs) × IsSettled first (k + 1) cs
@@ -59,7 +59,7 @@ cell_at row k = slice_index_or row k Empty
 abbrev pub flight_at : List Cell → ℕ → Option ℕ
 flight_at row k = flight_of (cell_at row k)
 
--- `places` says of each flight, by its number, in which cell of the row it stands; no flight has the
+-- `places` has for each flight, by its number, the cell of the row that it is in; no flight has the
 -- number 0
 abbrev pub place_at : List (Option ℕ) → ℕ → Option ℕ
 place_at places flight = slice_index_or places flight None
@@ -68,7 +68,7 @@ pub record IsTied (places : List (Option ℕ)) (row : List Cell) : Type 0 where
   pub each : (flight k : ℕ) → (place_at places flight ≡ Some k) ↔ (flight_at row k ≡ Some flight)
   pub unused : place_at places 0 ≡ None
 
--- the entries of the flights that wait lie in the period
+-- the entries of the provisional flights are in the period
 abbrev pub AllWithin : Period → List Planned → Type 0
 AllWithin p ws = AllByRecursion (λ w. IsWithin p w.entry) ws
 
@@ -80,7 +80,8 @@ IsFixedCell Empty = ⊥
 IsFixedCell (Waiting w) = ⊥
 IsFixedCell (Fixed f) = Unit {0}
 
--- `held` waits in slot `next`, after nothing but fixed flights behind `hole`, and may stand in `hole`
+-- `held` is provisional in slot `next`, with only frozen slots between `hole` and that, and may be
+-- in `hole`
 pub record MovesUp (p : Period) (row : List Cell) (hole next : ℕ) (held : Planned) : Type 0 where
   pub after : hole < next
   pub within : next < length row

@@ -5,7 +5,7 @@ use Rattle.flow_slots.specs.declared.change_list.Change.TheVariants.{Insert, Rem
 use Rattle.flow_slots.specs.Lineup.{Lineup, fixed_slot, waiting_entry}
 use Rattle.flow_slots.specs.ChangeList.{changed}
 
--- a flight comes back, to wait with its entry or to keep its slot
+-- a flight is inserted again, provisional with its entry or in its frozen slot
 abbrev pub comes_back : ℕ → Option ℕ → Option ℕ → List Change
 comes_back f (Some e) k = Insert f e ∷ []
 comes_back f None (Some k) = PutFixed f k ∷ []

@@ -1,5 +1,6 @@
-//! The row of slots as its callers see it: what stands in each slot, and how often slots were written.
-ghost use Rattle.std.specs.Prelude.{◌≡◌, ℕ, ◌+◌, ◌-◌, ◌^◌, ◌<◌, ◌≤◌, ◌++◌, true, ◌↔◌, IfOk, IsTrue, vec_capacity};
+//! The row of slots as callers see it: the content of each slot, and how often slots were written.
+ghost use Rattle.std.specs.Prelude.{◌≡◌, ℕ, ◌+◌, ◌-◌, ◌^◌, ◌<◌, ◌≤◌, ◌++◌};
+ghost use Rattle.std.specs.Prelude.{true, ◌↔◌, IfOk, IsTrue, vec_capacity};
 ghost use Rattle.std.specs.Prelude.{None, Some, [], drop, length, map, replicate, take, vec_len};
 ghost use Rattle.flow_slots.specs.CellRow.{CellRow, written};
 ghost use Rattle.flow_slots.specs.Changed.{gained};
@@ -7,7 +8,8 @@ ghost use Rattle.flow_slots.specs.Lineup.{IsKept, MayFill};
 ghost use Rattle.flow_slots.specs.MadeRow.{EndsEmpty, filled};
 ghost use Rattle.flow_slots.specs.PackedCell.{IsStored, flight_number, from_start, planned_in};
 ghost use Rattle.flow_slots.specs.Period.{first_slot};
-ghost use Rattle.flow_slots.specs.Row.{cell_at, fixed_of, flight_at, place_at, waiting_of, EntriesWithin, IsTied};
+ghost use Rattle.flow_slots.specs.Row.{cell_at, fixed_of, flight_at, place_at};
+ghost use Rattle.flow_slots.specs.Row.{waiting_of, EntriesWithin, IsTied};
 ghost use Rattle.flow_slots.specs.Walk.{close, displace, has_empty, push, waits, AllFollow};
 ghost use Rattle.flow_slots.specs.declared.cell.Cell.TheVariants.{Empty, Fixed, Waiting};
 ghost use Rattle.flow_slots.specs.declared.cell.Planned.{Planned};
@@ -23,8 +25,8 @@ use std::marker::Model;
 
 /// The row of slots. Each write to a cell is counted.
 ///
-/// The capacity for all cells is there from the start. They are made up to the last one that was written or that a
-/// chain was to reach; the others are empty.
+/// The capacity for all cells is reserved when the row is created. Cells exist up to the last one
+/// that was written or that a chain could reach; the others are empty.
 #[derive(Drop)]
 pub struct Cells<A: Allocator + Copy = Global> {
     row: Vec<PackedCell, A>,
@@ -51,7 +53,7 @@ impl<A: Allocator + Copy> Model for Cells<A> {
     ghost invariant = { λ c. HasRoom c.row.items c.len (vec_capacity c.row) c.start };
 }
 
-/// Makes empty cells, until there are `count`.
+/// Appends empty cells, until there are `count`.
 fn make<A: Allocator + Copy>(row: &mut Vec<PackedCell, A>, count: u32)
     requires { count ≤ vec_capacity row.old }
     ensures items { row.new.items
@@ -63,7 +65,8 @@ fn make<A: Allocator + Copy>(row: &mut Vec<PackedCell, A>, count: u32)
     }
 }
 
-/// Makes the cells up to slot `k` of `len`, and an empty one at their end where there are more slots.
+/// Appends empty cells, so that the last one is empty and not before slot `k`, unless all `len`
+/// cells exist.
 fn make_to<A: Allocator + Copy>(row: &mut Vec<PackedCell, A>, len: u32, k: u32)
     requires slot { k < len }
     requires made { length row.old.items ≤ len }
@@ -80,7 +83,7 @@ fn make_to<A: Allocator + Copy>(row: &mut Vec<PackedCell, A>, len: u32, k: u32)
     }
 }
 
-/// Takes `flight` in from slot `from` on, and returns how many cells were written.
+/// Inserts `flight` from slot `from` on, and returns the number of cells written.
 #[inline(always)]
 fn displace_in(
     cells: &mut [PackedCell],
@@ -97,7 +100,8 @@ fn displace_in(
     requires room { has_empty (drop from cells.old) ≡ true }
     requires waits { waits flight ≡ true }
     ensures tied { IsTied places.new cells.new }
-    ensures cells { cells.new ≡ take from cells.old ++ displace (planned_in flight) (drop from cells.old) }
+    ensures cells { cells.new ≡ take from cells.old
+        ++ displace (planned_in flight) (drop from cells.old) }
     ensures written { result ≡ gained cells.old cells.new }
 {
     let mut row = Counting::new(cells);
@@ -106,7 +110,7 @@ fn displace_in(
     row.end()
 }
 
-/// Takes `flight` out of slot `k`, and returns how many cells were written.
+/// Removes `flight` from slot `k`, and returns the number of cells written.
 #[inline(always)]
 fn vacate_in<A: Allocator + Copy>(
     cells: &mut [PackedCell],
@@ -133,11 +137,12 @@ fn vacate_in<A: Allocator + Copy>(
 }
 
 impl<A: Allocator + Copy> Cells<A> {
-    /// Takes memory for all cells, and makes none. No entry is to be before the start.
+    /// Reserves all cells, and creates none. No entry may be before `start`.
     pub(crate) fn new(alloc: A, len: u32, start: u32) -> Result<Cells<A>, AllocError>
         requires len { len < 2 ^ 16 }
         requires start { start < 2 ^ 31 }
-        ensures { IfOk result (λ c. c ≡ record { row = replicate len Empty; writes = 0; start = start }) }
+        ensures { IfOk result (λ c.
+            c ≡ record { row = replicate len Empty; writes = 0; start = start }) }
     {
         Ok(Cells {
             row: Vec::with_capacity(alloc, len as usize)?,
@@ -147,7 +152,7 @@ impl<A: Allocator + Copy> Cells<A> {
         })
     }
 
-    /// How many slots the row has.
+    /// The number of slots.
     #[inline(always)]
     pub(crate) fn len(&self) -> u32
         ensures { result ≡ length self.now.row }
@@ -155,7 +160,7 @@ impl<A: Allocator + Copy> Cells<A> {
         self.len
     }
 
-    /// The flight in slot `k`.
+    /// Returns the flight in slot `k`, provisional or frozen; `None` if the slot is empty.
     pub fn at(&self, k: u32) -> Option<u32>
         requires { k < length self.now.row }
         ensures { result ≡ flight_at self.now.row k }
@@ -167,7 +172,7 @@ impl<A: Allocator + Copy> Cells<A> {
         }
     }
 
-    /// Whether the same stands in each cell, however often it was written.
+    /// Whether both rows have the same content, however often it was written.
     pub(crate) fn same(&self, other: &Cells<A>) -> bool
         ensures { IsTrue result ↔ (self.now.row ≡ other.now.row) }
     {
@@ -182,14 +187,14 @@ impl<A: Allocator + Copy> Cells<A> {
         true
     }
 
-    /// How often a cell was written, to 2^64 - 1, where the count stays.
+    /// Returns how often a cell was written; the count stays at its maximum, 2^64 - 1.
     pub fn writes(&self) -> u64
         ensures { result ≡ self.now.writes }
     {
         self.writes
     }
 
-    /// What stands in slot `k`.
+    /// The content of slot `k`.
     #[inline(always)]
     pub(crate) fn cell(&self, k: u32) -> Cell
         requires { k < length self.now.row }
@@ -203,15 +208,15 @@ impl<A: Allocator + Copy> Cells<A> {
         }
     }
 
-    /// Whether no flight keeps a slot.
+    /// Whether no slot is frozen.
     pub(crate) fn keeps_none(&self) -> bool
         ensures { IsTrue result ↔ (fixed_of 0 self.now.row ≡ []) }
     {
         are_unfixed(&self.row)
     }
 
-    /// Takes `flight` in from slot `from` on: it gets the first slot that is empty or held by a later flight, which
-    /// goes on in the same way.
+    /// Inserts `flight` from slot `from` on: it gets the first slot that is empty or held by a
+    /// later flight, which is inserted from the next slot on in the same way.
     #[inline(always)]
     pub(crate) fn displace(&mut self, places: &mut Vec<HeldSlot, A>, from: u32, flight: Planned)
         requires tied { IsTied places.old.items self.old.row }
@@ -223,7 +228,8 @@ impl<A: Allocator + Copy> Cells<A> {
         requires stored { IsStored self.old.start (Waiting flight) }
         ensures tied { IsTied places.new.items self.new.row }
         ensures start { self.new.start ≡ self.old.start }
-        ensures row { self.new.row ≡ take from self.old.row ++ displace flight (drop from self.old.row) }
+        ensures row { self.new.row ≡ take from self.old.row
+            ++ displace flight (drop from self.old.row) }
         ensures len { vec_len places.new ≡ vec_len places.old }
         ensures writes { self.new.writes ≤ self.old.writes + gained self.old.row self.new.row }
         ensures more { self.old.writes ≤ self.new.writes }
@@ -234,7 +240,7 @@ impl<A: Allocator + Copy> Cells<A> {
         self.writes = self.writes.saturating_add(written);
     }
 
-    /// Takes `flight` out of slot `k`: flights move up into the hole that it leaves.
+    /// Removes `flight` from slot `k`: flights move up into the hole that it leaves.
     #[inline(always)]
     pub(crate) fn vacate(
         &mut self,
@@ -249,7 +255,8 @@ impl<A: Allocator + Copy> Cells<A> {
         ensures tied { IsTied places.new.items self.new.row }
         ensures start { self.new.start ≡ self.old.start }
         ensures row { self.new.row
-            ≡ take k self.old.row ++ close (λ e. first_slot shape.now e) k (drop (k + 1) self.old.row) }
+            ≡ take k self.old.row
+            ++ close (λ e. first_slot shape.now e) k (drop (k + 1) self.old.row) }
         ensures len { vec_len places.new ≡ vec_len places.old }
         ensures writes { self.new.writes ≤ self.old.writes + gained self.old.row self.new.row + 1 }
         ensures more { self.old.writes ≤ self.new.writes }
@@ -258,7 +265,6 @@ impl<A: Allocator + Copy> Cells<A> {
         self.writes = self.writes.saturating_add(moved);
     }
 
-    /// Writes a cell, and counts it.
     #[inline(always)]
     pub(crate) fn write(&mut self, k: u32, cell: Cell)
         requires slot { k < length self.old.row }
@@ -272,7 +278,8 @@ impl<A: Allocator + Copy> Cells<A> {
         self.writes = self.writes.saturating_add(1);
     }
 
-    /// Fixes a flight that stands nowhere in slot `k`; a flight that waits there makes way.
+    /// Freezes slot `k` for a flight that has no slot; a flight that has it provisionally is
+    /// displaced.
     pub(crate) fn put_fixed(&mut self, places: &mut Vec<HeldSlot, A>, flight: u32, k: u32)
         requires tied { IsTied places.old.items self.old.row }
         requires order { AllFollow self.old.row }
@@ -300,15 +307,16 @@ impl<A: Allocator + Copy> Cells<A> {
         }
     }
 
-    /// Takes flights, which stand in the order, into an empty row: each gets the later of the first slot of its entry
-    /// and the slot after that of the flight before it.
+    /// Inserts flights, which are given in the order, into an empty row: each gets the later of the
+    /// first slot of its entry and the slot after that of the flight before it.
     pub(crate) fn fill(
         &mut self,
         places: &mut Vec<HeldSlot, A>,
         shape: &FirstSlots<A>,
         flights: &[Planned],
     )
-        requires kept { IsKept shape.now (length places.old.items - 1) self.old.row places.old.items }
+        requires kept { IsKept shape.now (length places.old.items - 1) self.old.row
+            places.old.items }
         requires start { self.old.start ≡ shape.now.start }
         requires may { MayFill flights.now (record {
           period = shape.now;
@@ -316,7 +324,8 @@ impl<A: Allocator + Copy> Cells<A> {
           waiting = waiting_of self.old.row;
           fixed = fixed_of 0 self.old.row;
         }) }
-        ensures kept { IsKept shape.now (length places.old.items - 1) self.new.row places.new.items }
+        ensures kept { IsKept shape.now (length places.old.items - 1) self.new.row
+            places.new.items }
         ensures start { self.new.start ≡ self.old.start }
         ensures waiting { waiting_of self.new.row ≡ flights.now }
         ensures fixed { fixed_of 0 self.new.row ≡ [] }

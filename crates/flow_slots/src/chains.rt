@@ -1,12 +1,14 @@
-//! The chains: a flight that comes in and displaces later ones up to an empty slot, and a hole into which later
-//! ones move up.
-ghost use Rattle.std.specs.Prelude.{◌≡◌, ◌+◌, ◌-◌, ◌^◌, ◌<◌, ◌++◌, true, length, map, take, drop, IfSome, IfNone};
+//! The chains: an inserted flight displaces later ones up to an empty slot, and later ones move up
+//! into a hole.
+ghost use Rattle.std.specs.Prelude.{◌≡◌, ◌+◌, ◌-◌, ◌^◌, ◌<◌, ◌++◌, true};
+ghost use Rattle.std.specs.Prelude.{length, map, take, drop, IfSome, IfNone};
 ghost use Rattle.std.specs.Prelude.{None, Some};
 ghost use Rattle.flow_slots.specs.Changed.{gained};
 ghost use Rattle.flow_slots.specs.PackedCell.{flight_from, flight_number, from_start, planned_in};
 ghost use Rattle.flow_slots.specs.Period.{first_slot};
 ghost use Rattle.flow_slots.specs.Row.{flight_at, place_at, IsTied, EntriesWithin, MovesUp};
-ghost use Rattle.flow_slots.specs.Walk.{displace, has_empty, next_up, close, waits, Follows, AllFollow, ComesIn};
+ghost use Rattle.flow_slots.specs.Walk.{displace, has_empty, next_up, close};
+ghost use Rattle.flow_slots.specs.Walk.{waits, Follows, AllFollow, ComesIn};
 
 use crate::counting::Counting;
 use crate::first_slots::FirstSlots;
@@ -14,8 +16,8 @@ use crate::held_slot::HeldSlot;
 use crate::packed_cell::PackedCell;
 use std::alloc::Allocator;
 
-/// The first of these cells from a place on that is empty or held by a flight that waits and doesn't stand before
-/// `flight`.
+/// The index of the first cell from `from` on that is empty or has a provisional flight that
+/// doesn't precede `flight`.
 #[inline(always)]
 pub(crate) fn first_later(row: &Counting<'_>, from: usize, flight: PackedCell) -> usize
     requires few { length row.now.cells.now < 2 ^ 16 }
@@ -31,8 +33,8 @@ pub(crate) fn first_later(row: &Counting<'_>, from: usize, flight: PackedCell) -
     place
 }
 
-/// Takes `flight` in at place `from`, where no waiting flight up to the next empty cell stands before
-/// it: each flight takes the cell of the next one that waits, the last one the empty cell.
+/// Inserts `flight` at cell `from`, if no provisional flight up to the next empty cell precedes it:
+/// each flight takes the cell of the next provisional one, the last one the empty cell.
 #[inline(always)]
 pub(crate) fn displace(
     row: &mut Counting<'_>,
@@ -52,7 +54,8 @@ pub(crate) fn displace(
     ensures same_reference { row.new.cells.ghost_name ≡ row.old.cells.ghost_name }
     ensures tied { IsTied places.new row.new.cells.now }
     ensures cells { row.new.cells.now
-        ≡ take from row.old.cells.now ++ displace (planned_in flight) (drop from row.old.cells.now) }
+        ≡ take from row.old.cells.now
+        ++ displace (planned_in flight) (drop from row.old.cells.now) }
     ensures written { row.new.written ≡ gained row.old.cells.now row.new.cells.now }
 {
     let mut coming = flight;
@@ -72,15 +75,15 @@ pub(crate) fn displace(
     places[coming.flight() as usize] = HeldSlot::of(k as u32);
 }
 
-/// A flight that waits, and its slot.
+/// A flight with its provisional slot.
 #[derive(Clone, Copy, Debug)]
 struct NextUp {
     slot: usize,
     held: PackedCell,
 }
 
-/// The flight that may move up into an empty slot `hole`, with its slot. The row begins with these cells, whose entries
-/// are counted from the start, and empty ones follow.
+/// The flight that may move up into the empty slot `hole`, with its slot. The row begins with these
+/// cells, whose entries are counted from the start of the period; empty cells follow.
 #[inline(always)]
 fn next_up<A: Allocator + Copy>(
     row: &Counting<'_>,
@@ -93,11 +96,13 @@ fn next_up<A: Allocator + Copy>(
     requires hole { hole < length row.now.cells.now }
     requires entries { EntriesWithin shape.now (map (from_start start) row.now.cells.now) }
     ensures found { IfSome result
-        (λ r. MovesUp shape.now (map (from_start start) row.now.cells.now) hole r.slot (flight_from start (planned_in r.held))) }
+        (λ r. MovesUp shape.now (map (from_start start) row.now.cells.now) hole r.slot
+        (flight_from start (planned_in r.held))) }
     ensures within { IfSome result (λ r. r.slot < length row.now.cells.now) }
     ensures waits { IfSome result (λ r. waits r.held ≡ true) }
     ensures none { IfNone result
-        (next_up (λ e. first_slot shape.now e) hole (drop (hole + 1) (map (from_start start) row.now.cells.now))
+        (next_up (λ e. first_slot shape.now e) hole
+        (drop (hole + 1) (map (from_start start) row.now.cells.now))
         ≡ None) }
 {
     for next in hole + 1..row.len() {
@@ -118,8 +123,8 @@ fn next_up<A: Allocator + Copy>(
     None
 }
 
-/// Takes `flight` out of slot `k`: flights move up into the hole that it leaves. The row begins with these cells, whose
-/// entries are counted from the start, and empty ones follow.
+/// Removes `flight` from slot `k`: flights move up into the hole that it leaves. The row begins
+/// with these cells, whose entries are counted from the start of the period; empty cells follow.
 #[inline(always)]
 pub(crate) fn vacate<A: Allocator + Copy>(
     row: &mut Counting<'_>,
@@ -139,7 +144,8 @@ pub(crate) fn vacate<A: Allocator + Copy>(
     ensures tied { IsTied places.new row.new.cells.now }
     ensures cells { map (from_start start) row.new.cells.now
         ≡ take k (map (from_start start) row.old.cells.now)
-        ++ close (λ e. first_slot shape.now e) k (drop (k + 1) (map (from_start start) row.old.cells.now)) }
+        ++ close (λ e. first_slot shape.now e) k
+        (drop (k + 1) (map (from_start start) row.old.cells.now)) }
     ensures written { row.new.written ≡ gained row.old.cells.now row.new.cells.now + 1 }
 {
     let mut hole = k;

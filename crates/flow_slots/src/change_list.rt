@@ -1,4 +1,4 @@
-//! The calls that change a slot list as values, so that a list of them can be made in turn and undone.
+//! The calls that change a slot list as values, so that a list of them can be applied and undone.
 ghost use Rattle.std.specs.Prelude.{◌≡◌};
 ghost use Rattle.flow_slots.specs.ChangeList.{May, changed, MayAll, changed_by};
 
@@ -17,7 +17,7 @@ pub enum Change {
 }
 
 impl<A: Allocator + Copy> SlotList<A> {
-    /// Makes one change, whose conditions hold.
+    /// Applies one change, whose conditions hold.
     pub fn change(&mut self, change: Change)
         requires { May change self.old.lineup }
         ensures { self.new.lineup ≡ changed change self.old.lineup }
@@ -31,7 +31,7 @@ impl<A: Allocator + Copy> SlotList<A> {
         }
     }
 
-    /// Makes changes in turn, each under its conditions: the row then reads the fresh assignment of
+    /// Applies changes in turn, each under its conditions: the row then has the fresh allocation of
     /// the lineup that the changes leave.
     pub fn change_all(&mut self, changes: &[Change])
         requires { MayAll changes.now self.old.lineup }

@@ -1,17 +1,17 @@
-//! The cells of a row while a chain changes them, and how many it has written.
+//! The cells of a row while a chain changes them, with the number of writes.
 ghost use Rattle.std.specs.Prelude.{◌≡◌, ◌+◌, ◌-◌, ◌^◌, ◌<◌, length, slice_set};
 ghost use Rattle.flow_slots.specs.Row.{cell_at};
 
 use crate::packed_cell::PackedCell;
 
-/// Cells that are written one at a time, and each write is counted. Nobody else can write them meanwhile.
+/// Cells that are written one at a time, with each write counted. It borrows them, so no other
+/// write is possible.
 pub(crate) struct Counting<'a> {
     cells: &'a mut [PackedCell],
     written: u64,
 }
 
 impl<'a> Counting<'a> {
-    /// These cells, none of them written.
     #[inline(always)]
     pub(crate) fn new(cells: &'a mut [PackedCell]) -> Counting<'a>
         ensures same_reference { result.cells.ghost_name ≡ cells.entry.ghost_name }
@@ -21,7 +21,6 @@ impl<'a> Counting<'a> {
         Counting { cells, written: 0 }
     }
 
-    /// How many cells there are.
     #[inline(always)]
     pub(crate) fn len(&self) -> usize
         ensures { result ≡ length self.now.cells.now }
@@ -29,7 +28,7 @@ impl<'a> Counting<'a> {
         self.cells.len()
     }
 
-    /// What stands in cell `k`.
+    /// The content of cell `k`.
     #[inline(always)]
     pub(crate) fn get(&self, k: usize) -> PackedCell
         requires { k < length self.now.cells.now }
@@ -51,7 +50,7 @@ impl<'a> Counting<'a> {
         self.written += 1;
     }
 
-    /// Gives the cells back, and how many writes there were.
+    /// Returns the number of writes, and ends the borrow.
     #[inline(always)]
     pub(crate) fn end(self) -> u64
         ensures cells { self.exit.0.now ≡ self.entry.cells.now }

@@ -1,4 +1,4 @@
-//! The first slots of a period by minutes, counted once, so that a chain looks them up.
+//! The first slot of each minute of a period, computed once.
 ghost use Rattle.std.specs.Prelude.{◌≡◌, IfOk};
 ghost use Rattle.flow_slots.specs.Period.{IsWithin, first_slot};
 
@@ -6,8 +6,8 @@ use crate::shape::Shape;
 use std::alloc::{AllocError, Allocator};
 use std::marker::Model;
 
-/// The shape of a regulation with its first slots by minutes from the start, so that a chain that
-/// moves up looks them up and divides nothing. A slot's number takes two bytes.
+/// The shape of a regulation with a table of the first slot of each minute, so that a chain that
+/// moves up divides nothing. A slot's number takes two bytes.
 #[derive(Drop)]
 pub(crate) struct FirstSlots<A: Allocator + Copy> {
     shape: Shape,

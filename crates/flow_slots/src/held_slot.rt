@@ -1,5 +1,6 @@
-//! The slot that a flight holds.
-ghost use Rattle.std.specs.Prelude.{◌≡◌, ◌<◌, ◌≤◌, ◌-◌, ◌^◌, ◌↔◌, ℕ, None, Some, IsSome, IsTrue, length};
+//! The slot of a flight.
+ghost use Rattle.std.specs.Prelude.{◌≡◌, ◌<◌, ◌≤◌, ◌-◌, ◌^◌, ◌↔◌, ℕ};
+ghost use Rattle.std.specs.Prelude.{None, Some, IsSome, IsTrue, length};
 ghost use Rattle.std.specs.Prelude.{slice_index_or, vec_len};
 ghost use Rattle.std.specs.List.{All};
 ghost use Rattle.flow_slots.specs.Row.{place_at};
@@ -7,14 +8,14 @@ ghost use Rattle.flow_slots.specs.Row.{place_at};
 use std::alloc::Allocator;
 use std::marker::Model;
 
-/// How many slots a search looks at at once.
+/// The number of slots that a search compares at once.
 const CHUNK: usize = 16;
 
-/// The slot that a flight holds, or none. It takes two bytes, since a row has fewer than 65,536 slots: half of what the
-/// numbers of slots would take.
+/// The slot of a flight, or none. It takes two bytes, since a row has fewer than 65,536 slots: half
+/// of what a `u32` would take.
 #[derive(Clone, Copy, Debug)]
 pub(crate) struct HeldSlot {
-    /// One more than the number of the slot, and 0 for none.
+    /// The slot's number plus 1, or 0 for none.
     after: u16,
 }
 
@@ -31,7 +32,6 @@ impl Model for HeldSlot {
 }
 
 impl HeldSlot {
-    /// No slot.
     #[inline(always)]
     pub(crate) fn none() -> Self
         ensures { result ≡ None }
@@ -39,7 +39,6 @@ impl HeldSlot {
         HeldSlot { after: 0 }
     }
 
-    /// This slot.
     #[inline(always)]
     pub(crate) fn of(slot: u32) -> Self
         requires { slot < 2 ^ 16 - 1 }
@@ -62,7 +61,6 @@ impl HeldSlot {
         }
     }
 
-    /// Whether it is no slot.
     #[inline(always)]
     pub(crate) fn is_none(self) -> bool
         ensures { IsTrue result ↔ (self ≡ None) }
@@ -70,7 +68,7 @@ impl HeldSlot {
         self.after == 0
     }
 
-    /// The number after that of the slot, with the bits of another number.
+    /// The stored number with the bits of another set.
     #[inline(always)]
     fn or(self, other: u16) -> u16
         ensures { (result ≡ 0) ↔ (other ≡ 0) × (self ≡ None) }
@@ -91,7 +89,7 @@ fn are_none(slots: &[HeldSlot]) -> bool
     bits == 0
 }
 
-/// The first place from this one on where there is a slot, or the first after all.
+/// The first index from `from` on that has a slot, or `slots.len()`.
 #[inline(never)]
 pub(crate) fn first_held(slots: &[HeldSlot], from: usize) -> usize
     requires { from ≤ length slots.now }
@@ -111,7 +109,7 @@ pub(crate) fn first_held(slots: &[HeldSlot], from: usize) -> usize
     next
 }
 
-/// The slot that `flight` holds.
+/// The slot of `flight`, or `None`.
 #[inline(always)]
 pub(crate) fn place_of<A: Allocator + Copy>(places: &Vec<HeldSlot, A>, flight: u32) -> Option<u32>
     ensures { result ≡ place_at places.now.items flight }
@@ -123,8 +121,8 @@ pub(crate) fn place_of<A: Allocator + Copy>(places: &Vec<HeldSlot, A>, flight: u
     }
 }
 
-/// The first number from this one on of a flight that holds a slot. Where no later one does, the first number after
-/// all, or `from` where that is later.
+/// The first flight number from `from` on that has a slot. If none has, the first number after all,
+/// or `from` if that is greater.
 #[inline(always)]
 pub(crate) fn next_placed<A: Allocator + Copy>(places: &Vec<HeldSlot, A>, from: u32) -> u32
     requires { vec_len places.now < 2 ^ 32 }

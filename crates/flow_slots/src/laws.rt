@@ -1,12 +1,13 @@
-//! Laws over the definitions that the contracts cite: what the fresh assignment of a lineup is, whichever way it is
-//! made, that fixing a flight moves nobody, and that each list of changes of a slot list is undone by further calls.
-//! The lineups are those that the clauses of the calls name.
+//! Laws about the definitions that contracts cite: what the fresh allocation of a lineup is,
+//! however it is computed, that freezing a slot moves nobody, and that each list of changes is
+//! undone by further calls. The lineups are those that the clauses of the calls name.
 
 ghost use Rattle.std.specs.Prelude.{◌≡◌, ℕ, ◌<◌, ◌⊎◌, ◌↔◌, true, List, [], Some, IsSome};
 ghost use Rattle.flow_slots.specs.ChangeList.{MayAll, changed_by};
 ghost use Rattle.flow_slots.specs.Delay.{HasLeastDelay, Rise, waiting_slots};
 ghost use Rattle.flow_slots.specs.FirstServed.{IsFirstServed};
-ghost use Rattle.flow_slots.specs.Lineup.{Lineup, MayFill, len_of, assigned, held_slot, held_flight, fixed_slot};
+ghost use Rattle.flow_slots.specs.Lineup.{Lineup, MayFill, len_of, assigned};
+ghost use Rattle.flow_slots.specs.Lineup.{held_slot, held_flight, fixed_slot};
 ghost use Rattle.flow_slots.specs.Lineup.{waiting_entry, with_all_waiting, fixed_at};
 ghost use Rattle.flow_slots.specs.LineupLaws.{IsNumber, IsSound, NoneTwice, Waits, IsNextFree};
 ghost use Rattle.flow_slots.specs.Order.{stands_before};
@@ -15,39 +16,47 @@ ghost use Rattle.flow_slots.specs.Undoings.{undoing_all};
 ghost use Rattle.flow_slots.specs.declared.cell.Planned.{Planned};
 ghost use Rattle.flow_slots.specs.declared.change_list.Change.{Change};
 
-/// No two flights have one slot, and no flight has two: the slot of a flight and the flight in a slot are
-/// inverse. All that wait are held, and so are those that keep a slot, in that slot.
+/// No two flights have one slot, and no flight has two: the slot of a flight and the flight in a
+/// slot are inverse. All provisional flights have a slot, and frozen ones have theirs.
 pub fn one_slot_each()
     ensures pairs { (l : Lineup) → IsSound l → NoneTwice (assigned l) }
     ensures inverse { (l : Lineup) (flight k : ℕ) → IsSound l
         → (held_slot l flight ≡ Some k) ↔ (held_flight l k ≡ Some flight) }
     ensures all { (l : Lineup) (flight : ℕ)
-        → IsSome (held_slot l flight) ↔ (IsSome (fixed_slot l flight) ⊎ IsSome (waiting_entry l flight)) }
-    ensures kept { (l : Lineup) (flight k : ℕ) → fixed_slot l flight ≡ Some k → held_slot l flight ≡ Some k }
+        → IsSome (held_slot l flight)
+        ↔ (IsSome (fixed_slot l flight) ⊎ IsSome (waiting_entry l flight)) }
+    ensures kept { (l : Lineup) (flight k : ℕ) → fixed_slot l flight ≡ Some k
+        → held_slot l flight ≡ Some k }
 {}
 
-/// A slot that is held is one of the list, by a flight with a number of the list.
+/// A slot with a flight is one of the list, and its flight has a number of the list.
 pub fn slots_are_of_the_list()
-    ensures slot { (l : Lineup) (flight k : ℕ) → IsSound l → held_slot l flight ≡ Some k → k < len_of l }
-    ensures number { (l : Lineup) (flight k : ℕ) → IsSound l → held_slot l flight ≡ Some k → IsNumber l flight }
+    ensures slot { (l : Lineup) (flight k : ℕ) → IsSound l → held_slot l flight ≡ Some k
+        → k < len_of l }
+    ensures number { (l : Lineup) (flight k : ℕ) → IsSound l → held_slot l flight ≡ Some k
+        → IsNumber l flight }
 {}
 
-/// The slots of the waiting flights rise in the order of their entries, ties by the lower number.
+/// The slots of the provisional flights rise in the order of their entries, ties by the lower
+/// number.
 pub fn slots_rise()
     ensures rise { (l : Lineup) → IsSound l → Rise (waiting_slots l) }
     ensures order { (l : Lineup) (v w : Planned) (j k : ℕ) → IsSound l → Waits l v → Waits l w
-        → stands_before v w ≡ true → held_slot l v.flight ≡ Some j → held_slot l w.flight ≡ Some k → j < k }
+        → stands_before v w ≡ true → held_slot l v.flight ≡ Some j
+        → held_slot l w.flight ≡ Some k → j < k }
 {}
 
-/// Fixing a flight in the slot where it waits leaves the assignment as it is: each flight has the slot that it had.
+/// Freezing a flight in its provisional slot leaves the allocation unchanged.
 pub fn fixing_moves_nobody()
-    ensures { (l : Lineup) (w : Planned) (k flight : ℕ) → IsSound l → Waits l w → held_slot l w.flight ≡ Some k
-        → held_slot (fixed_at (record { flight = w.flight; slot = k }) l) flight ≡ held_slot l flight }
+    ensures { (l : Lineup) (w : Planned) (k flight : ℕ) → IsSound l → Waits l w
+        → held_slot l w.flight ≡ Some k
+        → held_slot (fixed_at (record { flight = w.flight; slot = k }) l) flight
+        ≡ held_slot l flight }
 {}
 
-/// Each waiting flight has the first slot not before its entry that is free for it: in each slot between
-/// stands a flight that keeps it, or one that waits and stands before it. No other choice of slots around
-/// the kept ones has a smaller sum of delays.
+/// Each provisional flight has the first slot not before its entry that is free for it: each slot
+/// between is frozen, or has a provisional flight that precedes it. No other choice of slots around
+/// the frozen ones has a smaller sum of delays.
 pub fn delays_are_least()
     ensures next_free { (l : Lineup) (w : Planned) (k : ℕ) → IsSound l → Waits l w
         → held_slot l w.flight ≡ Some k → IsNextFree l w k }
@@ -55,7 +64,8 @@ pub fn delays_are_least()
     ensures least { (l : Lineup) → IsSound l → HasLeastDelay l }
 {}
 
-/// The lineup of an empty list is sound, and changes under their conditions leave a sound lineup sound.
+/// The lineup of an empty list is sound, and changes under their conditions leave a sound lineup
+/// sound.
 pub fn lineups_stay_sound()
     ensures none { (p : Period) (n : ℕ) → IsRegular p
         → IsSound (record { period = p; capacity = n; waiting = []; fixed = [] }) }
@@ -65,8 +75,8 @@ pub fn lineups_stay_sound()
         → IsSound (with_all_waiting flights l) }
 {}
 
-/// A list of changes is undone by the changes that undo each, the last one first: they may be made after
-/// it, and lead back to the same lineup, so to the same row.
+/// A list of changes is undone by the changes that undo each, the last one first: their conditions
+/// hold after it, and they lead back to the same lineup, so to the same row.
 pub fn changes_undone()
     ensures may { (changes : List Change) (l : Lineup) → IsSound l → MayAll changes l
         → MayAll (undoing_all changes l) (changed_by changes l) }

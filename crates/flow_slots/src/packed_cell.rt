@@ -1,10 +1,12 @@
 //! A cell of the row in one word of four bytes.
 //!
-//! It has the minutes of an entry from a start, which the row keeps once: that of its period. A period has at most
-//! 1,440 minutes, and 17 bits are there for them; 15 bits are there for a flight's number, which is at most 20,000.
+//! An entry is stored in minutes from a start, the period's, which the row has once. A period has
+//! at most 1,440 minutes, and 17 bits are there for them; 15 bits are there for a flight's number,
+//! which is at most 20,000.
 ghost use Rattle.std.specs.Prelude.{◌≡◌, ◌+◌, ◌*◌, ◌/◌, ◌%◌, ◌^◌, ◌<◌, ◌≤◌, ◌↔◌, true, IsTrue};
 ghost use Rattle.std.specs.List.{All};
-ghost use Rattle.flow_slots.specs.PackedCell.{IsStored, entry_number, flight_from, flight_number, from_start};
+ghost use Rattle.flow_slots.specs.PackedCell.{IsStored, entry_number, flight_from};
+ghost use Rattle.flow_slots.specs.PackedCell.{flight_number, from_start};
 ghost use Rattle.flow_slots.specs.PackedCell.{planned_in};
 ghost use Rattle.flow_slots.specs.Row.{IsFixedCell};
 ghost use Rattle.flow_slots.specs.Walk.{waits, waits_before};
@@ -13,18 +15,18 @@ ghost use Rattle.flow_slots.specs.declared.cell.Cell.TheVariants.{Waiting};
 use crate::cell::{Cell, Planned};
 use std::marker::Model;
 
-/// How many numbers a flight may have, with 0.
+/// The number of flight numbers that fit, with 0.
 const FLIGHTS: u32 = 32_768;
 
-/// The entry of no flight: the greatest number that there is room for.
+/// The entry of no flight: the greatest number that fits.
 const NO_ENTRY: u32 = 131_071;
 
-/// What stands in a slot. It takes one word, so that a chain reads one and writes one for each flight that it moves.
-/// Contracts see an entry as minutes from the start.
+/// The content of a slot in one word, so that a chain reads and writes one word for each flight
+/// that it moves. Contracts see an entry as minutes from the start.
 #[derive(Clone, Copy, Debug)]
 pub(crate) struct PackedCell {
-    /// The place in the order of a flight that waits. Where none does, the entry in it is the greatest number, and the
-    /// flight the one that is fixed, and 0 for none.
+    /// The rank of a provisional flight. For other cells the entry is the greatest number, and the
+    /// flight that of the frozen slot, or 0 for an empty one.
     word: u32,
 }
 
@@ -44,7 +46,6 @@ impl Model for PackedCell {
 
 const _: () = prove!(size_of::<PackedCell>() <= 4);
 
-/// The word of an entry and a flight.
 #[inline(always)]
 fn word_of(entry: u32, flight: u32) -> u32
     requires entry { entry ≤ NO_ENTRY }
@@ -54,7 +55,6 @@ fn word_of(entry: u32, flight: u32) -> u32
     FLIGHTS * entry + flight
 }
 
-/// The entry in a word.
 #[inline(always)]
 fn entry_in(word: u32) -> u32
     ensures { result ≡ word / FLIGHTS }
@@ -62,7 +62,6 @@ fn entry_in(word: u32) -> u32
     word / FLIGHTS
 }
 
-/// The flight in a word.
 #[inline(always)]
 fn flight_in(word: u32) -> u32
     ensures { result ≡ word % FLIGHTS }
@@ -71,7 +70,6 @@ fn flight_in(word: u32) -> u32
 }
 
 impl PackedCell {
-    /// No flight.
     #[inline(always)]
     pub(crate) fn empty() -> Self
         ensures { result ≡ Cell.Empty }
@@ -81,7 +79,7 @@ impl PackedCell {
         }
     }
 
-    /// This flight, which waits in the slot, its entry counted from the start.
+    /// A provisional flight, its entry counted from `start`.
     #[inline(always)]
     pub(crate) fn waiting(start: u32, planned: Planned) -> Self
         requires { IsStored start (Waiting planned) }
@@ -93,7 +91,7 @@ impl PackedCell {
         }
     }
 
-    /// What stands in the slot.
+    /// The content, with the entry counted from 1970.
     #[inline(always)]
     pub(crate) fn get(&self, start: u32) -> Cell
         requires { start < 2 ^ 31 }
@@ -115,7 +113,7 @@ impl PackedCell {
         }
     }
 
-    /// Whether a flight waits in the slot. A chain takes it on in the same word, as it stands.
+    /// Whether the slot is provisional. A chain moves such a cell as one word.
     #[inline(always)]
     pub(crate) fn is_waiting(self) -> bool
         ensures { result ≡ waits self }
@@ -123,7 +121,7 @@ impl PackedCell {
         entry_in(self.word) != NO_ENTRY
     }
 
-    /// The entry of the flight that waits in the slot.
+    /// The entry of the provisional flight.
     #[inline(always)]
     pub(crate) fn entry(self, start: u32) -> u32
         requires { start < 2 ^ 31 }
@@ -132,7 +130,7 @@ impl PackedCell {
         start + entry_in(self.word)
     }
 
-    /// The number of the flight in the slot, 0 where there is none.
+    /// The number of the flight, 0 if there is none.
     #[inline(always)]
     pub(crate) fn flight(self) -> u32
         ensures { result ≡ flight_number self }
@@ -140,7 +138,6 @@ impl PackedCell {
         flight_in(self.word)
     }
 
-    /// Whether there is no flight in the slot.
     #[inline(always)]
     pub(crate) fn is_empty(self) -> bool
         ensures { IsTrue result ↔ (self ≡ Cell.Empty) }
@@ -149,7 +146,8 @@ impl PackedCell {
         entry_in(word) == NO_ENTRY && flight_in(word) == 0
     }
 
-    /// Whether a flight keeps the slot. Its number is then above that of no flight, so one comparison tells.
+    /// Whether the slot is frozen. The word is then greater than that of an empty cell, so one
+    /// comparison decides.
     #[inline(always)]
     pub(crate) fn is_fixed(self) -> bool
         ensures { IsTrue result ↔ IsFixedCell self }
@@ -157,8 +155,8 @@ impl PackedCell {
         word_of(NO_ENTRY, 0) < self.word
     }
 
-    /// Whether a flight waits in the slot that stands before this one. An empty slot and a fixed flight have the
-    /// greatest entry, so one comparison of the words tells.
+    /// Whether the slot is provisional and its flight precedes this one. Empty and frozen cells
+    /// have the greatest entry, so one comparison of the words decides.
     #[inline(always)]
     pub(crate) fn waits_before(&self, flight: PackedCell) -> bool
         requires { waits flight ≡ true }
@@ -167,7 +165,7 @@ impl PackedCell {
         self.word < flight.word
     }
 
-    /// Puts a cell in place of this one.
+    /// Overwrites the cell.
     #[inline(always)]
     pub(crate) fn set(&mut self, start: u32, cell: Cell)
         requires { IsStored start cell }
@@ -183,7 +181,8 @@ impl PackedCell {
     }
 }
 
-/// Whether no flight keeps one of these slots. It looks at all of them, so that several are looked at at once.
+/// Whether none of these slots is frozen. It reads all of them without a branch, so the compiler
+/// compares several at once.
 pub(crate) fn are_unfixed(cells: &[PackedCell]) -> bool
     ensures { IsTrue result ↔ All (λ cell. IsFixedCell cell → ⊥) cells.now }
 {

@@ -1,32 +1,34 @@
-//! The period of a regulation with its rates: which times its slots have, and which of them is the first not before
+//! The period of a regulation with its rates: the times of its slots, and the first slot not before
 //! an entry.
-ghost use Rattle.std.specs.Prelude.{◌≡◌, ◌+◌, ◌-◌, ◌*◌, ◌<◌, ◌≤◌, ◌↔◌, IsSome, IfSome, IsTrue, None, length};
+ghost use Rattle.std.specs.Prelude.{◌≡◌, ◌+◌, ◌-◌, ◌*◌, ◌<◌, ◌≤◌, ◌↔◌};
+ghost use Rattle.std.specs.Prelude.{IsSome, IfSome, IsTrue, None, length};
 ghost use Rattle.flow_slots.specs.Limits.{rises, rates_fit, is_period, broken_limit};
-ghost use Rattle.flow_slots.specs.Period.{Period, IsRegular, IsWithin, AreSubperiods, slots_in, time_from, first_from};
+ghost use Rattle.flow_slots.specs.Period.{Period, IsRegular, IsWithin, AreSubperiods};
+ghost use Rattle.flow_slots.specs.Period.{slots_in, time_from, first_from};
 ghost use Rattle.flow_slots.specs.Period.{slot_time, first_slot, slots_before_end, IsFirstSlot};
 ghost use Rattle.flow_slots.specs.Period.{most_before_end, most_slots};
 
 use fpl_text::{MOST_PARTS, Minute, Part, YEAR_2000, YEAR_2099};
 use std::marker::Model;
 
-/// The greatest number of slots an hour.
+/// The limit of a rate, in slots an hour.
 const MOST_AN_HOUR: u32 = 240;
 
-/// The longest period, in minutes.
+/// The limit of a period, in minutes.
 pub const LONGEST_PERIOD: u32 = 1440;
 
 /// A limit of a regulation.
 #[derive(Clone, Copy, Debug, PartialEq, Eq)]
 pub enum Limit {
-    /// That of its period and sub-periods.
+    /// Of the period and its sub-periods.
     Period,
-    /// That of its hourly rates.
+    /// Of the hourly rates.
     Rate,
 }
 
-/// The period of a regulation and its hourly rates, from which its list of slots is made (ATFCM Users
-/// Manual, slot allocation). It begins with one rate, and each of the parts begins a further
-/// sub-period with a rate of its own; the last one goes on after the end.
+/// The period of a regulation and its hourly rates, from which its list of slots is made (ATFCM
+/// Users Manual, slot allocation). It begins with one rate, and each of the parts begins a further
+/// sub-period with a rate of its own; the last one continues after the end.
 #[derive(Drop)]
 pub struct Shape {
     start: Minute,
@@ -58,7 +60,7 @@ impl Model for Shape {
     }) };
 }
 
-/// How many slots lie in so many minutes.
+/// The number of slots in `minutes` minutes.
 fn slots_in(rate: u32, minutes: u32) -> u32
     requires rate { rate ≤ MOST_AN_HOUR }
     requires minutes { minutes ≤ LONGEST_PERIOD }
@@ -95,15 +97,17 @@ fn rates_fit(rate: u32, parts: &[Part]) -> bool
     0 < hourly && hourly <= MOST_AN_HOUR
 }
 
-/// Whether the period has 1 to 1,440 minutes, and its sub-periods begin one after the other within it.
+/// Whether the period has 1 to 1,440 minutes, and its sub-periods begin one after the other within
+/// it.
 fn is_period(start: Minute, end: Minute, parts: &[Part]) -> bool
     ensures { result ≡ is_period start end parts.now }
 {
     end.minutes().saturating_sub(start.minutes()) <= LONGEST_PERIOD && rises(end, start, parts)
 }
 
-/// Which limit of a regulation these break: a period of 1 to 1,440 minutes, whose sub-periods begin one after the other
-/// within it, or rates of at most 240 flights an hour, the last one at least 1. That of the period comes first.
+/// Returns the limit that is broken: a period of 1 to 1,440 minutes, whose sub-periods begin one
+/// after the other within it, or rates of at most 240 flights an hour, the last one at least 1.
+/// That of the period comes first. `None` if all are kept.
 pub fn broken_limit(start: Minute, end: Minute, rate: u32, parts: &[Part]) -> Option<Limit>
     ensures { result
         ≡ broken_limit (record { start = start; end = end; rate = rate; parts = parts.now }) }
@@ -117,7 +121,6 @@ pub fn broken_limit(start: Minute, end: Minute, rate: u32, parts: &[Part]) -> Op
     None
 }
 
-/// The minute of slot `k`.
 fn time_from(start: Minute, end: Minute, rate: u32, parts: &[Part], k: u32) -> Minute
     requires subperiods { AreSubperiods end start rate parts.now }
     requires at_most_a_day { end - start ≤ LONGEST_PERIOD }
@@ -140,7 +143,7 @@ fn time_from(start: Minute, end: Minute, rate: u32, parts: &[Part], k: u32) -> M
     Minute::from_minutes(from.minutes() + 60 * left / hourly)
 }
 
-/// The number of the first slot not before a moment in minutes.
+/// The number of the first slot not before a time in minutes.
 fn first_from(start: Minute, end: Minute, rate: u32, parts: &[Part], moment: u32) -> u32
     requires subperiods { AreSubperiods end start rate parts.now }
     requires at_most_a_day { end - start ≤ LONGEST_PERIOD }
@@ -163,15 +166,16 @@ fn first_from(start: Minute, end: Minute, rate: u32, parts: &[Part], moment: u32
 }
 
 impl Shape {
-    /// The shape of a regulation from `start` to before `end`, which begins with so many slots an hour;
-    /// each part begins a further sub-period. In the years 2000 to 2098 and with at most 7 parts there is one exactly
-    /// where [`broken_limit`] tells none, and otherwise none.
+    /// Creates the shape of a regulation from `start` to before `end`, which begins with `rate`
+    /// slots an hour; each part begins a further sub-period. In the years 2000 to 2098 and with at
+    /// most 7 parts it returns `None` if, and only if, [`broken_limit`] returns a limit.
     pub fn new(start: Minute, end: Minute, rate: u32, parts: &[Part]) -> Option<Shape>
         ensures limits { IsSome result
             ↔ IsRegular (record { start = start; end = end; rate = rate; parts = parts.now }) }
         ensures exact { YEAR_2000 ≤ start → end < YEAR_2099 → length parts.now ≤ MOST_PARTS
             → (IsSome result
-            ↔ (broken_limit (record { start = start; end = end; rate = rate; parts = parts.now }) ≡ None)) }
+            ↔ (broken_limit (record { start = start; end = end; rate = rate; parts = parts.now })
+            ≡ None)) }
         ensures value { IfSome result
             (λ s. s ≡ record { start = start; end = end; rate = rate; parts = parts.now }) }
     {
@@ -196,8 +200,8 @@ impl Shape {
         })
     }
 
-    /// The moment of slot `k`, counted from 0: a sub-period of so many slots an hour has one each
-    /// 60 / rate minutes from its beginning, rounded down, and the last one goes on after the end.
+    /// Returns the time of slot `k`, counted from 0: a sub-period has a slot each 60 / rate minutes
+    /// from its beginning, rounded down, and the last one continues after the end.
     pub fn slot_time(&self, k: u32) -> Minute
         requires { k ≤ most_slots }
         ensures { result ≡ slot_time self.now k }
@@ -211,7 +215,7 @@ impl Shape {
         )
     }
 
-    /// The start of the period, and its end, the first minute after it.
+    /// Returns the start of the period, and its end, the first minute after it.
     pub fn period(&self) -> (Minute, Minute)
         ensures start { result.0 ≡ self.now.start }
         ensures end { result.1 ≡ self.now.end }
@@ -219,28 +223,28 @@ impl Shape {
         (self.start, self.end)
     }
 
-    /// How many slots an hour the period begins with.
+    /// Returns the first rate, in slots an hour.
     pub fn rate(&self) -> u32
         ensures { result ≡ self.now.rate }
     {
         self.rate
     }
 
-    /// The further sub-periods, in their order.
+    /// Returns the further sub-periods, in their order.
     pub fn parts(&self) -> &[Part]
         ensures { result.now ≡ self.now.parts }
     {
         &self.parts[..self.count]
     }
 
-    /// Whether a moment lies in the period.
+    /// Whether a time is in the period.
     pub fn contains(&self, moment: Minute) -> bool
         ensures { IsTrue result ↔ IsWithin self.now moment }
     {
         self.start <= moment && moment < self.end
     }
 
-    /// The number of the first slot not before `entry`.
+    /// Returns the number of the first slot not before `entry`.
     pub fn first_slot(&self, entry: Minute) -> u32
         requires { IsWithin self.now entry }
         ensures value { result ≡ first_slot self.now entry }
@@ -255,7 +259,7 @@ impl Shape {
         )
     }
 
-    /// Whether it is this shape: the same period, rates and sub-periods.
+    /// Whether both have the same period, rates and sub-periods.
     pub(crate) fn is(&self, other: &Shape) -> bool
         ensures { IsTrue result ↔ (self.now ≡ other.now) }
     {
@@ -265,7 +269,6 @@ impl Shape {
             && self.parts[..self.count] == other.parts[..other.count]
     }
 
-    /// The minute of the start.
     #[inline(always)]
     pub(crate) fn start_minutes(&self) -> u32
         ensures { result ≡ self.now.start }
@@ -273,14 +276,14 @@ impl Shape {
         self.start.minutes()
     }
 
-    /// How many minutes the period has.
+    /// The length of the period in minutes.
     pub(crate) fn minutes(&self) -> u32
         ensures { result ≡ self.now.end - self.now.start }
     {
         self.end.minutes().saturating_sub(self.start.minutes())
     }
 
-    /// The number of the first slot so many minutes after the start.
+    /// The number of the first slot `minutes` minutes after the start.
     pub(crate) fn first_slot_in(&self, minutes: u32) -> u32
         requires { minutes < self.now.end - self.now.start }
         ensures value { result ≡ first_slot self.now (self.now.start + minutes) }
@@ -296,7 +299,7 @@ impl Shape {
         )
     }
 
-    /// How many slots lie before the end.
+    /// Returns the number of slots before the end.
     pub fn slots_before_end(&self) -> u32
         ensures value { result ≡ slots_before_end self.now }
         ensures at_most { result ≤ most_before_end }

@@ -1,13 +1,17 @@
-//! The slot list with all its calls. Their contracts say what each makes of the lineup, which the row stands for.
-ghost use Rattle.std.specs.Prelude.{◌≡◌, ℕ, ◌+◌, ◌<◌, ◌≤◌, length, [], None, Some, ◌↔◌, IfOk, OnOk, IfSome, IsSome};
+//! The slot list with its public calls. Their contracts say what each makes of the lineup that the
+//! row represents.
+ghost use Rattle.std.specs.Prelude.{◌≡◌, ℕ, ◌+◌, ◌<◌, ◌≤◌, length, [], None};
+ghost use Rattle.std.specs.Prelude.{Some, ◌↔◌, IfOk, OnOk, IfSome, IsSome};
 ghost use Rattle.std.specs.Prelude.{IsTrue};
 ghost use Rattle.flow_slots.specs.Period.{IsWithin, IsRegular, most_flights, most_slots};
 ghost use Rattle.flow_slots.specs.Changed.{moved_flights};
 ghost use Rattle.flow_slots.specs.Delay.{HasLeastDelay, Rise, waiting_slots};
 ghost use Rattle.flow_slots.specs.FirstServed.{IsFirstServed};
 ghost use Rattle.flow_slots.specs.Row.{flight_at};
-ghost use Rattle.flow_slots.specs.Lineup.{len_of, held_slot, held_flight, fixed_slot, with_waiting, with_fixed};
-ghost use Rattle.flow_slots.specs.Lineup.{without_flight, fixed_at, IsLineup, waiting_entry, with_all_waiting, MayFill};
+ghost use Rattle.flow_slots.specs.Lineup.{len_of, held_slot, held_flight};
+ghost use Rattle.flow_slots.specs.Lineup.{fixed_slot, with_waiting, with_fixed};
+ghost use Rattle.flow_slots.specs.Lineup.{without_flight, fixed_at, IsLineup};
+ghost use Rattle.flow_slots.specs.Lineup.{waiting_entry, with_all_waiting, MayFill};
 ghost use Rattle.flow_slots.specs.LineupLaws.{IsNumber, IsSound};
 
 use crate::cell::{Cell, Planned};
@@ -19,22 +23,23 @@ use fpl_text::Minute;
 use std::alloc::{AllocError, Allocator, Global};
 use std::marker::Model;
 
-/// The slot list of one regulation (ATFCM Users Manual, slot allocation). Flights are numbered from 1
-/// to `max_plans`, slots from 0. Some flights wait, each with its entry, and some keep a slot.
+/// The slot list of one regulation (ATFCM Users Manual, slot allocation). Flights are numbered from
+/// 1 to `max_plans`, slots from 0. Some flights have provisional slots, each by its entry, and some
+/// have frozen ones.
 ///
-/// Contracts see the lineup: the period, the waiting flights in their order and the fixed ones by
-/// slot. Each change names what it makes of the lineup, and the row, which is changed in place, reads
-/// the fresh assignment of the lineup after any list of changes: each waiting flight in its order has
-/// the first slot not before its entry that no fixed flight and no earlier one has.
+/// Contracts see the lineup: the period, the provisional flights in their order and the frozen ones
+/// by slot. Each change says what it makes of the lineup, and the row, which is changed in place,
+/// has the fresh allocation of the lineup after any list of changes: each provisional flight in its
+/// order has the first slot not before its entry that isn't frozen and that no earlier flight has.
 ///
-/// A change touches the cells from the flight's first slot to the end of its chain. No call but `new`
-/// takes memory.
+/// A change touches the cells from the flight's first slot to the end of its chain. No call but
+/// `new` allocates.
 #[derive(Drop)]
 pub struct SlotList<A: Allocator + Copy = Global> {
     first_slots: FirstSlots<A>,
     capacity: u32,
     cells: Cells<A>,
-    /// For each flight, by its number, the slot in which it stands.
+    /// The slot of each flight, by its number.
     places: Vec<HeldSlot, A>,
 }
 
@@ -59,8 +64,8 @@ impl<A: Allocator + Copy> Model for SlotList<A> {
 }
 
 impl<A: Allocator + Copy> SlotList<A> {
-    /// A list with the slots before the end of the shape and `max_plans` more, all empty. `max_plans`
-    /// is 1 to 20,000. Refused where memory is.
+    /// Creates a list with the slots before the end of the shape and `max_plans` more, all empty.
+    /// `max_plans` is 1 to 20,000. Returns `Err` if an allocation fails.
     pub fn new(alloc: A, shape: Shape, max_plans: u32) -> Result<SlotList<A>, AllocError>
         requires some { 0 < max_plans }
         requires most { max_plans ≤ most_flights }
@@ -83,16 +88,17 @@ impl<A: Allocator + Copy> SlotList<A> {
         })
     }
 
-    /// The greatest flight number: each flight that is held has one from 1 to it.
+    /// Returns the greatest flight number; flights are numbered from 1.
     pub fn max_plans(&self) -> u32
         ensures value { result ≡ self.now.lineup.capacity }
         ensures most { result ≤ most_flights }
-        ensures held { (flight k : ℕ) → held_slot self.now.lineup flight ≡ Some k → (0 < flight) × (flight ≤ result) }
+        ensures held { (flight k : ℕ) → held_slot self.now.lineup flight ≡ Some k
+            → (0 < flight) × (flight ≤ result) }
     {
         self.capacity
     }
 
-    /// How many slots the list has: those before the end, and `max_plans` more.
+    /// Returns the number of slots: those before the end, and `max_plans` more.
     pub fn len(&self) -> u32
         ensures value { result ≡ len_of self.now.lineup }
         ensures most { result ≤ most_slots }
@@ -100,16 +106,17 @@ impl<A: Allocator + Copy> SlotList<A> {
         self.cells.len()
     }
 
-    /// The period and its rates.
+    /// Returns the period and its rates.
     pub fn shape(&self) -> &Shape
         ensures { result.now ≡ self.now.lineup.period }
     {
         self.first_slots.shape()
     }
 
-    /// The row itself. Its clauses say what the lineup is, whichever changes were made: each flight has one slot and
-    /// each slot at most one flight, slots rise in the order, no other choice of slots around the fixed ones has a
-    /// smaller sum of delays, and what `laws` ask of a lineup holds of it.
+    /// Returns the row. Its clauses say what the lineup is, whichever changes were made: each
+    /// flight has one slot and each slot at most one flight, slots rise in the order, no other
+    /// choice of slots around the frozen ones has a smaller sum of delays, and what `laws` ask of a
+    /// lineup holds of it.
     pub fn cells(&self) -> &Cells<A>
         ensures row { (k : ℕ) → flight_at result.now.row k ≡ held_flight self.now.lineup k }
         ensures len { length result.now.row ≡ len_of self.now.lineup }
@@ -124,7 +131,8 @@ impl<A: Allocator + Copy> SlotList<A> {
         &self.cells
     }
 
-    /// The slot of a flight, None where it isn't held. No other flight has it, and no flight stands twice in the list.
+    /// Returns the slot of a flight; `None` if it has none. No other flight has that slot, and no
+    /// flight is twice in the list.
     #[inline(always)]
     pub fn slot_of(&self, flight: u32) -> Option<u32>
         ensures slot { result ≡ held_slot self.now.lineup flight }
@@ -137,21 +145,22 @@ impl<A: Allocator + Copy> SlotList<A> {
         place_of(&self.places, flight)
     }
 
-    /// The first number from this one on of a flight that is held. Where no later one is, the first number after
-    /// `max_plans`, or `from` where that is later.
+    /// Returns the first flight number from `from` on that has a slot. If none has, the first
+    /// number after `max_plans`, or `from` if that is greater.
     #[inline(always)]
     pub fn next_held(&self, from: u32) -> u32
         ensures from { from ≤ result }
         ensures passed { (f : ℕ) → from ≤ f → f < result → held_slot self.now.lineup f ≡ None }
-        ensures stops { result ≤ self.now.lineup.capacity → IsSome (held_slot self.now.lineup result) }
+        ensures stops { result ≤ self.now.lineup.capacity
+            → IsSome (held_slot self.now.lineup result) }
         ensures end { from ≤ self.now.lineup.capacity → result ≤ self.now.lineup.capacity + 1 }
         ensures late { self.now.lineup.capacity < from → result ≡ from }
     {
         next_placed(&self.places, from)
     }
 
-    /// The entry of a flight that waits, None where it doesn't. No flight waits twice, and none that waits keeps a
-    /// slot.
+    /// Returns the entry of a provisional flight; `None` for any other. No flight is provisional
+    /// twice, and none is both provisional and frozen.
     #[inline(always)]
     pub fn entry_of(&self, flight: u32) -> Option<Minute>
         ensures entry { result ≡ waiting_entry self.now.lineup flight }
@@ -164,7 +173,8 @@ impl<A: Allocator + Copy> SlotList<A> {
         }
     }
 
-    /// The flight in slot `k`, None where it is empty or not below `len()`. The flight has no other slot.
+    /// Returns the flight in slot `k`; `None` if it is empty or not below `len()`. The flight has
+    /// no other slot.
     pub fn holder(&self, k: u32) -> Option<u32>
         ensures flight { result ≡ held_flight self.now.lineup k }
         ensures slot { IfSome result (λ flight. held_slot self.now.lineup flight ≡ Some k) }
@@ -179,8 +189,8 @@ impl<A: Allocator + Copy> SlotList<A> {
         }
     }
 
-    /// Whether both stand for the same lineup: the same period and rates, room for as many flights, and
-    /// in each slot the same flight, which waits from the same entry or keeps the slot in both. How often
+    /// Whether both have the same lineup: the same period and rates, the same `max_plans`, and in
+    /// each slot the same flight, provisional with the same entry or frozen in both. How often
     /// their cells were written makes no difference.
     pub fn same(&self, other: &SlotList<A>) -> bool
         ensures { IsTrue result ↔ (self.now.lineup ≡ other.now.lineup) }
@@ -190,8 +200,8 @@ impl<A: Allocator + Copy> SlotList<A> {
             && self.cells.same(&other.cells)
     }
 
-    /// Takes a flight in, to wait in the order of its entry, ties by the lower number; later flights
-    /// make way. The flight isn't held, and its entry lies in the period.
+    /// Inserts a flight in the order of its entry, ties by the lower number; later flights make
+    /// way. The flight has no slot yet, and its entry is in the period.
     pub fn insert(&mut self, flight: u32, entry: Minute)
         requires absent { held_slot self.old.lineup flight ≡ None }
         requires first { 0 < flight }
@@ -209,10 +219,11 @@ impl<A: Allocator + Copy> SlotList<A> {
             .displace(&mut self.places, from, Planned { entry, flight });
     }
 
-    /// Takes flights into a list that holds none, in one pass. They stand in the order of their entries, ties by the
-    /// lower number, none twice; their numbers are from 1 to `max_plans`, and their entries lie in the period. All of
-    /// them wait then, as if they had been inserted one by one: each takes the later of the first slot not before its
-    /// entry and the slot after that of the flight before it. A flight costs one write.
+    /// Inserts flights into a list without any, in one pass. They are given in the order of their
+    /// entries, ties by the lower number, none twice; their numbers are from 1 to `max_plans`, and
+    /// their entries in the period. The result is that of inserting them one by one: each gets the
+    /// later of the first slot not before its entry and the slot after that of the flight before
+    /// it. A flight costs one write.
     pub fn fill(&mut self, flights: &[Planned])
         requires { MayFill flights.now self.old.lineup }
         ensures lineup { self.new.lineup ≡ with_all_waiting flights.now self.old.lineup }
@@ -223,7 +234,7 @@ impl<A: Allocator + Copy> SlotList<A> {
             .fill(&mut self.places, &self.first_slots, flights);
     }
 
-    /// Takes out a flight that is held, fixed or not; later flights move up.
+    /// Removes a flight that has a slot, frozen or not; later flights move up.
     pub fn remove(&mut self, flight: u32)
         requires { IsSome (held_slot self.old.lineup flight) }
         ensures lineup { self.new.lineup ≡ without_flight flight self.old.lineup }
@@ -238,14 +249,15 @@ impl<A: Allocator + Copy> SlotList<A> {
         }
     }
 
-    /// Whether no flight keeps a slot.
+    /// Whether no slot is frozen.
     pub fn keeps_none(&self) -> bool
         ensures { IsTrue result ↔ (self.now.lineup.fixed ≡ []) }
     {
         self.cells.keeps_none()
     }
 
-    /// Whether a flight keeps its slot. No flight keeps two slots, and none that keeps one waits.
+    /// Whether a flight's slot is frozen. No flight has two frozen slots, and none is both
+    /// provisional and frozen.
     #[inline(always)]
     pub fn is_fixed(&self, flight: u32) -> bool
         ensures fixed { IsTrue result ↔ IsSome (fixed_slot self.now.lineup flight) }
@@ -257,12 +269,13 @@ impl<A: Allocator + Copy> SlotList<A> {
         }
     }
 
-    /// Lets a waiting flight keep its slot; nobody moves.
+    /// Freezes the slot of a provisional flight; nobody moves.
     pub fn fix(&mut self, flight: u32)
         requires held { IsSome (held_slot self.old.lineup flight) }
         requires waits { fixed_slot self.old.lineup flight ≡ None }
         ensures lineup { IfSome (held_slot self.old.lineup flight)
-            (λ k. self.new.lineup ≡ fixed_at (record { flight = flight; slot = k }) self.old.lineup) }
+            (λ k. self.new.lineup
+            ≡ fixed_at (record { flight = flight; slot = k }) self.old.lineup) }
         ensures nobody_moves { (other : ℕ)
             → held_slot self.new.lineup other ≡ held_slot self.old.lineup other }
         ensures writes { self.new.writes
@@ -274,7 +287,7 @@ impl<A: Allocator + Copy> SlotList<A> {
         }
     }
 
-    /// Lets a fixed flight wait again, with an entry in the period.
+    /// Makes a frozen flight provisional again, with an entry in the period.
     pub fn release(&mut self, flight: u32, entry: Minute)
         requires fixed { IsSome (fixed_slot self.old.lineup flight) }
         requires entry { IsWithin self.old.lineup.period entry }
@@ -291,7 +304,8 @@ impl<A: Allocator + Copy> SlotList<A> {
         self.insert(flight, entry);
     }
 
-    /// Fixes a flight that isn't held in slot `k`, which no fixed flight has; waiting flights make way.
+    /// Freezes slot `k`, which isn't frozen, for a flight that has no slot; provisional flights
+    /// make way.
     pub fn put_fixed(&mut self, flight: u32, k: u32)
         requires absent { held_slot self.old.lineup flight ≡ None }
         requires first { 0 < flight }

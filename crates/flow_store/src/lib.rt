@@ -1,15 +1,18 @@
 //! A desk whose filings are in a file: what was answered is there after any crash.
 //!
-//! **The file** is a log (`flow_log`) whose text is the text of a store: a line of its own, the setup, and the entries of the
-//! journal (`store_text`). The entries that are filed from one piece of the input are one group: they are appended to the
-//! file, and on the disk, before the first of their answers is flushed (`Store::commit`).
+//! **The file** is a log (`flow_log`) whose text is the text of a store: a header line, the setup,
+//! and the entries of the journal (`store_text`). The entries that are filed from one piece of the
+//! input are one group: they are appended to the file, and on the disk, before the first of their
+//! answers is flushed (`Store::commit`).
 //!
-//! **What is proved.** A crash at any moment leaves a file of the entries from before and those of the first frames of the
-//! input, in order, none skipped and none in part; and what had been flushed by then is a beginning of the answers to these
-//! (`IsSafe`, a clause of `serve_stored`). Opening such a file (`open`) gives the core of just these entries. So what was
-//! answered in one run is in the file after every later one (`laws`).
+//! **What is proved.** A crash at any time leaves a file of the entries from before and those of
+//! the first frames of the input, in order, none skipped and none in part; and what had been
+//! flushed by then is a prefix of the answers to these (`IsSafe`, a clause of `serve_stored`).
+//! Opening such a file (`open`) gives the core of exactly these entries. So what was answered in
+//! one run is in the file after every later one (`laws`).
 //!
-//! `store` has the store and the two ways to append to it, `opening` and `serving` what their names say.
+//! `store` has the store and the two ways to append to it; `opening` opens one, and `serving`
+//! answers an input with one.
 #![tactic(auto)]
 
 pub mod laws;
@@ -28,7 +31,7 @@ mod tests {
     use flow_log::Memory;
     use std::test::Fail;
 
-    /// What one call ensures is what the next one requires.
+    /// What each call ensures is what the next one requires.
     #[test]
     fn a_store_is_opened_and_served(rt: HostRuntime) -> Result<(), Fail> {
         let alloc = rt.alloc();

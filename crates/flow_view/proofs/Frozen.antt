@@ -21,7 +21,17 @@ use Rattle.flow_view.specs.declared.delay.FlightDelay.{FlightDelay}
 use Rattle.flow_view.specs.Openings.{Opened}
 use Rattle.flow_view.specs.Delays.{delay_in, worse, worse_by}
 use Rattle.flow_traffic.specs.Traffic.{Traffic}
-use Rattle.flow_view.proofs.Planned.{AllFlights, found}
+
+abbrev AllFlights : (ℕ → Type 0) → List Placed → Type 0
+AllFlights P xs = AllByRecursion (λ a. P a.flight) xs
+
+-- the flight that is found is one of theirs
+flight-found : (P : ℕ → Type 0) (k f : ℕ) (xs : List Placed) → AllFlights P xs → flight_in k xs ≡ Some f → P f
+flight-found P k f [] a e = absurd cc
+flight-found P k f (x ∷ xs) a e = by (flight-found P k f xs a.1) (eqb x.slot k) e where
+  by : (flight_in k xs ≡ Some f → P f) → (b : Bool) → cond b (Some x.flight) (flight_in k xs) ≡ Some f → P f
+  by again true q = let same : x.flight ≡ f = cc in subst P same a.0
+  by again false q = again q
 
 -- the slot that is found is one of theirs
 pub slot-found : (P : ℕ → Type 0) (f k : ℕ) (xs : List Placed) → AllByRecursion (λ a. P a.slot) xs → slot_in f xs ≡ Some k → P k
@@ -48,7 +58,7 @@ slot-of-held k f (x ∷ xs) a e = by (slot-of-held k f xs a.1) (eqb x.slot k) re
       let same : x.flight ≡ f = cc in
       ap (λ (b : Bool). cond b (Some x.slot) (slot_in f xs)) (eq-eqb x.flight f same) ∙ ap (λ n. Some n) (eqb-true x.slot k is)
   by again false is q =
-      let other : f ≢ x.flight = found (λ n. n ≢ x.flight) k f xs (flights-other x xs a.0) q in
+      let other : f ≢ x.flight = flight-found (λ n. n ≢ x.flight) k f xs (flights-other x xs a.0) q in
       ap (λ (b : Bool). cond b (Some x.slot) (slot_in f xs)) (ne_eqb x.flight f (λ s. other (sym s))) ∙ again q
 
 -- and the other way round

@@ -1,7 +1,6 @@
 pub mod Lists
 pub mod Told
 pub mod Loads
-pub mod Planned
 pub mod Tables
 pub mod Delays
 pub mod Histories

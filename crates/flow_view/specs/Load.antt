@@ -31,6 +31,6 @@ loads_before (suc i) step p rows = loads_before i step p rows ++ load_in p rows 
 abbrev pub loads : ℕ → Period → List SlotRow → List Load
 loads step p rows = loads_before ((p.end - p.start + step - 1) / step) step p rows
 
--- the flights whose slots lie behind the period
+-- the flights whose slots lie after the period
 abbrev pub held_later : Period → List SlotRow → ℕ
 held_later p rows = count_by (λ r. nat_le p.end r.time) rows

@@ -1,12 +1,15 @@
 -- What a regulation would do at other rates: it is opened at each rate by an order, looked at, and taken back.
-use Rattle.std.specs.Prelude.{◌≡◌, ℕ, true, List, [], ◌∷◌, ◌++◌, length, slice_get, codes, decimal, Option, Some}
-use Rattle.std.specs.Option.{option_map, option_map_or}
+use Rattle.std.specs.Prelude.{◌≡◌, ℕ, ◌≤◌, ◌<◌, true, List, [], ◌∷◌, ◌++◌, length, slice_get, codes, decimal, take, Option, None, Some}
+use Rattle.std.specs.List.{AllByRecursion}
+use Rattle.std.specs.Option.{option_map, option_map_or, option_and_then}
 use Rattle.fpl_message.specs.declared.refusal.Refusal.{Refusal}
 use Rattle.fpl_message.specs.declared.refusal.Refusal.TheVariants.{BadOrder}
+use Rattle.fpl_message.specs.declared.filed_text.TheConstants.{MAX_BYTES}
 use Rattle.fpl_message.specs.declared.edition.Edition.TheVariants.{Second}
 use Rattle.flow_regulations.specs.Regulations.{Regulation, lineup_of}
+use Rattle.flow_traffic.specs.declared.verdict.Kind.TheVariants as kind
 use Rattle.flow_traffic.specs.declared.verdict.Verdict.{Verdict}
-use Rattle.flow_traffic.specs.declared.verdict.Verdict.TheVariants.{Refused}
+use Rattle.flow_traffic.specs.declared.verdict.Verdict.TheVariants.{Refused, Accepted}
 use Rattle.flow_core.specs.History.{History, state_of}
 use Rattle.flow_view.specs.declared.slot_row.SlotRow.{SlotRow}
 use Rattle.flow_view.specs.declared.what_if.Swept.{Swept}
@@ -43,21 +46,38 @@ swept h order rate = record { rate = rate; totals = totals_of (last_rows (with_f
 abbrev pub verdict_of : History → List ℕ → Option Verdict
 verdict_of h text = option_map (λ e. e.receipt.verdict) (slice_get (state_of (with_filing h text)).journal (length h.filed))
 
--- the text opens a regulation
-abbrev pub Opens : History → List ℕ → Type 0
-Opens h text = option_map is_open (verdict_of h text) ≡ Some true
+-- the text is short enough to be filed, and the journal has room for it
+abbrev pub CanFile : History → List ℕ → Type 0
+CanFile h text = (length text ≤ MAX_BYTES) × (length h.filed < h.setup.max_entries)
 
--- the refusal of a verdict, and BadOrder of what is accepted and no OPEN
-abbrev pub refusal_of : Verdict → Refusal
-refusal_of (Refused why) = why
-refusal_of _ = BadOrder
+-- the text can be filed, and opens a regulation
+abbrev pub Opens : History → List ℕ → Type 0
+Opens h text = CanFile h text × (option_map is_open (verdict_of h text) ≡ Some true)
+
+-- the refusal of a verdict: that of an OPEN is none, and that of what else is accepted BadOrder
+abbrev pub refusal_of : Verdict → Option Refusal
+refusal_of (Refused why) = Some why
+refusal_of (Accepted kind.Open plan) = None
+refusal_of _ = Some BadOrder
 
 -- a refusal that is told is that of the verdict
 abbrev pub IsToldOf : Verdict → SweepFault → Type 0
-IsToldOf verdict (fault.Refused why) = why ≡ refusal_of verdict
-IsToldOf verdict _ = Unit {0}
+IsToldOf verdict (fault.Refused why) = refusal_of verdict ≡ Some why
+IsToldOf verdict fault.OutOfMemory = Unit {0}
+IsToldOf verdict _ = ⊥
 
--- and that of the desk on a text
+-- what is told of a text: that it is too long, else that the journal is full, else the refusal of the desk; and no memory is
+-- refused to what can't be filed
 abbrev pub IsToldBy : History → List ℕ → SweepFault → Type 0
-IsToldBy h text (fault.Refused why) = option_map refusal_of (verdict_of h text) ≡ Some why
-IsToldBy h text _ = Unit {0}
+IsToldBy h text (fault.Refused why) = CanFile h text × (option_and_then refusal_of (verdict_of h text) ≡ Some why)
+IsToldBy h text fault.TooLong = MAX_BYTES < length text
+IsToldBy h text fault.JournalFull = (length text ≤ MAX_BYTES) × (h.setup.max_entries ≤ length h.filed)
+IsToldBy h text fault.OutOfMemory = CanFile h text
+
+-- what ends a sweep of these rates: at each of the first of them a regulation is opened, and at the next one that is told
+pub record IsEndedBy (h : History) (order rates : List ℕ) (e : SweepFault) : Type 0 where
+  pub count : ℕ
+  pub next : ℕ
+  pub is_next : slice_get rates count ≡ Some next
+  pub opened : AllByRecursion (λ rate. Opens h (order_at order rate)) (take count rates)
+  pub told : IsToldBy h (order_at order next) e

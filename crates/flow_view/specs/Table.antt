@@ -1,17 +1,12 @@
 -- The table of a slot list: a line for each of its rows, in order.
-use Rattle.std.specs.Prelude.{ℕ, ◌-◌, false, if◌then◌else◌, List, [], ◌∷◌, map, zip, Option, None, Some, IsSome}
-use Rattle.std.specs.List.{AllByRecursion}
+use Rattle.std.specs.Prelude.{ℕ, ◌-◌, false, if◌then◌else◌, List, ◌∷◌, map, zip, Option, None, Some}
 use Rattle.std.specs.Option.{option_map, option_map_or, option_and_then}
 use Rattle.flow_plans.specs.Plans.{is_departed}
-use Rattle.flow_traffic.specs.Traffic.{slots_of}
-use Rattle.flow_core.specs.History.{History, state_of}
 use Rattle.flow_view.specs.declared.slot_row.SlotRow.{SlotRow}
 use Rattle.flow_view.specs.declared.table.Line.{Line}
 use Rattle.flow_view.specs.declared.table.Holding.{Holding}
 use Rattle.flow_view.specs.declared.table.Holding.TheVariants.{Waiting, Frozen, Departed}
-use Rattle.flow_regulations.specs.Listing.{Listed}
 use Rattle.flow_regulations.specs.declared.notice.Told.{Told}
-use Rattle.flow_view.specs.Shown.{shown}
 use Rattle.flow_view.specs.Totals.{delay_of}
 
 -- how the flight of a row holds its slot
@@ -34,7 +29,7 @@ cause_of r = option_map (λ t. t.regulation) (told_in r)
 abbrev pub empty_between : Option ℕ → ℕ → ℕ
 empty_between before slot = option_map_or (λ b. slot - b - 1) before slot
 
--- the line of a row behind the held slot before it
+-- the line of a row after the held slot before it
 abbrev pub line_of : Option ℕ × SlotRow → Line
 line_of (before, r) =
     record {
@@ -49,11 +44,3 @@ line_of (before, r) =
 -- the lines of rows: that of each row with the slot of the row before it
 abbrev pub lines : List SlotRow → List Line
 lines rows = map line_of (zip (None ∷ map (λ r. Some r.slot) rows) rows)
-
--- the table of a regulation of a desk: the lines of what is shown of its slot list, and none where it isn't open
-abbrev pub listed : History → Listed → List Line
-listed h o = option_map_or (λ l. lines (shown h o.spot l)) (slots_of (state_of h).traffic o.id) []
-
--- each of these lines has a flight
-abbrev pub HaveFlights : List Line → Type 0
-HaveFlights ls = AllByRecursion (λ l. IsSome l.row.flight) ls

@@ -64,7 +64,7 @@ fn held_in(rows: &[SlotRow], from: Minute, to: Minute) -> u64
     count
 }
 
-/// How many flights hold a slot behind the period.
+/// How many flights hold a slot after the period.
 pub fn held_later(shape: &Shape, rows: &[SlotRow]) -> u64
     ensures { result ≡ held_later shape.now rows.now }
 {

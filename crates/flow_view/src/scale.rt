@@ -61,7 +61,7 @@ impl Scale {
     }
 
     /// How far to the right a moment stands, in tenths of a pixel. Moments before the period stand at its left edge,
-    /// those behind it at the right one.
+    /// those after it at the right one.
     pub fn across(&self, moment: Minute) -> u32
         ensures value { result ≡ share PANEL_WIDTH (moment - self.now.start) self.now.minutes }
         ensures within { result ≤ PANEL_WIDTH }
@@ -102,7 +102,7 @@ impl Scale {
     }
 
     /// The moment of a label, by its place from 0: the whole multiples of the minutes between two labels. None where it
-    /// lies behind the period.
+    /// lies after the period.
     pub fn label(&self, place: u32) -> Option<Minute>
         requires { place ≤ 10_000 }
         ensures { result ≡ label_of self.now.start self.now.minutes place }

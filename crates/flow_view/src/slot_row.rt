@@ -29,7 +29,7 @@ pub struct SlotRow {
 }
 
 /// The row of a slot, where it is held.
-pub fn row_at<A: Allocator + Copy>(
+fn row_at<A: Allocator + Copy>(
     core: &Core<A>,
     spot: &Spot,
     list: &SlotList<A>,

@@ -1,11 +1,10 @@
 //! The table of a slot list.
 ghost use Rattle.std.specs.Prelude.{◌≡◌, IfOk};
-ghost use Rattle.flow_view.specs.Table.{holding_of, told_in, ctot_of, cause_of, empty_between, line_of, lines, listed, HaveFlights};
+ghost use Rattle.flow_view.specs.Table.{holding_of, told_in, ctot_of, cause_of, empty_between, line_of, lines};
 
-use crate::slot_row::{SlotRow, rows_of};
-use flow_core::{Core, Told};
+use crate::slot_row::SlotRow;
+use flow_core::Told;
 use flow_plans::PlanState;
-use flow_regulations::Regulation;
 use fpl_text::{Minute, Text};
 use std::alloc::{AllocError, Allocator};
 
@@ -94,7 +93,7 @@ fn empty_between(before: Option<u32>, slot: u32) -> u32
     }
 }
 
-/// The line of a row behind the held slot before it.
+/// The line of a row after the held slot before it.
 fn line_of(before: Option<u32>, row: SlotRow) -> Line
     ensures { result ≡ line_of (before, row) }
 {
@@ -123,21 +122,4 @@ pub fn lines_with<A: Allocator + Copy>(
         before = Some(slot);
     }
     Ok(made)
-}
-
-/// The lines of the table of a regulation, one for each held slot of its slot list, in order, and each with its flight.
-/// There are none where the regulation isn't open.
-pub fn lines_of<A: Allocator + Copy>(
-    alloc: A,
-    core: &Core<A>,
-    regulation: &Regulation<A>,
-) -> Result<Vec<Line, A>, AllocError>
-    ensures lines { IfOk result (λ made. made.items ≡ listed core.now regulation.now) }
-    ensures flights { IfOk result (λ made. HaveFlights made.items) }
-{
-    let Some(list) = core.slots(regulation.id()) else {
-        return Ok(Vec::new(alloc));
-    };
-    let rows = rows_of(alloc, core, regulation.spot(), list)?;
-    lines_with(alloc, rows.as_slice())
 }

@@ -1,8 +1,8 @@
 //! What a regulation would do at other rates.
-ghost use Rattle.std.specs.Prelude.{◌≡◌, ◌≤◌, ℕ, Some, true, IfOk, IfErr, OnOk, OnErr, map, length, Contains};
+ghost use Rattle.std.specs.Prelude.{◌≡◌, ◌≤◌, ◌++◌, Some, true, codes, IfOk, IfErr, OnOk, OnErr, map, length};
 ghost use Rattle.std.specs.List.{AllByRecursion};
 ghost use Rattle.flow_view.specs.Openings.{is_open};
-ghost use Rattle.flow_view.specs.Sweeps.{order_at, with_filing, verdict_of, last_rows, swept, Opens, IsToldOf, IsToldBy};
+ghost use Rattle.flow_view.specs.Sweeps.{order_at, with_filing, verdict_of, last_rows, swept, CanFile, Opens, IsToldOf, IsToldBy, IsEndedBy};
 ghost use Rattle.flow_view.specs.Totals.{totals_of};
 ghost use Rattle.flow_slots.specs.Period.{most_slots};
 ghost use Rattle.flow_view.specs.declared.what_if.SweepFault.TheVariants.{OutOfMemory};
@@ -10,8 +10,9 @@ ghost use Rattle.flow_view.specs.declared.what_if.SweepFault.TheVariants.{OutOfM
 use crate::past::take_back;
 use crate::slot_row::{SlotRow, rows_of};
 use crate::totals::{Totals, totals_of};
-use flow_core::{Core, Kind, StepFault, Verdict};
-use fpl_message::{Filing, FilingFault, Refusal};
+use flow_core::{Core, Kind, Verdict};
+use fpl_message::{Filing, MAX_BYTES, Refusal};
+use itoa::Buffer;
 use std::alloc::{AllocError, Allocator};
 
 /// The totals of a slot list at a rate.
@@ -42,17 +43,36 @@ impl From<AllocError> for SweepFault {
     }
 }
 
-/// The text of an order at a rate.
-fn order_at<A: Allocator + Copy>(
+/// Whether an order with these digits of a rate can be filed: it is short enough, and the journal has room.
+fn check_room<A: Allocator + Copy>(
+    core: &Core<A>,
+    order: &[u8],
+    digits: &[u8],
+) -> Result<(), SweepFault>
+    requires { length digits.now ≤ 40 }
+    ensures room { OnOk result (CanFile core.now (order.now ++ codes " " ++ digits.now)) }
+    ensures refused { IfErr result (λ e. IsToldBy core.now (order.now ++ codes " " ++ digits.now) e) }
+{
+    if order.len() >= MAX_BYTES - digits.len() {
+        return Err(SweepFault::TooLong);
+    }
+    if core.entries() >= core.setup().max_entries() {
+        return Err(SweepFault::JournalFull);
+    }
+    Ok(())
+}
+
+/// An order with the digits of a rate.
+fn text_of<A: Allocator + Copy>(
     alloc: A,
     order: &[u8],
-    rate: u32,
+    digits: &[u8],
 ) -> Result<Vec<u8, A>, AllocError>
-    ensures { IfOk result (λ text. text.items ≡ order_at order.now rate) }
+    ensures { IfOk result (λ text. text.items ≡ order.now ++ codes " " ++ digits.now) }
 {
-    let digits = format!(in alloc; " {rate}")?;
     let mut text = Vec::from_slice(alloc, order)?;
-    text.extend_from_slice(digits.as_bytes())?;
+    text.extend_from_slice(b" ")?;
+    text.extend_from_slice(digits)?;
     Ok(text)
 }
 
@@ -61,23 +81,20 @@ fn file<A: Allocator + Copy>(
     alloc: A,
     core: &mut Core<A>,
     text: &[u8],
-) -> Result<Verdict, SweepFault>
+) -> Result<Verdict, AllocError>
+    requires { CanFile core.old text.now }
     ensures setup { core.new.setup ≡ core.old.setup }
     ensures filed { OnOk result (core.new.filed ≡ (with_filing core.old text.now).filed) }
     ensures undoable { OnOk result (core.new.undoable ≡ true) }
     ensures verdict { IfOk result (λ verdict. verdict_of core.old text.now ≡ Some verdict) }
     ensures unchanged { OnErr result (core.new.filed ≡ core.old.filed) }
-    ensures accepted { IfErr result (λ e. IsToldBy core.old text.now e) }
 {
-    let filing = match Filing::new(alloc, text) {
-        Ok(filing) => filing,
-        Err(FilingFault::TooLong) => return Err(SweepFault::TooLong),
-        Err(FilingFault::OutOfMemory) => return Err(SweepFault::OutOfMemory),
+    let Ok(filing) = Filing::new(alloc, text) else {
+        return Err(AllocError);
     };
     match core.step(filing, 0) {
         Ok(receipt) => Ok(receipt.verdict),
-        Err((StepFault::JournalFull, _)) => Err(SweepFault::JournalFull),
-        Err((StepFault::OutOfMemory, _)) => Err(SweepFault::OutOfMemory),
+        Err(_) => Err(AllocError),
     }
 }
 
@@ -128,7 +145,10 @@ fn swept_at<A: Allocator + Copy>(
     ensures opened { OnOk result (Opens core.old (order_at order.now rate)) }
     ensures refused { IfErr result (λ e. IsToldBy core.old (order_at order.now rate) e) }
 {
-    let text = order_at(alloc, order, rate)?;
+    let mut buffer = Buffer::new();
+    let digits = buffer.format(rate).as_bytes();
+    check_room(core, order, digits)?;
+    let text = text_of(alloc, order, digits)?;
     let verdict = file(alloc, core, text.as_slice())?;
     let totals = totals_at(alloc, core, verdict);
     take_back(core);
@@ -142,7 +162,9 @@ fn swept_at<A: Allocator + Copy>(
 /// `OPEN WHATIF ARR EDDF 2409011000 2409011300`, with the name of a regulation that isn't open. At each rate it is
 /// filed, the totals are taken of the slot list that is then made afresh, and it is taken back: the desk is as it was,
 /// but that nothing can be taken back. An order that the desk refuses ends the sweep with that refusal, and one that is
-/// no OPEN with BadOrder.
+/// no OPEN with BadOrder. What ends it at a rate is
+/// TooLong exactly if the order with that rate has more than 2,000 bytes, JournalFull exactly if it hasn't and the
+/// journal is full, and OutOfMemory only if neither holds.
 pub fn sweep<A: Allocator + Copy>(
     alloc: A,
     core: &mut Core<A>,
@@ -153,8 +175,7 @@ pub fn sweep<A: Allocator + Copy>(
     ensures filed { core.new.filed ≡ core.old.filed }
     ensures swept { IfOk result (λ lines. lines.items ≡ map (swept core.old order.now) rates.now) }
     ensures opened { OnOk result (AllByRecursion (λ rate. Opens core.old (order_at order.now rate)) rates.now) }
-    ensures refused { IfErr result (λ e. (rate : ℕ) × Contains rates.now rate
-        × IsToldBy core.old (order_at order.now rate) e) }
+    ensures refused { IfErr result (λ e. IsEndedBy core.old order.now rates.now e) }
 {
     let mut lines = Vec::new(alloc);
     for rate in rates {

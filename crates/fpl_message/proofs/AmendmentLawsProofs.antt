@@ -1,4 +1,4 @@
--- Field 22 has its form exactly where it is its parts, one after the other.
+-- Field 22 has its form if, and only if, it is its parts, one after the other.
 use Rattle.std.proofs.Common.{◌≡◌, ℕ, ◌+◌, ◌-◌, ◌*◌, ◌⊎◌, inl, inr, true, false, ◌&&◌, ◌||◌, eqb, List, [], ◌∷◌, ◌++◌, drop, get_or, sym, refl, ap, subst, ◌∙◌}
 use Rattle.std.proofs.lemmas.Bool.{and_parts, and_from, or_cases, or_right, eqb-true, eq-eqb, ne_eqb, false≢true, cond-true, cond-false}
 use Rattle.fpl_text.specs.Bytes.{is_digit}

@@ -13,13 +13,13 @@ use Rattle.fpl_message.specs.declared.fault.Fault.TheVariants.{Refused, OutOfMem
 use Rattle.fpl_message.specs.Messages.{field, Chg}
 use Rattle.fpl_message.specs.Modifications.{amended_text, amend, amended}
 
--- from a place on: the field there, and then those behind it
+-- from an index on: the field there, and then those after it
 pub amended-drop : (fields : List (List ℕ)) (place : ℕ) (m : Chg) → place < length fields
     → amended (drop place fields) m ≡ (amend (field fields place) m >>= amended (drop (place + 1) fields))
 amended-drop fields place m h =
     rw (add-one, unwrap_or-slice_get) (ap (λ rest. amended rest m) (drop-cons fields place [] h))
 
--- behind the last field there is none
+-- after the last field there is none
 pub amended-past : (fields : List (List ℕ)) (place : ℕ) (m : Chg) → length fields ≤ place → amended (drop place fields) m ≡ Ok m
 amended-past fields place m h = ap (λ rest. amended rest m) (drop_of_length-le fields h)
 
@@ -30,7 +30,7 @@ amended-on fields place m next all h step is =
     let rest = amended (drop (place + 1) fields) in
     sym (ap (λ r. r >>= rest) step) ∙ (sym (amended-drop fields place m h) ∙ is)
 
--- a ninth estimate of the field at a place, or of one after it, is one from there on
+-- a ninth estimate of the field at an index, or of one after it, is one from there on
 pub nine-here : (fields : List (List ℕ)) (place : ℕ) (m : Chg) → place < length fields
     → IsPastTheEighth (amended_text (field fields place)) (amend (field fields place) m) → NotesNine (drop place fields) m
 nine-here fields place m h past =
@@ -42,7 +42,7 @@ nine-later fields place m next h step later =
     rw (drop-cons fields place [] h, ← unwrap_or-slice_get fields place [], step)
     (inr (subst (λ n. NotesNine (drop n fields) next) (add-one place) later))
 
--- a `?` hands on a want of memory, whose reason may be put in other words
+-- a `?` passes on a failed allocation, whose reason may be put in other words
 pub runs-out-so : {X Y : Type 0} (result : Result X Fault) (handed : Result Y Fault) (fault : Fault) (P Q : Type 0)
     → result ≡ Err fault → IsErrAnd handed (λ e. e ≡ fault) → (P → Q) → RunsOutOnlyIf result P → RunsOutOnlyIf handed Q
 runs-out-so (Ok x) handed fault P Q was made f h = absurd (cc)

@@ -1,4 +1,4 @@
--- The moments that orders name lie in the years 2000 to 2098, and a regulation has few sub-periods.
+-- The times that orders name lie in the years 2000 to 2098, and a regulation has few sub-periods.
 use Rattle.std.proofs.Common.{◌≡◌, ℕ, ◌*◌, ◌<◌, ◌≤◌, refl, Bool, true, false, cond, List, [], ◌∷◌, length, codes, ◌∙◌, ap, subst, arith}
 use Rattle.std.proofs.lemmas.Bool.{leb-true}
 use Rattle.std.specs.Prelude.{Option, Some, None, Result, Ok, Err, nat_le, ◌==◌}
@@ -24,7 +24,7 @@ use Rattle.fpl_message.specs.Refusals.{◌>>=◌, by_text}
 use Rattle.fpl_message.specs.Orders.{◌>>?◌, order_of, time_of, shut_of, open_of, regulation_of, spot_of, rate_of, more_of, parts_of, part_of}
 use Rattle.fpl_message.specs.Reads.{msg, ord, begins_message, titled_message, message_of, reading_of_squeezed, reading_of, or_bad}
 
--- a moment of those years
+-- a time of those years
 abbrev pub IsOfYears : ℕ → Type 0
 IsOfYears minute = (15_778_080 ≤ minute) × (minute < 67_848_480)
 
@@ -124,7 +124,7 @@ more-few Second words parts is = some (nat_le (length words) (2 * MOST_PARTS)) r
     some true few h = omega (arith, leb-true (length words) (2 * MOST_PARTS) few, parts-count words parts h)
     some false few h = absurd cc
 
--- the moments of a regulation
+-- the times of a regulation
 pub record OpensWithinYears (order : OpenReg) : Type 0 where
   pub from : IsOfYears order.from
   pub to : IsOfYears order.to
@@ -186,13 +186,13 @@ order-open edition (verb ∷ words) order is = by_verb (is_text (codes "OPEN") v
         absurd (let e = found.2 in cc)
     by_verb false false false h = absurd cc
 
--- TIME names a moment of those years
+-- TIME names a time of those years
 pub time-within : (filing : FilingText) (at : ℕ) → reading_of filing ≡ ord (set_time at) → (15_778_080 ≤ at) × (at < 67_848_480)
 time-within filing at is =
     let read = order-read filing (set_time at) is in
     order-time filing.edition (words_of read.0) at read.1
 
--- the moments of OPEN are of those years
+-- the times of OPEN are of those years
 pub open-within : (filing : FilingText) (order : OpenReg) → reading_of filing ≡ ord (open_reg order) → OpensWithinYears order
 open-within filing order is =
     let read = order-read filing (open_reg order) is in

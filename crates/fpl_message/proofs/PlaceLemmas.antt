@@ -1,4 +1,4 @@
--- Where the first byte that no message has stands in a text.
+-- The offset of the first byte in a text that no message has.
 use Rattle.std.proofs.Common.{◌≡◌, ◌<◌, ◌≤◌, ◌+◌, ℕ, Bool, true, false, cond, List, [], ◌∷◌, length, refl, arith, Option, Some, None}
 use Rattle.std.specs.Prelude.{not, if◌then◌else◌, Ok, Err}
 use Rattle.std.specs.List.{list_all, position_from}
@@ -31,7 +31,7 @@ bad-below bytes place e = at (list_all is_blank bytes) (position_from (λ b. not
     at false None is fault = absurd cc
     at false (Some p) is fault = omega (arith, position_from-below (λ b. not (is_accepted b)) 0 bytes place cc)
 
--- the place of a byte that no message has, in at most 2,000 bytes, is kept in 16 bits
+-- the offset of a byte that no message has, in at most 2,000 bytes, is stored in 16 bits
 pub squeezed-fits : (bytes : List ℕ) (fault : TextFault) → length bytes ≤ 2000 → Gives {A = List ℕ} (Err fault) (squeezed_or_fault bytes) → PlaceFits fault
 squeezed-fits bytes text.Empty few e = tt
 squeezed-fits bytes (text.BadByte place) few e = omega (arith, bad-below bytes place e)
@@ -71,7 +71,7 @@ fields-fit bytes text.UnknownTitle e = tt
 fields-fit bytes text.FieldCount e = tt
 fields-fit bytes text.OutOfMemory e = tt
 
--- nor for want of memory
+-- nor for a failed allocation
 not-memory : (bytes : List ℕ) → fields_or_fault bytes ≡ Err text.OutOfMemory → ⊥
 unfolding fields_or_fault
 not-memory bytes e = at (is_bracketed bytes) (title_of (first_field (fields_of bytes))) e

@@ -18,7 +18,7 @@ elapsed_of destination = in_field 16 destination.elapsed
 abbrev pub equipment_of : List ℕ → Option (List ℕ)
 equipment_of text = if is_equipment text then Some text else None
 
--- field 15 is right where it can be read; what it says is told to those who ask
+-- field 15 must have its form; what it says is returned to those who ask
 abbrev pub route_of : List ℕ → Option (List ℕ)
 route_of text = if is_route text then Some text else None
 

@@ -1,4 +1,4 @@
--- What the code keeps of a modification: its fields, and the places of those that are amended.
+-- What the code stores of a modification: its fields, and the indices of those that are amended.
 use Rattle.std.specs.Prelude.{ℕ, ◌<◌, List, Option, length}
 use Rattle.std.specs.Option.{option_map, ForSome}
 use Rattle.fpl_text.specs.Words.{words_of}
@@ -9,15 +9,15 @@ use Rattle.fpl_message.specs.Messages.{field, Chg}
 use Rattle.fpl_message.specs.Modifications.{amended_text}
 use Rattle.fpl_text.specs.declared.time.TheConstants.{ELAPSED_LIMIT}
 
--- the amended text of the field 22 at a place
+-- the amended text of the field 22 at an index
 abbrev pub text_at : List (List ℕ) → Option ℕ → Option (List ℕ)
 text_at fields place = option_map (λ at. amended_text (field fields at)) place
 
--- the items of an amended field 18, where there is one
+-- the items of an amended field 18, if there is one
 abbrev pub items_at : Option (List ℕ) → Option (List Item)
 items_at field18 = option_map (λ text. items_of (words_of text)) field18
 
--- the modification that is kept
+-- the modification that is stored
 abbrev pub kept : {A : Type 0} → List (List ℕ) → Changes A → Chg
 kept fields c = record {
   parts = c.parts;
@@ -32,7 +32,8 @@ kept fields c = record {
   field18 = text_at fields c.field18;
 }
 
--- its amended fields are some of these, an elapsed time is below a hundred hours, and what is told is what the items of the amended field 18 say
+-- its amended fields are some of these, an elapsed time is below a hundred hours, and the estimates
+-- are what the items of the amended field 18 say
 pub record StandAmong {A : Type 0} (fields : List (List ℕ)) (c : Changes A) : Type 0 where
   pub field8 : ForSome c.field8 (λ at. at < length fields)
   pub field9 : ForSome c.field9 (λ at. at < length fields)

@@ -12,11 +12,12 @@ use Rattle.fpl_message.specs.declared.short_message.Dep.{Dep}
 use Rattle.fpl_message.specs.declared.order.OpenReg.{OpenReg}
 use Rattle.fpl_items.specs.Items.{Item}
 
--- the text of the field at this place of a message, from 0
+-- the text of the field at this index of a message, from 0
 abbrev pub field : List (List ℕ) → ℕ → List ℕ
 field fields place = unwrap_or (slice_get fields place) []
 
--- a filed flight plan: the squeezed texts of its nine fields, and what they say; field 15 is read where it is asked for
+-- a filed flight plan: the squeezed texts of its nine fields, and what they say; field 15 is read
+-- when it is asked for
 pub record Fpl : Type 0 where
   pub fields : List (List ℕ)
   pub ident : Ident
@@ -28,7 +29,8 @@ pub record Fpl : Type 0 where
   pub elapsed : ℕ
   pub items : List Item
 
--- a modification: the plan that it is about, and of each field at most one amendment: its squeezed text, and what it says
+-- a modification: the plan that it is about, and of each field at most one amendment: its squeezed
+-- text, and what it says
 pub record Chg : Type 0 where
   pub parts : Parts
   pub rules : Option Rules

@@ -1,4 +1,5 @@
--- The modification message, CHG, and its amended fields (ICAO Doc 4444, appendix 2, and appendix 3, field type 22).
+-- The modification message, CHG, and its amended fields (ICAO Doc 4444, appendix 2, and appendix 3,
+-- field type 22).
 use Rattle.std.specs.Prelude.{ℕ, ◌+◌, ◌-◌, ◌*◌, not, ◌==◌, if◌then◌else◌, List, [], ◌∷◌, drop, slice_index, Option, Some, None, Result, Ok, Err}
 use Rattle.fpl_text.specs.Fields.{begins_amendment}
 use Rattle.fpl_text.specs.Places.{departure_of, destination_of}
@@ -18,7 +19,7 @@ amended_number field =
     if slice_index field 1 == 47 then slice_index field 0 - 48
     else 10 * (slice_index field 0 - 48) + (slice_index field 1 - 48)
 
--- the amended text of a field 22: what stands behind its stroke
+-- the amended text of a field 22: what follows its stroke
 unfoldable pub amended_text : List ℕ → List ℕ
 amended_text field = if slice_index field 1 == 47 then drop 2 field else drop 3 field
 
@@ -94,7 +95,7 @@ unamended opening = record {
   field18 = None;
 }
 
--- CHG: fields 3, 7, 13 and 16, then field 18 where the fifth field is no field 22, and then fields 22
+-- CHG: fields 3, 7, 13 and 16, then field 18 if the fifth field is no field 22, and then fields 22
 unfoldable pub chg_of : List (List ℕ) → Result Chg Refusal
 chg_of fields =
     let has_other = not (begins_amendment (field fields 4)) in

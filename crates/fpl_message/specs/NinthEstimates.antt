@@ -1,4 +1,5 @@
--- Where the reading of a modification takes memory: for a ninth estimate of a field 18, with nothing refused before it.
+-- When the reading of a modification allocates: for a ninth estimate of a field 18, with nothing
+-- refused before it.
 use Rattle.std.specs.Prelude.{◌≡◌, ◌⊎◌, ℕ, true, not, if◌then◌else◌, List, [], ◌∷◌, drop, IfOk}
 use Rattle.fpl_text.specs.Fields.{begins_amendment}
 use Rattle.fpl_message.specs.Refusals.{IsPastTheEighth}

@@ -59,7 +59,7 @@ name_of refusal.BadPeriod = codes "BadPeriod"
 name_of refusal.BadRate = codes "BadRate"
 name_of refusal.TimeBack = codes "TimeBack"
 
--- the place of a byte that no message has, or the number of the field that is refused
+-- the offset of a byte that no message has, or the number of the field that is refused
 abbrev pub detail_of : Refusal → Option ℕ
 detail_of (refusal.BadByte place) = Some place
 detail_of (refusal.BadField field) = Some field

@@ -19,7 +19,7 @@ use Rattle.fpl_message.specs.declared.order.OpenReg.{OpenReg}
 use Rattle.fpl_message.specs.Messages.{Order, open_reg, shut_reg, set_time}
 
 infixl 10 ◌>>?◌
--- what comes next, where there is a value
+-- what comes next, if there is a value
 abbrev pub ◌>>?◌ : {X Y : Type 0} → Option X → (X → Option Y) → Option Y
 (Some x) >>? next = next x
 None >>? next = None
@@ -32,7 +32,7 @@ is_regulation word =
 abbrev pub regulation_of : List ℕ → Option (List ℕ)
 regulation_of word = if is_regulation word then Some word else None
 
--- a place on the way: 1 to 11 letters or digits
+-- a route point: 1 to 11 letters or digits
 unfoldable pub is_way_point : List ℕ → Bool
 is_way_point word = nat_le 1 (length word) && nat_le (length word) 11 && list_all is_letter_or_digit word
 
@@ -43,7 +43,7 @@ way_point_of word = if is_way_point word then Some word else None
 abbrev pub aerodrome_of : List ℕ → Option (List ℕ)
 aerodrome_of word = if is_place word then Some word else None
 
--- DEP and ARR name an aerodrome, VIA a place on the way
+-- DEP and ARR name an aerodrome, VIA a route point
 unfoldable pub spot_of : List ℕ → List ℕ → Option Spot
 spot_of kind place =
     if is_text (codes "DEP") kind then option_map Dep (aerodrome_of place)
@@ -66,7 +66,7 @@ unfoldable pub rate_of : List ℕ → Option ℕ
 rate_of word =
     if nat_le 1 (length word) && nat_le (length word) 3 && list_all is_digit word then Some (number_of word) else None
 
--- a sub-period: a moment and a rate
+-- a sub-period: a time with its date and a rate
 unfoldable pub part_of : List ℕ → List ℕ → Option Part
 part_of moment rate =
     moment_of moment >>? (λ from. rate_of rate >>? (λ flights. Some (record { from = from; rate = flights })))
@@ -82,7 +82,8 @@ unfoldable pub more_of : Edition → List (List ℕ) → Option (List Part)
 more_of First words = if length words == 0 then Some [] else None
 more_of Second words = if nat_le (length words) (2 * MOST_PARTS) then parts_of words else None
 
--- what stands behind OPEN: a name, a spot, the first moment and the one after the last, a rate, and further sub-periods
+-- what follows OPEN: a name, a spot, the first minute and the one after the last, a rate, and
+-- further sub-periods
 abbrev pub open_of : Edition → List (List ℕ) → Option OpenReg
 open_of edition (id ∷ kind ∷ place ∷ from ∷ to ∷ rate ∷ words) =
     regulation_of id
@@ -94,12 +95,12 @@ open_of edition (id ∷ kind ∷ place ∷ from ∷ to ∷ rate ∷ words) =
     >>? (λ more. Some (record { id = name; place = spot; from = start; to = end; rate = flights; more = more })))))))
 open_of edition _ = None
 
--- what stands behind SHUT: a name
+-- what follows SHUT: a name
 abbrev pub shut_of : List (List ℕ) → Option (List ℕ)
 shut_of (id ∷ []) = regulation_of id
 shut_of _ = None
 
--- what stands behind TIME: a moment
+-- what follows TIME: a time with its date
 abbrev pub time_of : List (List ℕ) → Option ℕ
 time_of (moment ∷ []) = moment_of moment
 time_of _ = None

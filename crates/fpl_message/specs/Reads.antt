@@ -60,7 +60,7 @@ or_bad (Err refusal) = bad refusal
 unfoldable pub reading_of : FilingText → Reading
 reading_of filing = or_bad (reading_or_refusal filing)
 
--- field 3 of a text that has fields, where the first has that form, whether the text is refused or not
+-- field 3 of a text that has fields, if the first has that form, whether the text is refused or not
 abbrev pub heading_of_fields : Result (List (List ℕ)) Refusal → Option Heading
 heading_of_fields (Ok fields) = heading_of (field fields 0)
 heading_of_fields (Err refusal) = None

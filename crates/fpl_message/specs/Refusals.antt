@@ -20,7 +20,7 @@ abbrev pub ◌>>=◌ : {X Y : Type 0} → Result X Refusal → (X → Result Y R
 (Ok x) >>= next = next x
 (Err refusal) >>= next = Err refusal
 
--- the refusal of a text that has no fields; want of memory is none, and no definition gives it
+-- the refusal of a text that has no fields; a failed allocation is none, and no definition gives it
 abbrev pub text_refusal : TextFault → Refusal
 text_refusal text.Empty = refusal.Empty
 text_refusal (text.BadByte place) = refusal.BadByte place
@@ -55,7 +55,7 @@ item_fault item.DuplicateItem = Refused refusal.DuplicateItem
 item_fault item.BadDate = Refused refusal.BadDate
 item_fault item.OutOfMemory = OutOfMemory
 
--- the place of a byte that no message has, if that is the fault, is kept in 16 bits
+-- the offset of a byte that no message has, if that is the fault, is stored in 16 bits
 abbrev pub PlaceFits : TextFault → Type 0
 PlaceFits text.Empty = Unit {0}
 PlaceFits (text.BadByte place) = place < 2 ^ 16
@@ -76,13 +76,13 @@ by_items (Err fault) = Err (item_refusal fault)
 abbrev pub in_field : {X : Type 0} → ℕ → Option X → Result X Refusal
 in_field number found = ok_or found (refusal.BadField number)
 
--- What a call gave, seen by `view`, is what its definition says, unless memory ran out.
+-- What a call gave, seen by `view`, is what its definition says, unless an allocation failed.
 abbrev pub Gives : {X Y : Type 0} → (X → Y) → Result X Fault → Result Y Refusal → Type 0
 Gives view (Ok x) expected = expected ≡ Ok (view x)
 Gives view (Err OutOfMemory) expected = Unit {0}
 Gives view (Err (Refused refusal)) expected = expected ≡ Err refusal
 
--- Memory ran out in a call only if this holds.
+-- An allocation failed in a call only if this holds.
 abbrev pub RunsOutOnlyIf : {X : Type 0} → Result X Fault → Type 0 → Type 0
 RunsOutOnlyIf (Ok x) P = Unit {0}
 RunsOutOnlyIf (Err OutOfMemory) P = P

@@ -1,4 +1,4 @@
--- What the readings that the code keeps say.
+-- What the stored readings say.
 use Rattle.fpl_message.specs.declared.message.Message as kept_message
 use Rattle.fpl_message.specs.declared.message.Message.TheVariants as message
 use Rattle.fpl_message.specs.declared.message.Reading as kept_reading

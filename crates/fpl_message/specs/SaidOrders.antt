@@ -1,4 +1,4 @@
--- What the orders that the code keeps say.
+-- What the stored orders say.
 use Rattle.fpl_message.specs.declared.order.Order as kept_order
 use Rattle.fpl_message.specs.declared.order.Order.TheVariants as order
 use Rattle.fpl_message.specs.Messages.{Order, open_reg, shut_reg, set_time}

@@ -1,4 +1,5 @@
--- The messages DLA, CNL and DEP, and the fields with which each message about a held plan begins (ICAO Doc 4444, appendix 2 and 3).
+-- The messages DLA, CNL and DEP, and the fields with which each message about a held plan begins
+-- (ICAO Doc 4444, appendix 2 and 3).
 use Rattle.std.specs.Prelude.{ℕ, Bool, ◌==◌, if◌then◌else◌, List, length, Option, None, Result, Ok}
 use Rattle.fpl_text.specs.Headings.{heading_of}
 use Rattle.fpl_text.specs.Places.{ident_of, departure_of, destination_of}
@@ -11,7 +12,7 @@ use Rattle.fpl_message.specs.declared.short_message.Dep.{Dep}
 use Rattle.fpl_message.specs.Refusals.{◌>>=◌, by_items, in_field}
 use Rattle.fpl_message.specs.Messages.{field}
 
--- the day of the DOF item of field 18, the fifth field, where there is one
+-- the day of the DOF item of field 18, the fifth field, if there is one
 abbrev pub other_day : Bool → List (List ℕ) → Result (Option ℕ) Refusal
 other_day has_other fields =
     if has_other then by_items (items_or_fault (field fields 4)) >>= (λ items. Ok (day_of_items items)) else Ok None

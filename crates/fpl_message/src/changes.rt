@@ -3,9 +3,12 @@ ghost use Rattle.std.specs.Prelude.{◌≡◌, ◌≢◌, Err, ◌≤◌, ◌<�
 ghost use Rattle.fpl_text.specs.Fields.{begins_amendment};
 ghost use Rattle.fpl_message.specs.Refusals.{Gives, RunsOutOnlyIf, IsPastTheEighth};
 ghost use Rattle.fpl_message.specs.Messages.{field};
-ghost use Rattle.fpl_message.specs.Modifications.{amended_number, amended_text, amend_rules, amend_craft};
-ghost use Rattle.fpl_message.specs.Modifications.{amend_equipment, amend_departure, amend_route, amend_destination};
-ghost use Rattle.fpl_message.specs.Modifications.{amend_other, amend_numbered, amend, amended, chg_of};
+ghost use Rattle.fpl_message.specs.Modifications.{amended_number, amended_text};
+ghost use Rattle.fpl_message.specs.Modifications.{amend_rules, amend_craft};
+ghost use Rattle.fpl_message.specs.Modifications.{amend_equipment, amend_departure};
+ghost use Rattle.fpl_message.specs.Modifications.{amend_route, amend_destination};
+ghost use Rattle.fpl_message.specs.Modifications.{amend_other, amend_numbered};
+ghost use Rattle.fpl_message.specs.Modifications.{amend, amended, chg_of};
 ghost use Rattle.fpl_message.specs.KeptChanges.{kept, StandAmong};
 ghost use Rattle.fpl_message.specs.NinthEstimates.{NotesNine, ChgNotesNine};
 
@@ -16,7 +19,8 @@ use fpl_items::{Other18, is_route};
 use fpl_text::{Craft, Departure, Destination, Fields, Rules, begins_amendment, is_equipment};
 use std::alloc::{Allocator, Global};
 
-/// What a modification changes. An amended text is held by the place of its field 22 among the fields of the message.
+/// What a modification changes. An amended text is stored as the index of its field 22 among the
+/// fields of the message.
 #[derive(Drop)]
 pub struct Changes<A: Allocator + Copy = Global> {
     pub parts: Parts,
@@ -44,7 +48,7 @@ fn amended_number(field: &[u8]) -> u8
     }
 }
 
-/// The text that a field 22 puts in place of the field's.
+/// The text that a field 22 replaces the field's with.
 #[tactic(auto, unfolding(crate::specs::Modifications::amended_text))]
 fn amended_text(field: &[u8]) -> &[u8]
     ensures { result.now ≡ amended_text field.now }
@@ -55,7 +59,7 @@ fn amended_text(field: &[u8]) -> &[u8]
     }
 }
 
-/// The amended text of the field 22 at a place.
+/// The amended text of the field 22 at index `place`.
 pub(crate) fn amended_at<A: Allocator + Copy>(fields: &Fields<A>, place: usize) -> &[u8]
     requires { place < length fields.now }
     ensures { result.now ≡ amended_text (field fields.now place) }
@@ -64,7 +68,6 @@ pub(crate) fn amended_at<A: Allocator + Copy>(fields: &Fields<A>, place: usize) 
 }
 
 impl<A: Allocator + Copy> Changes<A> {
-    /// Field 8.
     fn amend_rules(&mut self, fields: &Fields<A>, place: usize) -> Result<(), Fault>
         requires { place < length fields.now }
         ensures change { Gives (λ _. kept fields.now self.new) result
@@ -81,7 +84,6 @@ impl<A: Allocator + Copy> Changes<A> {
         Ok(())
     }
 
-    /// Field 9.
     fn amend_craft(&mut self, fields: &Fields<A>, place: usize) -> Result<(), Fault>
         requires { place < length fields.now }
         ensures change { Gives (λ _. kept fields.now self.new) result
@@ -97,7 +99,6 @@ impl<A: Allocator + Copy> Changes<A> {
         Ok(())
     }
 
-    /// Field 10.
     fn amend_equipment(&mut self, fields: &Fields<A>, place: usize) -> Result<(), Fault>
         requires { place < length fields.now }
         ensures change { Gives (λ _. kept fields.now self.new) result
@@ -115,7 +116,6 @@ impl<A: Allocator + Copy> Changes<A> {
         Ok(())
     }
 
-    /// Field 13.
     fn amend_departure(&mut self, fields: &Fields<A>, place: usize) -> Result<(), Fault>
         requires { place < length fields.now }
         ensures change { Gives (λ _. kept fields.now self.new) result
@@ -131,7 +131,6 @@ impl<A: Allocator + Copy> Changes<A> {
         Ok(())
     }
 
-    /// Field 15.
     fn amend_route(&mut self, fields: &Fields<A>, place: usize) -> Result<(), Fault>
         requires { place < length fields.now }
         ensures change { Gives (λ _. kept fields.now self.new) result
@@ -165,12 +164,12 @@ impl<A: Allocator + Copy> Changes<A> {
         Ok(())
     }
 
-    /// Field 18.
     fn amend_other(&mut self, alloc: A, fields: &Fields<A>, place: usize) -> Result<(), Fault>
         requires { place < length fields.now }
         ensures change { Gives (λ _. kept fields.now self.new) result
             (amend_other (amended_text (field fields.now place)) (kept fields.now self.old)) }
-        ensures memory { RunsOutOnlyIf result (IsPastTheEighth (amended_text (field fields.now place))
+        ensures memory { RunsOutOnlyIf result
+            (IsPastTheEighth (amended_text (field fields.now place))
             (amend_other (amended_text (field fields.now place)) (kept fields.now self.old))) }
         ensures stand { StandAmong fields.now self.old → StandAmong fields.now self.new }
     {
@@ -183,13 +182,14 @@ impl<A: Allocator + Copy> Changes<A> {
         Ok(())
     }
 
-    /// Adds what the field 22 at a place amends.
+    /// Adds what the field 22 at index `place` amends.
     #[tactic(auto, unfolding(crate::specs::Modifications::amend, crate::specs::Modifications::amend_numbered))]
     fn amend(&mut self, alloc: A, fields: &Fields<A>, place: usize) -> Result<(), Fault>
         requires { place < length fields.now }
         ensures change { Gives (λ _. kept fields.now self.new) result
             (amend (field fields.now place) (kept fields.now self.old)) }
-        ensures memory { RunsOutOnlyIf result (IsPastTheEighth (amended_text (field fields.now place))
+        ensures memory { RunsOutOnlyIf result
+            (IsPastTheEighth (amended_text (field fields.now place))
             (amend (field fields.now place) (kept fields.now self.old))) }
         ensures stand { StandAmong fields.now self.old → StandAmong fields.now self.new }
     {
@@ -209,13 +209,14 @@ impl<A: Allocator + Copy> Changes<A> {
         }
     }
 
-    /// Adds what the fields 22 from that place on amend.
+    /// Adds what the fields 22 from index `first` on amend.
     #[tactic(auto, using(crate::proofs::ModificationLemmas::amended_steps))]
     fn amend_from(&mut self, alloc: A, fields: &Fields<A>, first: usize) -> Result<(), Fault>
         requires { first ≤ length fields.now }
         ensures change { Gives (λ _. kept fields.now self.new) result
             (amended (drop first fields.now) (kept fields.now self.old)) }
-        ensures memory { RunsOutOnlyIf result (NotesNine (drop first fields.now) (kept fields.now self.old)) }
+        ensures memory { RunsOutOnlyIf result
+            (NotesNine (drop first fields.now) (kept fields.now self.old)) }
         ensures stand { StandAmong fields.now self.old → StandAmong fields.now self.new }
     {
         for place in first..fields.count() {
@@ -224,7 +225,7 @@ impl<A: Allocator + Copy> Changes<A> {
         Ok(())
     }
 
-    /// No changes of no plan.
+    /// The changes of a message about no plan.
     pub(crate) fn none() -> Self {
         Changes {
             parts: Parts::none(),
@@ -240,7 +241,7 @@ impl<A: Allocator + Copy> Changes<A> {
         }
     }
 
-    /// Reads the fields of a CHG, from the left, in the place of other changes.
+    /// Reads the fields of a CHG, from the left, and replaces all changes.
     #[tactic(auto, unfolding(crate::specs::Modifications::chg_of))]
     pub(crate) fn read(&mut self, alloc: A, fields: &Fields<A>) -> Result<(), Fault>
         requires { 5 ≤ length fields.now }

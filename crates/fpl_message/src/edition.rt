@@ -1,10 +1,10 @@
 //! The edition of the rules by which a filing is read.
 
-/// The rules by which an order to open a regulation is read.
+/// The edition of the rules by which an order to open a regulation is read.
 #[derive(Clone, Copy, Debug, PartialEq, Eq)]
 pub enum Edition {
-    /// With one rate.
+    /// OPEN has one rate.
     First,
-    /// With a rate for each sub-period.
+    /// OPEN has a rate for each sub-period.
     Second,
 }

@@ -1,4 +1,4 @@
-//! Why a reading stopped.
+//! Why parsing stopped.
 ghost use Rattle.std.specs.Prelude.{◌≡◌};
 ghost use Rattle.fpl_message.specs.Refusals.{Gives, PlaceFits, text_fault, field_fault, item_fault};
 
@@ -7,14 +7,14 @@ use fpl_items::ItemFault;
 use fpl_text::{FieldFault, TextFault};
 use std::alloc::Allocator;
 
-/// Why a reading stopped: the text is refused, or memory ran out.
+/// Why parsing stopped: the text is refused, or an allocation failed.
 #[derive(Clone, Copy, Debug, PartialEq, Eq)]
 pub enum Fault {
     Refused(Refusal),
     OutOfMemory,
 }
 
-/// Why a reading stops at a fault of a text.
+/// The fault of parsing for one of squeezing a text.
 pub(crate) fn text_fault(fault: TextFault) -> Fault
     requires { PlaceFits fault }
     ensures { result ≡ text_fault fault }
@@ -53,7 +53,7 @@ impl From<ItemFault> for Fault {
     }
 }
 
-/// Boxes a value, or says that memory ran out.
+/// Boxes a value, or returns `Err` if the allocation fails.
 pub(crate) fn boxed<A: Allocator + Copy, T: Drop>(alloc: A, value: T) -> Result<Box<T, A>, Fault>
     ensures { Gives (λ b. b.value) result (Ok value) }
 {

@@ -5,10 +5,10 @@ use crate::edition::Edition;
 use std::alloc::{AllocError, Allocator, Global};
 use std::marker::Model;
 
-/// The bytes of a filing at most.
+/// The length limit of a filing, in bytes.
 pub const MAX_BYTES: usize = 2000;
 
-/// Why there is no filing of some bytes.
+/// Why some bytes can't be filed.
 #[derive(Clone, Copy, Debug, PartialEq, Eq)]
 pub enum FilingFault {
     /// More than 2,000 bytes.
@@ -16,14 +16,15 @@ pub enum FilingFault {
     OutOfMemory,
 }
 
-/// The bytes of a filing, at most 2,000, as they were filed, and the edition of the rules by which they are read.
+/// The bytes of a filing, at most 2,000, as they were filed, and the edition of the rules by which
+/// they are read.
 #[derive(Drop)]
 pub struct FiledText<A: Allocator + Copy = Global> {
     bytes: Vec<u8, A>,
     edition: Edition,
 }
 
-// Each filing keeps its bytes and this for good.
+// Dealt texts are many: each takes this, and its bytes.
 const _: () = prove!(size_of::<FiledText>() <= 32);
 
 impl<A: Allocator + Copy> Model for FiledText<A> {
@@ -39,7 +40,7 @@ impl<A: Allocator + Copy> Model for FiledText<A> {
 }
 
 impl<A: Allocator + Copy> FiledText<A> {
-    /// A text of these bytes, in memory of just their length.
+    /// A text of these bytes, in a buffer of exactly their length.
     pub(crate) fn copied(alloc: A, edition: Edition, bytes: &[u8]) -> Result<Self, AllocError>
         requires { length bytes.now ≤ MAX_BYTES }
         ensures { IfOk result (λ text. text ≡ record { edition = edition; bytes = bytes.now }) }
@@ -50,7 +51,6 @@ impl<A: Allocator + Copy> FiledText<A> {
         Ok(FiledText::of_bytes(edition, copy))
     }
 
-    /// The text of these bytes.
     pub(crate) fn of_bytes(edition: Edition, bytes: Vec<u8, A>) -> Self
         requires { length bytes.items ≤ MAX_BYTES }
         ensures { result ≡ record { edition = edition; bytes = bytes.items } }
@@ -58,7 +58,7 @@ impl<A: Allocator + Copy> FiledText<A> {
         FiledText { bytes, edition }
     }
 
-    /// Its bytes, in their memory.
+    /// The bytes, in their buffer.
     pub(crate) fn into_bytes(self) -> Vec<u8, A>
         ensures { result.items ≡ self.bytes }
     {
@@ -66,9 +66,15 @@ impl<A: Allocator + Copy> FiledText<A> {
         bytes
     }
 
-    /// A text of these bytes, to be read by the rules of today. After an `Err` there is none.
+    /// Creates a text of these bytes, which is read by the current edition.
+    ///
+    /// # Errors
+    ///
+    /// - `TooLong` if there are more than 2,000 bytes.
+    /// - `OutOfMemory` if the allocation fails.
     pub fn new(alloc: A, bytes: &[u8]) -> Result<Self, FilingFault>
-        ensures value { IfOk result (λ text. text ≡ record { edition = Edition.Second; bytes = bytes.now }) }
+        ensures value { IfOk result (λ text.
+            text ≡ record { edition = Edition.Second; bytes = bytes.now }) }
         ensures long { IsErrOf result FilingFault.TooLong ↔ (MAX_BYTES < length bytes.now) }
     {
         if bytes.len() > MAX_BYTES {
@@ -80,7 +86,7 @@ impl<A: Allocator + Copy> FiledText<A> {
         }
     }
 
-    /// The bytes as they were filed, at most 2,000.
+    /// Returns the bytes as they were filed, at most 2,000.
     pub fn text(&self) -> &[u8]
         ensures value { result.now ≡ self.now.bytes }
         ensures bound { length result.now ≤ MAX_BYTES }
@@ -88,7 +94,7 @@ impl<A: Allocator + Copy> FiledText<A> {
         self.bytes.as_slice()
     }
 
-    /// The edition of the rules by which they are read.
+    /// Returns the edition of the rules by which they are read.
     pub fn edition(&self) -> Edition
         ensures { result ≡ self.now.edition }
     {

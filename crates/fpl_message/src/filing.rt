@@ -1,4 +1,4 @@
-//! A filing: its bytes, and the reading of them.
+//! A filing: its bytes, and what they say.
 ghost use Rattle.std.specs.Prelude.{◌≡◌, ◌≤◌, ◌<◌, ◌↔◌, length, IfOk, IfErr, IsErrOf};
 ghost use Rattle.fpl_message.specs.Reads.{reading_of, heading_of_bytes};
 ghost use Rattle.fpl_message.specs.Said.{said};
@@ -13,7 +13,7 @@ use fpl_text::Heading;
 use std::alloc::{AllocError, Allocator, Global};
 use std::marker::Model;
 
-/// A text as it was filed, with the reading of it. Contracts see the text: the edition and the bytes.
+/// A text as it was filed, with what it says. Contracts see the text: the edition and the bytes.
 #[derive(Drop)]
 pub struct Filing<A: Allocator + Copy = Global> {
     text: FiledText<A>,
@@ -34,17 +34,29 @@ impl<A: Allocator + Copy> Model for Filing<A> {
 }
 
 impl<A: Allocator + Copy> Filing<A> {
-    /// A filing of these bytes, read by the rules of today. After an `Err` there is none.
+    /// Creates a filing of these bytes, read by the current edition.
+    ///
+    /// # Errors
+    ///
+    /// - `TooLong` if there are more than 2,000 bytes.
+    /// - `OutOfMemory` if an allocation fails.
     pub fn new(alloc: A, bytes: &[u8]) -> Result<Self, FilingFault>
-        ensures value { IfOk result (λ filing. filing ≡ record { edition = Edition.Second; bytes = bytes.now }) }
+        ensures value { IfOk result (λ filing.
+            filing ≡ record { edition = Edition.Second; bytes = bytes.now }) }
         ensures long { IsErrOf result FilingFault.TooLong ↔ (MAX_BYTES < length bytes.now) }
     {
         Filing::read_as(alloc, Edition::Second, bytes)
     }
 
-    /// A filing of these bytes, read by the rules of that edition. After an `Err` there is none.
+    /// Creates a filing of these bytes, read by the rules of `edition`.
+    ///
+    /// # Errors
+    ///
+    /// - `TooLong` if there are more than 2,000 bytes.
+    /// - `OutOfMemory` if an allocation fails.
     pub fn read_as(alloc: A, edition: Edition, bytes: &[u8]) -> Result<Self, FilingFault>
-        ensures value { IfOk result (λ filing. filing ≡ record { edition = edition; bytes = bytes.now }) }
+        ensures value { IfOk result (λ filing.
+            filing ≡ record { edition = edition; bytes = bytes.now }) }
         ensures long { IsErrOf result FilingFault.TooLong ↔ (MAX_BYTES < length bytes.now) }
     {
         if bytes.len() > MAX_BYTES {
@@ -60,8 +72,8 @@ impl<A: Allocator + Copy> Filing<A> {
         Ok(Filing { text, reader })
     }
 
-    /// The filing of a text, which is read in this room. The room is there for the next text then, unless the message
-    /// or a fault keeps it. Where memory is refused the text comes back.
+    /// Creates the filing of a text, which is read in `room`. The buffer is left there for the next
+    /// text, unless the message or a fault keeps it. Returns the text if an allocation fails.
     pub fn of_text(
         alloc: A,
         room: &mut Vec<u8, A>,
@@ -76,7 +88,7 @@ impl<A: Allocator + Copy> Filing<A> {
         }
     }
 
-    /// Its text, without what it says.
+    /// Returns its text, without what it says.
     pub fn into_text(self) -> FiledText<A>
         ensures { result ≡ self }
     {
@@ -84,7 +96,8 @@ impl<A: Allocator + Copy> Filing<A> {
         text
     }
 
-    /// Its bytes, and the reader that has read them: for a call that reads more texts in their memory.
+    /// Returns its bytes, and the reader that has read them: for a caller that reads more texts in
+    /// their memory.
     pub fn into_parts(self) -> (Vec<u8, A>, FilingReader<A>)
         ensures bytes { result.0.items ≡ self.bytes }
         ensures reader { result.1 ≡ reading_of self }
@@ -93,7 +106,8 @@ impl<A: Allocator + Copy> Filing<A> {
         (text.into_bytes(), reader)
     }
 
-    /// The filing of these bytes, which this reader has read by the rules of that edition. It takes no memory.
+    /// Creates the filing of these bytes, which `reader` has read by the rules of `edition`.
+    /// Doesn't allocate.
     pub fn of_parts(edition: Edition, bytes: Vec<u8, A>, reader: FilingReader<A>) -> Self
         requires bytes { length bytes.items ≤ MAX_BYTES }
         requires reader { reader ≡ reading_of (record { edition = edition; bytes = bytes.items }) }
@@ -105,7 +119,7 @@ impl<A: Allocator + Copy> Filing<A> {
         }
     }
 
-    /// The bytes as they were given, at most 2,000.
+    /// Returns the bytes as they were filed, at most 2,000.
     pub fn text(&self) -> &[u8]
         ensures value { result.now ≡ self.now.bytes }
         ensures bound { length result.now ≤ MAX_BYTES }
@@ -113,22 +127,23 @@ impl<A: Allocator + Copy> Filing<A> {
         self.text.text()
     }
 
-    /// The edition of the rules by which they are read.
+    /// Returns the edition of the rules by which they are read.
     pub fn edition(&self) -> Edition
         ensures { result ≡ self.now.edition }
     {
         self.text.edition()
     }
 
-    /// Field 3 of a message, with its number and its reference, which have no effect: read anew at each call, in memory of
-    /// the caller. It is `None` if the text has no fields or its first one does not have the form.
+    /// Returns field 3 of a message, with its number and its reference, which have no effect. It is
+    /// read anew at each call, in memory of the caller. `None` if the text has no fields or its
+    /// first one does not have the form; `Err` if an allocation fails.
     pub fn heading<B: Allocator + Copy>(&self, alloc: B) -> Result<Option<Heading>, AllocError>
         ensures { IfOk result (λ heading. heading ≡ heading_of_bytes self.now.bytes) }
     {
         heading_of(alloc, self.text())
     }
 
-    /// What they say, or their first refusal.
+    /// Returns what the filing says, or its first refusal.
     pub fn reading(&self) -> &Reading<A>
         ensures { said result.now ≡ reading_of self.now }
     {

@@ -1,4 +1,4 @@
-//! A reader of filings, which keeps its memory from text to text.
+//! A reader of filings, which reuses its memory from text to text.
 ghost use Rattle.std.specs.Prelude.{◌≡◌, ◌≤◌, length, OnOk, OnErr, IfOk};
 ghost use Rattle.fpl_message.specs.Reads.{reading_of, bad};
 ghost use Rattle.fpl_message.specs.Said.{said};
@@ -13,13 +13,13 @@ use std::alloc::{AllocError, Allocator, Global};
 use std::marker::Model;
 use std::mem::replace;
 
-/// Reads the texts of filings, each in the memory of the one before. It doesn't keep them. Contracts see what the last
-/// one says.
+/// Reads the texts of filings, each in the memory of the one before. It doesn't store them.
+/// Contracts see what the last one says.
 #[derive(Drop)]
 pub struct FilingReader<A: Allocator + Copy = Global> {
-    /// Where the last text was squeezed, for the next one.
+    /// The buffer in which texts are squeezed.
     room: Vec<u8, A>,
-    /// Where messages lay, for the next ones.
+    /// The boxes of former messages, for the next ones.
     spares: Spares<A>,
     reading: Reading<A>,
 }
@@ -34,7 +34,7 @@ impl<A: Allocator + Copy> Model for FilingReader<A> {
 }
 
 impl<A: Allocator + Copy> FilingReader<A> {
-    /// A reader that has read no bytes, and has no memory.
+    /// Creates a reader that has read no bytes. Doesn't allocate.
     pub fn new(alloc: A) -> Self
         ensures { result ≡ bad Refusal.Empty }
     {
@@ -45,8 +45,8 @@ impl<A: Allocator + Copy> FilingReader<A> {
         }
     }
 
-    /// A reader that has read these bytes by the rules of that edition in this room. The room is there for the next
-    /// text then, unless the message or a fault keeps it.
+    /// A reader that has read these bytes by the rules of `edition` in `room`. The buffer is left
+    /// there for the next text, unless the message or a fault keeps it.
     pub(crate) fn read_in(
         alloc: A,
         room: &mut Vec<u8, A>,
@@ -54,7 +54,8 @@ impl<A: Allocator + Copy> FilingReader<A> {
         bytes: &[u8],
     ) -> Result<Self, AllocError>
         requires { length bytes.now ≤ MAX_BYTES }
-        ensures { IfOk result (λ reader. reader ≡ reading_of (record { edition = edition; bytes = bytes.now })) }
+        ensures { IfOk result (λ reader.
+            reader ≡ reading_of (record { edition = edition; bytes = bytes.now })) }
     {
         let mut reader = FilingReader::new(alloc);
         read(
@@ -68,11 +69,12 @@ impl<A: Allocator + Copy> FilingReader<A> {
         Ok(reader)
     }
 
-    /// Reads at most 2,000 bytes by the rules of that edition, in the memory of what the last ones said, or of what others
-    /// of its kind said before. Where memory is refused no bytes are read.
+    /// Reads at most 2,000 bytes by the rules of `edition`, in the memory of former readings.
+    /// Returns `Err` if an allocation fails; the reader has read no bytes then.
     pub fn read(&mut self, alloc: A, edition: Edition, bytes: &[u8]) -> Result<(), AllocError>
         requires { length bytes.now ≤ MAX_BYTES }
-        ensures ok { OnOk result (self.new ≡ reading_of (record { edition = edition; bytes = bytes.now })) }
+        ensures ok { OnOk result (self.new
+            ≡ reading_of (record { edition = edition; bytes = bytes.now })) }
         ensures err { OnErr result (self.new ≡ bad Refusal.Empty) }
     {
         self.clear();
@@ -90,7 +92,7 @@ impl<A: Allocator + Copy> FilingReader<A> {
         Ok(())
     }
 
-    /// Releases what the last bytes said, and keeps its box.
+    /// Drops what the last bytes said, and keeps its box.
     fn clear(&mut self)
         ensures { self.new ≡ bad Refusal.Empty }
     {
@@ -98,7 +100,7 @@ impl<A: Allocator + Copy> FilingReader<A> {
         self.spares.keep(last);
     }
 
-    /// What the last bytes say, or their first refusal.
+    /// Returns what the last bytes say, or their first refusal.
     pub fn reading(&self) -> &Reading<A>
         ensures { said result.now ≡ self.now }
     {

@@ -52,13 +52,14 @@ impl<A: Allocator + Copy> Model for Fpl<A> {
       items = items_of (words_of (field m.fields 8));
     } };
 
-    ghost invariant = { λ m. (length m.fields ≡ 9) × (is_route (field m.fields 6) ≡ true) × (m.elapsed < ELAPSED_LIMIT)
+    ghost invariant = { λ m. (length m.fields ≡ 9) × (is_route (field m.fields 6) ≡ true)
+        × (m.elapsed < ELAPSED_LIMIT)
         × TellsOf (items_of (words_of (field m.fields 8))) m.other };
 }
 
 impl<A: Allocator + Copy> Fpl<A> {
-    /// Reads the fields of an FPL, from the left. It takes memory only for a ninth estimate of field 18, and for a flight
-    /// plan if there is no spare.
+    /// Reads the fields of an FPL, from the left. Allocates only for a ninth estimate of field 18,
+    /// and for a flight plan if there is no spare box.
     #[tactic(auto, unfolding(crate::specs::FlightPlans::fpl_of))]
     pub(crate) fn read(
         alloc: A,
@@ -104,8 +105,8 @@ impl<A: Allocator + Copy> Fpl<A> {
         Ok(last)
     }
 
-    /// Makes it another plan. The room of its text is left for the next one. It is inlined, since the plan would be
-    /// copied once more to be passed.
+    /// Replaces the plan, and leaves the buffer of its text in `room`. It is inlined, since the
+    /// plan would be copied once more to be passed.
     #[inline(always)]
     fn renew(&mut self, room: &mut Vec<u8, A>, plan: Fpl<A>)
         ensures { self.new ≡ plan }
@@ -130,36 +131,36 @@ impl<A: Allocator + Copy> Fpl<A> {
         self.other = other;
     }
 
-    /// Field 7: the identification.
+    /// Returns the identification, of field 7.
     pub fn ident(&self) -> &Ident
         ensures { result.now ≡ self.now.ident }
     {
         &self.ident
     }
 
-    /// Field 8: the flight rules and the type of flight.
+    /// Returns the flight rules and the type of flight, of field 8.
     pub fn rules(&self) -> &Rules
         ensures { result.now ≡ self.now.rules }
     {
         &self.rules
     }
 
-    /// Field 9: the aircraft.
+    /// Returns the aircraft, of field 9.
     pub fn craft(&self) -> &Craft
         ensures { result.now ≡ self.now.craft }
     {
         &self.craft
     }
 
-    /// Field 13: the departure aerodrome and the off-block time.
+    /// Returns the departure aerodrome and the off-block time, of field 13.
     pub fn departure(&self) -> &Departure
         ensures { result.now ≡ self.now.departure }
     {
         &self.departure
     }
 
-    /// Field 15: the route, read anew at each call, since a desk never asks for it. It is right: no fault comes but
-    /// want of memory.
+    /// Returns the route, of field 15. It is read anew at each call, since a desk never asks for
+    /// it. It has its form: the only `Err` is a failed allocation.
     pub fn route<B: Allocator + Copy>(&self, alloc: B) -> Result<Route<B>, ItemFault>
         ensures ok { IfOk result (λ route. path_or_fault (field self.now.fields 6) ≡ Ok route) }
         ensures err { IfErr result (λ fault. fault ≡ ItemFault.OutOfMemory) }
@@ -167,14 +168,14 @@ impl<A: Allocator + Copy> Fpl<A> {
         Route::read(alloc, self.fields.field(6))
     }
 
-    /// Field 16: the destination and its alternates.
+    /// Returns the destination and its alternates, of field 16.
     pub fn destination(&self) -> &Destination
         ensures { result.now ≡ self.now.destination }
     {
         &self.destination
     }
 
-    /// The total elapsed time of field 16, in minutes, at most 5,999.
+    /// Returns the total elapsed time of field 16 in minutes, at most 5,999.
     pub fn elapsed(&self) -> u32
         ensures value { result ≡ self.now.elapsed }
         ensures bound { result < ELAPSED_LIMIT }
@@ -182,7 +183,7 @@ impl<A: Allocator + Copy> Fpl<A> {
         self.elapsed
     }
 
-    /// Field 18: what its items say.
+    /// Returns what the items of field 18 say.
     pub fn other(&self) -> &Other18<A>
         ensures value { TellsOf self.now.items result.now }
         ensures items { self.now.items ≡ items_of (words_of (field self.now.fields 8)) }
@@ -190,14 +191,16 @@ impl<A: Allocator + Copy> Fpl<A> {
         &self.other
     }
 
-    /// The items of field 18, in order, read anew at each call, since a desk never asks for them.
+    /// Returns the items of field 18, in order. They are read anew at each call, since a desk never
+    /// asks for them.
     pub fn items(&self) -> Items<'_>
         ensures { result ≡ self.now.items }
     {
         Items::new(self.fields.field(8))
     }
 
-    /// The squeezed text of the field at that place, counted from 0: fields 3, 7, 8, 9, 10, 13, 15, 16 and 18.
+    /// Returns the squeezed text of the field at index `place`, counted from 0: fields 3, 7, 8, 9,
+    /// 10, 13, 15, 16 and 18.
     pub fn field(&self, place: usize) -> &[u8]
         requires { place < 9 }
         ensures { result.now ≡ field self.now.fields place }

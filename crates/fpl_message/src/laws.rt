@@ -16,13 +16,15 @@ pub fn editions_differ_in_open()
         ≡ reading_of (record { edition = Edition.Second; bytes = bytes }) }
 {}
 
-/// Field 22 is exactly its parts one after the other: the one or two digits of a number, a stroke, and the amended
-/// text. So these parts, joined again, are the field, and a text that they make is read as them.
+/// Field 22 is exactly its parts one after the other: the one or two digits of a number, a stroke,
+/// and the amended text. So these parts, joined again, are the field, and a text that they make is
+/// read as them.
 pub fn amendments_are_their_parts()
     ensures found { (field : List ℕ) → begins_amendment field ≡ true
         → IsAmendment field (amended_number field) (amended_text field) }
     ensures only { (field text : List ℕ) (number : ℕ) → IsAmendment field number text
-        → (begins_amendment field ≡ true) × (amended_number field ≡ number) × (amended_text field ≡ text) }
+        → (begins_amendment field ≡ true) × (amended_number field ≡ number)
+        × (amended_text field ≡ text) }
 {}
 
 /// The limit of a filing, which other clauses and definitions cite by its name.

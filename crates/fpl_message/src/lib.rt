@@ -1,17 +1,19 @@
 //! Messages and filings: what the bytes of a filing say, or why they are refused.
 //!
-//! A filing is a text with its reading: a message, an order, or the first refusal (`reading_of`). It is read once,
-//! when the filing is made, and the invariant of `Filing` says that the reading is the definition's; so nobody who
-//! holds a filing has to read it again. A reading goes from step to step and stops at the first refusal.
+//! A filing is a text with its reading, the result of parsing it: a message, an order, or the first
+//! refusal (`reading_of`). It is parsed once, when the filing is created, and the invariant of
+//! `Filing` says that the reading is the definition's; so nobody who holds a filing has to parse it
+//! again. Parsing goes from step to step and stops at the first refusal.
 //!
-//! - *Messages*: `flight_plan` (FPL), `short_message` (DLA, CNL and DEP), `modification` and `changes` (CHG with its
-//!   amended fields). `parts` is what names the plan that a message is about.
+//! - *Messages*: `flight_plan` (FPL), `short_message` (DLA, CNL and DEP), `modification` and
+//!   `changes` (CHG with its amended fields). `parts` identifies the plan that a message is about.
 //! - *Orders*: `order` and `sub_periods` (OPEN, SHUT and TIME).
-//! - *Editions*: OPEN got its sub-periods later. A filing knows by which edition it is read, so that an old journal
-//!   tells what it told.
-//! - *Memory*: `FilingReader` reads texts one after the other in the same memory; `spares` keeps where the last message
-//!   of each kind lay, for the next one. A filing is a text and a reader that has read it: it is taken apart and put
-//!   together without memory (`Filing::into_parts`, `Filing::of_parts`).
+//! - *Editions*: OPEN got its sub-periods later. A filing has the edition by which it is read, so
+//!   that an old journal reads as it did.
+//! - *Memory*: `FilingReader` reads texts one after the other in the same memory; `spares` has the
+//!   box of the last message of each kind, for the next one. A filing is a text and a reader that
+//!   has read it: it is split and joined without allocating (`Filing::into_parts`,
+//!   `Filing::of_parts`).
 #![tactic(auto)]
 
 mod changes;

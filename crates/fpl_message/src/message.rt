@@ -6,7 +6,7 @@ use crate::refusal::Refusal;
 use crate::short_message::{Cnl, Dep, Dla};
 use std::alloc::{Allocator, Global};
 
-/// What a message says (ICAO Doc 4444, appendix 2). The two that keep their text are boxed.
+/// A parsed message (ICAO Doc 4444, appendix 2). The two that store their text are boxed.
 #[derive(Drop)]
 pub enum Message<A: Allocator + Copy = Global> {
     /// A filed flight plan.
@@ -29,5 +29,5 @@ pub enum Reading<A: Allocator + Copy = Global> {
     Bad(Refusal),
 }
 
-// What is boxed comes on top.
+// What is boxed is not counted.
 const _: () = prove!(size_of::<Reading>() <= 48);

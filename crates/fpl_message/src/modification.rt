@@ -17,8 +17,8 @@ use std::alloc::{Allocator, Global};
 use std::marker::Model;
 use std::mem::replace;
 
-/// A modification: the plan that it is about, and the amended fields, each at most once. A field that it does not amend
-/// is None.
+/// A modification: the plan that it is about, and the amended fields, each at most once. A field
+/// that it does not amend is `None`.
 #[derive(Drop)]
 pub struct Chg<A: Allocator + Copy = Global> {
     fields: Fields<A>,
@@ -61,7 +61,7 @@ impl<A: Allocator + Copy> Chg<A> {
         }
     }
 
-    /// Reads the fields of a CHG for which there is no spare.
+    /// Reads the fields of a CHG for which there is no spare box.
     #[cold]
     #[inline(never)]
     fn first(alloc: A, fields: Fields<A>) -> Result<Box<Chg<A>, A>, Fault>
@@ -74,7 +74,7 @@ impl<A: Allocator + Copy> Chg<A> {
         boxed(alloc, Chg { fields, changes })
     }
 
-    /// Reads other fields in the place of these. The room of its text is left for the next one.
+    /// Reads other fields into this message, and leaves the buffer of its text in `room`.
     fn renew(&mut self, alloc: A, room: &mut Vec<u8, A>, fields: Fields<A>) -> Result<(), Fault>
         requires { 5 ≤ length fields }
         ensures value { Gives (λ _. self.new) result (chg_of fields) }
@@ -84,36 +84,37 @@ impl<A: Allocator + Copy> Chg<A> {
         self.changes.read(alloc, &self.fields)
     }
 
-    /// What names the plan.
+    /// Returns what identifies the plan.
     pub fn parts(&self) -> &Parts
         ensures { result.now ≡ self.now.parts }
     {
         &self.changes.parts
     }
 
-    /// The flight rules and the type of flight that an amended field 8 says.
+    /// Returns the flight rules and the type of flight of an amended field 8.
     pub fn rules(&self) -> Option<&Rules>
         ensures { option_copied result ≡ self.now.rules }
     {
         self.changes.rules.as_ref()
     }
 
-    /// An amended field 13.
+    /// Returns an amended field 13.
     pub fn departure(&self) -> Option<&Departure>
         ensures { option_copied result ≡ self.now.departure }
     {
         self.changes.departure.as_ref()
     }
 
-    /// An amended field 16, of which an elapsed time is at most 5,999 minutes.
+    /// Returns an amended field 16, of which an elapsed time is at most 5,999 minutes.
     pub fn destination(&self) -> Option<&Destination>
         ensures value { option_copied result ≡ self.now.destination }
-        ensures bound { IfSome result (λ amended. IfSome amended.now.elapsed (λ minutes. minutes < ELAPSED_LIMIT)) }
+        ensures bound { IfSome result (λ amended.
+            IfSome amended.now.elapsed (λ minutes. minutes < ELAPSED_LIMIT)) }
     {
         self.changes.destination.as_ref()
     }
 
-    /// What an amended field 18 says.
+    /// Returns what an amended field 18 says.
     pub fn other(&self) -> Option<&Other18<A>>
         ensures value { TellsOfAny self.now.items (option_copied result) }
         ensures items { self.now.items ≡ items_at self.now.field18 }
@@ -121,35 +122,35 @@ impl<A: Allocator + Copy> Chg<A> {
         self.changes.other.as_ref()
     }
 
-    /// The squeezed text of an amended field 8.
+    /// Returns the squeezed text of an amended field 8.
     pub fn field8(&self) -> Option<&[u8]>
         ensures { option_copied result ≡ self.now.field8 }
     {
         text_at(&self.fields, self.changes.field8)
     }
 
-    /// The squeezed text of an amended field 9.
+    /// Returns the squeezed text of an amended field 9.
     pub fn field9(&self) -> Option<&[u8]>
         ensures { option_copied result ≡ self.now.field9 }
     {
         text_at(&self.fields, self.changes.field9)
     }
 
-    /// The squeezed text of an amended field 10.
+    /// Returns the squeezed text of an amended field 10.
     pub fn field10(&self) -> Option<&[u8]>
         ensures { option_copied result ≡ self.now.field10 }
     {
         text_at(&self.fields, self.changes.field10)
     }
 
-    /// The squeezed text of an amended field 15.
+    /// Returns the squeezed text of an amended field 15.
     pub fn field15(&self) -> Option<&[u8]>
         ensures { option_copied result ≡ self.now.field15 }
     {
         text_at(&self.fields, self.changes.field15)
     }
 
-    /// The squeezed text of an amended field 18.
+    /// Returns the squeezed text of an amended field 18.
     pub fn field18(&self) -> Option<&[u8]>
         ensures { option_copied result ≡ self.now.field18 }
     {
@@ -157,7 +158,7 @@ impl<A: Allocator + Copy> Chg<A> {
     }
 }
 
-/// The amended text at a place, where there is one.
+/// The amended text at index `place`, if there is one.
 fn text_at<A: Allocator + Copy>(fields: &Fields<A>, place: Option<usize>) -> Option<&[u8]>
     requires { ForSome place (λ at. at < length fields.now) }
     ensures { option_copied result ≡ text_at fields.now place }

@@ -3,7 +3,8 @@ ghost use Rattle.std.specs.Prelude.{◌≡◌, Ok, codes};
 ghost use Rattle.fpl_items.specs.Kinds.{is_text};
 ghost use Rattle.fpl_message.specs.Refusals.{Gives, RunsOutOnlyIf};
 ghost use Rattle.fpl_message.specs.Messages.{open_reg};
-ghost use Rattle.fpl_message.specs.Orders.{is_regulation, is_way_point, regulation_of, way_point_of, aerodrome_of};
+ghost use Rattle.fpl_message.specs.Orders.{is_regulation, is_way_point, regulation_of};
+ghost use Rattle.fpl_message.specs.Orders.{way_point_of, aerodrome_of};
 ghost use Rattle.fpl_message.specs.Orders.{spot_of, open_of, shut_of, time_of, order_or_refusal};
 ghost use Rattle.fpl_message.specs.declared.order.OpenReg.{OpenReg};
 ghost use Rattle.fpl_message.specs.SaidOrders.{said_order};
@@ -23,20 +24,21 @@ pub enum Spot {
     Dep(Text<4>),
     /// At arrival at this aerodrome.
     Arr(Text<4>),
-    /// At this place on the way.
+    /// At this route point.
     Via(Text<11>),
 }
 
-/// An order to open a regulation, in the form that it must have. Its limits are the desk's: that the period is 1 to
-/// 1,440 minutes long, that its sub-periods rise within it, that a rate is at most 240.
+/// An order to open a regulation, with the right syntax. Its limits are for the desk to check: that
+/// the period is 1 to 1,440 minutes long, that its sub-periods rise within it, that a rate is at
+/// most 240.
 #[derive(Drop)]
 pub struct OpenReg {
     /// The name of the regulation: a letter, and then at most 7 letters or digits.
     pub id: Text<8>,
     pub place: Spot,
-    /// The first moment of the period.
+    /// The first minute of the period.
     pub from: Minute,
-    /// The first moment after the period.
+    /// The first minute after the period.
     pub to: Minute,
     /// Flights an hour in the first sub-period, at most 999.
     pub rate: u32,
@@ -61,7 +63,7 @@ fn is_regulation(word: &[u8]) -> bool
     word.len() >= 1 && word.len() <= 8 && is_letter(word[0]) && all_letters_or_digits(word)
 }
 
-/// Reads the name of a regulation.
+/// Parses the name of a regulation.
 #[tactic(auto, unfolding(crate::specs::Orders::is_regulation))]
 fn regulation_of(word: &[u8]) -> Option<Text<8>>
     ensures { result ≡ regulation_of word.now }
@@ -72,7 +74,7 @@ fn regulation_of(word: &[u8]) -> Option<Text<8>>
     Some(Text::new(word))
 }
 
-/// Reads the name of an aerodrome: four letters.
+/// Parses the name of an aerodrome: four letters.
 #[tactic(auto, unfolding(fpl_text::specs::Places::is_place))]
 fn aerodrome_of(word: &[u8]) -> Option<Text<4>>
     ensures { result ≡ aerodrome_of word.now }
@@ -90,7 +92,7 @@ fn is_way_point(word: &[u8]) -> bool
     word.len() >= 1 && word.len() <= 11 && all_letters_or_digits(word)
 }
 
-/// Reads the name of a place on the way.
+/// Parses the name of a route point.
 #[tactic(auto, unfolding(crate::specs::Orders::is_way_point))]
 fn way_point_of(word: &[u8]) -> Option<Text<11>>
     ensures { result ≡ way_point_of word.now }
@@ -101,7 +103,7 @@ fn way_point_of(word: &[u8]) -> Option<Text<11>>
     Some(Text::new(word))
 }
 
-/// Reads where the flow is regulated: DEP, ARR or VIA, and a place.
+/// Parses a regulated point: DEP, ARR or VIA, and a name.
 #[tactic(auto, unfolding(crate::specs::Orders::spot_of))]
 fn spot_of(kind: &[u8], place: &[u8]) -> Option<Spot>
     ensures { result ≡ spot_of kind.now place.now }
@@ -114,7 +116,7 @@ fn spot_of(kind: &[u8], place: &[u8]) -> Option<Spot>
     }
 }
 
-/// Reads what stands behind OPEN.
+/// Parses the words after OPEN.
 fn open_of(edition: Edition, mut words: Words<'_>) -> Option<OpenReg>
     ensures { result ≡ open_of edition words.entry }
 {
@@ -135,7 +137,7 @@ fn open_of(edition: Edition, mut words: Words<'_>) -> Option<OpenReg>
     })
 }
 
-/// Reads what stands behind SHUT.
+/// Parses the words after SHUT.
 fn shut_of(mut words: Words<'_>) -> Option<Text<8>>
     ensures { result ≡ shut_of words.entry }
 {
@@ -146,7 +148,7 @@ fn shut_of(mut words: Words<'_>) -> Option<Text<8>>
     }
 }
 
-/// Reads what stands behind TIME.
+/// Parses the words after TIME.
 fn time_of(mut words: Words<'_>) -> Option<Minute>
     ensures { result ≡ time_of words.entry }
 {
@@ -177,7 +179,7 @@ fn says_time(word: &[u8]) -> bool
 
 const BAD_ORDER: Fault = Fault::Refused(Refusal::BadOrder);
 
-/// Reads an order by the rules of an edition. Only an OPEN takes memory, if there is no spare.
+/// Parses an order by the rules of an edition. Only an OPEN allocates, if there is no spare box.
 pub(crate) fn read_order<A: Allocator + Copy>(
     alloc: A,
     spare: &mut Option<Box<OpenReg, A>>,

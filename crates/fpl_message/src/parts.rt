@@ -1,4 +1,4 @@
-//! What names the plan that a message is about.
+//! What identifies the plan that a message is about.
 ghost use Rattle.std.specs.Prelude.{◌≤◌, ◌<◌, length, IsTrue};
 ghost use Rattle.std.specs.Prelude.{◌≡◌, true};
 ghost use Rattle.fpl_items.specs.Estimates.{noted_of_field};
@@ -11,7 +11,8 @@ use fpl_items::Other18;
 use fpl_text::{Day, Departure, Destination, Fields, Heading, Ident, Text, TimeOfDay};
 use std::alloc::Allocator;
 
-/// What names the plan that a message is about (ICAO Doc 4444, appendix 3, field types 7, 13, 16 and 18).
+/// What identifies the plan that a message is about (ICAO Doc 4444, appendix 3, field types 7, 13,
+/// 16 and 18).
 #[derive(Debug, Drop, PartialEq, Eq)]
 pub struct Parts {
     /// The identification, without the transponder code.
@@ -20,12 +21,12 @@ pub struct Parts {
     pub dep: Text<4>,
     /// The destination aerodrome.
     pub dest: Text<4>,
-    /// The day of its DOF item, where the message has one.
+    /// The day of its DOF item, if the message has one.
     pub day: Option<Day>,
 }
 
 impl Parts {
-    /// Parts that name no plan.
+    /// Parts that identify no plan.
     pub(crate) fn none() -> Self {
         Parts {
             ident: Text::default(),
@@ -55,7 +56,8 @@ pub(crate) fn read_opening<A: Allocator + Copy>(
     requires other { IsTrue has_other → 4 < length fields.now }
     ensures value { Gives (λ opening. opening) result (opening_of has_other fields.now) }
     ensures memory { RunsOutOnlyIf result
-        ((has_other ≡ true) × IsPastTheEighth (field fields.now 4) (opening_of has_other fields.now)) }
+        ((has_other ≡ true)
+        × IsPastTheEighth (field fields.now 4) (opening_of has_other fields.now)) }
 {
     let _heading = Heading::read(fields.field(0))?;
     let ident = Ident::read(fields.field(1))?;
@@ -81,7 +83,8 @@ fn read_day<A: Allocator + Copy>(
 ) -> Result<Option<Day>, Fault>
     requires { IsTrue has_other → 4 < length fields.now }
     ensures value { Gives (λ day. day) result (other_day has_other fields.now) }
-    ensures memory { RunsOutOnlyIf result ((has_other ≡ true) × (8 < noted_of_field (field fields.now 4))) }
+    ensures memory { RunsOutOnlyIf result ((has_other ≡ true)
+        × (8 < noted_of_field (field fields.now 4))) }
 {
     if !has_other {
         return Ok(None);

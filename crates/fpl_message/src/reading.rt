@@ -1,10 +1,11 @@
-//! The reading of bytes.
+//! Parses the bytes of a filing.
 ghost use Rattle.std.specs.Prelude.{◌≡◌, ◌≢◌, ◌≤◌, Err, length, IfOk, OnOk};
 ghost use Rattle.fpl_text.specs.Squeezing.{squeezed_or_fault};
 ghost use Rattle.fpl_text.specs.Fields.{fields_or_fault};
 ghost use Rattle.fpl_message.specs.Refusals.{Gives, by_text};
 ghost use Rattle.fpl_message.specs.Said.{said};
-ghost use Rattle.fpl_message.specs.Reads.{reading_of, reading_or_refusal, message_of, begins_message, heading_of_bytes};
+ghost use Rattle.fpl_message.specs.Reads.{reading_of, reading_or_refusal, message_of};
+ghost use Rattle.fpl_message.specs.Reads.{begins_message, heading_of_bytes};
 ghost use Rattle.fpl_message.specs.declared.filed_text.TheConstants.{MAX_BYTES};
 
 use crate::edition::Edition;
@@ -20,9 +21,10 @@ use fpl_text::{Fields, Heading, Squeezed, Title};
 use std::alloc::{AllocError, Allocator};
 use std::mem::replace;
 
-/// Reads at most 2,000 bytes by the rules of an edition: what they say takes the place of another reading. They are
-/// squeezed in this room, which is there for the next text then, unless the message or a fault keeps it; and a message
-/// lies in the spare of its kind, where there is one. Refused where memory is.
+/// Reads at most 2,000 bytes by the rules of an edition, and replaces another reading. They are
+/// squeezed in `room`, which is left for the next text, unless the message or a fault keeps it; a
+/// message is stored in the spare box of its kind, if there is one. Returns `Err` if an allocation
+/// fails.
 #[tactic(auto, unfolding(crate::specs::Reads::reading_of))]
 pub(crate) fn read<A: Allocator + Copy>(
     alloc: A,
@@ -33,7 +35,8 @@ pub(crate) fn read<A: Allocator + Copy>(
     bytes: &[u8],
 ) -> Result<(), AllocError>
     requires { length bytes.now ≤ MAX_BYTES }
-    ensures { OnOk result (said reading.new ≡ reading_of (record { edition = edition; bytes = bytes.now })) }
+    ensures { OnOk result (said reading.new
+        ≡ reading_of (record { edition = edition; bytes = bytes.now })) }
 {
     match read_filed(alloc, room, spares, reading, edition, bytes) {
         Ok(()) => Ok(()),
@@ -45,7 +48,7 @@ pub(crate) fn read<A: Allocator + Copy>(
     }
 }
 
-/// Reads what bytes say, or tells why not.
+/// Returns what the bytes say, or why they are refused.
 fn read_filed<A: Allocator + Copy>(
     alloc: A,
     room: &mut Vec<u8, A>,
@@ -68,7 +71,7 @@ fn read_filed<A: Allocator + Copy>(
     read_message(alloc, room, spares, reading, fields_of(squeezed)?)
 }
 
-/// The squeezed text of bytes in this room, or why there is none.
+/// Squeezes bytes in `room`; returns why that isn't possible, if so.
 fn squeezed<A: Allocator + Copy>(room: Vec<u8, A>, bytes: &[u8]) -> Result<Squeezed<A>, Fault>
     requires { length bytes.now ≤ MAX_BYTES }
     ensures { Gives (λ text. text) result (by_text (squeezed_or_fault bytes.now)) }
@@ -79,7 +82,7 @@ fn squeezed<A: Allocator + Copy>(room: Vec<u8, A>, bytes: &[u8]) -> Result<Squee
     }
 }
 
-/// The fields of a squeezed text, or why it has none. Takes no memory.
+/// Splits a squeezed text into fields, or returns why it has none. Doesn't allocate.
 fn fields_of<A: Allocator + Copy>(squeezed: Squeezed<A>) -> Result<Fields<A>, Fault>
     ensures value { Gives (λ fields. fields) result (by_text (fields_or_fault squeezed)) }
     ensures memory { result ≢ Err Fault.OutOfMemory }
@@ -123,8 +126,9 @@ fn begins_message(text: &[u8]) -> bool
     }
 }
 
-/// Reads the fields of a message in the place of another reading. Those of an FPL and of a CHG stay in the message, and
-/// the buffer of the spare that it takes is left for the next text; that of the others is left too.
+/// Reads the fields of a message, and replaces another reading. Those of an FPL and of a CHG stay
+/// in the message, and the buffer of the spare box that it takes is left for the next text; that of
+/// the others is left too.
 fn read_message<A: Allocator + Copy>(
     alloc: A,
     room: &mut Vec<u8, A>,

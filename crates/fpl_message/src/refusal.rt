@@ -4,12 +4,13 @@ ghost use Rattle.fpl_message.specs.Numbers.{number_of, name_of, detail_of};
 
 /// Why a filing is refused, with the number by which operators know the reason.
 ///
-/// The names and numbers are this desk's own; what a message must look like is ICAO Doc 4444, appendices 2 and 3.
+/// The names and numbers are this desk's own; what a message must look like is ICAO Doc 4444,
+/// appendices 2 and 3.
 #[derive(Clone, Copy, Debug, PartialEq, Eq)]
 pub enum Refusal {
     /// Nothing but blanks.
     Empty,
-    /// A byte that no message has, at this place in the filing as given, counted from 0.
+    /// A byte that no message has, at this offset in the filing as given, counted from 0.
     BadByte(u16),
     /// No pair of brackets round the whole message, or a bracket inside.
     NoBracket,
@@ -27,11 +28,11 @@ pub enum Refusal {
     UnsupportedAmendment(u8),
     /// A held plan has the same identification, departure, destination and day.
     AlreadyHeld,
-    /// No plan agrees with the message.
+    /// No plan matches the message.
     NoPlan,
-    /// Several plans agree with the message.
+    /// Several plans match the message.
     Ambiguous,
-    /// The plan that agrees with the message has departed.
+    /// The plan that matches the message has departed.
     AlreadyDeparted,
     /// An amendment that would make another flight of the plan.
     KeyChange,
@@ -39,11 +40,11 @@ pub enum Refusal {
     NotLater,
     /// A delay of more than 720 minutes.
     DelayTooLong,
-    /// An off-block moment before the desk's time.
+    /// An off-block date and time before the desk's time.
     Past,
-    /// An off-block moment more than 120 hours after the desk's time.
+    /// An off-block date and time more than 120 hours after the desk's time.
     TooEarly,
-    /// As many flight plans were accepted as the desk may hold.
+    /// The desk has accepted as many flight plans as its setup allows.
     PlansFull,
     /// A text that is neither a message nor an order.
     BadOrder,
@@ -61,11 +62,11 @@ pub enum Refusal {
     TimeBack,
 }
 
-// Each refused filing keeps one for good.
+// Each entry of a journal may have one.
 const _: () = prove!(size_of::<Refusal>() <= 4);
 
 impl Refusal {
-    /// The number of the reason, 1 to 36.
+    /// Returns the number of the reason, 1 to 36.
     pub fn number(self) -> u32
         ensures value { result ≡ number_of self }
         ensures bound { result ≤ 36 }
@@ -100,7 +101,7 @@ impl Refusal {
         }
     }
 
-    /// The name of the reason, of at most 20 letters.
+    /// Returns the name of the reason, of at most 20 letters.
     pub fn name(self) -> &'static [u8]
         ensures value { result.now ≡ name_of self }
         ensures bound { length result.now ≤ 20 }
@@ -135,7 +136,8 @@ impl Refusal {
         }
     }
 
-    /// The place of a byte that no message has, or the number of the field that is refused.
+    /// Returns the offset of a byte that no message has, or the number of the field that is
+    /// refused; `None` for any other reason.
     pub fn detail(self) -> Option<usize>
         ensures { result ≡ detail_of self }
     {

@@ -29,8 +29,8 @@ pub struct Dep {
     pub time: TimeOfDay,
 }
 
-/// Reads the fields of a DLA, a CNL or a DEP, from the left. The buffer of the text is left for the next one. It takes
-/// memory only for a ninth estimate in field 18.
+/// Reads the fields of a DLA, a CNL or a DEP, from the left. The buffer of the text is left for the
+/// next one. Allocates only for a ninth estimate in field 18.
 pub(crate) fn read_short<A: Allocator + Copy>(
     alloc: A,
     room: &mut Vec<u8, A>,
@@ -39,7 +39,8 @@ pub(crate) fn read_short<A: Allocator + Copy>(
     requires { 4 ≤ length fields }
     ensures value { Gives (λ opening. opening) result (short_opening_of fields) }
     ensures memory { RunsOutOnlyIf result
-        (((length fields == 5) ≡ true) × IsPastTheEighth (field fields 4) (short_opening_of fields)) }
+        (((length fields == 5) ≡ true)
+        × IsPastTheEighth (field fields 4) (short_opening_of fields)) }
 {
     let opening = read_opening(alloc, fields.count() == 5, &fields);
     *room = fields.into_room();

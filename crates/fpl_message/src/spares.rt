@@ -1,4 +1,4 @@
-//! The boxes of messages that were released, for the next ones.
+//! The boxes of dropped messages, for reuse.
 ghost use Rattle.fpl_message.specs.Refusals.{Gives};
 
 use crate::fault::{Fault, boxed};
@@ -8,7 +8,7 @@ use crate::modification::Chg;
 use crate::order::{OpenReg, Order};
 use std::alloc::{Allocator, Global};
 
-/// Of each kind of message or order that is boxed the last box that was released, for the next of its kind.
+/// For each kind of message or order that is boxed, the box of the last one dropped.
 #[derive(Drop)]
 pub struct Spares<A: Allocator + Copy = Global> {
     pub fpl: Option<Box<Fpl<A>, A>>,
@@ -17,7 +17,6 @@ pub struct Spares<A: Allocator + Copy = Global> {
 }
 
 impl<A: Allocator + Copy> Spares<A> {
-    /// None of any kind.
     pub(crate) fn none() -> Self {
         Spares {
             fpl: None,
@@ -26,7 +25,7 @@ impl<A: Allocator + Copy> Spares<A> {
         }
     }
 
-    /// Keeps the box of what a filing said, if it has one.
+    /// Takes over the box of a reading, if it has one.
     pub(crate) fn keep(&mut self, reading: Reading<A>) {
         match reading {
             Reading::Msg(Message::Fpl(plan)) => self.fpl = Some(plan),
@@ -39,7 +38,7 @@ impl<A: Allocator + Copy> Spares<A> {
     }
 }
 
-/// Boxes a value, in a spare box where there is one, or says that memory ran out.
+/// Boxes a value, in a spare box if there is one; returns `Err` if an allocation fails.
 pub(crate) fn boxed_over<A: Allocator + Copy, T: Drop>(
     alloc: A,
     spare: &mut Option<Box<T, A>>,

@@ -1,5 +1,6 @@
 //! The further sub-periods of a regulation.
-ghost use Rattle.std.specs.Prelude.{◌≡◌, ◌≤◌, ◌<◌, ◌∷◌, ◌++◌, ◌*◌, ◌-◌, [], true, nat_le, if◌then◌else◌, length};
+ghost use Rattle.std.specs.Prelude.{◌≡◌, ◌≤◌, ◌<◌, ◌∷◌, ◌++◌, ◌*◌, ◌-◌, []};
+ghost use Rattle.std.specs.Prelude.{true, nat_le, if◌then◌else◌, length};
 ghost use Rattle.fpl_text.specs.Bytes.{is_digit};
 ghost use Rattle.fpl_message.specs.Orders.{rate_of, part_of, parts_of, more_of};
 
@@ -27,7 +28,7 @@ impl Model for SubPeriods {
 }
 
 impl SubPeriods {
-    /// None, in a regulation from that moment on.
+    /// No further sub-periods, in a regulation from `from` on.
     fn none(from: Minute) -> SubPeriods
         ensures { result ≡ [] }
     {
@@ -37,7 +38,7 @@ impl SubPeriods {
         }
     }
 
-    /// One more behind the others.
+    /// Appends a sub-period.
     fn push(&mut self, part: Part)
         requires { length self.old < MOST_PARTS }
         ensures { self.new ≡ self.old ++ part ∷ [] }
@@ -46,7 +47,7 @@ impl SubPeriods {
         self.count += 1;
     }
 
-    /// The sub-periods, in order.
+    /// Returns the sub-periods, in order.
     pub fn as_slice(&self) -> &[Part]
         ensures value { result.now ≡ self.now }
         ensures fits { length result.now ≤ MOST_PARTS }
@@ -55,7 +56,7 @@ impl SubPeriods {
     }
 }
 
-/// The number that a digit is.
+/// The value of a digit.
 #[tactic(auto, unfolding(fpl_text::specs::Bytes::is_digit))]
 fn digit(byte: u8) -> u32
     requires { is_digit byte ≡ true }
@@ -65,7 +66,7 @@ fn digit(byte: u8) -> u32
     u32::from(byte - b'0')
 }
 
-/// Reads a rate of flights an hour: 1 to 3 digits.
+/// Parses a rate of flights an hour: 1 to 3 digits.
 #[tactic(auto, unfolding(crate::specs::Orders::rate_of))]
 pub(crate) fn rate_of(word: &[u8]) -> Option<u32>
     ensures { result ≡ rate_of word.now }
@@ -83,7 +84,7 @@ pub(crate) fn rate_of(word: &[u8]) -> Option<u32>
     }
 }
 
-/// Reads a sub-period: a moment and a rate.
+/// Parses a sub-period: a time with its date and a rate.
 #[tactic(auto, unfolding(crate::specs::Orders::part_of))]
 fn part_of(moment: &[u8], rate: &[u8]) -> Option<Part>
     ensures { result ≡ part_of moment.now rate.now }
@@ -93,9 +94,10 @@ fn part_of(moment: &[u8], rate: &[u8]) -> Option<Part>
     Some(Part { from, rate })
 }
 
-/// Reads pairs of a moment and a rate, at most 7.
+/// Parses pairs of a time with its date and a rate, at most 7.
 fn parts_of(from: Minute, mut words: Words<'_>) -> Option<SubPeriods>
-    ensures { result ≡ (if nat_le (length words.entry) (2 * MOST_PARTS) then parts_of words.entry else None) }
+    ensures { result
+        ≡ (if nat_le (length words.entry) (2 * MOST_PARTS) then parts_of words.entry else None) }
 {
     let mut parts = SubPeriods::none(from);
     while let Some(moment) = words.next() {
@@ -108,7 +110,7 @@ fn parts_of(from: Minute, mut words: Words<'_>) -> Option<SubPeriods>
     Some(parts)
 }
 
-/// Reads the sub-periods behind the first, which begins at `from`, by the rules of an edition.
+/// Parses the sub-periods after the first, which begins at `from`, by the rules of an edition.
 #[tactic(auto, unfolding(crate::specs::Orders::more_of))]
 pub(crate) fn more_of(edition: Edition, from: Minute, mut words: Words<'_>) -> Option<SubPeriods>
     ensures { result ≡ more_of edition words.entry }

@@ -1,5 +1,5 @@
 //! Demand and slots of a regulation by steps of time, as a picture.
-use crate::chart_text::{heading_of, rates_of};
+use crate::chart_text::{joined, rates_of, shut_text, title_of};
 use crate::count::{counts_in, flights_of, later_by};
 use crate::fault::{Fault, unwritten};
 use crate::load::greatest_of;
@@ -319,21 +319,38 @@ fn put_legend<W: Write>(writer: &mut W) -> Result<(), Fault> {
         .map_err(unwritten)
 }
 
+/// Writes which entry shut a regulation, below the title at the right.
+fn put_shut<W: Write>(writer: &mut W, shut: &str) -> Result<(), Fault> {
+    if shut.is_empty() {
+        return Ok(());
+    }
+    write!(
+        writer,
+        "<text x=\"780\" y=\"50\" text-anchor=\"end\">{shut}</text>\n"
+    )
+    .map_err(unwritten)
+}
+
 /// Writes the names of a picture, and what its colours stand for.
 fn put_head<W: Write>(alloc: Global, writer: &mut W, opening: &Opening) -> Result<(), Fault> {
-    let heading = heading_of(alloc, opening)?;
+    let title = title_of(alloc, opening)?;
+    let shut = shut_text(alloc, opening)?;
     let (rates, more) = rates_of(alloc, opening.shape())?;
     let name = id_of(opening);
     let entry = opening.opened_by();
     let id = format!(in alloc; "{name}-{entry}")?;
-    let text = format!(in alloc; "{rates} {more}")?;
+    let text = joined(
+        alloc,
+        [rates.as_str(), more.as_str(), shut.as_str()].as_slice(),
+    )?;
     let frame = Frame {
         id: id.as_str(),
-        title: heading.as_str(),
+        title: title.as_str(),
         text: text.as_str(),
         height: 588,
     };
     put_frame(writer, frame)?;
+    put_shut(writer, shut.as_str())?;
     put_rates(writer, rates.as_str(), more.as_str())?;
     put_legend(writer)
 }
@@ -374,7 +391,7 @@ pub fn put_chart<W: Write>(
     if later > 0 {
         write!(
             writer,
-            "<text x=\"20\" y=\"576\">{later} more hold slots behind the period</text>\n"
+            "<text x=\"20\" y=\"576\">Slots held after the period: {later}</text>\n"
         )
         .map_err(unwritten)?;
     }

@@ -7,21 +7,49 @@ use flow_view::Opening;
 use fpl_text::{Minute, Part};
 use std::alloc::{AllocError, Global};
 
-/// The name of a regulation, its place and its period. One that was shut has the entry that opened it with its name, and
-/// the one that shut it at the end.
-pub fn heading_of(alloc: Global, opening: &Opening) -> Result<String, AllocError> {
+/// The name of a regulation, its place and its period. One that was shut has the entry that opened it with its name.
+pub fn title_of(alloc: Global, opening: &Opening) -> Result<String, AllocError> {
     let (kind, place) = words_of(opening.spot());
     let name = id_of(opening);
     let (start, end) = opening.shape().period();
     let period = period_text(alloc, start, end)?;
     let period = period.as_str();
-    match opening.shut_by() {
-        Some(shut) => {
-            let opened = opening.opened_by();
-            format!(in alloc; "{name}@{opened}, {kind} {place}, {period}, shut by entry {shut}")
-        }
-        None => format!(in alloc; "{name}, {kind} {place}, {period}"),
+    if opening.shut_by().is_some() {
+        let opened = opening.opened_by();
+        format!(in alloc; "{name}@{opened}, {kind} {place}, {period}")
+    } else {
+        format!(in alloc; "{name}, {kind} {place}, {period}")
     }
+}
+
+/// Which entry shut a regulation. Empty if it is open.
+pub fn shut_text(alloc: Global, opening: &Opening) -> Result<String, AllocError> {
+    match opening.shut_by() {
+        Some(entry) => format!(in alloc; "shut by entry {entry}"),
+        None => Ok(String::new(alloc)),
+    }
+}
+
+/// The parts that aren't empty, with commas between them.
+pub fn joined(alloc: Global, parts: &[&str]) -> Result<String, AllocError> {
+    let mut text = String::new(alloc);
+    for part in parts {
+        if part.is_empty() {
+            continue;
+        }
+        if !text.is_empty() {
+            text.push_str(", ")?;
+        }
+        text.push_str(part)?;
+    }
+    Ok(text)
+}
+
+/// The title of a regulation with the entry that shut it.
+pub fn heading_of(alloc: Global, opening: &Opening) -> Result<String, AllocError> {
+    let title = title_of(alloc, opening)?;
+    let shut = shut_text(alloc, opening)?;
+    joined(alloc, [title.as_str(), shut.as_str()].as_slice())
 }
 
 /// A period in words.

@@ -13,7 +13,7 @@ const ABOUT: &str = "Shows a flight plan desk as its journal or its store tells 
 const AFTER: &str =
     "Exit status: 0 if it was shown, or its reader has gone; 1 if reading or writing\n\
     fails, the file can't be opened, the input has no journal, or there is no such\n\
-    regulation, flight or entry; 2 for a bad command line, or if memory is refused.\n\n\
+    regulation, flight or entry; 2 for a bad command line, or if allocation fails.\n\n\
     Times are UTC. The desk of a day, a slot list after entry 12, and a page:\n  \
     slotdesk --start 2409010500 --journal < day.txt > answers.txt\n  \
     slotview answers.txt\n  \
@@ -190,8 +190,25 @@ fn page_command<'a>(alloc: Global) -> Result<Command<'a>, AllocError> {
         .arg(file_argument(alloc))
 }
 
-/// The command line of the program.
-pub fn command<'a>(alloc: Global) -> Result<Command<'a>, AllocError> {
+/// With the commands that show plans and regulations.
+fn with_views<'a>(alloc: Global, command: Command<'a>) -> Result<Command<'a>, AllocError> {
+    command
+        .subcommand(list_command(alloc)?)?
+        .subcommand(flight_command(alloc)?)?
+        .subcommand(load_command(alloc)?)
+}
+
+/// With the commands that show places, refusals and all of a day.
+fn with_further_views<'a>(alloc: Global, command: Command<'a>) -> Result<Command<'a>, AllocError> {
+    command
+        .subcommand(count_command(alloc)?)?
+        .subcommand(sweep_command(alloc)?)?
+        .subcommand(refused_command(alloc)?)?
+        .subcommand(page_command(alloc)?)
+}
+
+/// The program's own arguments.
+fn program<'a>(alloc: Global) -> Result<Command<'a>, AllocError> {
     Command::new(alloc, "slotview")
         .about(ABOUT)
         .version(VERSION)
@@ -200,12 +217,11 @@ pub fn command<'a>(alloc: Global) -> Result<Command<'a>, AllocError> {
         .arg(file_argument(alloc))?
         .arg(at_argument(alloc))?
         .arg(format_argument(alloc))?
-        .arg(table_argument(alloc))?
-        .subcommand(list_command(alloc)?)?
-        .subcommand(flight_command(alloc)?)?
-        .subcommand(load_command(alloc)?)?
-        .subcommand(count_command(alloc)?)?
-        .subcommand(sweep_command(alloc)?)?
-        .subcommand(refused_command(alloc)?)?
-        .subcommand(page_command(alloc)?)
+        .arg(table_argument(alloc))
+}
+
+/// The command line of the program.
+pub fn command<'a>(alloc: Global) -> Result<Command<'a>, AllocError> {
+    let command = with_views(alloc, program(alloc)?)?;
+    with_further_views(alloc, command)
 }

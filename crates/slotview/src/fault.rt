@@ -63,7 +63,7 @@ pub fn unwritten(error: io::Error) -> Fault {
     }
 }
 
-/// Writes the line of a fault, and answers its status.
+/// Writes the line of a fault, and returns its status.
 pub fn tell<E: Write>(fault: Fault, errors: &mut E) -> u8
     ensures { result ≤ 2 }
 {
@@ -78,14 +78,14 @@ pub fn tell<E: Write>(fault: Fault, errors: &mut E) -> u8
     fault.status()
 }
 
-/// Ends a run for which there was no memory before its words were read: writes the line, and answers the status.
+/// Ends a run for which there was no memory before its words were read: writes the line, and returns the status.
 pub fn tell_no_memory<E: Write>(errors: &mut E) -> u8
     ensures { result ≤ 2 }
 {
     tell(Fault::OutOfMemory, errors)
 }
 
-/// Ends a run whose words can't be used: writes why, and answers the status.
+/// Ends a run whose words can't be used: writes why, and returns the status.
 pub fn tell_words<E: Write>(fault: &WordFault, errors: &mut E) -> u8
     ensures { result ≤ 2 }
 {

@@ -1,17 +1,31 @@
 //! The word or the item at which a filing was refused.
+use flow_traffic::MAX_REGULATIONS;
 use fpl_items::{Item, Items, Other18};
 use fpl_message::Refusal;
 use fpl_text::{
-    Departure, Destination, Fields, Heading, Ident, Squeezed, Title, Words, begins_amendment, split,
+    Departure, Destination, Fields, Heading, Ident, Squeezed, Text, Title, Words, begins_amendment,
+    split,
 };
 use std::alloc::{AllocError, Global};
 
 /// How many fields of a message that isn't an FPL come before field 18.
 const BEFORE_18: usize = 4;
 
-/// The word or the item of a text at which it was refused, or no bytes where no part of it is at fault.
-pub fn word_at_fault(alloc: Global, text: &[u8], refusal: Refusal) -> Result<Vec<u8>, AllocError> {
+/// The word or the item of a text at which it was refused by a desk of at most so many plans, or the limit that it
+/// would pass. There are no bytes if the text has none.
+pub fn word_at_fault(
+    alloc: Global,
+    text: &[u8],
+    refusal: Refusal,
+    max_plans: u32,
+) -> Result<Vec<u8>, AllocError> {
     match refusal {
+        Refusal::Empty => Ok(Vec::new(alloc)),
+        Refusal::NoBracket => bracket_at_fault(alloc, text),
+        Refusal::PlansFull => Ok(format!(in alloc; "{max_plans} plans")?.into_bytes()),
+        Refusal::RegulationsFull => {
+            Ok(format!(in alloc; "{MAX_REGULATIONS} regulations")?.into_bytes())
+        }
         Refusal::BadByte(place) => Vec::from_slice(alloc, word_around(text, place as usize)),
         Refusal::FieldCount => field_count(alloc, text),
         Refusal::UnknownTitle => title_word(alloc, text),
@@ -21,18 +35,18 @@ pub fn word_at_fault(alloc: Global, text: &[u8], refusal: Refusal) -> Result<Vec
         }
         Refusal::BadPeriod => order_words(alloc, text, 4, 2),
         Refusal::BadRate => order_words(alloc, text, 6, usize::MAX),
-        Refusal::Empty
-        | Refusal::NoBracket
-        | Refusal::KeyChange
-        | Refusal::PlansFull
-        | Refusal::RegulationsFull => Ok(Vec::new(alloc)),
         _ => message_word(alloc, text, refusal),
     }
 }
 
+/// Whether a byte is a space or ends a line.
+fn is_blank(byte: u8) -> bool {
+    matches!(byte, b' ' | b'\r' | b'\n')
+}
+
 /// Whether a byte is outside of words: a blank, a bracket or a hyphen.
 fn is_outside(byte: u8) -> bool {
-    matches!(byte, b' ' | b'\r' | b'\n' | b'(' | b')' | b'-')
+    is_blank(byte) || is_bracket(byte) || byte == b'-'
 }
 
 /// The bytes round a place, up to blanks, brackets and hyphens.
@@ -49,6 +63,34 @@ fn word_around(text: &[u8], place: usize) -> &[u8] {
         }
     }
     text.get(start..end).unwrap_or(b"")
+}
+
+/// Whether a byte is a bracket.
+fn is_bracket(byte: u8) -> bool {
+    matches!(byte, b'(' | b')')
+}
+
+/// The first bracket within a message, or that the last one is missing, with its offset in the text.
+fn bracket_at_fault(alloc: Global, text: &[u8]) -> Result<Vec<u8>, AllocError> {
+    let mut opened = false;
+    let mut within = None;
+    let mut end = 0usize;
+    for (index, byte) in text.iter().enumerate() {
+        if opened && within.is_none() && is_bracket(*byte) {
+            within = Some((index, *byte));
+        }
+        opened = opened || *byte == b'(';
+        if !is_blank(*byte) {
+            end = index.saturating_add(1);
+        }
+    }
+    match within {
+        Some((index, byte)) => {
+            let bracket = char::from(byte);
+            Ok(format!(in alloc; "{bracket} at byte {index}")?.into_bytes())
+        }
+        None => Ok(format!(in alloc; "no ) at byte {end}")?.into_bytes()),
+    }
 }
 
 /// How many fields a text has.
@@ -124,7 +166,42 @@ fn message_word(alloc: Global, text: &[u8], refusal: Refusal) -> Result<Vec<u8>,
         Refusal::NotLater | Refusal::DelayTooLong | Refusal::Past | Refusal::TooEarly => {
             Vec::from_slice(alloc, field13(&fields))
         }
+        Refusal::KeyChange => key_item(alloc, &fields),
         _ => Vec::from_slice(alloc, field_at(&fields, 1)),
+    }
+}
+
+/// What a CHG would change of a plan's key: the departure, by its amended field 13, or else the day, by the DOF of its
+/// amended field 18.
+fn key_item(alloc: Global, fields: &Fields<Global>) -> Result<Vec<u8>, AllocError> {
+    let own = place_of(fields.title(), 13).map_or(b"".as_slice(), |place| field_at(fields, place));
+    if let Some(field) = amendment(fields, 13) {
+        if departure_in(field) != departure_in(own) {
+            return Vec::from_slice(alloc, field);
+        }
+    }
+    for item in Items::new(amended_field18(fields)) {
+        if item.name() == b"DOF".as_slice() {
+            return item_text(alloc, &item);
+        }
+    }
+    Ok(Vec::new(alloc))
+}
+
+/// The departure that a field 13 names, which may be an amended one.
+fn departure_in(field: &[u8]) -> Option<Text<4>> {
+    let text = match amended_of(field) {
+        Some((_, text)) => text,
+        None => field,
+    };
+    Departure::read(text).ok().map(|departure| departure.place)
+}
+
+/// The text of the amended field 18. Empty without one.
+fn amended_field18(fields: &Fields<Global>) -> &[u8] {
+    match amendment(fields, 18).and_then(amended_of) {
+        Some((_, text)) => text,
+        None => b"",
     }
 }
 
@@ -243,12 +320,10 @@ fn field18(alloc: Global, fields: &Fields<Global>) -> &[u8] {
     if !own.is_empty() && !begins_amendment(own) && is_bad_item(alloc, own) {
         return own;
     }
-    match amendment(fields, 18) {
-        Some(field) => match amended_of(field) {
-            Some((_, text)) => text,
-            None => b"",
-        },
-        None => own,
+    if amendment(fields, 18).is_some() {
+        amended_field18(fields)
+    } else {
+        own
     }
 }
 

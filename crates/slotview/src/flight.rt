@@ -7,8 +7,7 @@ use crate::sheet::{Cell, Column, Sheet, Side};
 use crate::summary::place_text;
 use flow_core::{Core, Told};
 use flow_plans::PlanState;
-use flow_regulations::Regulation;
-use flow_view::{entry_at, row_at};
+use flow_view::{Opening, SlotRow, entry_at, openings_of};
 use fpl_text::{Minute, Text};
 use std::alloc::{AllocError, Global};
 use std::collections::HashMap;
@@ -25,7 +24,7 @@ static PLANS: [Column; 8] = [
     Column("cause", 8, Side::Left),
 ];
 
-static SLOTS: [Column; 8] = [
+static SLOTS: [Column; 10] = [
     Column("plan", 5, Side::Right),
     Column("regul", 8, Side::Left),
     Column("place", 15, Side::Left),
@@ -34,6 +33,21 @@ static SLOTS: [Column; 8] = [
     Column("time", 10, Side::Time),
     Column("delay", 5, Side::Right),
     Column("state", 8, Side::Left),
+    Column("opened", 7, Side::Right),
+    Column("shut", 7, Side::Right),
+];
+
+/// Those of a table of text, in 80 characters: openings of one name differ in their SHUT.
+static SLOTS_IN_TEXT: [Column; 9] = [
+    Column("plan", 5, Side::Right),
+    Column("regul", 8, Side::Left),
+    Column("place", 15, Side::Left),
+    Column("entry", 10, Side::Time),
+    Column("slot", 5, Side::Right),
+    Column("time", 10, Side::Time),
+    Column("delay", 5, Side::Right),
+    Column("state", 8, Side::Left),
+    Column("shut", 6, Side::Right),
 ];
 
 static SAID: [Column; 9] = [
@@ -110,46 +124,105 @@ fn put_plan<W: Write + Drop>(
     ])
 }
 
-/// Writes where a plan's flight enters a regulation, and the slot that it has there.
-fn put_slot<W: Write + Drop>(
-    alloc: Global,
-    sheet: &mut Sheet<'_, W>,
-    core: &Core,
-    regulation: &Regulation,
-    number: u32,
-) -> Result<(), Fault> {
-    let Some(plan) = core.plan(number) else {
-        return Ok(());
-    };
-    let list = regulation.list();
-    let entry = entry_at(plan, core.setup().taxi(), regulation.spot());
-    let row = match list.slot_of(number) {
-        Some(slot) => row_at(core, regulation.spot(), list, slot),
-        None => None,
-    };
-    if entry.is_none() && row.is_none() {
-        return Ok(());
+/// The slot of a plan's flight in a regulation.
+fn slot_in(opening: &Opening, number: u32) -> Option<&SlotRow> {
+    opening.rows().iter().find(|row| row.plan == number)
+}
+
+/// Where a plan's flight without a slot enters an open regulation.
+fn entry_without_slot(core: &Core, opening: &Opening, number: u32) -> Option<Minute> {
+    if opening.shut_by().is_some() {
+        return None;
     }
-    let place = place_text(alloc, regulation.spot())?;
-    let (slot, time, delay, state) = match &row {
-        Some(row) => (
+    entry_at(core.plan(number)?, core.setup().taxi(), opening.spot())
+}
+
+/// The cells of a slot: its number, its time, the delay and how it is held.
+fn slot_cells(slot: Option<&SlotRow>) -> [Cell; 4] {
+    match slot {
+        Some(row) => [
             Cell::number(row.slot),
             Cell::Moment(row.time),
             Cell::number(row.delay()),
             Cell::text(holding_name(row.holding())),
-        ),
-        None => (Cell::Blank, Cell::Blank, Cell::Blank, Cell::Blank),
-    };
+        ],
+        None => [Cell::Blank, Cell::Blank, Cell::Blank, Cell::Blank],
+    }
+}
+
+/// The entries that opened and shut a regulation. A table of text has a column for the second alone, which comes first.
+fn entry_cells(opening: &Opening, is_text: bool) -> [Cell; 2] {
+    let opened = Cell::number(opening.opened_by());
+    let shut = Cell::number_or_blank(opening.shut_by());
+    if is_text {
+        [shut, opened]
+    } else {
+        [opened, shut]
+    }
+}
+
+/// Writes where a plan's flight enters a regulation, and its slot there.
+fn put_row<W: Write + Drop>(
+    alloc: Global,
+    sheet: &mut Sheet<'_, W>,
+    opening: &Opening,
+    number: u32,
+    entry: Option<Minute>,
+    found: Option<&SlotRow>,
+) -> Result<(), Fault> {
+    let place = place_text(alloc, opening.spot())?;
+    let [slot, time, delay, state] = slot_cells(found);
+    let [ninth, tenth] = entry_cells(opening, sheet.is_text());
     sheet.put(&[
         Cell::number(number),
-        Cell::text(regulation.id().as_bytes()),
+        Cell::text(opening.id().as_bytes()),
         Cell::text(place.as_bytes()),
         Cell::moment_or_blank(entry),
         slot,
         time,
         delay,
         state,
+        ninth,
+        tenth,
     ])
+}
+
+/// Writes the slot that a plan's flight has in a regulation, or had before its SHUT, or where it enters an open one.
+fn put_slot<W: Write + Drop>(
+    alloc: Global,
+    sheet: &mut Sheet<'_, W>,
+    core: &Core,
+    opening: &Opening,
+    number: u32,
+) -> Result<(), Fault> {
+    if let Some(row) = slot_in(opening, number) {
+        return put_row(alloc, sheet, opening, number, row.entry(), Some(row));
+    }
+    match entry_without_slot(core, opening, number) {
+        Some(entry) => put_row(alloc, sheet, opening, number, Some(entry), None),
+        None => Ok(()),
+    }
+}
+
+/// Writes the slots of plans in the regulations that were opened.
+fn put_slots<W: Write + Drop>(
+    alloc: Global,
+    sheet: &mut Sheet<'_, W>,
+    core: &Core,
+    numbers: &[u32],
+) -> Result<(), Fault> {
+    if sheet.is_text() {
+        sheet.begin("slots", &SLOTS_IN_TEXT)?;
+    } else {
+        sheet.begin("slots", &SLOTS)?;
+    }
+    let openings = openings_of(alloc, core)?;
+    for number in numbers {
+        for opening in &openings {
+            put_slot(alloc, sheet, core, opening, *number)?;
+        }
+    }
+    Ok(())
 }
 
 /// Writes a message about a flight, or a notice to it.
@@ -166,10 +239,6 @@ fn put_event<W: Write + Drop>(
         Some(cause) => Cell::text(cause.as_bytes()),
         None => Cell::Blank,
     };
-    let plan = match event.plan {
-        Some(number) => Cell::number(number),
-        None => Cell::Blank,
-    };
     let actual = match event.actual {
         Some(actual) => Cell::long(format!(in alloc; "{actual}")?),
         None => Cell::Blank,
@@ -178,7 +247,7 @@ fn put_event<W: Write + Drop>(
         Cell::number(event.entry),
         Cell::Moment(event.time),
         Cell::text(event.what.title().as_bytes()),
-        plan,
+        Cell::number_or_blank(event.plan),
         Cell::moment_or_blank(event.off_block),
         actual,
         Cell::text(window.as_bytes()),
@@ -217,12 +286,7 @@ pub fn put_flight<W: Write + Drop>(
     for number in &numbers {
         put_plan(sheet, core, *number)?;
     }
-    sheet.begin("slots", &SLOTS)?;
-    for number in &numbers {
-        for regulation in core.regulations() {
-            put_slot(alloc, sheet, core, regulation, *number)?;
-        }
-    }
+    put_slots(alloc, sheet, core, numbers.as_slice())?;
     sheet.begin("said", &SAID)?;
     put_said(alloc, sheet, core, first.key().ident)?;
     Ok(true)

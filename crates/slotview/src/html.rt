@@ -13,14 +13,19 @@ const STYLE: &str = "\
 --faint:#454a52;--link:#8cc4ff}}
 body{margin:0 auto;max-width:62rem;padding:0 1rem 3rem;font:1rem/1.5 system-ui,sans-serif;\
 background:var(--paper);color:var(--ink)}
+h1{font-size:clamp(1.4rem,6vw,2rem)}
+h2{font-size:1.3rem}
+h3{font-size:1.1rem}
 a{color:var(--link)}
-nav ul{display:flex;flex-wrap:wrap;gap:.2rem 1rem;list-style:none;padding:0}
+nav ul{display:flex;flex-wrap:wrap;gap:.2rem 1rem;list-style:none;padding:0;margin:.5rem 0}
+nav .many{display:block;columns:7.5rem;column-gap:.5rem}
 summary{cursor:pointer}
 .wide{overflow-x:auto;margin:.5rem 0}
 table{border-collapse:collapse;font-variant-numeric:tabular-nums}
-caption{text-align:left;padding:.5rem 0}
+.caption{margin:1rem 0 0}
 th,td{padding:.15rem .6rem .15rem 0;border-bottom:1px solid var(--faint);\
 text-align:left;white-space:nowrap}
+thead th{white-space:normal;vertical-align:bottom}
 .n{text-align:right}
 .chart{display:block;width:100%;min-width:36rem;max-width:800px;height:auto;fill:var(--ink)}
 .paper{fill:var(--paper)}
@@ -32,6 +37,10 @@ body{max-width:none;font-size:9pt}nav{display:none}.wide{overflow:visible}\
 .chart{min-width:0}tr,.chart{break-inside:avoid}\
 details::details-content{content-visibility:visible;block-size:auto}}
 ";
+
+/// What a picture stands in, which scrolls if it is narrower.
+pub const PICTURE_BOX: &str =
+    "<div class=\"wide\" role=\"region\" aria-label=\"Picture\" tabindex=\"0\">\n";
 
 /// Writes a text.
 pub fn put<W: Write>(writer: &mut W, text: &str) -> Result<(), Fault> {
@@ -58,11 +67,21 @@ pub fn end_page<W: Write>(writer: &mut W) -> Result<(), Fault> {
 /// The heading of a column, and whether its cells are numbers.
 pub struct Head(pub &'static str, pub bool);
 
-/// Begins a table.
-pub fn begin_table<W: Write>(writer: &mut W, caption: &str, heads: &[Head]) -> Result<(), Fault> {
+/// What a table is named by: its id among the tables of the page, and its caption.
+pub struct Caption<'a>(pub &'a str, pub &'a str);
+
+/// Begins a table. Its caption is above the box in which a wide table scrolls.
+pub fn begin_table<W: Write>(
+    writer: &mut W,
+    caption: Caption<'_>,
+    heads: &[Head],
+) -> Result<(), Fault> {
+    let Caption(id, text) = caption;
     write!(
         writer,
-        "<div class=\"wide\" tabindex=\"0\"><table>\n<caption>{caption}</caption>\n<thead><tr>"
+        "<p class=\"caption\" id=\"table-{id}\">{text}</p>\n\
+            <div class=\"wide\" role=\"region\" aria-labelledby=\"table-{id}\" tabindex=\"0\">\n\
+            <table aria-labelledby=\"table-{id}\">\n<thead><tr>"
     )
     .map_err(unwritten)?;
     for Head(name, is_number) in heads {

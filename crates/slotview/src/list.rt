@@ -81,10 +81,6 @@ fn cells_of(opening: &Opening, line: &Line) -> [Cell; 15] {
         Some(cause) => Cell::text(cause.as_bytes()),
         None => Cell::Blank,
     };
-    let shut = match opening.shut_by() {
-        Some(entry) => Cell::number(entry),
-        None => Cell::Blank,
-    };
     [
         Cell::text(opening.id().as_bytes()),
         Cell::number(line.row.slot),
@@ -100,7 +96,7 @@ fn cells_of(opening: &Opening, line: &Line) -> [Cell; 15] {
         Cell::time_or_blank(line.ctot),
         cause,
         Cell::number(opening.opened_by()),
-        shut,
+        Cell::number_or_blank(opening.shut_by()),
     ]
 }
 

@@ -39,7 +39,7 @@ pub fn greatest_of(loads: &[Load]) -> u64 {
     greatest
 }
 
-/// A bar of a sign for each so many flights, begun ones too, with a stroke behind as many signs as the slots have.
+/// A bar of a character for each so many flights, begun ones too, with a stroke after as many as the slots have.
 fn bar_of(alloc: Global, count: u64, slots: u64, each: u64) -> Result<Vec<u8>, AllocError> {
     let mut bar = Vec::new(alloc);
     let filled = count.div_ceil(each.max(1));
@@ -82,7 +82,7 @@ fn put_load<W: Write + Drop>(
     }
 }
 
-/// Says what stands behind the period, and what the signs of the bars are.
+/// Says how many have slots after the period, and what the characters of the bars are.
 fn put_key<W: Write + Drop>(
     alloc: Global,
     sheet: &mut Sheet<'_, W>,
@@ -92,7 +92,7 @@ fn put_key<W: Write + Drop>(
     let key = format!(in alloc; "\n# is {each} of them, | the slots that the rates give\n")?;
     sheet.note(key.as_str())?;
     if later > 0 {
-        let line = format!(in alloc; "{later} more hold slots behind the period\n")?;
+        let line = format!(in alloc; "Slots held after the period: {later}\n")?;
         sheet.note(line.as_str())?;
     }
     Ok(())

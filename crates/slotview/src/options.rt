@@ -1,4 +1,4 @@
-//! What the words of the command line ask for.
+//! What the arguments ask for.
 use crate::commands::command;
 use crate::words::{entry_of, may_be_name, moment_of, rates_of, spot_of};
 use clap::error::ErrorKind;
@@ -108,7 +108,7 @@ impl Shown<'_> {
     }
 }
 
-/// What the words of the command line ask for.
+/// What the arguments ask for.
 #[derive(Clone, Copy)]
 pub struct Options<'a> {
     pub shown: Shown<'a>,
@@ -357,7 +357,7 @@ fn error_of(
     command.error(ErrorKind::ValueValidation, text.as_str())
 }
 
-/// Reads the words of the command line, of which the first is the program's name.
+/// Reads the arguments, of which the first is the program's name.
 pub fn read_options<'a>(alloc: Global, words: &'a [String]) -> Result<Options<'a>, Error> {
     let mut command = command(alloc)?;
     let matches = command.try_get_matches_from_mut(words)?;

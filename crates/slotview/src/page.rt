@@ -30,19 +30,28 @@ fn put_counts<W: Write>(writer: &mut W, core: &Core, openings: &[Opening]) -> Re
     write!(
         writer,
         "<p>{entries} entries. Plans: {filed} filed, {departed} departed, {cancelled} cancelled. \
-            Regulations: {regulations}, of which {shut} were shut. All times are UTC, hhmm, and \
+            Regulations: {regulations}, {shut} of them shut. All times are UTC, hhmm, and \
             ddhhmm where it is another day.</p>\n"
     )
     .map_err(unwritten)
 }
 
-/// Writes links to the sections and the regulations.
-fn put_links<W: Write>(writer: &mut W, openings: &[Opening]) -> Result<(), Fault> {
-    put(
+/// More regulations than these have their links folded.
+const MOST_UNFOLDED: usize = 12;
+
+/// Writes links to the regulations.
+fn put_regulation_links<W: Write>(writer: &mut W, openings: &[Opening]) -> Result<(), Fault> {
+    let count = openings.len();
+    let open = if count > MOST_UNFOLDED {
+        ""
+    } else {
+        " open=\"open\""
+    };
+    write!(
         writer,
-        "<nav aria-label=\"Sections\"><ul>\n<li><a href=\"#delay\">Delay</a></li>\n\
-            <li><a href=\"#regulations\">Regulations</a></li>\n",
-    )?;
+        "<details{open}><summary>Regulations: {count}</summary><ul class=\"many\">\n"
+    )
+    .map_err(unwritten)?;
     for opening in openings {
         let id = id_of(opening);
         let entry = opening.opened_by();
@@ -57,28 +66,49 @@ fn put_links<W: Write>(writer: &mut W, openings: &[Opening]) -> Result<(), Fault
         )
         .map_err(unwritten)?;
     }
+    put(writer, "</ul></details>\n")
+}
+
+/// Writes links to the sections, and to the regulations, if there are any.
+fn put_links<W: Write>(writer: &mut W, openings: &[Opening]) -> Result<(), Fault> {
     put(
         writer,
-        "<li><a href=\"#counts\">Counts</a></li>\n<li><a href=\"#flights\">Flights</a></li>\n\
-            </ul></nav>\n<main>\n",
-    )
+        "<nav aria-label=\"Sections\"><ul>\n<li><a href=\"#delay\">Delay</a></li>\n\
+            <li><a href=\"#regulations\">Regulations</a></li>\n\
+            <li><a href=\"#counts\">Counts</a></li>\n\
+            <li><a href=\"#flights\">Flights</a></li>\n</ul>\n",
+    )?;
+    if !openings.is_empty() {
+        put_regulation_links(writer, openings)?;
+    }
+    put(writer, "</nav>\n<main>\n")
+}
+
+/// Writes the sections of a page.
+fn put_sections<W: Write>(
+    alloc: Global,
+    writer: &mut W,
+    core: &Core,
+    openings: &[Opening],
+) -> Result<(), Fault> {
+    let delays = delays_in(alloc, core, openings)?;
+    put_delay_section(alloc, writer, core, &delays)?;
+    put_regulation_section(alloc, writer, core, openings)?;
+    put_count_section(alloc, writer, core, openings)?;
+    put_flight_section(alloc, writer, core, &delays)
 }
 
 /// Writes the page of a desk.
 pub fn put_page<W: Write + Drop>(alloc: Global, mut writer: W, core: &Core) -> Result<(), Fault> {
     let openings = openings_of(alloc, core)?;
     let openings = openings.as_slice();
-    let delays = delays_in(alloc, core, openings)?;
     let date = DateOf(core.now());
     let time = Clock(core.now());
     let title = format!(in alloc; "Desk on {date} at {time} UTC")?;
     begin_page(&mut writer, title.as_str())?;
     put_counts(&mut writer, core, openings)?;
     put_links(&mut writer, openings)?;
-    put_delay_section(alloc, &mut writer, core, &delays)?;
-    put_regulation_section(alloc, &mut writer, core, openings)?;
-    put_count_section(alloc, &mut writer, core, openings)?;
-    put_flight_section(alloc, &mut writer, core, &delays)?;
+    put_sections(alloc, &mut writer, core, openings)?;
     end_page(&mut writer)?;
     writer.flush().map_err(unwritten)
 }

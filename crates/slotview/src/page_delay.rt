@@ -1,7 +1,7 @@
 //! The delay of flights on a page.
 use crate::delay::{Delays, MOST_SHOWN, classes_of, mean_of};
 use crate::fault::{Fault, unwritten};
-use crate::html::{Head, Tenths, When, begin_table, end_table, put};
+use crate::html::{Caption, Head, PICTURE_BOX, Tenths, When, begin_table, end_table, put};
 use crate::svg::{Frame, Pixels, put_frame};
 use flow_core::Core;
 use flow_view::{DelayTotals, FlightDelay};
@@ -34,7 +34,10 @@ const HIGHEST: u64 = 1400;
 fn put_totals<W: Write>(writer: &mut W, totals: &DelayTotals) -> Result<(), Fault> {
     begin_table(
         writer,
-        "Each flight once, by its most penalising regulation",
+        Caption(
+            "totals",
+            "Each flight once, by its most penalising regulation",
+        ),
         &TOTALS,
     )?;
     let flights = totals.flights;
@@ -77,7 +80,7 @@ fn put_histogram<W: Write>(
         text: text.as_str(),
         height: 240,
     };
-    put(writer, "<div class=\"wide\" tabindex=\"0\">\n")?;
+    put(writer, PICTURE_BOX)?;
     put_frame(writer, frame)?;
     let mut most = 1;
     for (_, count) in &classes_of(&totals.spread) {
@@ -150,7 +153,10 @@ pub fn put_delay_section<W: Write>(
     put(writer, "<h3>Most delayed</h3>\n")?;
     begin_table(
         writer,
-        "The most delayed flights and the regulations that cause it",
+        Caption(
+            "delayed",
+            "The most delayed flights and the regulations that cause it",
+        ),
         &DELAYED,
     )?;
     put(writer, "<tbody>\n")?;

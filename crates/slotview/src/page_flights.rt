@@ -2,7 +2,7 @@
 use crate::course::{Event, courses_of};
 use crate::delay::Delays;
 use crate::fault::{Fault, unwritten};
-use crate::html::{Actual, Head, When, begin_table, end_table, put};
+use crate::html::{Actual, Caption, Head, When, begin_table, end_table, put};
 use flow_core::Core;
 use flow_view::FlightDelay;
 use fpl_text::Text;
@@ -156,7 +156,10 @@ pub fn put_flight_section<W: Write>(
     )?;
     begin_table(
         writer,
-        "What was filed about each flight and said to it, the most delayed first",
+        Caption(
+            "flights",
+            "What was filed about each flight and said to it, the most delayed first",
+        ),
         &COURSE,
     )?;
     put_courses(writer, flights.list.as_slice(), events.as_slice(), day)?;

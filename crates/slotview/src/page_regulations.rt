@@ -5,7 +5,7 @@ use crate::count::{counts_in, flights_of, later_by};
 use crate::count_chart::put_count_chart;
 use crate::delay::mean_of;
 use crate::fault::{Fault, unwritten};
-use crate::html::{Head, Number, Tenths, When, begin_table, end_table, put};
+use crate::html::{Caption, Head, Number, PICTURE_BOX, Tenths, When, begin_table, end_table, put};
 use crate::list::holding_name;
 use crate::named::id_of;
 use crate::options::Asked;
@@ -146,8 +146,10 @@ fn put_slots<W: Write>(alloc: Global, writer: &mut W, opening: &Opening) -> Resu
     let (start, _) = opening.shape().period();
     let day = start.day().number();
     let id = id_of(opening);
-    let caption = format!(in alloc; "Slot list of {id}")?;
-    begin_table(writer, caption.as_str(), &SLOTS)?;
+    let entry = opening.opened_by();
+    let table = format!(in alloc; "slots-{id}-{entry}")?;
+    let text = format!(in alloc; "Slot list of {id}")?;
+    begin_table(writer, Caption(table.as_str(), text.as_str()), &SLOTS)?;
     put(writer, "<tbody>\n")?;
     for line in &lines_with(alloc, opening.rows())? {
         put_line(writer, line, day)?;
@@ -172,7 +174,7 @@ fn put_regulation<W: Write>(
         writer,
         "<section id=\"regulation-{id}-{entry}\">\n<h3>{heading}</h3>\n\
             <details><summary>Chart and slot list of {id}: {flights} flights</summary>\n\
-            <div class=\"wide\" tabindex=\"0\">\n"
+            {PICTURE_BOX}"
     )
     .map_err(unwritten)?;
     put_chart(alloc, writer, core, opening, step_of(opening))?;
@@ -194,7 +196,10 @@ pub fn put_regulation_section<W: Write>(
     )?;
     begin_table(
         writer,
-        "A regulation that was shut is shown as it was before that",
+        Caption(
+            "regulations",
+            "A regulation that was shut is shown as it was before that",
+        ),
         &REGULATIONS,
     )?;
     put(writer, "<tbody>\n")?;
@@ -250,6 +255,23 @@ fn put_count<W: Write>(writer: &mut W, count: &Count, day: u32) -> Result<(), Fa
     .map_err(unwritten)
 }
 
+/// Writes the counts of a place by the hour.
+fn put_hours<W: Write>(
+    alloc: Global,
+    writer: &mut W,
+    core: &Core,
+    asked: &Asked,
+) -> Result<(), Fault> {
+    put(writer, "<tbody>\n")?;
+    if let (Some(from), Some(to)) = (asked.from, asked.to) {
+        let day = from.day().number();
+        for count in &counts_in(alloc, core, &asked.spot, (from, to), (60, 60))? {
+            put_count(writer, count, day)?;
+        }
+    }
+    put(writer, "</tbody>\n")
+}
+
 /// Writes the counts of the place of a regulation, with their picture.
 fn put_place<W: Write>(
     alloc: Global,
@@ -262,24 +284,15 @@ fn put_place<W: Write>(
     write!(
         writer,
         "<h3>{kind} {place}</h3>\n<details><summary>Entry counts of {kind} {place}</summary>\n\
-            <div class=\"wide\" tabindex=\"0\">\n"
+            {PICTURE_BOX}"
     )
     .map_err(unwritten)?;
     put_count_chart(alloc, writer, core, &asked)?;
     put(writer, "</div>\n")?;
-    begin_table(
-        writer,
-        "Flights that are planned to enter, regulated or not",
-        &COUNTS,
-    )?;
-    put(writer, "<tbody>\n")?;
-    if let (Some(from), Some(to)) = (asked.from, asked.to) {
-        let day = from.day().number();
-        for count in &counts_in(alloc, core, &asked.spot, (from, to), (60, 60))? {
-            put_count(writer, count, day)?;
-        }
-    }
-    put(writer, "</tbody>\n")?;
+    let table = format!(in alloc; "counts-{kind}-{place}")?;
+    let text = "Flights that are planned to enter, regulated or not";
+    begin_table(writer, Caption(table.as_str(), text), &COUNTS)?;
+    put_hours(alloc, writer, core, &asked)?;
     end_table(writer)?;
     put(writer, "</details>\n")
 }

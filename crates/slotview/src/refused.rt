@@ -67,48 +67,77 @@ fn reason_text(alloc: Global, refusal: Refusal) -> Result<String, AllocError> {
     }
 }
 
+/// A refused filing: its entry, the desk's time then, why, and what is at fault.
+#[derive(Drop)]
+struct Refused<'a> {
+    entry: Entry<'a>,
+    time: Minute,
+    refusal: Refusal,
+    word: Vec<u8>,
+}
+
 /// Writes a refused filing to a table of text.
 fn put_in_text<W: Write + Drop>(
     alloc: Global,
     sheet: &mut Sheet<'_, W>,
-    entry: &Entry<'_>,
-    time: Minute,
-    refusal: Refusal,
+    refused: &Refused<'_>,
 ) -> Result<(), Fault> {
-    let word = word_at_fault(alloc, entry.text(), refusal)?;
-    let word = line_of(alloc, word.as_slice())?;
-    let text = line_of(alloc, entry.text())?;
+    let word = line_of(alloc, refused.word.as_slice())?;
+    let text = line_of(alloc, refused.entry.text())?;
     sheet.put(&[
-        Cell::number(entry.receipt().number),
-        Cell::Moment(time),
-        Cell::long(reason_text(alloc, refusal)?),
+        Cell::number(refused.entry.receipt().number),
+        Cell::Moment(refused.time),
+        Cell::long(reason_text(alloc, refused.refusal)?),
         Cell::long(shortened(alloc, word.as_str(), WORD_SIGNS)?),
         Cell::long(shortened(alloc, text.as_str(), TEXT_SIGNS)?),
     ])
 }
 
-/// Writes a refused filing.
-fn put_refused<W: Write + Drop>(
+/// Writes a refused filing whole.
+fn put_whole<W: Write + Drop>(
     alloc: Global,
     sheet: &mut Sheet<'_, W>,
-    entry: &Entry<'_>,
-    time: Minute,
-    refusal: Refusal,
+    refused: &Refused<'_>,
 ) -> Result<(), Fault> {
-    let word = word_at_fault(alloc, entry.text(), refusal)?;
+    let refusal = refused.refusal;
     let detail = match refusal.detail() {
         Some(detail) => Cell::Number(detail as u64),
         None => Cell::Blank,
     };
     sheet.put(&[
-        Cell::number(entry.receipt().number),
-        Cell::Moment(time),
+        Cell::number(refused.entry.receipt().number),
+        Cell::Moment(refused.time),
         Cell::number(refusal.number()),
         Cell::text(refusal.name()),
         detail,
-        Cell::long(readable_form(alloc, word.as_slice())?),
-        Cell::long(readable_form(alloc, entry.text())?),
+        Cell::long(readable_form(alloc, refused.word.as_slice())?),
+        Cell::long(readable_form(alloc, refused.entry.text())?),
     ])
+}
+
+/// Writes an entry, if it was refused.
+fn put_entry<W: Write + Drop>(
+    alloc: Global,
+    sheet: &mut Sheet<'_, W>,
+    core: &Core,
+    entry: Entry<'_>,
+    time: Minute,
+) -> Result<(), Fault> {
+    let Verdict::Refused(refusal) = entry.receipt().verdict else {
+        return Ok(());
+    };
+    let word = word_at_fault(alloc, entry.text(), refusal, core.setup().max_plans())?;
+    let refused = Refused {
+        entry,
+        time,
+        refusal,
+        word,
+    };
+    if sheet.is_text() {
+        put_in_text(alloc, sheet, &refused)
+    } else {
+        put_whole(alloc, sheet, &refused)
+    }
 }
 
 /// Writes the refused filings of a journal.
@@ -128,14 +157,7 @@ pub fn put_all_refused<W: Write + Drop>(
             break;
         };
         course.pass(&entry)?;
-        let Verdict::Refused(refusal) = entry.receipt().verdict else {
-            continue;
-        };
-        if sheet.is_text() {
-            put_in_text(alloc, sheet, &entry, course.time(), refusal)?;
-        } else {
-            put_refused(alloc, sheet, &entry, course.time(), refusal)?;
-        }
+        put_entry(alloc, sheet, core, entry, course.time())?;
     }
     Ok(())
 }

@@ -27,8 +27,8 @@ use std::fs::Files;
 use std::io::{BufRead, BufReader, Read, Write};
 use std::mem::ManuallyDrop;
 
-/// Shows what the words of the command line ask for, of which the first is the program's name, and answers the exit
-/// status: 0 where it was shown, 1 where a device failed or it isn't there, 2 where nothing could be run.
+/// Shows what the arguments ask for, of which the first is the program's name, and returns the exit status: 0 if it was
+/// shown, 1 if a device failed or it isn't there, 2 if nothing could be run.
 ///
 /// What is read is the file that they name, or `reader`. What is shown goes to `writer`, one line of a fault and the text
 /// of a bad command line to `errors`. The command line is checked before a byte is read.

@@ -45,6 +45,14 @@ impl Cell {
         Cell::Number(u64::from(number))
     }
 
+    /// What may be a number.
+    pub fn number_or_blank(number: Option<u32>) -> Cell {
+        match number {
+            Some(number) => Cell::number(number),
+            None => Cell::Blank,
+        }
+    }
+
     /// A text of any length, or a blank cell where it is empty.
     pub fn long(text: String) -> Cell {
         if text.is_empty() {

@@ -121,10 +121,6 @@ fn put_regulation<W: Write + Drop>(
     let (from, to) = opening.shape().period();
     let place = place_text(alloc, opening.spot())?;
     let rates = rates_text(alloc, opening.shape())?;
-    let shut = match opening.shut_by() {
-        Some(entry) => Cell::number(entry),
-        None => Cell::Blank,
-    };
     sheet.put(&[
         Cell::text(opening.id().as_bytes()),
         Cell::text(place.as_bytes()),
@@ -138,7 +134,7 @@ fn put_regulation<W: Write + Drop>(
         Cell::Tenths(mean_of(totals.total, totals.flights)),
         Cell::number(totals.greatest),
         Cell::number(opening.opened_by()),
-        shut,
+        Cell::number_or_blank(opening.shut_by()),
     ])
 }
 

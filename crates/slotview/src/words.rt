@@ -1,4 +1,4 @@
-//! What single words of the command line are.
+//! What single arguments are.
 use flow_plans::MAX_ENTRIES;
 use fpl_message::{Filing, FilingFault, Order, Reading, Spot};
 use fpl_text::{Minute, read_moment};

@@ -4,7 +4,7 @@ use Rattle.std.proofs.lemmas.Bool.{cases_lt}
 use Rattle.std.proofs.lemmas.List.{get_or-take, get_or-drop, length-take}
 use Rattle.flow_slots.proofs.held_slot.first_held.Goals as goal
 
--- no slot stands before the end of a chunk that has none
+-- no slot precedes the end of a chunk that has none
 passed-more : (from i n end : ℕ) (slots : List (Option ℕ)) → end ≡ i + n → end ≤ length slots → All (λ slot. slot ≡ None) (take n (drop i slots)) → ((k : ℕ) → from ≤ k → k < i → get_or slots k None ≡ None)
     → (k : ℕ) → from ≤ k → k < end → get_or slots k None ≡ None
 passed-more from i n end slots is all none before k low high = by (cases_lt k i) where
