@@ -1,6 +1,5 @@
 //! Feeders at their desk, each at its own source, in a thread of its own.
-ghost use Rattle.std.specs.Prelude.{◌≡◌, ◌≤◌, ◌<◌, ◌+◌, ◌++◌, [], ℕ, List, Option, length, map, vec_len, vec_capacity};
-ghost use Rattle.std.specs.Prelude.{slice_index_or, IfErr, OnOk};
+ghost use Rattle.std.specs.Prelude.{◌≡◌, ◌≤◌, ◌<◌, [], ℕ, List, Option, length, slice_index_or, IfErr, OnOk};
 ghost use Rattle.flow_input.specs.Writes.{Writes};
 ghost use Rattle.flow_input.specs.Reader.{Agrees};
 ghost use Rattle.flow_desk.specs.Histories.{IsLawful};
@@ -14,6 +13,7 @@ use flow_desk::{Desk, Name, Pass};
 use flow_input::{Counted, Input, IntakeFault, take_frame, write_bytes};
 use std::alloc::{Allocator, Global};
 use std::io::{Read, Write};
+use std::mem::replace;
 use std::sync::Wait;
 use std::thread;
 use std::thread::Threads;
@@ -186,102 +186,13 @@ fn run_seats<
     );
 }
 
-/// Seats each feed with the pass of its feeder, in their order.
-fn seat_all<N: Name, R: Drop, W: Drop, A: Allocator + Copy>(
-    passes: &mut Vec<Pass<N, A>, A>,
-    feeds: &mut Vec<Feed<R, W>, A>,
-    seated: &mut Vec<Seated<N, R, W, A>, A>,
-)
-    requires each { length passes.old.items ≡ length feeds.old.items }
-    requires room { vec_len seated.old + length passes.old.items ≤ vec_capacity seated.old }
-    ensures passes { map (λ s. s.pass) seated.new.items ≡ map (λ s. s.pass) seated.old.items ++ passes.old.items }
-    ensures feeds { map (λ s. s.feed) seated.new.items ≡ map (λ s. s.feed) seated.old.items ++ feeds.old.items }
-    ensures none { (passes.new.items ≡ []) × (feeds.new.items ≡ []) }
-    ensures rooms { (vec_capacity passes.new ≡ vec_capacity passes.old)
-        × (vec_capacity feeds.new ≡ vec_capacity feeds.old) × (vec_capacity seated.new ≡ vec_capacity seated.old) }
-    ensures len { vec_len seated.new ≡ vec_len seated.old + length passes.old.items }
-{
-    let Some(pass) = passes.pop() else {
-        return;
-    };
-    let Some(feed) = feeds.pop() else {
-        unreachable!()
-    };
-    seat_all(passes, feeds, seated);
-    seated.push_reserved(Seated { pass, feed });
-}
-
-/// Gives the passes and the feeds back, in their order.
-fn rise_all<N: Name, R: Drop, W: Drop, A: Allocator + Copy>(
-    seated: &mut Vec<Seated<N, R, W, A>, A>,
-    passes: &mut Vec<Pass<N, A>, A>,
-    feeds: &mut Vec<Feed<R, W>, A>,
-)
-    requires passes { vec_len passes.old + length seated.old.items ≤ vec_capacity passes.old }
-    requires feeds { vec_len feeds.old + length seated.old.items ≤ vec_capacity feeds.old }
-    ensures passes { passes.new.items ≡ passes.old.items ++ map (λ s. s.pass) seated.old.items }
-    ensures feeds { feeds.new.items ≡ feeds.old.items ++ map (λ s. s.feed) seated.old.items }
-    ensures len { (vec_len passes.new ≡ vec_len passes.old + length seated.old.items)
-        × (vec_len feeds.new ≡ vec_len feeds.old + length seated.old.items) }
-    ensures rooms { (vec_capacity passes.new ≡ vec_capacity passes.old)
-        × (vec_capacity feeds.new ≡ vec_capacity feeds.old) }
-{
-    let Some(last) = seated.pop() else {
-        return;
-    };
-    rise_all(seated, passes, feeds);
-    let Seated { pass, feed } = last;
-    passes.push_reserved(pass);
-    feeds.push_reserved(feed);
-}
-
-/// Runs all feeds at the same time, each by its pass. Nothing was begun if allocation fails.
-fn run_passes<
-    N: Name + Send + Sync,
-    Q: Wait + Drop + Send,
-    R: Read + Send + Drop,
-    W: Write + Send + Drop,
-    H: Watch + Sync,
-    T: Threads + Sync,
-    P: Wait + Sync,
-    A: Allocator + Copy + Send + Sync,
->(
-    rt: &T,
-    wait: &P,
-    alloc: A,
-    desk: &Desk<N, Q, A>,
-    bell: &Bell,
-    watch: &H,
-    passes: &mut Vec<Pass<N, A>, A>,
-    feeds: &mut Vec<Feed<R, W>, A>,
-) -> Result<(), LiveFault>
-    requires { length passes.old.items ≡ length feeds.old.items }
-    ensures len { (length passes.new.items ≡ length passes.old.items)
-        × (length feeds.new.items ≡ length feeds.old.items) }
-    ensures each { OnOk result ((i : ℕ) (p : _) (d : _) → i < length feeds.old.items
-        → HasRun N.setup (slice_index_or passes.old.items i p) (slice_index_or passes.new.items i p)
-        (slice_index_or feeds.new.items i d).end
-        (W.contents (slice_index_or feeds.old.items i d).writer.device)
-        (W.contents (slice_index_or feeds.new.items i d).writer.device)
-        (R.remaining (slice_index_or feeds.old.items i d).reader.device)
-        (R.remaining (slice_index_or feeds.new.items i d).reader.device)) }
-{
-    let mut seated = Vec::new(alloc);
-    let Ok(()) = seated.reserve(feeds.len()) else {
-        return Err(bell.stop(wait, watch, LiveFault::OutOfMemory));
-    };
-    seat_all(passes, feeds, &mut seated);
-    run_seats(rt, wait, alloc, desk, bell, watch, &mut seated);
-    rise_all(&mut seated, passes, feeds);
-    Ok(())
-}
-
-/// Runs all feeds at the same time, and tells the follower when the last has ended.
+/// Runs all feeds at the same time, and tells the follower when the last has ended. Returns the
+/// seats.
 pub(crate) fn run_all<
     N: Name + Send + Sync,
     Q: Wait + Drop + Send,
-    R: Read + Send + Drop,
-    W: Write + Send + Drop,
+    R: Read + Send,
+    W: Write + Send,
     H: Watch + Sync,
     T: Threads + Sync,
     P: Wait + Sync,
@@ -293,21 +204,18 @@ pub(crate) fn run_all<
     desk: &Desk<N, Q, A>,
     bell: &Bell,
     watch: &H,
-    passes: &mut Vec<Pass<N, A>, A>,
-    feeds: &mut Vec<Feed<R, W>, A>,
-) -> Result<(), LiveFault>
-    requires { length passes.old.items ≡ length feeds.old.items }
-    ensures len { (length passes.new.items ≡ length passes.old.items)
-        × (length feeds.new.items ≡ length feeds.old.items) }
-    ensures each { OnOk result ((i : ℕ) (p : _) (d : _) → i < length feeds.old.items
-        → HasRun N.setup (slice_index_or passes.old.items i p) (slice_index_or passes.new.items i p)
-        (slice_index_or feeds.new.items i d).end
-        (W.contents (slice_index_or feeds.old.items i d).writer.device)
-        (W.contents (slice_index_or feeds.new.items i d).writer.device)
-        (R.remaining (slice_index_or feeds.old.items i d).reader.device)
-        (R.remaining (slice_index_or feeds.new.items i d).reader.device)) }
+    seated: &mut Vec<Seated<N, R, W, A>, A>,
+) -> Vec<Seated<N, R, W, A>, A>
+    ensures len { length result.items ≡ length seated.old.items }
+    ensures each { (i : ℕ) (d : _) → i < length seated.old.items
+        → HasRun N.setup (slice_index_or seated.old.items i d).pass (slice_index_or result.items i d).pass
+        (slice_index_or result.items i d).feed.end
+        (W.contents (slice_index_or seated.old.items i d).feed.writer.device)
+        (W.contents (slice_index_or result.items i d).feed.writer.device)
+        (R.remaining (slice_index_or seated.old.items i d).feed.reader.device)
+        (R.remaining (slice_index_or result.items i d).feed.reader.device) }
 {
-    let ran = run_passes(rt, wait, alloc, desk, bell, watch, passes, feeds);
+    run_seats(rt, wait, alloc, desk, bell, watch, seated);
     bell.close(wait);
-    ran
+    replace(seated, Vec::new(alloc))
 }
