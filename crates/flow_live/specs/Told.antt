@@ -1,23 +1,23 @@
 -- What a feeder is answered for its frames.
-use Rattle.std.specs.Prelude.{◌≡◌, ℕ, zero, suc, length, nat_le, if◌then◌else◌, List, [], ◌∷◌, ◌++◌, map}
+use Rattle.std.specs.Prelude.{ℕ, zero, suc, length, nat_le, if◌then◌else◌, List, [], ◌∷◌, ◌++◌, map, drop}
 use Rattle.fpl_message.specs.Filings.{FilingText}
 use Rattle.fpl_message.specs.declared.filed_text.TheConstants.{MAX_BYTES}
 use Rattle.flow_core.specs.State.{State, Record}
 use Rattle.flow_core.specs.Output.{answer_of, too_long_line, journal_full_line}
 
--- the line of a frame that has no entry: it is too long, or it found the journal full
-abbrev pub unentered_line : List ℕ → List ℕ
-unentered_line frame = if nat_le (length frame) MAX_BYTES then journal_full_line else too_long_line
+-- the answer to the first of these entries; if there is none, the line of a filing that found the journal full
+abbrev pub first_answer : State → List Record → List ℕ
+first_answer s [] = journal_full_line
+first_answer s (e ∷ es) = answer_of s e
 
 -- What is written for these frames, of whose filings the first have these entries: frame by frame the answer to its
 -- entry, or the line of one that has none, and an empty line after each.
 unfoldable pub told : State → List (List ℕ) → List Record → List ℕ
 told s [] es = []
-told s (f ∷ fs) [] = unentered_line f ++ 10 ∷ told s fs []
-told s (f ∷ fs) (e ∷ es) =
+told s (f ∷ fs) es =
     if nat_le (length f) MAX_BYTES
-    then answer_of s e ++ 10 ∷ told s fs es
-    else too_long_line ++ 10 ∷ told s fs (e ∷ es)
+    then first_answer s es ++ 10 ∷ told s fs (drop 1 es)
+    else too_long_line ++ 10 ∷ told s fs es
 
 -- the texts of entries
 abbrev pub texts : List Record → List FilingText

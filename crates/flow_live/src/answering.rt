@@ -1,10 +1,11 @@
 //! Files the frames of a feeder that are there, and collects their answers.
-ghost use Rattle.std.specs.Prelude.{◌≡◌, ◌≤◌, ◌<◌, ◌++◌, ◌∷◌, [], List, Option, ℕ, length, OnOk};
-ghost use Rattle.flow_input.specs.NextFrame.{filing_kept};
+ghost use Rattle.std.specs.Prelude.{◌≡◌, ◌≤◌, ◌++◌, ◌∷◌, [], List, Option, ℕ, length, OnOk};
+ghost use Rattle.fpl_message.specs.declared.filed_text.TheConstants.{MAX_BYTES};
+ghost use Rattle.flow_input.specs.NextFrame.{filing_kept, second};
 ghost use Rattle.flow_input.specs.Reader.{Agrees};
 ghost use Rattle.flow_core.specs.Output.{too_long_line, journal_full_line};
 ghost use Rattle.flow_live.specs.Told.{full_lines};
-ghost use Rattle.flow_live.specs.Feeding.{Prepares, Serves, TakesNext, ServesTaken};
+ghost use Rattle.flow_live.specs.Feeding.{Prepares, Serves, TakesNext, CutsTaken};
 
 use flow_core::{StepFault, journal_full_line, too_long_line};
 use flow_desk::{Desk, Name, Pass};
@@ -41,7 +42,7 @@ impl<A: Allocator + Copy> Batch<A> {
 
 /// Appends a line of an answer, and the empty line after it.
 fn append_line<A: Allocator + Copy>(answers: &mut Vec<u8, A>, line: &[u8]) -> Result<(), AllocError>
-    ensures { OnOk result (answers.new.items ≡ answers.old.items ++ line.now ++ 10 ∷ []) }
+    ensures { OnOk result (answers.new.items ≡ answers.old.items ++ (line.now ++ 10 ∷ [])) }
 {
     answers.extend_from_slice(line)?;
     answers.push(b'\n')?;
@@ -85,6 +86,27 @@ fn answer_ready<N: Name, Q: Wait + Drop, P: Wait, A: Allocator + Copy>(
     }
 }
 
+/// Reads a frame, to be filed with others.
+fn prepare<A: Allocator + Copy>(
+    alloc: A,
+    frame: &[u8],
+    batch: &mut Batch<A>,
+) -> Result<(), AllocError>
+    requires { length frame.now ≤ MAX_BYTES }
+    ensures ready { OnOk result (batch.new.ready.items ≡ batch.old.ready.items ++ second frame.now ∷ []) }
+    ensures answers { batch.new.answers.items ≡ batch.old.answers.items }
+{
+    batch.ready.reserve(1)?;
+    let Ok(text) = FiledText::new(alloc, frame) else {
+        return Err(AllocError);
+    };
+    let Ok(filing) = Filing::of_text(alloc, &mut batch.room, text) else {
+        return Err(AllocError);
+    };
+    batch.ready.push_back_reserved(filing);
+    Ok(())
+}
+
 /// Reads the frame that was taken last, to be filed with others. If it is too long, it is answered so, after those that
 /// were ready.
 fn take_in<N: Name, Q: Wait + Drop, P: Wait, A: Allocator + Copy>(
@@ -102,15 +124,7 @@ fn take_in<N: Name, Q: Wait + Drop, P: Wait, A: Allocator + Copy>(
         answer_ready(wait, alloc, desk, pass, batch)?;
         return append_line(&mut batch.answers, too_long_line());
     };
-    let Ok(text) = FiledText::new(alloc, bytes) else {
-        return Err(AllocError);
-    };
-    let Ok(filing) = Filing::of_text(alloc, &mut batch.room, text) else {
-        return Err(AllocError);
-    };
-    if batch.ready.push_back(filing).is_err() {
-        return Err(AllocError);
-    }
+    prepare(alloc, bytes, batch)?;
     if batch.ready.len() < AT_ONCE {
         return Ok(());
     }
@@ -127,7 +141,8 @@ pub(crate) fn answer_taken<N: Name, Q: Wait + Drop, P: Wait, A: Allocator + Copy
     batch: &mut Batch<A>,
 ) -> Result<(), AllocError>
     requires none { (batch.old.ready.items ≡ []) × (batch.old.answers.items ≡ []) }
-    ensures serving { OnOk result (ServesTaken N.setup pass.old pass.new batch.new.answers.items input.old input.new) }
+    ensures serving { OnOk result (CutsTaken N.setup pass.old
+        (λ more. Serves N.setup pass.old more pass.new batch.new.answers.items) input.old input.new) }
     ensures agrees { OnOk result ((rest : Option (List ℕ)) → Agrees input.old rest → Agrees input.new rest) }
     ensures nearer { OnOk result (input.old.taken ≤ input.new.taken) }
     ensures none { OnOk result (batch.new.ready.items ≡ []) }

@@ -1,7 +1,9 @@
 //! Feeders at their desk, each at its own source, in a thread of its own.
-ghost use Rattle.std.specs.Prelude.{◌≡◌, ◌≢◌, ◌<◌, ◌⊎◌, [], ℕ, Some, length, slice_index_or, IfErr};
+ghost use Rattle.std.specs.Prelude.{◌≡◌, ◌≤◌, ◌<◌, [], ℕ, List, Option, length, slice_index_or, IfErr, OnOk};
 ghost use Rattle.flow_input.specs.Writes.{Writes};
-ghost use Rattle.flow_live.specs.Feeding.{Fed, FedUnlessStopped, IsLawful};
+ghost use Rattle.flow_input.specs.Reader.{Agrees};
+ghost use Rattle.flow_desk.specs.Histories.{IsLawful};
+ghost use Rattle.flow_live.specs.Feeding.{FedUnlessStopped, HasRun, PieceIs, end_by};
 
 use crate::answering::{Batch, answer_taken};
 use crate::bell::Bell;
@@ -11,6 +13,7 @@ use flow_desk::{Desk, Name, Pass};
 use flow_input::{Counted, Input, IntakeFault, take_frame, write_bytes};
 use std::alloc::{Allocator, Global};
 use std::io::{Read, Write};
+use std::mem::replace;
 use std::sync::Wait;
 use std::thread;
 use std::thread::Threads;
@@ -37,7 +40,9 @@ fn hand_on<W: Write>(writer: &mut Counted<W>, answers: &[u8]) -> Result<(), Feed
 }
 
 /// Why no frame came.
-fn end_of(fault: IntakeFault) -> FeedEnd {
+fn end_of(fault: IntakeFault) -> FeedEnd
+    ensures { result ≡ end_by fault }
+{
     match fault {
         IntakeFault::Read => FeedEnd::Read,
         IntakeFault::TooMuch => FeedEnd::TooMuch,
@@ -56,11 +61,18 @@ fn answer_piece<N: Name, Q: Wait + Drop, W: Write, H: Watch, P: Wait, A: Allocat
     batch: &mut Batch<A>,
     pass: &mut Pass<N, A>,
     writer: &mut Counted<W>,
-) -> Result<(), FeedEnd> {
+) -> Result<(), FeedEnd>
+    requires none { batch.old.ready.items ≡ [] }
+    ensures piece { PieceIs result N.setup pass.old pass.new (W.contents writer.old.device)
+        (W.contents writer.new.device) input.old input.new }
+    ensures agrees { OnOk result ((rest : Option (List ℕ)) → Agrees input.old rest → Agrees input.new rest) }
+    ensures nearer { OnOk result (input.old.taken ≤ input.new.taken) }
+    ensures none { OnOk result (batch.new.ready.items ≡ []) }
+{
     batch.answers.clear();
-    if answer_taken(wait, alloc, desk, pass, input, batch).is_err() {
+    let Ok(()) = answer_taken(wait, alloc, desk, pass, input, batch) else {
         return Err(FeedEnd::Stopped(bell.stop(wait, watch, LiveFault::OutOfMemory)));
-    }
+    };
     if let Some(fault) = bell.ring(wait) {
         return Err(FeedEnd::Stopped(fault));
     }
@@ -110,8 +122,7 @@ fn run_feed<N: Name, Q: Wait + Drop, R: Read, W: Write, H: Watch, P: Wait, A: Al
     watch: &H,
     seated: &mut Seated<N, R, W, A>,
 )
-    ensures { IsLawful N.setup seated.old.pass.seen
-        → FedUnlessStopped N.setup seated.old.pass seated.new.pass seated.new.feed.end
+    ensures { HasRun N.setup seated.old.pass seated.new.pass seated.new.feed.end
         (W.contents seated.old.feed.writer.device) (W.contents seated.new.feed.writer.device)
         (R.remaining seated.old.feed.reader.device) (R.remaining seated.new.feed.reader.device) }
 {
@@ -138,8 +149,8 @@ fn run_feed<N: Name, Q: Wait + Drop, R: Read, W: Write, H: Watch, P: Wait, A: Al
     }
 }
 
-/// Runs all feeds at the same time, each in a thread of its own if one can be made.
-pub(crate) fn run_all<
+/// Runs the feeds of all seats at the same time, each in a thread of its own if one can be made.
+fn run_seats<
     N: Name + Send + Sync,
     Q: Wait + Drop + Send,
     R: Read + Send,
@@ -159,8 +170,7 @@ pub(crate) fn run_all<
 )
     ensures len { length seated.new.items ≡ length seated.old.items }
     ensures each { (i : ℕ) (d : _) → i < length seated.old.items
-        → IsLawful N.setup (slice_index_or seated.old.items i d).pass.seen
-        → FedUnlessStopped N.setup (slice_index_or seated.old.items i d).pass (slice_index_or seated.new.items i d).pass
+        → HasRun N.setup (slice_index_or seated.old.items i d).pass (slice_index_or seated.new.items i d).pass
         (slice_index_or seated.new.items i d).feed.end
         (W.contents (slice_index_or seated.old.items i d).feed.writer.device)
         (W.contents (slice_index_or seated.new.items i d).feed.writer.device)
@@ -174,5 +184,38 @@ pub(crate) fn run_all<
         threads,
         &|_, seated| run_feed(wait, alloc, desk, bell, watch, seated),
     );
+}
+
+/// Runs all feeds at the same time, and tells the follower when the last has ended. Returns the
+/// seats.
+pub(crate) fn run_all<
+    N: Name + Send + Sync,
+    Q: Wait + Drop + Send,
+    R: Read + Send,
+    W: Write + Send,
+    H: Watch + Sync,
+    T: Threads + Sync,
+    P: Wait + Sync,
+    A: Allocator + Copy + Send + Sync,
+>(
+    rt: &T,
+    wait: &P,
+    alloc: A,
+    desk: &Desk<N, Q, A>,
+    bell: &Bell,
+    watch: &H,
+    seated: &mut Vec<Seated<N, R, W, A>, A>,
+) -> Vec<Seated<N, R, W, A>, A>
+    ensures len { length result.items ≡ length seated.old.items }
+    ensures each { (i : ℕ) (d : _) → i < length seated.old.items
+        → HasRun N.setup (slice_index_or seated.old.items i d).pass (slice_index_or result.items i d).pass
+        (slice_index_or result.items i d).feed.end
+        (W.contents (slice_index_or seated.old.items i d).feed.writer.device)
+        (W.contents (slice_index_or result.items i d).feed.writer.device)
+        (R.remaining (slice_index_or seated.old.items i d).feed.reader.device)
+        (R.remaining (slice_index_or result.items i d).feed.reader.device) }
+{
+    run_seats(rt, wait, alloc, desk, bell, watch, seated);
     bell.close(wait);
+    replace(seated, Vec::new(alloc))
 }
