@@ -4,6 +4,7 @@ ghost use Rattle.std.specs.Prelude.{◌≡◌, ◌≤◌, ◌↔◌, ◌+◌, �
 ghost use Rattle.std.specs.List.{concat, filter};
 ghost use Rattle.flow_input.specs.Frames.{Cut, ended_frames, first_cut, frames, is_text};
 ghost use Rattle.flow_input.specs.InTurn.{AnswerInTurn, filings_of};
+ghost use Rattle.flow_input.specs.declared.input.TheConstants.{MAX_INPUT};
 ghost use Rattle.fpl_message.specs.Filings.{FilingText};
 
 /// The frames of an input have all its bytes but blanks, each once and in their order.
@@ -28,4 +29,9 @@ pub fn frames_come_in_turn()
         → filings_of input ≡ filings ++ filings_of left }
     ensures whole { (filings : List (Option FilingText)) (input left : List ℕ) → AnswerInTurn filings input left
         → first_cut left ≡ None → filings_of input ≡ filings }
+{}
+
+/// The limit of an input, in bytes.
+pub fn limits_are()
+    ensures { MAX_INPUT ≡ 4_000_000_000 }
 {}
