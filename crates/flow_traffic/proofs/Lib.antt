@@ -11,4 +11,3 @@ pub mod TakenBack
 pub mod Both
 pub mod Slots
 pub mod FrozenStay
-pub mod Answering

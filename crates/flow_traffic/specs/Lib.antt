@@ -11,4 +11,3 @@ pub mod Kept
 pub mod Undoing
 pub mod Changes
 pub mod Memory
-pub mod Answering
