@@ -5,7 +5,8 @@
 
 A page must be well-formed XML without scripts and without anything from elsewhere; each id is there once, each link leads to
 one, each table has headings and a caption outside the box in which it scrolls, each such box a name, each picture a title.
-Where a sample has a page.html, it is the page of its stdout.
+Where a sample has a page.html, it is the page of its stdout, and each of its pictures is drawn from
+that by the command that the guide gives.
 Prints each fault, then 'N pages, M findings'. The status is 1 where there are any.
 """
 import pathlib
@@ -16,6 +17,8 @@ import xml.etree.ElementTree as tree
 
 HOME = pathlib.Path(__file__).resolve().parent
 SAMPLES = HOME.parent.parent / "samples"
+GUIDE = HOME.parent.parent / "docs" / "GUIDE.md"
+DRAWN = re.compile(r"^bin/slotview (.*) \$DAY > (\w+\.svg)$", re.M)
 HTML = "{http://www.w3.org/1999/xhtml}"
 SVG = "{http://www.w3.org/2000/svg}"
 OURS = ("http://www.w3.org/1999/xhtml", "http://www.w3.org/2000/svg")
@@ -98,6 +101,18 @@ def findings_in(text):
     yield from findings_in_pictures(root, set(ids))
 
 
+def pictures(program):
+    """The pictures of the guide's day that are otherwise than kept, or aren't kept."""
+    day = SAMPLES / "a-morning-with-its-page"
+    drawn = DRAWN.findall(GUIDE.read_text())
+    for words, name in drawn:
+        command = [program, *words.split(), str(day / "stdout")]
+        if subprocess.run(command, capture_output=True, text=True).stdout != (day / name).read_text():
+            yield "%s: another picture" % name
+    if sorted(name for _, name in drawn) != sorted(path.name for path in day.glob("*.svg")):
+        yield "%s: other pictures than the guide draws" % day.name
+
+
 def main():
     if len(sys.argv) != 2:
         print(__doc__)
@@ -116,6 +131,9 @@ def main():
         for finding in findings_in(text):
             findings += 1
             print("%s: %s" % (path.relative_to(HOME.parent.parent), finding))
+    for finding in pictures(program):
+        findings += 1
+        print(finding)
     print("%d pages, %d findings" % (pages, findings))
     return 1 if findings or not pages else 0
 
