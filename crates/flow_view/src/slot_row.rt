@@ -51,7 +51,7 @@ fn row_at<A: Allocator + Copy>(
 }
 
 /// The rows of a slot list of a regulation at that place, in the order of its slots.
-pub fn rows_of<A: Allocator + Copy>(
+pub(crate) fn rows_of<A: Allocator + Copy>(
     alloc: A,
     core: &Core<A>,
     spot: &Spot,
