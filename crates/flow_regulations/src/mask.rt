@@ -9,7 +9,7 @@ ghost use Rattle.flow_regulations.specs.Marks.{may_stand, word_of, Keeps, KeepsB
 use std::alloc::{AllocError, Allocator};
 
 /// The mask at an index.
-#[inline(always)]
+#[inline]
 pub(crate) fn word_of(words: &[u64], index: u32) -> u64
     ensures { result ≡ word_of words.now index }
 {
@@ -20,7 +20,7 @@ pub(crate) fn word_of(words: &[u64], index: u32) -> u64
 }
 
 /// Whether a flight of this word may be held in the regulation at this place.
-#[inline(always)]
+#[inline]
 #[tactic(auto, unfolding(crate::specs::Marks::may_stand))]
 pub(crate) fn may_stand(word: u64, index: usize) -> bool
     ensures { result ≡ may_stand word index }
@@ -33,7 +33,7 @@ pub(crate) fn may_stand(word: u64, index: usize) -> bool
 }
 
 /// The first place from this one on where a flight of this word may be held.
-#[inline(always)]
+#[inline]
 pub(crate) fn next_marked(word: u64, index: usize) -> usize
     ensures from { index ≤ result }
     ensures passed { (i : ℕ) → index ≤ i → i < result → may_stand word i ≡ false }
@@ -50,7 +50,7 @@ pub(crate) fn next_marked(word: u64, index: usize) -> usize
 }
 
 /// The word of a flight that may be held at this place too.
-#[inline(always)]
+#[inline]
 pub(crate) fn with_mark(word: u64, index: usize) -> u64
     ensures marked { may_stand result index ≡ true }
     ensures kept { Keeps word result }
@@ -59,7 +59,7 @@ pub(crate) fn with_mark(word: u64, index: usize) -> u64
 }
 
 /// The word of a flight that may be held at this place too, if so.
-#[inline(always)]
+#[inline]
 pub(crate) fn mark_where(word: u64, index: usize, is_held: bool) -> u64
     ensures marked { is_held ≡ true → may_stand result index ≡ true }
     ensures kept { Keeps word result }
@@ -85,7 +85,7 @@ pub(crate) fn with_place(word: u64, index: usize, is_held: bool) -> u64
 
 /// The word of a flight where the regulation at this place is closed: the marks of the later ones move up by one. The
 /// 64th place is marked, since nothing is known of the 65th.
-#[inline(always)]
+#[inline]
 fn without_place(word: u64, index: usize) -> u64
     requires { index < 64 }
     ensures { MovesUp index word result }

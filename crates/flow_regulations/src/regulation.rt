@@ -122,7 +122,7 @@ impl<A: Allocator + Copy> Regulation<A> {
 
     /// The first number from this one on of a flight that it holds, or one past the last, after which it holds none.
     /// The flights before it aren't held.
-    #[inline(always)]
+    #[inline]
     pub(crate) fn next_held(&self, from: u32) -> u32
         ensures from { from ≤ result }
         ensures passed { (f : ℕ) → from ≤ f → f < result → IsOut f self.now }
@@ -144,7 +144,7 @@ impl<A: Allocator + Copy> Regulation<A> {
 
     /// The first number from this one on of a plan to whose flight the regulation may apply. To the flights of the
     /// plans before it the regulation doesn't apply, and to none from there on where it is None.
-    #[inline(always)]
+    #[inline]
     pub(crate) fn next_coming(&self, plans: &PlanStore<A>, from: u32) -> Option<u32>
         requires { 0 < from }
         ensures from { IfSome result (λ number. (from ≤ number) × (number ≤ length plans.now.plans)) }
@@ -172,7 +172,7 @@ impl<A: Allocator + Copy> Regulation<A> {
     }
 
     /// The entry of the plan of this number, where the regulation applies to it.
-    #[inline(always)]
+    #[inline]
     pub(crate) fn subject(&self, plans: &PlanStore<A>, number: u32) -> Option<Minute>
         requires some { 0 < number }
         requires within { number ≤ length plans.now.plans }
@@ -184,7 +184,7 @@ impl<A: Allocator + Copy> Regulation<A> {
     }
 
     /// This entry at its place, where it lies in the period.
-    #[inline(always)]
+    #[inline]
     fn subject_from(&self, entry: &Option<Minute>) -> Option<Minute>
         ensures { (taxi : ℕ) (p : Held) → entry.now ≡ subject taxi self.now.spot 0 GREATEST_MINUTE p
             → result ≡ subject_to taxi (regulation_of self.now) p }
@@ -201,7 +201,7 @@ impl<A: Allocator + Copy> Regulation<A> {
     }
 
     /// The slot that a flight keeps, None where it keeps none. No flight stands twice.
-    #[inline(always)]
+    #[inline]
     fn fixed_slot(&self, number: u32) -> Option<u32>
         ensures slot { result ≡ fixed_slot self.now.lineup number }
         ensures below { IfSome result (λ k. k < len_of self.now.lineup) }
@@ -217,7 +217,7 @@ impl<A: Allocator + Copy> Regulation<A> {
 
     /// Whether a fixed flight keeps its slot: it has departed, or it is subject and due and its slot is not before its
     /// entry.
-    #[inline(always)]
+    #[inline]
     fn keeps(&self, plans: &PlanStore<A>, number: u32, now: Minute, entry: &Option<Minute>) -> bool
         requires some { 0 < number }
         requires within { number ≤ length plans.now.plans }
@@ -240,7 +240,7 @@ impl<A: Allocator + Copy> Regulation<A> {
     }
 
     /// Takes a flight out, where it is held.
-    #[inline(always)]
+    #[inline]
     fn take_out(&mut self, number: u32)
         ensures { self.new ≡ with_lineup (without_flight number self.old.lineup) self.old }
     {
@@ -385,7 +385,7 @@ impl<A: Allocator + Copy> Regulation<A> {
     /// Settles the regulation after a message about one flight, which touches that flight alone, and answers whether
     /// the flight may be held then. One that may not be held before is let in where the regulation applies to it. The
     /// entry of the flight at the regulation's place is asked for where that isn't the place that was asked last.
-    #[inline(always)]
+    #[inline]
     pub(crate) fn look_where(
         &mut self,
         plans: &PlanStore<A>,

@@ -54,7 +54,7 @@ impl Estimate {
     }
 
     /// Whether the estimate is for a place, which has this name in notes. Most that aren't differ in the fourth letter.
-    #[inline(always)]
+    #[inline]
     #[tactic(auto, unfolding(crate::specs::Estimates::is_for))]
     pub(crate) fn is_for(&self, place: &[u8], name: &[u8; 12]) -> bool
         requires place { length place.now ≤ 11 }

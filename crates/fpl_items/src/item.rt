@@ -13,7 +13,7 @@ use fpl_text::{Measured, Words, is_letter};
 use std::marker::Model;
 
 /// Whether a stroke stands at a place of a word, and what is before it is as long as a name and begins with a letter.
-#[inline(always)]
+#[inline]
 fn has_name(stroke: usize, word: &[u8]) -> bool
     ensures { result ≡ (nat_lt stroke (length word.now) && (slice_index word.now stroke == 47) && nat_le 2 stroke
         && nat_le stroke 9 && is_letter (slice_index word.now 0)) }
@@ -22,7 +22,7 @@ fn has_name(stroke: usize, word: &[u8]) -> bool
 }
 
 /// Whether a word begins an item: whether the letters and digits at its front are a name with a stroke behind it.
-#[inline(always)]
+#[inline]
 pub(crate) fn begins_item(measured: &Measured<'_>) -> bool
     requires { measured.now.letters_or_digits ≡ prefix_len is_letter_or_digit measured.now.word.now }
     ensures value { result ≡ begins_item measured.now.word.now }
@@ -112,7 +112,7 @@ impl<'a> Item<'a> {
 }
 
 /// Passes over the words before the next that has a stroke, which begin no item.
-#[inline(always)]
+#[inline]
 fn skip_to_stroke(words: &mut Words<'_>)
     ensures items { items_of words.old ≡ items_of words.new }
     ensures fewer { length words.new ≤ length words.old }
@@ -122,7 +122,7 @@ fn skip_to_stroke(words: &mut Words<'_>)
 
 /// Takes the next item off the words, and passes over those before it. Most items follow on the first word of the one
 /// before them, so a stroke is searched for only where the next word begins no item.
-#[inline(always)]
+#[inline]
 fn next_item<'a>(words: &mut Words<'a>) -> Option<Item<'a>>
     ensures { MatchOption result ((items_of words.old ≡ []) × (words.new ≡ []))
         (λ item. items_of words.old ≡ item ∷ items_of words.new) }
@@ -178,7 +178,7 @@ impl<'a> Iterator for Items<'a> {
 
     ghost remaining = { item_count (λ i. i) };
 
-    #[inline(always)]
+    #[inline]
     fn next(&mut self) -> Option<Item<'a>> {
         next_item(&mut self.words)
     }

@@ -30,7 +30,7 @@ struct Look {
 
 impl Look {
     /// The borders among the 16 bytes from a place on.
-    #[inline(always)]
+    #[inline]
     fn new(bytes: &[u8], at: usize) -> Self
         requires { at + 16 ≤ length bytes.now }
         ensures look { IsLook bytes.now result.at result.bits }
@@ -43,7 +43,7 @@ impl Look {
 
 /// Where the first border from a place on stands, before `end`, behind which 16 more bytes stand; and the last look
 /// that was taken. The look before the search, `look`, has the byte at `from` or ends just before it.
-#[inline(always)]
+#[inline]
 fn next_border(bytes: &[u8], look: Look, from: usize, end: usize) -> (usize, Look)
     requires room { end + 16 ≤ length bytes.now }
     requires order { from ≤ end }

@@ -90,7 +90,7 @@ impl<const N: usize> Text<N> {
     }
 
     /// Whether this is the same text. Equal texts are equal in all their bytes, so no length bounds the look.
-    #[inline(always)]
+    #[inline]
     pub fn is(&self, other: &Self) -> bool
         ensures { result ≡ bytes_eq self.now other.now }
     {
