@@ -5,6 +5,7 @@ ghost use Rattle.std.specs.Prelude.{◌∷◌, Option, None, Some, length, take}
 ghost use Rattle.std.specs.List.{concat, filter};
 ghost use Rattle.flow_input.specs.Frames.{Cut, ended_frames, first_cut, frames, is_text};
 ghost use Rattle.flow_input.specs.InTurn.{AnswerInTurn, filings_of};
+ghost use Rattle.flow_input.specs.declared.input.TheConstants.{MAX_INPUT};
 ghost use Rattle.fpl_message.specs.Filings.{FilingText};
 
 /// The frames of an input have all its bytes except blanks, each once and in their order.
@@ -33,4 +34,9 @@ pub fn frames_come_in_turn()
     ensures whole { (filings : List (Option FilingText)) (input left : List ℕ)
         → AnswerInTurn filings input left
         → first_cut left ≡ None → filings_of input ≡ filings }
+{}
+
+/// The limit of an input, in bytes.
+pub fn limits_are()
+    ensures { MAX_INPUT ≡ 4_000_000_000 }
 {}

@@ -9,7 +9,7 @@ use Rattle.flow_slots.specs.Order.{without}
 use Rattle.flow_slots.specs.Assignment.{Placed}
 use Rattle.flow_slots.specs.Lineup.{NoneIs, NoneFixed, without_fixed}
 use Rattle.flow_regulations.specs.Listing.{Listed, Walked, without_in}
-use Rattle.flow_regulations.specs.Marks.{may_stand, word_of, IsOut, Covers, AreMarked, Keeps, KeepsBelow, MovesUp, IsOpenedTo}
+use Rattle.flow_regulations.specs.Marks.{may_stand, word_of, IsOut, IsMarked, AreMarked, Keeps, KeepsBelow, MovesUp, IsOpenedTo}
 use Rattle.flow_regulations.proofs.MarkBits.{ones-stand}
 use Rattle.flow_regulations.proofs.Walks.{written-back}
 
@@ -62,11 +62,11 @@ falls-to w v i j k e = cases (may_stand w j) refl where
   cases false q = refl
   cases true q = absurd (true≢false (sym (k q) ∙ e))
 
-pub covers-more : (w v f i : ℕ) (ls : List Listed) → Keeps w v → Covers w f i ls → Covers v f i ls
+pub covers-more : (w v f i : ℕ) (ls : List Listed) → Keeps w v → IsMarked w f i ls → IsMarked v f i ls
 covers-more w v f i [] k c = tt
 covers-more w v f i (l ∷ ls) k c = (λ e. c.0 (falls w v i (k i) e), covers-more w v f (suc i) ls k c.1)
 
-at : (w f i j k : ℕ) (ls : List Listed) (d : Listed) → k ≡ i + j → j < length ls → Covers w f i ls → may_stand w k ≡ false → IsOut f (get_or ls j d)
+at : (w f i j k : ℕ) (ls : List Listed) (d : Listed) → k ≡ i + j → j < length ls → IsMarked w f i ls → may_stand w k ≡ false → IsOut f (get_or ls j d)
 at w f i j k [] d e h c m = absurd (omega arith)
 at w f i zero k (l ∷ ls) d e h c m =
     let M : ℕ → Type 0 = λ p. may_stand w p ≡ false in
@@ -75,10 +75,10 @@ at w f i zero k (l ∷ ls) d e h c m =
 at w f i (suc j) k (l ∷ ls) d e h c m = at w f (suc i) j k ls d (omega arith) (omega arith) c.1 m
 
 -- what a word says of the regulation at a place
-pub covers-at : (w f j : ℕ) (ls : List Listed) (d : Listed) → j < length ls → Covers w f 0 ls → may_stand w j ≡ false → IsOut f (get_or ls j d)
+pub covers-at : (w f j : ℕ) (ls : List Listed) (d : Listed) → j < length ls → IsMarked w f 0 ls → may_stand w j ≡ false → IsOut f (get_or ls j d)
 covers-at w f j ls d h c m = at w f 0 j j ls d (omega arith) h c m
 
-put : (w v f i j k : ℕ) (ls : List Listed) (z : Listed) → k ≡ i + j → Keeps w v → (may_stand v k ≡ false → IsOut f z) → Covers w f i ls → Covers v f i (slice_set ls j z)
+put : (w v f i j k : ℕ) (ls : List Listed) (z : Listed) → k ≡ i + j → Keeps w v → (may_stand v k ≡ false → IsOut f z) → IsMarked w f i ls → IsMarked v f i (slice_set ls j z)
 put w v f i j k [] z e s o c = tt
 put w v f i zero k (l ∷ ls) z e s o c =
     let M : ℕ → Type 0 = λ p. may_stand v p ≡ false in
@@ -87,10 +87,10 @@ put w v f i zero k (l ∷ ls) z e s o c =
 put w v f i (suc j) k (l ∷ ls) z e s o c = (λ m. c.0 (falls w v i (s i) m), put w v f (suc i) j k ls z (omega arith) s o c.1)
 
 -- a regulation is replaced, and the word marks more
-pub covers-set : (w v f j : ℕ) (ls : List Listed) (z : Listed) → Keeps w v → (may_stand v j ≡ false → IsOut f z) → Covers w f 0 ls → Covers v f 0 (slice_set ls j z)
+pub covers-set : (w v f j : ℕ) (ls : List Listed) (z : Listed) → Keeps w v → (may_stand v j ≡ false → IsOut f z) → IsMarked w f 0 ls → IsMarked v f 0 (slice_set ls j z)
 covers-set w v f j ls z s o c = put w v f 0 j j ls z (omega arith) s o c
 
-covers-alone : (n w f i : ℕ) (os ns : List Listed) → (f ≡ n → ⊥) → map (without_in n) ns ≡ map (without_in n) os → Covers w f i os → Covers w f i ns
+covers-alone : (n w f i : ℕ) (os ns : List Listed) → (f ≡ n → ⊥) → map (without_in n) ns ≡ map (without_in n) os → IsMarked w f i os → IsMarked w f i ns
 covers-alone n w f i [] [] ne e c = tt
 covers-alone n w f i (o ∷ os) [] ne e c = tt
 covers-alone n w f i [] (m ∷ ms) ne e c = absurd cc
@@ -101,17 +101,17 @@ covers-alone n w f i (o ∷ os) (m ∷ ms) ne e c =
 
 -- one flight is touched in each regulation, and has another word
 pub marked-one : (n w : ℕ) (olds news : List ℕ) (os ns : List Listed) → ((f : ℕ) → (f ≡ n → ⊥) → word_of news f ≡ word_of olds f) → Keeps w (word_of news n)
-    → map (without_in n) ns ≡ map (without_in n) os → Covers w n 0 ns → AreMarked olds os → AreMarked news ns
+    → map (without_in n) ns ≡ map (without_in n) os → IsMarked w n 0 ns → AreMarked olds os → AreMarked news ns
 marked-one n w olds news os ns others one alone covers a f = cases (cases_eq f n) where
-  cases : (f ≡ n) ⊎ (f ≡ n → ⊥) → Covers (word_of news f) f 0 ns
+  cases : (f ≡ n) ⊎ (f ≡ n → ⊥) → IsMarked (word_of news f) f 0 ns
   cases (inl e) =
-      let C : ℕ → Type 0 = λ g. Covers (word_of news g) g 0 ns in
+      let C : ℕ → Type 0 = λ g. IsMarked (word_of news g) g 0 ns in
       subst C (sym e) (covers-more w (word_of news n) n 0 ns one covers)
   cases (inr ne) =
-      let C : ℕ → Type 0 = λ v. Covers v f 0 ns in
+      let C : ℕ → Type 0 = λ v. IsMarked v f 0 ns in
       subst C (sym (others f ne)) (covers-alone n (word_of olds f) f 0 os ns ne alone (a f))
 
-covers-walked : (R : Listed → Listed → Type 0) (w f i n : ℕ) (os ns : List Listed) → ((l m : Listed) → R l m → IsOut f l → IsOut f m) → n ≡ length ns → Walked R n os ns → Covers w f i os → Covers w f i ns
+covers-walked : (R : Listed → Listed → Type 0) (w f i n : ℕ) (os ns : List Listed) → ((l m : Listed) → R l m → IsOut f l → IsOut f m) → n ≡ length ns → Walked R n os ns → IsMarked w f i os → IsMarked w f i ns
 covers-walked R w f i n os [] s e r c = tt
 covers-walked R w f i zero os (m ∷ ms) s e r c = absurd (omega arith)
 covers-walked R w f i (suc n) [] (m ∷ ms) s e r c = absurd r
@@ -121,7 +121,7 @@ covers-walked R w f i (suc n) (o ∷ os) (m ∷ ms) s e r c = (λ k. s o m r.0 (
 pub marked-walked : (R : Listed → Listed → Type 0) (words : List ℕ) (n : ℕ) (os ns : List Listed) → ((f : ℕ) (l m : Listed) → R l m → IsOut f l → IsOut f m) → n ≡ length ns → Walked R n os ns → AreMarked words os → AreMarked words ns
 marked-walked R words n os ns s e r a f = covers-walked R (word_of words f) f 0 n os ns (s f) e r (a f)
 
-pub covers-ones : (f i : ℕ) (ls : List Listed) → Covers 18_446_744_073_709_551_615 f i ls
+pub covers-ones : (f i : ℕ) (ls : List Listed) → IsMarked 18_446_744_073_709_551_615 f i ls
 covers-ones f i [] = tt
 covers-ones f i (l ∷ ls) = (λ e. absurd (true≢false (sym (ones-stand i) ∙ e)), covers-ones f (suc i) ls)
 
@@ -130,9 +130,9 @@ pub marked-none : (ls : List Listed) → AreMarked [] ls
 marked-none ls f = covers-ones f 0 ls
 
 pub marked-as : (olds news : List ℕ) (ls : List Listed) → ((f : ℕ) → word_of news f ≡ word_of olds f) → AreMarked olds ls → AreMarked news ls
-marked-as olds news ls e a f = (let C : ℕ → Type 0 = λ w. Covers w f 0 ls in subst C (sym (e f)) (a f))
+marked-as olds news ls e a f = (let C : ℕ → Type 0 = λ w. IsMarked w f 0 ls in subst C (sym (e f)) (a f))
 
-covers-last : (w v f i k : ℕ) (ls : List Listed) (x : Listed) → k ≡ i + length ls → KeepsBelow k w v → (may_stand v k ≡ false → IsOut f x) → Covers w f i ls → Covers v f i (ls ++ x ∷ [])
+covers-last : (w v f i k : ℕ) (ls : List Listed) (x : Listed) → k ≡ i + length ls → KeepsBelow k w v → (may_stand v k ≡ false → IsOut f x) → IsMarked w f i ls → IsMarked v f i (ls ++ x ∷ [])
 covers-last w v f i k [] x e s o c =
     let M : ℕ → Type 0 = λ p. may_stand v p ≡ false in
     let same : i ≡ k = omega arith in
@@ -143,7 +143,7 @@ covers-last w v f i k (l ∷ ls) x e s o c = (λ m. c.0 (falls w v i (s i (lt-lt
 pub marked-last : (olds news : List ℕ) (k : ℕ) (ls : List Listed) (x : Listed) → k ≡ length ls → ((f : ℕ) → IsOpenedTo k x f (word_of olds f) (word_of news f)) → AreMarked olds ls → AreMarked news (ls ++ x ∷ [])
 marked-last olds news k ls x e o a f = covers-last (word_of olds f) (word_of news f) f 0 k ls x (omega (arith, e)) (o f).0 (o f).1 (a f)
 
-covers-front : (w f i : ℕ) (xs ys : List Listed) → Covers w f i (xs ++ ys) → Covers w f i xs
+covers-front : (w f i : ℕ) (xs ys : List Listed) → IsMarked w f i (xs ++ ys) → IsMarked w f i xs
 covers-front w f i [] ys c = tt
 covers-front w f i (x ∷ xs) ys c = (c.0, covers-front w f (suc i) xs ys c.1)
 
@@ -151,11 +151,11 @@ covers-front w f i (x ∷ xs) ys c = (c.0, covers-front w f (suc i) xs ys c.1)
 pub marked-front : (words : List ℕ) (xs ys : List Listed) → AreMarked words (xs ++ ys) → AreMarked words xs
 marked-front words xs ys a f = covers-front (word_of words f) f 0 xs ys (a f)
 
-covers-up : (w v f i k : ℕ) (ls : List Listed) → k ≤ i → MovesUp k w v → Covers w f (suc i) ls → Covers v f i ls
+covers-up : (w v f i k : ℕ) (ls : List Listed) → k ≤ i → MovesUp k w v → IsMarked w f (suc i) ls → IsMarked v f i ls
 covers-up w v f i k [] h s c = tt
 covers-up w v f i k (l ∷ ls) h s c = (λ m. c.0 (falls-to w v i (suc i) (s.1 i (le-ltb i k h)) m), covers-up w v f (suc i) k ls (omega arith) s c.1)
 
-covers-removed : (w v f i j k : ℕ) (ls : List Listed) → k ≡ i + j → MovesUp k w v → Covers w f i ls → Covers v f i (remove ls j)
+covers-removed : (w v f i j k : ℕ) (ls : List Listed) → k ≡ i + j → MovesUp k w v → IsMarked w f i ls → IsMarked v f i (remove ls j)
 covers-removed w v f i zero k [] e s c = tt
 covers-removed w v f i (suc j) k [] e s c = tt
 covers-removed w v f i zero k (l ∷ ls) e s c = covers-up w v f i k ls (omega arith) s c.1
@@ -238,11 +238,11 @@ pub written-words : (i : ℕ) (ws vs : List ℕ) (ls : List Listed) → i ≡ le
 written-words i ws vs ls a h = (let V : List ℕ → Type 0 = λ us. AreMarked us ls in subst V (sym (written-back i ws vs a)) h)
 
 -- the word of a flight covers it
-pub marked-word : (n w : ℕ) (us ws : List ℕ) (ls ms : List Listed) → us ≡ ws → ms ≡ ls → w ≡ word_of us n → AreMarked ws ls → Covers w n 0 ms
+pub marked-word : (n w : ℕ) (us ws : List ℕ) (ls ms : List Listed) → us ≡ ws → ms ≡ ls → w ≡ word_of us n → AreMarked ws ls → IsMarked w n 0 ms
 marked-word n w us ws ls ms a b e h =
-    let C : ℕ → Type 0 = λ v. Covers v n 0 ms in
-    let L : List Listed → Type 0 = λ xs. Covers (word_of us n) n 0 xs in
-    let V : List ℕ → Type 0 = λ vs. Covers (word_of vs n) n 0 ls in
+    let C : ℕ → Type 0 = λ v. IsMarked v n 0 ms in
+    let L : List Listed → Type 0 = λ xs. IsMarked (word_of us n) n 0 xs in
+    let V : List ℕ → Type 0 = λ vs. IsMarked (word_of vs n) n 0 ls in
     subst C (sym e) (subst L (sym b) (subst V (sym a) (h n)))
 
 pub marked-both : (us ws : List ℕ) (ls ms : List Listed) → us ≡ ws → ms ≡ ls → AreMarked ws ls → AreMarked us ms

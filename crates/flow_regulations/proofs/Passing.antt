@@ -9,7 +9,7 @@ use Rattle.flow_regulations.specs.declared.places.Place.{Place}
 use Rattle.flow_regulations.specs.declared.places.Place.TheVariants as place
 use Rattle.flow_regulations.specs.Advice.{worse, worst}
 use Rattle.flow_regulations.specs.Listing.{Listed, Walked, regulation_of, IsFixedWaiting, IsLookedAgain}
-use Rattle.flow_regulations.specs.Marks.{may_stand, IsOut, Covers, MarksNear}
+use Rattle.flow_regulations.specs.Marks.{may_stand, IsOut, IsMarked, MarksNear}
 use Rattle.flow_regulations.specs.Places.{IsPlaceOf, ArePlaces}
 use Rattle.flow_regulations.proofs.Advised.{IsWorstSoFar}
 use Rattle.flow_regulations.proofs.MarkBits.{or-first, or-second}
@@ -46,7 +46,7 @@ worst-later taxi n (suc m) i p (l ∷ rest) f = cases (λ below. worst-later tax
       let past : length (l ∷ rest) ≤ i = ltb-false i (length (l ∷ rest)) q in
       ap W (drop_all i ls past ∙ sym (drop_all (i + suc m) ls (omega (arith, past))))
 
-pub worst-past : (taxi n w i j : ℕ) (o : Option Plan) (ls : List Listed) (d : Option Delay) → Covers w n 0 ls → i ≤ j → AreUnmarked w i j → IsWorstSoFar taxi n o (drop i ls) ls d → IsWorstSoFar taxi n o (drop j ls) ls d
+pub worst-past : (taxi n w i j : ℕ) (o : Option Plan) (ls : List Listed) (d : Option Delay) → IsMarked w n 0 ls → i ≤ j → AreUnmarked w i j → IsWorstSoFar taxi n o (drop i ls) ls d → IsWorstSoFar taxi n o (drop j ls) ls d
 worst-past taxi n w i j None ls d c h u was = tt
 worst-past taxi n w i j (Some p) ls d c h u was =
     let next : i + (j - i) ≡ j = omega (arith, h) in
@@ -54,11 +54,11 @@ worst-past taxi n w i j (Some p) ls d c h u was =
     ap (λ k. worse d (worst taxi n p (map regulation_of (drop k ls)))) (sym next) ∙ (ap (worse d) (sym later) ∙ was)
 
 -- no flight waits there to be fixed
-pub fixes-past : (n w i j : ℕ) (os ns : List Listed) → Covers w n 0 os → i ≤ j → AreUnmarked w i j → Walked (IsFixedWaiting n) i os ns → Walked (IsFixedWaiting n) j os ns
+pub fixes-past : (n w i j : ℕ) (os ns : List Listed) → IsMarked w n 0 os → i ≤ j → AreUnmarked w i j → Walked (IsFixedWaiting n) i os ns → Walked (IsFixedWaiting n) j os ns
 fixes-past n w i j os ns c h u walked = walked-past (IsFixedWaiting n) i j os ns (λ k d a b l. out-fixes n (get_or os k d) (covers-at w n k os d l c (u k a b))) h walked
 
 -- a second look changes nothing where the flight isn't held and that doesn't apply to it
-pub looks-past : (n taxi now w near i j : ℕ) (plans : List Plan) (os ns : List Listed) → 0 < n → n ≤ length plans → Covers w n 0 os
+pub looks-past : (n taxi now w near i j : ℕ) (plans : List Plan) (os ns : List Listed) → 0 < n → n ≤ length plans → IsMarked w n 0 os
     → ((p : Plan) → plan_at plans n ≡ Some p → MarksNear near taxi p os) → i ≤ j → AreUnmarked (bit_or w near) i j → Walked (IsLookedAgain n taxi now plans) i os ns → Walked (IsLookedAgain n taxi now plans) j os ns
 looks-past n taxi now w near i j plans os ns some within c m h u walked =
     walked-past (IsLookedAgain n taxi now plans) i j os ns (λ k d a b l.
@@ -102,7 +102,7 @@ absent-run n (suc m) j ps (l ∷ rest) f h a =
     let T : ℕ → Type 0 = λ k. ArePlaces n ((ps ++ place.Absent ∷ []) ++ replicate m place.Absent) (take k ls) in
     subst P (append_assoc ps (place.Absent ∷ []) (replicate m place.Absent)) (subst T next all)
 
-pub absent-past : (n w i j : ℕ) (ps : List Place) (ls : List Listed) → Covers w n 0 ls → i ≤ j → j ≤ length ls → AreUnmarked w i j → ArePlaces n ps (take i ls) → ArePlaces n (ps ++ replicate (j - i) place.Absent) (take j ls)
+pub absent-past : (n w i j : ℕ) (ps : List Place) (ls : List Listed) → IsMarked w n 0 ls → i ≤ j → j ≤ length ls → AreUnmarked w i j → ArePlaces n ps (take i ls) → ArePlaces n (ps ++ replicate (j - i) place.Absent) (take j ls)
 absent-past n w i j ps ls c h l u a =
     let next : i + (j - i) ≡ j = omega (arith, h) in
     let T : ℕ → Type 0 = λ k. ArePlaces n (ps ++ replicate (j - i) place.Absent) (take k ls) in

@@ -28,13 +28,13 @@ pub record IsInOrder (l : Listed) : Type 0 where
   pub regular : IsRegular l.lineup.period
 
 -- in regulations from this place on, the flight isn't held where its word says so
-abbrev pub Covers : ℕ → ℕ → ℕ → List Listed → Type 0
-Covers word flight index [] = Unit {0}
-Covers word flight index (l ∷ ls) = (may_stand word index ≡ false → IsOut flight l) × Covers word flight (suc index) ls
+abbrev pub IsMarked : ℕ → ℕ → ℕ → List Listed → Type 0
+IsMarked word flight index [] = Unit {0}
+IsMarked word flight index (l ∷ ls) = (may_stand word index ≡ false → IsOut flight l) × IsMarked word flight (suc index) ls
 
 -- and so for each flight
 abbrev pub AreMarked : List ℕ → List Listed → Type 0
-AreMarked words lists = (flight : ℕ) → Covers (word_of words flight) flight 0 lists
+AreMarked words lists = (flight : ℕ) → IsMarked (word_of words flight) flight 0 lists
 
 -- a word that says of no place below this one that a flight isn't held there, where the other didn't
 abbrev pub KeepsBelow : ℕ → ℕ → ℕ → Type 0

@@ -7,10 +7,10 @@ ghost use Rattle.flow_slots.specs.Period.{slot_time};
 ghost use Rattle.flow_slots.specs.Lineup.{fixed_slot};
 ghost use Rattle.flow_regulations.specs.Advice.{delay_in, caused_by, worse, advice};
 ghost use Rattle.flow_regulations.specs.Listing.{regulation_of};
-ghost use Rattle.flow_regulations.specs.Marks.{Covers};
+ghost use Rattle.flow_regulations.specs.Marks.{IsMarked};
 ghost use Rattle.fpl_text.specs.declared.minute.TheConstants.{GREATEST_MINUTE};
 
-use crate::marks::next_marked;
+use crate::mask::next_marked;
 use crate::notice::Told;
 use crate::regulation::Regulation;
 use flow_plans::PlanStore;
@@ -86,7 +86,7 @@ pub(crate) fn advice_of<A: Allocator + Copy>(
 ) -> Option<Told>
     requires some { 0 < number }
     requires within { number ≤ length plans.now.plans }
-    requires covers { Covers word number 0 regulations.now }
+    requires covers { IsMarked word number 0 regulations.now }
     ensures { IfSome (plan_at plans.now.plans number)
         (λ p. result ≡ advice plans.now.taxi number p (map regulation_of regulations.now)) }
 {

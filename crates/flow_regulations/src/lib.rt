@@ -9,11 +9,11 @@
 //!   its slot, depends on its own plan and the time, so in each slot list that one flight alone is taken out and let
 //!   in again, where its slot or its entry isn't what it was, and fixed if it is due. Those that it displaces move by
 //!   the chain of that slot list.
-//! - *Marks* (`marks`). For each flight a word of 64 bits says in which of the first 64 open regulations it may be
-//!   held: where a bit isn't set, the flight isn't held there, and the slot list isn't asked. A table of words by
-//!   places says in the same way which regulations stand at which places. The words of a plan's own places mark all
-//!   regulations that may apply to it, so a message goes to those near its plan and to those that may hold its
-//!   flight, and to no others. A mark too many costs a question; one too few can't be.
+//! - *Marks* (`mask`). For each flight a mask of 64 bits says in which of the first 64 open regulations it may be held
+//!   (`held_marks`): where a bit isn't set, the flight isn't held there, and the slot list isn't asked. A table of masks
+//!   by places says in the same way which regulations stand at which places (`place_table`). The masks of a plan's own
+//!   places mark all regulations that may apply to it, so a message goes to those near its plan and to those that may
+//!   hold its flight, and to no others. A mark too many costs a question; one too few can't be.
 //! - *The queue* (`due_queue`). A flight becomes due by its off-block moment and the time alone. A heap by off-block
 //!   moment holds each filed flight that isn't due, so TIME takes out those that become due and looks at no others. A
 //!   flight whose plan has moved or ended stays in the heap with its old moment, and is dropped when its turn comes.
@@ -35,10 +35,12 @@ mod due;
 mod due_queue;
 mod entry_asked;
 mod fixed_flights;
+mod held_marks;
 mod in_order;
 pub mod laws;
-mod marks;
+mod mask;
 mod notice;
+mod place_table;
 mod places;
 mod regulation;
 mod regulations;

@@ -16,7 +16,7 @@ ghost use Rattle.flow_regulations.specs.Listing.{AreUndue, NoneDue};
 ghost use Rattle.flow_regulations.specs.Listing.{HoldNewlyDue, HaveCapacity, names_in, IsReleased, IsOpened, opened};
 ghost use Rattle.flow_regulations.specs.Listing.{is_named, without_named, lineup_named, keeps_slot_in, IsNamedAt};
 ghost use Rattle.flow_regulations.specs.Listing.{MayReopen, pairs_in, regulation_of};
-ghost use Rattle.flow_regulations.specs.Marks.{may_stand, Covers, AreMarked, AreInRows, MarksNear};
+ghost use Rattle.flow_regulations.specs.Marks.{IsMarked, AreMarked, AreInRows, MarksNear};
 ghost use Rattle.flow_regulations.specs.Regulations.{coming_from};
 ghost use Rattle.flow_regulations.specs.Settling.{pairs_of};
 ghost use Rattle.flow_regulations.specs.Notices.{notices_from, told_from};
@@ -29,34 +29,30 @@ use crate::closed::Closed;
 use crate::due::is_due;
 use crate::entry_asked::EntryAsked;
 use crate::fixed_flights::note_fixed;
+use crate::held_marks::HeldMarks;
 use crate::in_order::put_in_order;
-use crate::marks::{
-    close_place, make_room, mark_where, may_stand, next_marked, open_last, open_last_row, set_word,
-    word_of,
-};
+use crate::mask::{mark_where, may_stand, next_marked};
 use crate::notice::{Notice, Told};
+use crate::place_table::PlaceTable;
 use crate::places::Place;
 use crate::regulation::Regulation;
 use crate::telling::tell;
-use flow_plans::{PlanStore, ROWS};
+use flow_plans::PlanStore;
 use flow_slots::{Planned, Shape, SlotList};
 use fpl_message::Spot;
 use fpl_text::{Minute, Text};
 use std::alloc::{AllocError, Allocator, Global};
 use std::marker::Model;
 
-/// The last row of a table of words by places.
-const LAST_ROW: u32 = ROWS - 1;
-
 /// The open regulations in order of opening, each with its slot list (ATFCM Users Manual, slot allocation).
 #[derive(Drop)]
 pub struct Regulations<A: Allocator + Copy = Global> {
     max_plans: u32,
     regulations: Vec<Regulation<A>, A>,
-    // for each flight, by its number, the word that marks where it may be held
-    words: Vec<u64, A>,
-    // for each row of places, the word that marks the regulations there
-    rows: Vec<u64, A>,
+    // where each flight may be held
+    marks: HeldMarks<A>,
+    // where the regulations are
+    table: PlaceTable<A>,
     // the flights that come into a regulation when it is opened, in memory that is kept for this
     coming: Vec<Planned, A>,
     // where they belong, in memory that is kept for this
@@ -79,8 +75,8 @@ impl<A: Allocator + Copy> Model for Regulations<A> {
 
     ghost invariant = { λ r. (0 < r.max_plans) × (r.max_plans ≤ MAX_PLANS)
         × HaveCapacity r.max_plans r.regulations.items
-        × AreApart (names_in r.regulations.items) × AreMarked r.words.items r.regulations.items
-        × AreInRows r.rows.items 0 r.regulations.items };
+        × AreApart (names_in r.regulations.items) × AreMarked r.marks r.regulations.items
+        × AreInRows r.table 0 r.regulations.items };
 }
 
 impl<A: Allocator + Copy> Regulations<A> {
@@ -94,8 +90,8 @@ impl<A: Allocator + Copy> Regulations<A> {
         Regulations {
             max_plans,
             regulations: Vec::new(alloc),
-            words: Vec::new(alloc),
-            rows: Vec::new(alloc),
+            marks: HeldMarks::new(alloc),
+            table: PlaceTable::new(alloc),
             coming: Vec::new(alloc),
             targets: Vec::new(alloc),
         }
@@ -143,13 +139,13 @@ impl<A: Allocator + Copy> Regulations<A> {
     {
         let mut regulation = Regulation::new(alloc, id, spot, shape, self.max_plans)?;
         self.regulations.reserve(1)?;
-        make_room(&mut self.words, alloc, self.max_plans)?;
-        make_room(&mut self.rows, alloc, LAST_ROW)?;
+        self.marks.make(alloc, self.max_plans)?;
+        self.table.make(alloc)?;
         let (coming, targets) = (&mut self.coming, &mut self.targets);
         let due = let_all_in(&mut regulation, plans, now, coming, targets)?;
         settle(&mut regulation, plans, now, due);
-        open_last(&mut self.words, &self.regulations, &regulation);
-        open_last_row(&mut self.rows, &self.regulations, &regulation);
+        self.marks.open(&self.regulations, &regulation);
+        self.table.open(&self.regulations, &regulation);
         self.regulations.push_reserved(regulation);
         Ok(())
     }
@@ -200,8 +196,8 @@ impl<A: Allocator + Copy> Regulations<A> {
     {
         let index = index_named(&self.regulations, id)?;
         let regulation = self.regulations.remove(index);
-        close_place(&mut self.words, index);
-        close_place(&mut self.rows, index);
+        self.marks.close(index);
+        self.table.close(index);
         Some(Closed { index, regulation })
     }
 
@@ -214,8 +210,8 @@ impl<A: Allocator + Copy> Regulations<A> {
     {
         let Closed { index, regulation } = closed;
         self.regulations.insert(index, regulation).unwrap();
-        self.words.clear();
-        self.rows.clear();
+        self.marks.clear();
+        self.table.clear();
     }
 
     /// Takes the regulation that was opened last out again, where there is one.
@@ -244,10 +240,10 @@ impl<A: Allocator + Copy> Regulations<A> {
             → AreSameBut number before plans.now.plans
             → AreRenewed plans.now.taxi self.old.max_plans now plans.now.plans self.old.lists self.new.lists }
     {
-        let word = word_of(&self.words, number);
-        let near = plans.near(number, &self.rows);
+        let word = self.marks.of(number);
+        let near = self.table.near(plans, number);
         let word = look_again_in(&mut self.regulations, plans, number, now, word, near);
-        set_word(&mut self.words, number, word);
+        self.marks.set(number, word);
     }
 
     /// Settles the regulations when the desk's time has advanced: these flights, which are due now, are fixed where
@@ -264,7 +260,7 @@ impl<A: Allocator + Copy> Regulations<A> {
             → IsSettled taxi earlier plans self.old.lists
             → AreRenewed taxi self.old.max_plans now plans self.old.lists self.new.lists }
     {
-        advance_in(&mut self.regulations, &self.words, due);
+        advance_in(&mut self.regulations, &self.marks, due);
     }
 
     /// Lets flights wait again that were fixed when they became due, each with the entry of its plan: the regulations
@@ -290,7 +286,7 @@ impl<A: Allocator + Copy> Regulations<A> {
             → IsListed taxi self.old.max_plans before self.old.lists
             → AreFrozen taxi self.old.max_plans number before self.old.lists self.new.lists }
     {
-        let word = word_of(&self.words, number);
+        let word = self.marks.of(number);
         fix_waiting_in(&mut self.regulations, number, word);
     }
 
@@ -301,7 +297,7 @@ impl<A: Allocator + Copy> Regulations<A> {
         ensures places { ArePlaces number places.new.items self.now.lists }
         ensures capacity { vec_capacity places.new ≡ vec_capacity places.old }
     {
-        let word = word_of(&self.words, number);
+        let word = self.marks.of(number);
         note_places_in(&self.regulations, number, word, places);
     }
 
@@ -317,7 +313,7 @@ impl<A: Allocator + Copy> Regulations<A> {
             → map (without_in number) self.old.lists ≡ map (without_in number) before → self.new.lists ≡ before }
     {
         put_back_in(&mut self.regulations, number, places);
-        set_word(&mut self.words, number, u64::MAX);
+        self.marks.set(number, u64::MAX);
     }
 
     /// What the flight of the plan of this number is to be told: its take-off delayed by the most penalising of the
@@ -329,7 +325,7 @@ impl<A: Allocator + Copy> Regulations<A> {
         ensures { IfSome (plan_at plans.now.plans number)
             (λ p. result ≡ advice plans.now.taxi number p (map regulation_of self.now.lists)) }
     {
-        let word = word_of(&self.words, number);
+        let word = self.marks.of(number);
         advice_of(&self.regulations, plans, number, word)
     }
 
@@ -362,8 +358,8 @@ impl<A: Allocator + Copy> Regulations<A> {
         ensures few { length notices.new.items ≤ length notices.old.items + length changed.now }
         ensures capacity { vec_capacity notices.new ≡ vec_capacity notices.old }
     {
-        let words = &self.words;
-        tell(&self.regulations, words, plans, changed, told, notices);
+        let marks = &self.marks;
+        tell(&self.regulations, marks, plans, changed, told, notices);
     }
 }
 
@@ -395,12 +391,12 @@ fn look_again_in<A: Allocator + Copy>(
     requires some { 0 < number }
     requires within { number ≤ length plans.now.plans }
     requires room { AllByRecursion (λ l. number ≤ l.lineup.capacity) regulations.old }
-    requires covers { Covers word number 0 regulations.old }
+    requires covers { IsMarked word number 0 regulations.old }
     requires near { (p : Plan) → plan_at plans.now.plans number ≡ Some p
         → MarksNear near plans.now.taxi p regulations.old }
     ensures walked { Walked (IsLookedAgain number plans.now.taxi now plans.now.plans)
         (length regulations.new) regulations.old regulations.new }
-    ensures covers { Covers result number 0 regulations.new }
+    ensures covers { IsMarked result number 0 regulations.new }
 {
     let concerned = word | near;
     let mut marked = word;
@@ -423,7 +419,7 @@ fn note_places_in<A: Allocator + Copy>(
     places: &mut Vec<Place, A>,
 )
     requires room { length regulations.now ≤ vec_capacity places.old }
-    requires covers { Covers word number 0 regulations.now }
+    requires covers { IsMarked word number 0 regulations.now }
     ensures places { ArePlaces number places.new.items regulations.now }
     ensures capacity { vec_capacity places.new ≡ vec_capacity places.old }
 {
@@ -468,7 +464,7 @@ fn put_back_in<A: Allocator + Copy>(
 
 /// Each regulation fixes one flight where it waits. The word marks it.
 fn fix_waiting_in<A: Allocator + Copy>(regulations: &mut [Regulation<A>], number: u32, word: u64)
-    requires { Covers word number 0 regulations.old }
+    requires { IsMarked word number 0 regulations.old }
     ensures { Walked (IsFixedWaiting number) (length regulations.new) regulations.old regulations.new }
 {
     let mut index = next_marked(word, 0);
@@ -478,17 +474,21 @@ fn fix_waiting_in<A: Allocator + Copy>(regulations: &mut [Regulation<A>], number
     }
 }
 
-/// Each regulation fixes these flights where they wait. The words mark where flights may be held.
-fn advance_in<A: Allocator + Copy>(regulations: &mut [Regulation<A>], words: &[u64], due: &[u32])
-    requires { AreMarked words.now regulations.old }
+/// Each regulation fixes these flights where they wait. The marks say where flights may be held.
+fn advance_in<A: Allocator + Copy>(
+    regulations: &mut [Regulation<A>],
+    marks: &HeldMarks<A>,
+    due: &[u32],
+)
+    requires { AreMarked marks.now regulations.old }
     ensures lists { regulations.new ≡ map (with_fixed_waiting due.now) regulations.old }
-    ensures marked { AreMarked words.now regulations.new }
+    ensures marked { AreMarked marks.now regulations.new }
     ensures walked { (taxi now : ℕ) (plans : List Plan) → AreDue now plans due.now
         → Walked (IsAdvancing (is_among due.now) taxi now plans)
         (length regulations.new) regulations.old regulations.new }
 {
     for number in due {
-        fix_waiting_in(regulations, *number, word_of(words, *number));
+        fix_waiting_in(regulations, *number, marks.of(*number));
     }
 }
 

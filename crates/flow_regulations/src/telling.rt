@@ -10,7 +10,7 @@ ghost use Rattle.flow_regulations.specs.Notices.{says, notices_to, told_to_plan,
 ghost use Rattle.flow_regulations.specs.Quiet.{AreQuietBut, AllQuiet};
 
 use crate::advice::advice_of;
-use crate::marks::word_of;
+use crate::held_marks::HeldMarks;
 use crate::notice::{Notice, Said, Told};
 use crate::regulation::Regulation;
 use flow_plans::{Plan, PlanState, PlanStore};
@@ -83,7 +83,7 @@ fn tell_plan<A: Allocator + Copy>(
 /// Tells the plan of this number its advice.
 fn tell_number<A: Allocator + Copy>(
     regulations: &[Regulation<A>],
-    words: &[u64],
+    marks: &HeldMarks<A>,
     plans: &PlanStore<A>,
     number: u32,
     told: &mut Option<Told>,
@@ -92,7 +92,7 @@ fn tell_number<A: Allocator + Copy>(
     requires some { 0 < number }
     requires within { number ≤ length plans.now.plans }
     requires room { length notices.old.items < vec_capacity notices.old }
-    requires marked { AreMarked words.now regulations.now }
+    requires marked { AreMarked marks.now regulations.now }
     ensures told { IfSome (plan_at plans.now.plans number) (λ p. told.new
         ≡ told_to_plan p told.old (advice plans.now.taxi number p (map regulation_of regulations.now))) }
     ensures notices { IfSome (plan_at plans.now.plans number) (λ p. notices.new.items
@@ -102,7 +102,7 @@ fn tell_number<A: Allocator + Copy>(
     ensures capacity { vec_capacity notices.new ≡ vec_capacity notices.old }
 {
     if let Some(plan) = plans.plan(number) {
-        let advice = advice_of(regulations, plans, number, word_of(words, number));
+        let advice = advice_of(regulations, plans, number, marks.of(number));
         tell_plan(plan, advice, told, notices);
     }
 }
@@ -112,11 +112,11 @@ fn tell_number<A: Allocator + Copy>(
 /// on the plan is told the advice.
 ///
 /// The numbers of the plans rise, and hold each plan whose advice may be another than it was told; the caller keeps
-/// room for as many notices. Then no plan is left to which anything is to be said. The words mark where flights may be
+/// room for as many notices. Then no plan is left to which anything is to be said. The marks say where flights may be
 /// held.
 pub(crate) fn tell<A: Allocator + Copy>(
     regulations: &[Regulation<A>],
-    words: &[u64],
+    marks: &HeldMarks<A>,
     plans: &PlanStore<A>,
     changed: &[u32],
     told: &mut Vec<Option<Told>, A>,
@@ -128,7 +128,7 @@ pub(crate) fn tell<A: Allocator + Copy>(
     requires room { length notices.old.items + length changed.now ≤ vec_capacity notices.old }
     requires quiet { AreQuietBut changed.now plans.now.taxi
         (map regulation_of regulations.now) plans.now.plans told.old.items }
-    requires marked { AreMarked words.now regulations.now }
+    requires marked { AreMarked marks.now regulations.now }
     ensures told { told.new.items
         ≡ told_from 1 plans.now.taxi (map regulation_of regulations.now) plans.now.plans told.old.items }
     ensures notices { notices.new.items
@@ -143,7 +143,7 @@ pub(crate) fn tell<A: Allocator + Copy>(
         let place = (*number - 1) as usize;
         tell_number(
             regulations,
-            words,
+            marks,
             plans,
             *number,
             &mut told[place],

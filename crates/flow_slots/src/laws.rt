@@ -15,6 +15,7 @@ ghost use Rattle.flow_slots.specs.Period.{Period, IsRegular};
 ghost use Rattle.flow_slots.specs.Undoings.{undoing_all};
 ghost use Rattle.flow_slots.specs.declared.cell.Planned.{Planned};
 ghost use Rattle.flow_slots.specs.declared.change_list.Change.{Change};
+ghost use Rattle.flow_slots.specs.declared.shape.TheConstants.{LONGEST_PERIOD, MOST_AN_HOUR};
 
 /// No two flights have one slot, and no flight has two: the slot of a flight and the flight in a
 /// slot are inverse. All provisional flights have a slot, and frozen ones have theirs.
@@ -82,4 +83,10 @@ pub fn changes_undone()
         → MayAll (undoing_all changes l) (changed_by changes l) }
     ensures back { (changes : List Change) (l : Lineup) → IsSound l → MayAll changes l
         → changed_by (undoing_all changes l) (changed_by changes l) ≡ l }
+{}
+
+/// The limits of a regulation: flights an hour, and minutes of its period.
+pub fn limits_are()
+    ensures rate { MOST_AN_HOUR ≡ 240 }
+    ensures period { LONGEST_PERIOD ≡ 1_440 }
 {}

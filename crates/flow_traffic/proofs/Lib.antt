@@ -11,3 +11,4 @@ pub mod TakenBack
 pub mod Both
 pub mod Slots
 pub mod FrozenStay
+pub mod Answering

@@ -11,3 +11,4 @@ pub mod Kept
 pub mod Undoing
 pub mod Changes
 pub mod Memory
+pub mod Answering

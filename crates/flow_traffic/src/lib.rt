@@ -18,12 +18,13 @@
 //!   change by itself. A SHUT keeps the regulation that it closed. Each reading begins, notes, tells the noted plans
 //!   their slots and finishes by the same calls.
 //!
-//! `messages` and `orders` carry out what is asked for, `opening` says whether a regulation may be opened, `changes`
-//! says which plans a reading may have changed, `same` compares two desks.
+//! `messages` and `orders` carry out what is asked for, `opening` says whether a regulation may be opened, `notified`
+//! holds what plans were told, `changes` says which plans a reading may have changed, `same` compares two desks.
 #![tactic(auto)]
 
 mod changes;
 mod messages;
+mod notified;
 mod opening;
 mod orders;
 mod same;

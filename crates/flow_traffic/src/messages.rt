@@ -15,17 +15,17 @@ ghost use Rattle.flow_regulations.specs.Listing.{IsListed, IsSettled, AreSameBut
 ghost use Rattle.flow_traffic.specs.Traffic.{told_of};
 ghost use Rattle.flow_traffic.specs.State.{State};
 ghost use Rattle.flow_traffic.specs.Asked.{changed_by, verdict_on, is_departure};
-ghost use Rattle.flow_traffic.specs.Answers.{Answers, told_to};
-ghost use Rattle.flow_traffic.specs.Frozen.{FrozenPairsStay};
+ghost use Rattle.flow_traffic.specs.Answering.{AnswersReading};
+ghost use Rattle.flow_traffic.specs.Answers.{told_to};
 ghost use Rattle.flow_traffic.specs.Kept.{IsSettledFor};
 ghost use Rattle.flow_regulations.specs.declared.due.TheConstants.{ISSUE_LEAD};
-ghost use Rattle.flow_plans.specs.declared.setup.TheConstants.{MAX_PLANS};
 
+use crate::notified::Notified;
 use crate::traffic::Traffic;
 use crate::undo::{Last, Undoing};
 use crate::verdict::{Kind, Verdict};
 use flow_plans::{Plan, PlanFault, PlanState, PlanStore};
-use flow_regulations::{DueQueue, Notice, Regulations, Told, Window, due_until, window_of};
+use flow_regulations::{DueQueue, Regulations, Told, Window, due_until, window_of};
 use fpl_message::{Message, Refusal};
 use fpl_text::{Minute, TimeOfDay};
 use std::alloc::{AllocError, Allocator};
@@ -33,21 +33,14 @@ use std::alloc::{AllocError, Allocator};
 impl<A: Allocator + Copy> Traffic<A> {
     /// Takes in a message, and answers the verdict on it.
     pub(crate) fn answer_message(&mut self, message: &Message<A>) -> Result<Verdict, AllocError>
-        ensures answers { IfOk result (Answers (msg (said_message message.now)) self.old.traffic self.new.traffic) }
-        ensures frozen { IfOk result (FrozenPairsStay
-            (msg (said_message message.now)) self.old.traffic self.new.traffic) }
-        ensures before { OnOk result (self.new.before ≡ Some self.old.traffic) }
-        ensures err { OnErr result (self.new ≡ record { traffic = self.old.traffic; before = None }) }
-        ensures grow { length self.old.traffic.notices ≤ length self.new.traffic.notices }
-        ensures few { length self.new.traffic.notices ≤ length self.old.traffic.notices + MAX_PLANS }
+        ensures { AnswersReading (msg (said_message message.now)) self.old self.new result }
     {
         self.undoing.begin();
         let Ok(()) = make_room(
             self.regulations.count(),
             &mut self.undoing,
             &mut self.queue,
-            &mut self.told,
-            &mut self.notices,
+            &mut self.notified,
         ) else {
             return Err(AllocError);
         };
@@ -61,18 +54,14 @@ impl<A: Allocator + Copy> Traffic<A> {
             }
         };
         let count = self.plans.count();
-        let verdict = verdict_on(&self.told, message, number);
+        let verdict = verdict_on(&self.notified.told, message, number);
         let departs = is_departure(message);
         self.undoing.note(number, &self.regulations);
         settle_for(&mut self.regulations, &self.plans, number, departs, now);
         note_flight(&mut self.queue, &self.plans, number, now);
-        make_place(count, &mut self.told);
-        self.undoing.tell(
-            &self.regulations,
-            &self.plans,
-            &mut self.told,
-            &mut self.notices,
-        );
+        make_place(count, &mut self.notified.told);
+        self.undoing
+            .tell(&self.regulations, &self.plans, &mut self.notified);
         self.undoing.finish(Last::Message { number });
         Ok(verdict)
     }
@@ -84,24 +73,23 @@ fn make_room<A: Allocator + Copy>(
     regulations: usize,
     undoing: &mut Undoing<A>,
     queue: &mut DueQueue<A>,
-    told: &mut Vec<Option<Told>, A>,
-    notices: &mut Vec<Notice, A>,
+    notified: &mut Notified<A>,
 ) -> Result<(), AllocError>
     ensures undoing { undoing.new ≡ record undoing.old { room = undoing.new.room } }
-    ensures told { told.new.items ≡ told.old.items }
-    ensures notices { notices.new.items ≡ notices.old.items }
+    ensures told { notified.new.told.items ≡ notified.old.told.items }
+    ensures notices { notified.new.notices.items ≡ notified.old.notices.items }
     ensures flights { queue.new.flights ≡ queue.old.flights }
-    ensures told_room { OnOk result (vec_len told.new < vec_capacity told.new) }
-    ensures notices_room { OnOk result (vec_len notices.new < vec_capacity notices.new) }
+    ensures told_room { OnOk result (vec_len notified.new.told < vec_capacity notified.new.told) }
+    ensures notices_room { OnOk result (vec_len notified.new.notices < vec_capacity notified.new.notices) }
     ensures queue_room { OnOk result (length queue.new.flights < queue.new.room) }
     ensures places_room { OnOk result (regulations ≤ undoing.new.room.places) }
     ensures changed_room { OnOk result (1 ≤ undoing.new.room.numbers) }
     ensures noted_room { OnOk result (1 ≤ undoing.new.room.told) }
 {
-    told.reserve(1)?;
+    notified.told.reserve(1)?;
     queue.reserve()?;
     undoing.make_room(regulations, 1)?;
-    undoing.make_room_to_tell(1, notices)
+    undoing.make_room_to_tell(1, &mut notified.notices)
 }
 
 /// Does what a message asks of the plans, and answers the number of the plan that it is about.

@@ -14,8 +14,8 @@ impl<A: Allocator + Copy> Traffic<A> {
     pub fn same(&self, other: &Traffic<A>) -> bool
         ensures { IsTrue result ↔ IsSame self.now.traffic other.now.traffic }
     {
-        self.notices.as_slice() == other.notices.as_slice()
-            && self.told.as_slice() == other.told.as_slice()
+        self.notified.notices.as_slice() == other.notified.notices.as_slice()
+            && self.notified.told.as_slice() == other.notified.told.as_slice()
             && stand_alike(&self.plans, &other.plans)
             && self.regulations.same(&other.regulations)
     }

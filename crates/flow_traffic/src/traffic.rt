@@ -10,6 +10,7 @@ ghost use Rattle.flow_traffic.specs.Memory.{MayTakeMemory};
 ghost use Rattle.flow_traffic.specs.Frozen.{FrozenPairsStay};
 ghost use Rattle.flow_plans.specs.declared.setup.TheConstants.{MAX_PLANS};
 
+use crate::notified::Notified;
 use crate::undo::{Last, Undoing};
 use crate::verdict::Verdict;
 use flow_plans::{Plan, PlanStore, Setup};
@@ -30,8 +31,7 @@ pub struct Traffic<A: Allocator + Copy = Global> {
     pub(crate) regulations: Regulations<A>,
     /// The flights that aren't due yet.
     pub(crate) queue: DueQueue<A>,
-    pub(crate) told: Vec<Option<Told>, A>,
-    pub(crate) notices: Vec<Notice, A>,
+    pub(crate) notified: Notified<A>,
     /// What undoes the last reading.
     pub(crate) undoing: Undoing<A>,
 }
@@ -46,12 +46,12 @@ impl<A: Allocator + Copy> Model for Traffic<A> {
     ghost view = { λ t.
         let s : State = record { time = t.time; store = t.plans; listing = t.regulations; queue = t.queue } in
         record {
-          traffic = traffic_of s t.told.items t.notices.items;
-          before = undone t.undoing.which t.undoing s t.told.items t.notices.items;
+          traffic = traffic_of s t.notified.told.items t.notified.notices.items;
+          before = undone t.undoing.which t.undoing s t.notified.told.items t.notified.notices.items;
         } };
 
     ghost invariant = { λ t. IsKeptWith t.undoing
-        (record { time = t.time; store = t.plans; listing = t.regulations; queue = t.queue }) t.told.items };
+        (record { time = t.time; store = t.plans; listing = t.regulations; queue = t.queue }) t.notified.told.items };
 }
 
 impl<A: Allocator + Copy> Traffic<A> {
@@ -67,8 +67,10 @@ impl<A: Allocator + Copy> Traffic<A> {
             plans: PlanStore::new(alloc, setup),
             regulations: Regulations::new(alloc, max_plans),
             queue: DueQueue::new(alloc),
-            told: Vec::new(alloc),
-            notices: Vec::new(alloc),
+            notified: Notified {
+                told: Vec::new(alloc),
+                notices: Vec::new(alloc),
+            },
             undoing: Undoing::new(alloc),
         }
     }
@@ -95,14 +97,14 @@ impl<A: Allocator + Copy> Traffic<A> {
         ensures value { option_copied result ≡ slice_get self.now.traffic.told (number - 1) }
         ensures each { length self.now.traffic.told ≡ length self.now.traffic.plans }
     {
-        self.told.get((number - 1) as usize)
+        self.notified.told.get((number - 1) as usize)
     }
 
     /// The notices issued.
     pub fn notices(&self) -> &[Notice]
         ensures { result.now ≡ self.now.traffic.notices }
     {
-        self.notices.as_slice()
+        self.notified.notices.as_slice()
     }
 
     /// The open regulations, in order of opening, each with its slot list.
@@ -174,8 +176,7 @@ impl<A: Allocator + Copy> Traffic<A> {
             &mut self.queue,
         );
         let count = self.plans.count();
-        self.undoing
-            .untell(count, &mut self.told, &mut self.notices);
+        self.undoing.untell(count, &mut self.notified);
         self.undoing.begin();
     }
 }

@@ -13,6 +13,7 @@ ghost use Rattle.flow_traffic.specs.Reopening.{open_again};
 ghost use Rattle.flow_traffic.specs.Telling.{AreTold, told_again};
 ghost use Rattle.flow_traffic.specs.Undoing.{has_changed, past, CanUndo, IsAgain};
 
+use crate::notified::Notified;
 use flow_plans::PlanStore;
 use flow_regulations::{Closed, DueQueue, Notice, Place, Regulations, Told};
 use fpl_text::{Minute, Text};
@@ -224,33 +225,40 @@ impl<A: Allocator + Copy> Undoing<A> {
         &mut self,
         regulations: &Regulations<A>,
         plans: &PlanStore<A>,
-        told: &mut Vec<Option<Told>, A>,
-        notices: &mut Vec<Notice, A>,
+        notified: &mut Notified<A>,
     )
-        requires each { length told.old.items ≡ length plans.now.plans }
+        requires each { length notified.old.told.items ≡ length plans.now.plans }
         requires rising { IsNonDecreasing self.old.changed }
         requires numbers { All (λ n. (0 < n) × (n ≤ length plans.now.plans)) self.old.changed }
         requires none { self.old.noted ≡ [] }
         requires noted { length self.old.changed ≤ self.old.room.told }
-        requires room { length notices.old.items + length self.old.changed ≤ vec_capacity notices.old }
+        requires room { length notified.old.notices.items + length self.old.changed
+            ≤ vec_capacity notified.old.notices }
         requires quiet { AreQuietBut self.old.changed plans.now.taxi
-            (map regulation_of regulations.now.lists) plans.now.plans told.old.items }
-        ensures told { told.new.items
-            ≡ told_from 1 plans.now.taxi (map regulation_of regulations.now.lists) plans.now.plans told.old.items }
-        ensures notices { notices.new.items
-            ≡ notices.old.items ++ notices_from 1 plans.now.taxi
-            (map regulation_of regulations.now.lists) plans.now.plans told.old.items }
+            (map regulation_of regulations.now.lists) plans.now.plans notified.old.told.items }
+        ensures told { notified.new.told.items
+            ≡ told_from 1 plans.now.taxi (map regulation_of regulations.now.lists) plans.now.plans
+            notified.old.told.items }
+        ensures notices { notified.new.notices.items
+            ≡ notified.old.notices.items ++ notices_from 1 plans.now.taxi
+            (map regulation_of regulations.now.lists) plans.now.plans notified.old.told.items }
         ensures quiet { AllQuiet plans.now.taxi
-            (map regulation_of regulations.now.lists) plans.now.plans told.new.items }
-        ensures each { length told.new.items ≡ length plans.now.plans }
-        ensures few { length notices.new.items ≤ length notices.old.items + length self.old.changed }
-        ensures again { told_again self.old.changed self.new.noted told.new.items ≡ told.old.items }
-        ensures were { self.new.noted ≡ map (told_of told.old.items) self.old.changed }
+            (map regulation_of regulations.now.lists) plans.now.plans notified.new.told.items }
+        ensures each { length notified.new.told.items ≡ length plans.now.plans }
+        ensures few { length notified.new.notices.items
+            ≤ length notified.old.notices.items + length self.old.changed }
+        ensures again { told_again self.old.changed self.new.noted notified.new.told.items
+            ≡ notified.old.told.items }
+        ensures were { self.new.noted ≡ map (told_of notified.old.told.items) self.old.changed }
         ensures count { length self.new.noted ≡ length self.old.changed }
-        ensures others { self.new ≡ record self.old { noted = self.new.noted; issued = length notices.old.items } }
+        ensures others { self.new ≡ record self.old {
+          noted = self.new.noted;
+          issued = length notified.old.notices.items;
+        } }
     {
-        self.issued = notices.len();
-        note_told(&self.changed, told, &mut self.noted);
+        self.issued = notified.notices.len();
+        note_told(&self.changed, &notified.told, &mut self.noted);
+        let (told, notices) = (&mut notified.told, &mut notified.notices);
         regulations.tell(plans, &self.changed, told, notices);
     }
 
@@ -298,20 +306,16 @@ impl<A: Allocator + Copy> Undoing<A> {
     }
 
     /// Puts back what the noted plans were told, for so many plans, and takes away the notices since.
-    pub(crate) fn untell(
-        &self,
-        plans: u32,
-        told: &mut Vec<Option<Told>, A>,
-        notices: &mut Vec<Notice, A>,
-    )
-        requires numbers { All (λ n. (0 < n) × (n ≤ length told.old.items)) self.now.changed }
+    pub(crate) fn untell(&self, plans: u32, notified: &mut Notified<A>)
+        requires numbers { All (λ n. (0 < n) × (n ≤ length notified.old.told.items)) self.now.changed }
         requires each { length self.now.noted ≡ length self.now.changed }
-        ensures told { told.new.items ≡ take plans (told_again self.now.changed self.now.noted told.old.items) }
-        ensures notices { notices.new.items ≡ take self.now.issued notices.old.items }
+        ensures told { notified.new.told.items
+            ≡ take plans (told_again self.now.changed self.now.noted notified.old.told.items) }
+        ensures notices { notified.new.notices.items ≡ take self.now.issued notified.old.notices.items }
     {
-        tell_again(&self.changed, &self.noted, told);
-        told.truncate(plans as usize);
-        notices.truncate(self.issued);
+        tell_again(&self.changed, &self.noted, &mut notified.told);
+        notified.told.truncate(plans as usize);
+        notified.notices.truncate(self.issued);
     }
 }
 

@@ -1,7 +1,6 @@
 use Rattle.std.proofs.Common.{◌≡◌, ℕ, ◌+◌, ◌<◌, List, [], length, map, take, get_or, refl, sym, ap, subst, ◌∙◌, arith}
 use Rattle.std.proofs.lemmas.List.{take_all}
 use Rattle.flow_regulations.specs.Listing.{Listed, Walked, IsFixedWaiting, IsAdvancing, is_among, with_fixed_waiting}
-use Rattle.flow_regulations.specs.Marks.{Covers}
 use Rattle.flow_regulations.proofs.Marking.{marked-walked}
 use Rattle.flow_regulations.proofs.Outs.{out-fixed}
 use Rattle.flow_regulations.proofs.Advances.{walk-start, walk-step, among-more, fixed-start, fixed-more}
@@ -16,9 +15,7 @@ loop-number-init g c = record {
 
 pub fix_waiting_in-requires : goal.fix_waiting_in-requires
 fix_waiting_in-requires g c =
-    let n : ℕ = get_or c.args.due.now c.loop-number.number-index 0 in
-    let C : ℕ → Type 0 = λ w. Covers w n 0 c.loop-number.regulations in
-    subst C (sym c.word_of.ensures) (c.loop-number.invariant.marked n)
+    c.of.ensures c.loop-number.regulations c.loop-number.invariant.marked
 
 pub loop-number-preserved : goal.loop-number-preserved
 loop-number-preserved g c =
@@ -37,7 +34,7 @@ loop-number-preserved g c =
           let U : ℕ → Type 0 = λ i. Walked (IsFixedWaiting n) i ms xs in
           let d = all j 0 within in
           subst V len (walk-step n (is_among (take j ns)) (is_among (take (j + 1) ns)) taxi now (length ms) plans os ms xs (among-more j n ns within refl) d.0 d.1 refl (c.loop-number.invariant.walked taxi now plans all) (subst U (sym len) c.fix_waiting_in.ensures)));
-      marked = marked-walked (IsFixedWaiting n) c.args.words.now (length xs) ms xs (λ f l m r h. out-fixed n f l m r h) refl c.fix_waiting_in.ensures c.loop-number.invariant.marked;
+      marked = marked-walked (IsFixedWaiting n) c.args.marks.now (length xs) ms xs (λ f l m r h. out-fixed n f l m r h) refl c.fix_waiting_in.ensures c.loop-number.invariant.marked;
     }
 
 pub returns-clause-lists : goal.returns-clause-lists

@@ -9,5 +9,5 @@ invariant-loop-number g l = record {
   lists : l.regulations ≡ map (with_fixed_waiting (take l.number-index l.due)) l.initial.regulations;
   walked : (taxi now : ℕ) (plans : List Plan) → AreDue now plans l.due
       → Walked (IsAdvancing (is_among (take l.number-index l.due)) taxi now plans) (length l.regulations) l.initial.regulations l.regulations;
-  marked : AreMarked l.words l.regulations;
+  marked : AreMarked l.marks l.regulations;
 }

@@ -3,14 +3,14 @@ use Rattle.std.specs.List.{AllByRecursion}
 use Rattle.flow_plans.specs.Plans.{Plan, plan_at}
 use Rattle.flow_regulations.specs.Asked.{IsAsked}
 use Rattle.flow_regulations.specs.Listing.{Walked, IsLookedAgain}
-use Rattle.flow_regulations.specs.Marks.{Covers}
+use Rattle.flow_regulations.specs.Marks.{IsMarked}
 use Rattle.flow_regulations.proofs.regulations.look_again_in.Given as goal
 
 abbrev pub invariant-loop-index : goal.invariant-loop-index
 invariant-loop-index g l = record {
   walked : Walked (IsLookedAgain l.number l.plans.taxi l.now l.plans.plans) l.index l.initial.regulations l.regulations;
   room : AllByRecursion (λ r. l.number ≤ r.lineup.capacity) l.regulations;
-  covers : Covers l.marked l.number 0 l.regulations;
+  covers : IsMarked l.marked l.number 0 l.regulations;
   asked : (p : Plan) → plan_at l.plans.plans l.number ≡ Some p → IsAsked l.plans.taxi p l.asked;
 }
 

@@ -1,7 +1,6 @@
 use Rattle.std.proofs.Common.{◌≡◌, ℕ, List, length, map, sym, refl, ap, subst, ◌∙◌, arith}
 use Rattle.flow_regulations.specs.Listing.{Listed, Walked, IsAdvancing, AreRenewed, HaveCapacity, AreApart, names_in, is_among, with_fixed_waiting, pairs_in}
 use Rattle.flow_regulations.specs.Marks.{AreInRows, AreMarked}
-use Rattle.flow_regulations.proofs.Marking.{marked-both}
 use Rattle.flow_regulations.proofs.Advances.{capacity-advanced, all-advanced, others-advanced}
 use Rattle.flow_regulations.proofs.Names.{apart-as, names-advanced}
 use Rattle.flow_regulations.proofs.Walks.{written-back}
@@ -16,15 +15,14 @@ invariant_of-self g c =
     let H : List Listed → Type 0 = HaveCapacity s.max_plans in
     let is : ns ≡ map (with_fixed_waiting c.args.due.now) s.regulations.items = c.advance_in.ensures.lists ∙ ap (map (with_fixed_waiting c.args.due.now)) c.deref_mut.ensures.value in
     let A : List Listed → Type 0 = λ ls. AreApart (names_in ls) in
-    let M : List Listed → Type 0 = λ ls. AreMarked s.words.items ls in
-    let Z : List Listed → Type 0 = λ ls. AreInRows s.rows.items 0 ls in
-    let V : List ℕ → Type 0 = λ vs. AreMarked vs ns in (
+    let M : List Listed → Type 0 = λ ls. AreMarked s.marks ls in
+    let Z : List Listed → Type 0 = λ ls. AreInRows s.table 0 ls in (
       c.self.invariant.0,
       c.self.invariant.1,
       subst H (sym (written-back s.regulations.len ns _ len ∙ is)) (capacity-advanced s.max_plans c.args.due.now s.regulations.items c.self.invariant.2),
       subst A (sym (written-back s.regulations.len ns _ len ∙ is)) (apart-as s.regulations.items (map (with_fixed_waiting c.args.due.now) s.regulations.items) (names-advanced c.args.due.now s.regulations.items) c.self.invariant.3),
-      subst M (sym (written-back s.regulations.len ns _ len)) (subst V c.deref.ensures.value c.advance_in.ensures.marked),
-      subst Z (sym (written-back s.regulations.len ns _ len)) (rows-there s.rows.items 0 s.regulations.items ns (ap spots_in is ∙ spots-advanced c.args.due.now s.regulations.items) c.self.invariant.5),
+      subst M (sym (written-back s.regulations.len ns _ len)) c.advance_in.ensures.marked,
+      subst Z (sym (written-back s.regulations.len ns _ len)) (rows-there s.table 0 s.regulations.items ns (ap spots_in is ∙ spots-advanced c.args.due.now s.regulations.items) c.self.invariant.5),
     )
 
 pub returns-clause-lists : goal.returns-clause-lists
@@ -55,4 +53,5 @@ returns-clause-renewed g c = λ taxi earlier now plans late due holds listed set
 
 pub advance_in-requires : goal.advance_in-requires
 advance_in-requires g c =
-    marked-both _ c.self.inside.words.items c.self.inside.regulations.items _ c.deref.ensures.value c.deref_mut.ensures.value c.self.invariant.4
+    let M : List Listed → Type 0 = λ ls. AreMarked c.self.inside.marks ls in
+    subst M (sym c.deref_mut.ensures.value) c.self.invariant.4

@@ -1,7 +1,7 @@
 use Rattle.std.proofs.Common.{◌≡◌, List, length, map, sym, refl, ap, subst, ◌∙◌, arith}
 use Rattle.flow_regulations.specs.Listing.{Listed, Walked, IsFixedWaiting, AreFrozen, HaveCapacity, AreApart, names_in, without_in, pairs_in}
-use Rattle.flow_regulations.specs.Marks.{AreInRows, AreMarked}
-use Rattle.flow_regulations.proofs.Marking.{marked-walked, marked-word}
+use Rattle.flow_regulations.specs.Marks.{AreInRows, AreMarked, IsMarked}
+use Rattle.flow_regulations.proofs.Marking.{marked-walked}
 use Rattle.flow_regulations.proofs.Outs.{out-fixed}
 use Rattle.flow_regulations.proofs.Alls.{capacity-fixed, all-frozen, others-fixed, alone-fixed, names-fixed}
 use Rattle.flow_regulations.proofs.Names.{apart-as}
@@ -17,15 +17,15 @@ invariant_of-self g c =
     let H : List Listed → Type 0 = HaveCapacity s.max_plans in
     let W : List Listed → Type 0 = λ os. Walked (IsFixedWaiting c.args.number) (length ns) os ns in
     let A : List Listed → Type 0 = λ ls. AreApart (names_in ls) in
-    let Z : List Listed → Type 0 = λ ls. AreInRows s.rows.items 0 ls in
+    let Z : List Listed → Type 0 = λ ls. AreInRows s.table 0 ls in
     let alone = alone-fixed c.args.number (length ns) s.regulations.items ns refl (subst W c.deref_mut.ensures.value c.fix_waiting_in.ensures) in
-    let M : List Listed → Type 0 = λ ls. AreMarked s.words.items ls in (
+    let M : List Listed → Type 0 = λ ls. AreMarked s.marks ls in (
       c.self.invariant.0,
       c.self.invariant.1,
       subst H (sym (written-back s.regulations.len ns _ len)) (capacity-fixed c.args.number s.max_plans (length ns) s.regulations.items ns refl (subst W c.deref_mut.ensures.value c.fix_waiting_in.ensures) c.self.invariant.2),
       subst A (sym (written-back s.regulations.len ns _ len)) (apart-as s.regulations.items ns (names-fixed c.args.number (length ns) s.regulations.items ns refl (subst W c.deref_mut.ensures.value c.fix_waiting_in.ensures)) c.self.invariant.3),
-      subst M (sym (written-back s.regulations.len ns _ len)) (marked-walked (IsFixedWaiting c.args.number) s.words.items (length ns) s.regulations.items ns (λ f l m r h. out-fixed c.args.number f l m r h) refl (subst W c.deref_mut.ensures.value c.fix_waiting_in.ensures) c.self.invariant.4),
-      subst Z (sym (written-back s.regulations.len ns _ len)) (rows-there s.rows.items 0 s.regulations.items ns (spots-alone c.args.number s.regulations.items ns alone) c.self.invariant.5),
+      subst M (sym (written-back s.regulations.len ns _ len)) (marked-walked (IsFixedWaiting c.args.number) s.marks (length ns) s.regulations.items ns (λ f l m r h. out-fixed c.args.number f l m r h) refl (subst W c.deref_mut.ensures.value c.fix_waiting_in.ensures) c.self.invariant.4),
+      subst Z (sym (written-back s.regulations.len ns _ len)) (rows-there s.table 0 s.regulations.items ns (spots-alone c.args.number s.regulations.items ns alone) c.self.invariant.5),
     )
 
 pub returns-clause-frozen : goal.returns-clause-frozen
@@ -59,4 +59,5 @@ returns-clause-alone g c =
 
 pub fix_waiting_in-requires : goal.fix_waiting_in-requires
 fix_waiting_in-requires g c =
-    marked-word c.args.number c.word_of-word.result _ c.self.inside.words.items c.self.inside.regulations.items _ c.deref.ensures.value c.deref_mut.ensures.value c.word_of-word.ensures c.self.invariant.4
+    let M : List Listed → Type 0 = λ ls. IsMarked c.of-word.result c.args.number 0 ls in
+    subst M (sym c.deref_mut.ensures.value) (c.of-word.ensures c.self.inside.regulations.items c.self.invariant.4)

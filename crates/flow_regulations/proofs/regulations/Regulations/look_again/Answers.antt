@@ -1,17 +1,13 @@
 use Rattle.std.proofs.Common.{◌≡◌, ◌≤◌, ℕ, List, length, map, sym, refl, ap, subst, ◌∙◌, arith}
-use Rattle.std.specs.Prelude.{IsSome, IfSome, Some}
+use Rattle.std.specs.Prelude.{Some}
 use Rattle.std.specs.List.{AllByRecursion}
-use Rattle.fpl_message.specs.declared.order.Spot.{Spot}
 use Rattle.flow_plans.specs.Plans.{Plan, plan_at}
-use Rattle.flow_plans.specs.Entries.{subject}
-use Rattle.flow_plans.specs.Near.{row_of, word_at, HasBitsOf}
 use Rattle.flow_regulations.specs.Listing.{Listed, Walked, IsLookedAgain, AreRenewed, HaveCapacity, AreApart, names_in, without_in, pairs_in}
-use Rattle.flow_regulations.specs.Marks.{MarksNear, AreInRows, AreMarked, word_of}
-use Rattle.flow_regulations.proofs.Marking.{marked-one, marked-word, written-marked}
+use Rattle.flow_regulations.specs.Marks.{MarksNear, AreInRows, AreMarked, IsMarked}
 use Rattle.flow_regulations.proofs.Alls.{room-at, capacity-looked, all-looked, others-looked, alone-looked, names-looked}
 use Rattle.flow_regulations.proofs.Names.{apart-as}
 use Rattle.flow_regulations.proofs.Walks.{written-back}
-use Rattle.flow_regulations.proofs.Rows.{rows-there, spots-alone, marks-near}
+use Rattle.flow_regulations.proofs.Rows.{rows-there, spots-alone}
 use Rattle.flow_regulations.proofs.regulations.Regulations.look_again.Goals as goal
 
 pub invariant_of-self : goal.invariant_of-self
@@ -23,18 +19,15 @@ invariant_of-self g c =
     let W : List Listed → Type 0 = λ os. Walked (IsLookedAgain c.args.number c.args.plans.now.taxi c.args.now c.args.plans.now.plans) (length ns) os ns in
     let A : List Listed → Type 0 = λ ls. AreApart (names_in ls) in
     let n : ℕ = c.args.number in
-    let ws : List ℕ = c.set_word.new.words in
-    let words : s.words.len ≡ length ws = omega (arith, c.set_word.auto.words, c.deref_mut-2.ensures.len) in
-    let O : List ℕ → Type 0 = λ vs. (f : ℕ) → (f ≡ n → ⊥) → word_of ws f ≡ word_of vs f in
     let alone = alone-looked n c.args.plans.now.taxi c.args.now (length ns) c.args.plans.now.plans s.regulations.items ns refl (subst W c.deref_mut.ensures.value c.look_again_in-word.ensures.walked) in
-    let Z : List Listed → Type 0 = λ ls. AreInRows s.rows.items 0 ls in
-    let marked : AreMarked ws ns = marked-one n c.look_again_in-word.result s.words.items ws s.regulations.items ns (subst O c.deref_mut-2.ensures.value c.set_word.ensures.others) c.set_word.ensures.one alone c.look_again_in-word.ensures.covers c.self.invariant.4 in (
+    let M : List Listed → Type 0 = λ ls. AreMarked c.set.new.self ls in
+    let Z : List Listed → Type 0 = λ ls. AreInRows s.table 0 ls in (
       c.self.invariant.0,
       c.self.invariant.1,
       subst H (sym (written-back s.regulations.len ns _ len)) (capacity-looked c.args.number c.args.plans.now.taxi c.args.now s.max_plans (length ns) c.args.plans.now.plans s.regulations.items ns refl (subst W c.deref_mut.ensures.value c.look_again_in-word.ensures.walked) c.self.invariant.2),
       subst A (sym (written-back s.regulations.len ns _ len)) (apart-as s.regulations.items ns (names-looked c.args.number c.args.plans.now.taxi c.args.now (length ns) c.args.plans.now.plans s.regulations.items ns refl (subst W c.deref_mut.ensures.value c.look_again_in-word.ensures.walked)) c.self.invariant.3),
-      written-marked s.words.len s.regulations.len ws _ ns _ words len marked,
-      subst Z (sym (written-back s.regulations.len ns _ len)) (rows-there s.rows.items 0 s.regulations.items ns (spots-alone n s.regulations.items ns alone) c.self.invariant.5),
+      subst M (sym (written-back s.regulations.len ns _ len)) (c.set.ensures s.regulations.items ns alone c.look_again_in-word.ensures.covers c.self.invariant.4),
+      subst Z (sym (written-back s.regulations.len ns _ len)) (rows-there s.table 0 s.regulations.items ns (spots-alone n s.regulations.items ns alone) c.self.invariant.5),
     )
 
 pub returns-clause-renewed : goal.returns-clause-renewed
@@ -69,7 +62,8 @@ returns-clause-alone g c =
 
 pub look_again_in-word-requires-clause-covers : goal.look_again_in-word-requires-clause-covers
 look_again_in-word-requires-clause-covers g c =
-    marked-word c.args.number c.word_of-word.result _ c.self.inside.words.items c.self.inside.regulations.items _ c.deref.ensures.value c.deref_mut.ensures.value c.word_of-word.ensures c.self.invariant.4
+    let M : List Listed → Type 0 = λ ls. IsMarked c.of-word.result c.args.number 0 ls in
+    subst M (sym c.deref_mut.ensures.value) (c.of-word.ensures c.self.inside.regulations.items c.self.invariant.4)
 
 pub look_again_in-word-requires-clause-room : goal.look_again_in-word-requires-clause-room
 look_again_in-word-requires-clause-room g c =
@@ -83,6 +77,5 @@ look_again_in-word-requires-clause-near g c =
     let n : ℕ = c.args.number in
     let taxi = c.args.plans.now.taxi in
     let plans = c.args.plans.now.plans in
-    let C : List ℕ → Type 0 = λ table. (start end : ℕ) (spot : Spot) → IfSome (plan_at plans n) (λ p. IsSome (subject taxi spot start end p) → HasBitsOf c.near-near.result (word_at table (row_of spot))) in
     let M : List Listed → Type 0 = λ ls. (p : Plan) → plan_at plans n ≡ Some p → MarksNear c.near-near.result taxi p ls in
-    subst M (sym c.deref_mut.ensures.value) (marks-near taxi n c.near-near.result s.rows.items plans s.regulations.items c.self.invariant.5 (subst C c.deref-2.ensures.value c.near-near.ensures))
+    subst M (sym c.deref_mut.ensures.value) (c.near-near.ensures s.regulations.items c.self.invariant.5)

@@ -1,8 +1,8 @@
 use Rattle.std.proofs.Common.{◌≡◌, ◌≤◌, ℕ, List, length, map, sym, ap, subst, ◌∙◌, arith}
 use Rattle.std.specs.List.{AllByRecursion}
 use Rattle.flow_regulations.specs.Listing.{Listed, HaveCapacity, AreApart, names_in, without_in}
-use Rattle.flow_regulations.specs.Marks.{AreInRows, AreMarked, word_of}
-use Rattle.flow_regulations.proofs.Marking.{marked-one, covers-ones, written-marked}
+use Rattle.flow_regulations.specs.Marks.{AreInRows, AreMarked}
+use Rattle.flow_regulations.proofs.Marking.{covers-ones}
 use Rattle.flow_regulations.proofs.Alls.{room-at}
 use Rattle.flow_regulations.proofs.PutBack.{capacity-back}
 use Rattle.flow_regulations.proofs.Names.{apart-as, names-back}
@@ -22,18 +22,15 @@ invariant_of-self g c =
     let lists = ap (λ v. v.lists) c.self.view_is in
     let back : ns ≡ b.0 = c.put_back_in.ensures b.0 b.1 (subst M (sym (c.deref_mut.ensures.value ∙ lists)) b.2) in
     let A : List Listed → Type 0 = λ ls. AreApart (names_in ls) in
-    let ws : List ℕ = c.set_word.new.words in
-    let words : s.words.len ≡ length ws = omega (arith, c.set_word.auto.words, c.deref_mut-2.ensures.len) in
-    let O : List ℕ → Type 0 = λ vs. (f : ℕ) → (f ≡ n → ⊥) → word_of ws f ≡ word_of vs f in
     let alone : map (without_in n) ns ≡ map (without_in n) s.regulations.items = ap (map (without_in n)) back ∙ sym (subst M (sym lists) b.2) in
-    let Z : List Listed → Type 0 = λ ls. AreInRows s.rows.items 0 ls in
-    let marked : AreMarked ws ns = marked-one n 18_446_744_073_709_551_615 s.words.items ws s.regulations.items ns (subst O c.deref_mut-2.ensures.value c.set_word.ensures.others) c.set_word.ensures.one alone (covers-ones n 0 ns) c.self.invariant.4 in (
+    let M' : List Listed → Type 0 = λ ls. AreMarked c.set.new.self ls in
+    let Z : List Listed → Type 0 = λ ls. AreInRows s.table 0 ls in (
       c.self.invariant.0,
       c.self.invariant.1,
       subst H (sym (written-back s.regulations.len ns _ len ∙ back)) (capacity-back n s.max_plans s.regulations.items b.0 (subst M (sym lists) b.2) c.self.invariant.2),
       subst A (sym (written-back s.regulations.len ns _ len ∙ back)) (apart-as s.regulations.items b.0 (names-back n s.regulations.items b.0 (subst M (sym lists) b.2)) c.self.invariant.3),
-      written-marked s.words.len s.regulations.len ws _ ns _ words len marked,
-      subst Z (sym (written-back s.regulations.len ns _ len)) (rows-there s.rows.items 0 s.regulations.items ns (spots-alone n s.regulations.items ns alone) c.self.invariant.5),
+      subst M' (sym (written-back s.regulations.len ns _ len)) (c.set.ensures s.regulations.items ns alone (covers-ones n 0 ns) c.self.invariant.4),
+      subst Z (sym (written-back s.regulations.len ns _ len)) (rows-there s.table 0 s.regulations.items ns (spots-alone n s.regulations.items ns alone) c.self.invariant.5),
     )
 
 pub returns-clause-lists : goal.returns-clause-lists

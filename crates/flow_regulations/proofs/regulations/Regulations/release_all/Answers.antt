@@ -12,14 +12,14 @@ invariant_of-self g c =
     let len : s.regulations.len ≡ length ns = omega (arith, c.release_all_in.auto.regulations, c.deref_mut.ensures.len) in
     let H : List Listed → Type 0 = HaveCapacity s.max_plans in
     let A : List Listed → Type 0 = λ ls. AreApart (names_in ls) in
-    let Z : List Listed → Type 0 = λ ls. AreInRows s.rows.items 0 ls in
-    let M : List Listed → Type 0 = λ ls. AreMarked s.words.items ls in (
+    let Z : List Listed → Type 0 = λ ls. AreInRows s.table 0 ls in
+    let M : List Listed → Type 0 = λ ls. AreMarked s.marks ls in (
       c.self.invariant.0,
       c.self.invariant.1,
       subst H (sym (written-back s.regulations.len ns _ len)) (c.release_all_in.ensures.capacity s.max_plans (subst H (sym c.deref_mut.ensures.value) c.self.invariant.2)),
       subst A (sym (written-back s.regulations.len ns _ len)) (apart-as s.regulations.items ns (c.release_all_in.ensures.names ∙ ap names_in c.deref_mut.ensures.value) c.self.invariant.3),
-      subst M (sym (written-back s.regulations.len ns _ len)) (c.release_all_in.ensures.marked s.words.items (subst M (sym c.deref_mut.ensures.value) c.self.invariant.4)),
-      subst Z (sym (written-back s.regulations.len ns _ len)) (c.release_all_in.ensures.rows s.rows.items (subst Z (sym c.deref_mut.ensures.value) c.self.invariant.5)),
+      subst M (sym (written-back s.regulations.len ns _ len)) (c.release_all_in.ensures.marked s.marks (subst M (sym c.deref_mut.ensures.value) c.self.invariant.4)),
+      subst Z (sym (written-back s.regulations.len ns _ len)) (c.release_all_in.ensures.rows s.table (subst Z (sym c.deref_mut.ensures.value) c.self.invariant.5)),
     )
 
 pub returns-clause-lists : goal.returns-clause-lists

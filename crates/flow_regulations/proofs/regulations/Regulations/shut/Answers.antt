@@ -1,12 +1,10 @@
 use Rattle.std.proofs.Common.{◌≡◌, ℕ, true, false, List, length, get_or, sym, ap, subst, ◌∙◌, arith}
 use Rattle.std.specs.List.{list_any, insert}
 use Rattle.flow_regulations.specs.Listing.{Listed, HaveCapacity, AreApart, names_in, is_named, without_named, IsNamedAt}
-use Rattle.flow_regulations.specs.Marks.{AreInRows, MovesUp, AreMarked, word_of}
+use Rattle.flow_regulations.specs.Marks.{AreInRows, AreMarked}
 use Rattle.flow_regulations.proofs.Closings.{all-named}
-use Rattle.flow_regulations.proofs.Marking.{marked-removed, written-words}
 use Rattle.flow_regulations.proofs.Names.{none-without, removed-named, put-back-in-place, apart-without, gone-without}
 use Rattle.flow_regulations.proofs.Walks.{all-at}
-use Rattle.flow_regulations.proofs.Rows.{rows-removed, written-rows}
 use Rattle.flow_regulations.proofs.regulations.Regulations.shut.Goals as goal
 
 pub returns-in_err-index-clause-lists : goal.returns-in_err-index-clause-lists
@@ -25,22 +23,15 @@ invariant_of-self g c =
     let is : c.remove-regulation.new.self.items ≡ without_named id s.regulations.items = c.remove-regulation.ensures.items ∙ removed-named id s.regulations.items i x c.self.invariant.3 found.0 (found.1 x) in
     let H : List Listed → Type 0 = HaveCapacity s.max_plans in
     let A : List Listed → Type 0 = λ ls. AreApart (names_in ls) in
-    let ws : List ℕ = c.close_place.new.words in
-    let words : s.words.len ≡ length ws = omega (arith, c.close_place.auto.words, c.deref_mut.ensures.len) in
-    let U : List ℕ → Type 0 = λ us. (f : ℕ) → MovesUp i (word_of us f) (word_of ws f) in
-    let M : List Listed → Type 0 = λ ls. AreMarked ws ls in
-    let vs : List ℕ = c.close_place-2.new.words in
-    let rows : s.rows.len ≡ length vs = omega (arith, c.close_place-2.auto.words, c.deref_mut-2.ensures.len) in
-    let V : List ℕ → Type 0 = λ us. (f : ℕ) → MovesUp i (word_of us f) (word_of vs f) in
-    let Z : List Listed → Type 0 = λ ls. AreInRows vs 0 ls in
-    let there = subst Z (sym c.remove-regulation.ensures.items) (rows-removed s.rows.items vs i s.regulations.items (subst V c.deref_mut-2.ensures.value c.close_place-2.ensures) c.self.invariant.5) in
-    let marked = subst M (sym c.remove-regulation.ensures.items) (marked-removed s.words.items ws i s.regulations.items (subst U c.deref_mut.ensures.value c.close_place.ensures) c.self.invariant.4) in (
+    let M : List Listed → Type 0 = λ ls. AreMarked c.close.new.self ls in
+    let Z : List Listed → Type 0 = λ ls. AreInRows c.close-2.new.self 0 ls in
+    let removed = sym c.remove-regulation.ensures.items in (
       c.self.invariant.0,
       c.self.invariant.1,
       subst H (sym is) (all-named (λ l. l.lineup.capacity ≡ s.max_plans) id s.regulations.items c.self.invariant.2),
       subst A (sym is) (apart-without id s.regulations.items c.self.invariant.3),
-      written-words s.words.len ws _ c.remove-regulation.new.self.items words marked,
-      written-rows s.rows.len vs _ c.remove-regulation.new.self.items rows there,
+      subst M removed (c.close.ensures _ c.self.invariant.4),
+      subst Z removed (c.close-2.ensures _ c.self.invariant.5),
     )
 
 pub returns-clause-lists : goal.returns-clause-lists

@@ -12,6 +12,6 @@ invariant_of-self g c =
     let ns : List Listed = c.pop-last.new.self.items in
     let H : List Listed → Type 0 = HaveCapacity s.max_plans in
     let A : List Listed → Type 0 = λ ls. AreApart (names_in ls) in
-    let M : List Listed → Type 0 = λ ls. AreMarked s.words.items ls in
-    let Z : List Listed → Type 0 = λ ls. AreInRows s.rows.items 0 ls in
-    (c.self.invariant.0, c.self.invariant.1, capacity-front s.max_plans ns _ (subst H c.pop-last.ensures.items c.self.invariant.2), apart-front ns _ (subst A c.pop-last.ensures.items c.self.invariant.3), marked-front s.words.items ns _ (subst M c.pop-last.ensures.items c.self.invariant.4), rows-front s.rows.items 0 ns _ (subst Z c.pop-last.ensures.items c.self.invariant.5))
+    let M : List Listed → Type 0 = λ ls. AreMarked s.marks ls in
+    let Z : List Listed → Type 0 = λ ls. AreInRows s.table 0 ls in
+    (c.self.invariant.0, c.self.invariant.1, capacity-front s.max_plans ns _ (subst H c.pop-last.ensures.items c.self.invariant.2), apart-front ns _ (subst A c.pop-last.ensures.items c.self.invariant.3), marked-front s.marks ns _ (subst M c.pop-last.ensures.items c.self.invariant.4), rows-front s.table 0 ns _ (subst Z c.pop-last.ensures.items c.self.invariant.5))

@@ -1,6 +1,9 @@
-use Rattle.flow_regulations.proofs.Marking.{marked-both}
+use Rattle.std.proofs.Common.{List, sym, subst}
+use Rattle.flow_regulations.specs.Listing.{Listed}
+use Rattle.flow_regulations.specs.Marks.{AreMarked}
 use Rattle.flow_regulations.proofs.regulations.Regulations.tell.Goals as goal
 
 pub tell-requires-clause-marked : goal.tell-requires-clause-marked
 tell-requires-clause-marked g c =
-    marked-both _ c.self.inside.words.items c.self.inside.regulations.items _ c.deref-2.ensures.value c.deref.ensures.value c.self.invariant.4
+    let M : List Listed → Type 0 = λ ls. AreMarked c.self.inside.marks ls in
+    subst M (sym c.deref.ensures.value) c.self.invariant.4

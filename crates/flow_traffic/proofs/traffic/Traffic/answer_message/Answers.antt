@@ -6,27 +6,49 @@ use Rattle.flow_regulations.specs.Listing.{regulation_of}
 use Rattle.flow_regulations.specs.Awaiting.{Covers}
 use Rattle.flow_regulations.specs.Places.{ArePlaces}
 use Rattle.flow_regulations.specs.declared.notice.Told.{Told}
+use Rattle.flow_regulations.specs.declared.notice.Notice.{Notice}
 use Rattle.flow_regulations.proofs.ForTheDesk.{quiet-but-one}
 use Rattle.flow_regulations.proofs.Queues.{covers-more}
+use Rattle.flow_traffic.specs.declared.undo.Last.{Last}
 use Rattle.flow_traffic.specs.declared.undo.Last.TheVariants as reading
-use Rattle.flow_traffic.specs.Traffic.{Undoable}
+use Rattle.flow_traffic.specs.Traffic.{Traffic, Undoable}
+use Rattle.flow_traffic.specs.Answers.{Answers}
 use Rattle.flow_traffic.specs.State.{State, traffic_of}
 use Rattle.flow_traffic.specs.Undoing.{LastReading, past, told_past, undone, IsAgain, IsKeptWith}
 use Rattle.flow_traffic.proofs.Telling.{told-others}
 use Rattle.flow_traffic.proofs.Noted.{one-noted}
 use Rattle.flow_traffic.proofs.TakenBack.{stands-again, plans-before, told-before, can-forget, was-kept, traffic-before, notices-before, one-within}
 use Rattle.flow_traffic.proofs.Answered.{message-answers, fault-ok, settled-count}
+use Rattle.flow_traffic.proofs.Answering.{accepting}
 use Rattle.flow_traffic.proofs.FrozenStay.{frozen-settled}
 use Rattle.flow_traffic.proofs.traffic.Traffic.answer_message.Goals as goal
 
-pub returns-in-Err-clause-answers : goal.returns-in-Err-clause-answers
-returns-in-Err-clause-answers g c =
+pub returns-in-Err : goal.returns-in-Err
+returns-in-Err g c =
     let i = c.self.inside in
     let s : State = record { time = i.time; store = i.plans; listing = i.regulations; queue = i.queue } in
-    rw (sym (ap (λ (v : Undoable). v.traffic) c.self.view_is))
-    (fault-ok (traffic_of s i.told.items i.notices.items) _ (said_message c.args.message.now) c.in-Err.fault c.refused.result c.in_ok-verdict-in-Err.verdict
-    (rw (c.change_plans.ensures.taxi, c.change_plans.ensures.limit, c.in-Err.ensures.err, c.make_room.ensures.told, c.make_room.ensures.notices) refl)
-    c.in_ok-verdict-in-Err.was c.refused.ensures c.in-Err.ensures.refused)
+    let t : State = record { time = i.time; store = c.change_plans.new.plans; listing = i.regulations; queue = c.make_room.new.queue } in
+    let told : List (Option Told) = c.make_room.new.notified.told.items in
+    let notices : List Notice = c.make_room.new.notified.notices.items in
+    let new : Traffic = traffic_of t told notices in
+    let old : Traffic = traffic_of s i.notified.told.items i.notified.notices.items in
+    let was = ap (λ (v : Undoable). v.traffic) c.self.view_is in
+    let same : new ≡ old = rw (c.change_plans.ensures.taxi, c.change_plans.ensures.limit, c.in-Err.ensures.err, c.make_room.ensures.told, c.make_room.ensures.notices) refl in
+    let answers : Answers (msg (said_message c.args.message.now)) c.args.self.now.traffic new c.in_ok-verdict-in-Err.verdict =
+    rw (sym was)
+    (fault-ok old new (said_message c.args.message.now) c.in-Err.fault c.refused.result c.in_ok-verdict-in-Err.verdict
+    same c.in_ok-verdict-in-Err.was c.refused.ensures c.in-Err.ensures.refused) in
+    let count : length notices ≡ length c.args.self.now.traffic.notices = ap (λ (v : Traffic). length v.notices) (same ∙ was) in
+    let W : Last → Option Traffic = λ w. undone w c.finish.new.self t told notices in
+    record {
+      answers = answers;
+      frozen = frozen-settled (msg (said_message c.args.message.now)) s i.notified.told.items i.notified.notices.items c.args.self.now.traffic new c.in_ok-verdict-in-Err.verdict was c.self.invariant.kept.settled_in answers;
+      before = ap W (ap (λ (v : LastReading). v.which) c.finish.ensures) ∙ ap Some (same ∙ was);
+      err = tt;
+      memory = tt;
+      grow = omega (arith, count);
+      few = omega (arith, count);
+    }
 
 pub tell-requires-clause-quiet : goal.tell-requires-clause-quiet
 tell-requires-clause-quiet g c =
@@ -36,15 +58,15 @@ tell-requires-clause-quiet g c =
     let store : Store = c.change_plans.new.plans in
     let settled = c.settle_for.ensures.settled s refl (sym c.change_plans.ensures.taxi) refl c.self.invariant.kept.listed c.self.invariant.kept.settled_in c.in-Ok-change_plans.ensures.same in
     let place = rw c.make_room.ensures.told at (c.make_place.ensures.told store.plans (sym c.count-count.ensures.count)) in
-    let each : length i.told.items ≡ length i.plans.plans = c.self.invariant.kept.each in
-    let one : length i.told.items ≤ length store.plans = omega (arith, each, c.change_plans.ensures.one) in
-    let more : length store.plans ≤ length i.told.items + 1 = omega (arith, each, c.change_plans.ensures.more) in
-    let last : length i.told.items < length store.plans → n ≡ length store.plans = λ h. c.in-Ok-change_plans.ensures.last (omega (arith, each, h)) in
+    let each : length i.notified.told.items ≡ length i.plans.plans = c.self.invariant.kept.each in
+    let one : length i.notified.told.items ≤ length store.plans = omega (arith, each, c.change_plans.ensures.one) in
+    let more : length store.plans ≤ length i.notified.told.items + 1 = omega (arith, each, c.change_plans.ensures.more) in
+    let last : length i.notified.told.items < length store.plans → n ≡ length store.plans = λ h. c.in-Ok-change_plans.ensures.last (omega (arith, each, h)) in
     let quiet = rw (sym c.change_plans.ensures.taxi) at c.self.invariant.kept.quiet in
     rw c.note.ensures.changed
     (quiet-but-one n store.taxi (map regulation_of i.regulations.lists) (map regulation_of c.settle_for.new.regulations.lists)
-    i.plans.plans store.plans i.told.items c.make_place.new.told.items c.in-Ok-change_plans.ensures.same
-    (λ f some ne. told-others store.plans i.told.items c.make_place.new.told.items n f place one more last some ne)
+    i.plans.plans store.plans i.notified.told.items c.make_place.new.told.items c.in-Ok-change_plans.ensures.same
+    (λ f some ne. told-others store.plans i.notified.told.items c.make_place.new.told.items n f place one more last some ne)
     (λ f some ne. settled.others f ne)
     quiet)
 
@@ -59,7 +81,7 @@ invariant_of-self-2 g c =
     let place = rw c.make_room.ensures.told at (c.make_place.ensures.told store.plans (sym c.count-count.ensures.count)) in
     let u : LastReading = record c.tell.new.self { which = reading.Message n } in
     let p : State = past (reading.Message n) u t in
-    let told : List (Option Told) = c.tell.new.told.items in
+    let told : List (Option Told) = c.tell.new.notified.told.items in
     let same : c.tell.new.self.changed ≡ c.note.new.self.changed = ap (λ (v : LastReading). v.changed) c.tell.ensures.others in
     let places : c.tell.new.self.places ≡ c.note.new.self.places = ap (λ (v : LastReading). v.places) c.tell.ensures.others in
     let stand : ArePlaces n c.tell.new.self.places i.regulations.lists = rw places c.note.ensures.places in
@@ -74,10 +96,10 @@ invariant_of-self-2 g c =
       limit = sym c.settle_for.ensures.limit;
       covers = c.self.invariant.kept.covers;
     } in
-    let told_were : told_past u p told ≡ i.told.items =
-    told-before u p told c.make_place.new.told.items i.told.items store.plans i.plans.plans plans_were (rw same c.tell.ensures.again) place c.self.invariant.kept.each c.change_plans.ensures.one c.change_plans.ensures.more in
+    let told_were : told_past u p told ≡ i.notified.told.items =
+    told-before u p told c.make_place.new.told.items i.notified.told.items store.plans i.plans.plans plans_were (rw same c.tell.ensures.again) place c.self.invariant.kept.each c.change_plans.ensures.one c.change_plans.ensures.more in
     let one : c.tell.new.self.changed ≡ n ∷ [] = same ∙ c.note.ensures.changed in
-    let few : length i.told.items ≤ length store.plans = omega (arith, c.self.invariant.kept.each, c.change_plans.ensures.one) in
+    let few : length i.notified.told.items ≤ length store.plans = omega (arith, c.self.invariant.kept.each, c.change_plans.ensures.one) in
     let count = settled-count _ _ _ _ _ settled in
     let within : n ≤ t.listing.max_plans = omega (arith, c.in-Ok-change_plans.ensures.within, c.count-count.ensures.count, c.count-count.ensures.limit, c.change_plans.ensures.limit, c.self.invariant.kept.limit, c.settle_for.ensures.limit) in
     let covers = rw (sym c.make_room.ensures.flights) at c.self.invariant.kept.covers in
@@ -97,13 +119,13 @@ invariant_of-self-2 g c =
         quiet = c.tell.ensures.quiet;
       };
       can = can-forget n u t i.plans.plans i.regulations.lists c.in-Ok-change_plans.ensures.some within c.in-Ok-change_plans.ensures.before stand c.settle_for.ensures.alone covers_old;
-      was = λ yes. was-kept u t p s told i.told.items again told_were c.self.invariant.kept (rw same c.tell.ensures.count)
+      was = λ yes. was-kept u t p s told i.notified.told.items again told_were c.self.invariant.kept (rw same c.tell.ensures.count)
           (one-within n (length told) c.tell.new.self.changed one c.in-Ok-change_plans.ensures.some (omega (arith, c.in-Ok-change_plans.ensures.within, c.tell.ensures.each)))
-          (one-noted u n store.plans i.plans.plans i.told.items c.make_place.new.told.items one c.in-Ok-change_plans.ensures.same place c.self.invariant.kept.each few (rw same c.tell.ensures.were));
+          (one-noted u n store.plans i.plans.plans i.notified.told.items c.make_place.new.told.items one c.in-Ok-change_plans.ensures.same place c.self.invariant.kept.each few (rw same c.tell.ensures.were));
     })
 
-pub returns-clause-before : goal.returns-clause-before
-returns-clause-before g c =
+pub returns : goal.returns
+returns g c =
     let i = c.self.inside in
     let s : State = record { time = i.time; store = i.plans; listing = i.regulations; queue = i.queue } in
     let t : State = record { time = i.time; store = c.change_plans.new.plans; listing = c.settle_for.new.regulations; queue = c.note_flight.new.queue } in
@@ -113,7 +135,7 @@ returns-clause-before g c =
     let place = rw c.make_room.ensures.told at (c.make_place.ensures.told store.plans (sym c.count-count.ensures.count)) in
     let u : LastReading = record c.tell.new.self { which = reading.Message n } in
     let p : State = past (reading.Message n) u t in
-    let told : List (Option Told) = c.tell.new.told.items in
+    let told : List (Option Told) = c.tell.new.notified.told.items in
     let same : c.tell.new.self.changed ≡ c.note.new.self.changed = ap (λ (v : LastReading). v.changed) c.tell.ensures.others in
     let places : c.tell.new.self.places ≡ c.note.new.self.places = ap (λ (v : LastReading). v.places) c.tell.ensures.others in
     let stand : ArePlaces n c.tell.new.self.places i.regulations.lists = rw places c.note.ensures.places in
@@ -128,33 +150,21 @@ returns-clause-before g c =
       limit = sym c.settle_for.ensures.limit;
       covers = c.self.invariant.kept.covers;
     } in
-    let told_were : told_past u p told ≡ i.told.items =
-    told-before u p told c.make_place.new.told.items i.told.items store.plans i.plans.plans plans_were (rw same c.tell.ensures.again) place c.self.invariant.kept.each c.change_plans.ensures.one c.change_plans.ensures.more in
-    let issued : c.tell.new.self.issued ≡ length i.notices.items = ap (λ (v : LastReading). v.issued) c.tell.ensures.others ∙ ap length c.make_room.ensures.notices in
-    let taken = notices-before i.notices.items c.tell.new.notices.items _ c.tell.new.self.issued (rw c.make_room.ensures.notices at c.tell.ensures.notices) issued in
-    let P : LastReading → Type 0 = λ v. undone v.which v t told c.tell.new.notices.items ≡ Some c.args.self.now.traffic in
-    subst P (sym c.finish-2.ensures)
-    (ap Some (traffic-before u p s told i.told.items c.tell.new.notices.items i.notices.items again told_were taken ∙ ap (λ (v : Undoable). v.traffic) c.self.view_is))
-
-pub returns-clause-answers : goal.returns-clause-answers
-returns-clause-answers g c =
-    let i = c.self.inside in
-    let s : State = record { time = i.time; store = i.plans; listing = i.regulations; queue = i.queue } in
-    let n : ℕ = c.in-Ok-change_plans.number in
-    let store : Store = c.change_plans.new.plans in
-    let settled = c.settle_for.ensures.settled s refl (sym c.change_plans.ensures.taxi) refl c.self.invariant.kept.listed c.self.invariant.kept.settled_in c.in-Ok-change_plans.ensures.same in
-    let place = rw c.make_room.ensures.told at (c.make_place.ensures.told store.plans (sym c.count-count.ensures.count)) in
-    rw (sym (ap (λ (v : Undoable). v.traffic) c.self.view_is))
-    (message-answers s store c.settle_for.new.regulations.lists i.told.items c.make_place.new.told.items c.tell.new.told.items i.notices.items c.tell.new.notices.items
+    let told_were : told_past u p told ≡ i.notified.told.items =
+    told-before u p told c.make_place.new.told.items i.notified.told.items store.plans i.plans.plans plans_were (rw same c.tell.ensures.again) place c.self.invariant.kept.each c.change_plans.ensures.one c.change_plans.ensures.more in
+    let issued : c.tell.new.self.issued ≡ length i.notified.notices.items = ap (λ (v : LastReading). v.issued) c.tell.ensures.others ∙ ap length c.make_room.ensures.notices in
+    let more = rw c.make_room.ensures.notices at c.tell.ensures.notices in
+    let taken = notices-before i.notified.notices.items c.tell.new.notified.notices.items _ c.tell.new.self.issued more issued in
+    let was = ap (λ (v : Undoable). v.traffic) c.self.view_is in
+    let P : LastReading → Type 0 = λ v. undone v.which v t told c.tell.new.notified.notices.items ≡ Some c.args.self.now.traffic in
+    accepting (msg (said_message c.args.message.now)) c.args.self.now s i.notified.told.items i.notified.notices.items t told c.tell.new.notified.notices.items _ c.finish-2.new.self c.verdict_on-verdict.result
+    was c.self.invariant.kept.settled_in
+    (rw (sym was)
+    (message-answers s store c.settle_for.new.regulations.lists i.notified.told.items c.make_place.new.told.items told i.notified.notices.items c.tell.new.notified.notices.items
     (said_message c.args.message.now) n c.verdict_on-verdict.result c.is_departure-departs.result
     c.change_plans.ensures.taxi c.change_plans.ensures.limit c.self.invariant.kept.limit c.is_departure-departs.ensures
     c.in-Ok-change_plans.ensures.ok (rw (c.deref.ensures.value, c.make_room.ensures.told) at c.verdict_on-verdict.ensures) settled place
-    c.tell.ensures.told (rw c.make_room.ensures.notices at c.tell.ensures.notices))
-
-pub returns-clause-frozen : goal.returns-clause-frozen
-returns-clause-frozen g c =
-    let i = c.self.inside in
-    let s : State = record { time = i.time; store = i.plans; listing = i.regulations; queue = i.queue } in
-    let t : State = record { time = i.time; store = c.change_plans.new.plans; listing = c.settle_for.new.regulations; queue = c.note_flight.new.queue } in
-    frozen-settled (msg (said_message c.args.message.now)) s i.told.items i.notices.items c.args.self.now.traffic (traffic_of t c.tell.new.told.items c.tell.new.notices.items) c.verdict_on-verdict.result
-    (ap (λ (v : Undoable). v.traffic) c.self.view_is) c.self.invariant.kept.settled_in (returns-clause-answers g c)
+    c.tell.ensures.told more))
+    (subst P (sym c.finish-2.ensures) (ap Some (traffic-before u p s told i.notified.told.items c.tell.new.notified.notices.items i.notified.notices.items again told_were taken ∙ was)))
+    more
+    (omega (arith, c.tell.ensures.few, ap (λ (ns : List Notice). length ns) c.make_room.ensures.notices, ap (λ (ns : List ℕ). length ns) c.note.ensures.changed))

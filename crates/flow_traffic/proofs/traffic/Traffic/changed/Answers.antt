@@ -17,9 +17,9 @@ returns-then-not-has_changed-clause-others g c =
     let r : LastReading = i.undoing in
     let s : State = record { time = i.time; store = i.plans; listing = i.regulations; queue = i.queue } in
     let not : has_changed r.which ≡ false = sym c.has_changed.ensures ∙ c.if-not-has_changed.true in
-    let t : Traffic = traffic_of s i.told.items i.notices.items in
+    let t : Traffic = traffic_of s i.notified.told.items i.notified.notices.items in
     rw (sym c.self.view_is)
-    (if-same (undone r.which r s i.told.items i.notices.items) t (λ b. ChangeAtMost [] b t) (undone-same r.which r s i.told.items i.notices.items not)
+    (if-same (undone r.which r s i.notified.told.items i.notified.notices.items) t (λ b. ChangeAtMost [] b t) (undone-same r.which r s i.notified.told.items i.notified.notices.items not)
     (record { status = λ n some out. refl; told = λ n some out. refl }))
 
 pub returns-then-not-has_changed-clause-each_before : goal.returns-then-not-has_changed-clause-each_before
@@ -28,9 +28,9 @@ returns-then-not-has_changed-clause-each_before g c =
     let r : LastReading = i.undoing in
     let s : State = record { time = i.time; store = i.plans; listing = i.regulations; queue = i.queue } in
     let not : has_changed r.which ≡ false = sym c.has_changed.ensures ∙ c.if-not-has_changed.true in
-    let t : Traffic = traffic_of s i.told.items i.notices.items in
+    let t : Traffic = traffic_of s i.notified.told.items i.notified.notices.items in
     rw (sym c.self.view_is)
-    (if-same (undone r.which r s i.told.items i.notices.items) t (λ b. length b.told ≡ length b.plans) (undone-same r.which r s i.told.items i.notices.items not) c.self.invariant.kept.each)
+    (if-same (undone r.which r s i.notified.told.items i.notified.notices.items) t (λ b. length b.told ≡ length b.plans) (undone-same r.which r s i.notified.told.items i.notified.notices.items not) c.self.invariant.kept.each)
 
 pub returns-then-not-has_changed-clause-told : goal.returns-then-not-has_changed-clause-told
 returns-then-not-has_changed-clause-told g c =
@@ -38,9 +38,9 @@ returns-then-not-has_changed-clause-told g c =
     let r : LastReading = i.undoing in
     let s : State = record { time = i.time; store = i.plans; listing = i.regulations; queue = i.queue } in
     let not : has_changed r.which ≡ false = sym c.has_changed.ensures ∙ c.if-not-has_changed.true in
-    let t : Traffic = traffic_of s i.told.items i.notices.items in
+    let t : Traffic = traffic_of s i.notified.told.items i.notified.notices.items in
     rw (sym c.self.view_is)
-    (if-same (undone r.which r s i.told.items i.notices.items) t (λ b. [] ≡ map (told_of b.told) []) (undone-same r.which r s i.told.items i.notices.items not) refl)
+    (if-same (undone r.which r s i.notified.told.items i.notified.notices.items) t (λ b. [] ≡ map (told_of b.told) []) (undone-same r.which r s i.notified.told.items i.notified.notices.items not) refl)
 
 pub returns-clause-rising : goal.returns-clause-rising
 returns-clause-rising g c =
@@ -49,7 +49,7 @@ returns-clause-rising g c =
     let s : State = record { time = i.time; store = i.plans; listing = i.regulations; queue = i.queue } in
     let yes : has_changed r.which ≡ true = sym c.has_changed.ensures ∙ c.if-not-has_changed.false in
     let p : State = past r.which r s in
-    let was : WasKept r s p i.told.items = c.self.invariant.was yes in
+    let was : WasKept r s p i.notified.told.items = c.self.invariant.was yes in
     rw c.changed.ensures was.changes.rising
 
 pub returns-clause-numbers : goal.returns-clause-numbers
@@ -59,7 +59,7 @@ returns-clause-numbers g c =
     let s : State = record { time = i.time; store = i.plans; listing = i.regulations; queue = i.queue } in
     let yes : has_changed r.which ≡ true = sym c.has_changed.ensures ∙ c.if-not-has_changed.false in
     let p : State = past r.which r s in
-    let was : WasKept r s p i.told.items = c.self.invariant.was yes in
+    let was : WasKept r s p i.notified.told.items = c.self.invariant.was yes in
     rw (c.changed.ensures, sym (ap (λ (v : Undoable). v.traffic) c.self.view_is), sym c.self.invariant.kept.each) was.numbers
 
 pub returns-clause-others : goal.returns-clause-others
@@ -69,12 +69,12 @@ returns-clause-others g c =
     let s : State = record { time = i.time; store = i.plans; listing = i.regulations; queue = i.queue } in
     let yes : has_changed r.which ≡ true = sym c.has_changed.ensures ∙ c.if-not-has_changed.false in
     let p : State = past r.which r s in
-    let was : WasKept r s p i.told.items = c.self.invariant.was yes in
+    let was : WasKept r s p i.notified.told.items = c.self.invariant.was yes in
     let all : AllByRecursion (λ m. 0 < m) r.changed = recursion_from_All (λ m. 0 < m) r.changed (λ k d h. (was.numbers k d h).0) in
-    rw (c.changed.ensures, sym c.self.view_is, undone-was r.which r s i.told.items i.notices.items yes)
+    rw (c.changed.ensures, sym c.self.view_is, undone-was r.which r s i.notified.told.items i.notified.notices.items yes)
     (record {
       status = λ n some out. ap (option_map status_of) (was.changes.others n some out);
-      told = λ n some out. others-told r s.store.plans p.store.plans (told_past r p i.told.items) i.told.items was.changes c.self.invariant.kept.each all n some out;
+      told = λ n some out. others-told r s.store.plans p.store.plans (told_past r p i.notified.told.items) i.notified.told.items was.changes c.self.invariant.kept.each all n some out;
     })
 
 pub returns-clause-told : goal.returns-clause-told
@@ -84,8 +84,8 @@ returns-clause-told g c =
     let s : State = record { time = i.time; store = i.plans; listing = i.regulations; queue = i.queue } in
     let yes : has_changed r.which ≡ true = sym c.has_changed.ensures ∙ c.if-not-has_changed.false in
     let p : State = past r.which r s in
-    let was : WasKept r s p i.told.items = c.self.invariant.was yes in
-    rw (c.changed.ensures, c.noted.ensures, sym c.self.view_is, undone-was r.which r s i.told.items i.notices.items yes) was.changes.were
+    let was : WasKept r s p i.notified.told.items = c.self.invariant.was yes in
+    rw (c.changed.ensures, c.noted.ensures, sym c.self.view_is, undone-was r.which r s i.notified.told.items i.notified.notices.items yes) was.changes.were
 
 pub returns-clause-each_before : goal.returns-clause-each_before
 returns-clause-each_before g c =
@@ -94,5 +94,5 @@ returns-clause-each_before g c =
     let s : State = record { time = i.time; store = i.plans; listing = i.regulations; queue = i.queue } in
     let yes : has_changed r.which ≡ true = sym c.has_changed.ensures ∙ c.if-not-has_changed.false in
     let p : State = past r.which r s in
-    let was : WasKept r s p i.told.items = c.self.invariant.was yes in
-    rw (sym c.self.view_is, undone-was r.which r s i.told.items i.notices.items yes) was.changes.each
+    let was : WasKept r s p i.notified.told.items = c.self.invariant.was yes in
+    rw (sym c.self.view_is, undone-was r.which r s i.notified.told.items i.notified.notices.items yes) was.changes.each

@@ -11,4 +11,4 @@ returns-in_default g c = λ moved.
     let r : LastReading = i.undoing in
     let s : State = record { time = i.time; store = i.plans; listing = i.regulations; queue = i.queue } in
     let other : (n : ℕ) → r.which ≡ reading.Message n → ⊥ = λ n e. c.in_default.not-Message n (c.which.ensures ∙ e) in
-    rw (sym c.self.view_is) (plans-stay r.which r s i.told.items i.notices.items other)
+    rw (sym c.self.view_is) (plans-stay r.which r s i.notified.told.items i.notified.notices.items other)

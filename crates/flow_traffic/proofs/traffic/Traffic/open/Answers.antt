@@ -1,4 +1,4 @@
-use Rattle.std.proofs.Common.{◌≡◌, ◌∙◌, ◌++◌, ◌∷◌, [], ℕ, List, length, refl, sym, ap, subst, arith, Option}
+use Rattle.std.proofs.Common.{◌≡◌, ◌∙◌, ◌++◌, ◌∷◌, [], ℕ, List, length, refl, sym, ap, subst, arith, Option, Some}
 use Rattle.fpl_message.specs.Messages.{open_reg}
 use Rattle.fpl_message.specs.Reads.{ord}
 use Rattle.flow_plans.specs.Plans.{Plan}
@@ -12,12 +12,12 @@ use Rattle.flow_traffic.specs.declared.undo.Last.TheVariants as reading
 use Rattle.flow_traffic.specs.Traffic.{Traffic, Undoable}
 use Rattle.flow_traffic.specs.State.{State, traffic_of}
 use Rattle.flow_traffic.specs.Opening.{regulation_by}
-use Rattle.flow_traffic.specs.Undoing.{LastReading, past, told_past, IsAgain, IsKeptWith}
+use Rattle.flow_traffic.specs.Undoing.{LastReading, past, told_past, undone, IsAgain, IsKeptWith}
 use Rattle.flow_traffic.proofs.Rising.{rises-on, few-rising}
 use Rattle.flow_traffic.proofs.Noted.{same-noted}
-use Rattle.flow_traffic.proofs.TakenBack.{was-opened, can-unopen, opened-count, told-back, was-kept}
+use Rattle.flow_traffic.proofs.TakenBack.{was-opened, can-unopen, opened-count, told-back, was-kept, traffic-before, notices-before}
 use Rattle.flow_traffic.proofs.Answered.{opened-map, order-answers}
-use Rattle.flow_traffic.proofs.FrozenStay.{frozen-settled}
+use Rattle.flow_traffic.proofs.Answering.{accepting}
 use Rattle.flow_traffic.proofs.traffic.Traffic.open.Goals as goal
 
 pub tell-requires-clause-rising : goal.tell-requires-clause-rising
@@ -47,7 +47,7 @@ tell-requires-clause-quiet g c =
     let new : List Listed = c.open.new.self.lists in
     let r : Regulation = regulation_by c.args.order.now in
     let opened : IsOpened taxi max i.time plans r lists new = rw c.in-Ok.ensures.shape at c.in-Ok-open.ensures.opened in
-    quiet-but-opened taxi max i.time plans r lists new i.told.items c.note_fixed.new.self.changed opened c.in-Ok-note_fixed.ensures.fixed.others c.self.invariant.kept.quiet
+    quiet-but-opened taxi max i.time plans r lists new i.notified.told.items c.note_fixed.new.self.changed opened c.in-Ok-note_fixed.ensures.fixed.others c.self.invariant.kept.quiet
 
 pub invariant_of-self-2 : goal.invariant_of-self-2
 invariant_of-self-2 g c =
@@ -65,11 +65,11 @@ invariant_of-self-2 g c =
     let within = c.in-Ok-note_fixed.ensures.fixed.numbers taxi i.time plans settled in
     let u : LastReading = record c.tell.new.self { which = reading.Open } in
     let p : State = past reading.Open u t in
-    let told : List (Option Told) = c.tell.new.told.items in
+    let told : List (Option Told) = c.tell.new.notified.told.items in
     let same : c.tell.new.self.changed ≡ c.note_fixed.new.self.changed = ap (λ (v : LastReading). v.changed) c.tell.ensures.others in
     let lists_were : p.listing.lists ≡ lists = was-opened taxi max i.time plans r lists new opened in
     let again : IsAgain p s = record { time = refl; plans = refl; taxi = refl; most = refl; lists = sym lists_were; limit = sym c.open.ensures.limit; covers = c.self.invariant.kept.covers } in
-    let told_were : told_past u p told ≡ i.told.items = told-back u p told i.told.items plans refl (rw same c.tell.ensures.again) c.self.invariant.kept.each in
+    let told_were : told_past u p told ≡ i.notified.told.items = told-back u p told i.notified.told.items plans refl (rw same c.tell.ensures.again) c.self.invariant.kept.each in
     let P : LastReading → Type 0 = λ v. IsKeptWith v t told in
     subst P (sym c.finish-2.ensures) (record {
       kept = record {
@@ -85,39 +85,15 @@ invariant_of-self-2 g c =
         quiet = c.tell.ensures.quiet;
       };
       can = can-unopen taxi max i.time plans r lists new opened;
-      was = λ yes. was-kept u t p s told i.told.items again told_were c.self.invariant.kept (rw same c.tell.ensures.count) (rw (same, c.tell.ensures.each) within)
-          (same-noted u plans i.told.items (rw same c.in-Ok-note_fixed.ensures.fixed.rising) c.self.invariant.kept.each (rw same c.tell.ensures.were));
+      was = λ yes. was-kept u t p s told i.notified.told.items again told_were c.self.invariant.kept (rw same c.tell.ensures.count) (rw (same, c.tell.ensures.each) within)
+          (same-noted u plans i.notified.told.items (rw same c.in-Ok-note_fixed.ensures.fixed.rising) c.self.invariant.kept.each (rw same c.tell.ensures.were));
     })
 
-pub returns-clause-answers : goal.returns-clause-answers
-returns-clause-answers g c =
-    let i = c.self.inside in
-    let s : State = record { time = i.time; store = i.plans; listing = i.regulations; queue = i.queue } in
-    let taxi : ℕ = i.plans.taxi in
-    let max : ℕ = i.regulations.max_plans in
-    let plans : List Plan = i.plans.plans in
-    let lists : List Listed = i.regulations.lists in
-    let new : List Listed = c.open.new.self.lists in
-    let r : Regulation = regulation_by c.args.order.now in
-    let opened : IsOpened taxi max i.time plans r lists new = rw c.in-Ok.ensures.shape at c.in-Ok-open.ensures.opened in
-    let t : Traffic = traffic_of s i.told.items i.notices.items in
-    rw (c.accepted.ensures, sym (ap (λ (v : Undoable). v.traffic) c.self.view_is))
-    (order-answers s i.time new i.told.items c.tell.new.told.items i.notices.items c.tell.new.notices.items (open_reg c.args.order.now) kind.Open (t.regulations ++ r ∷ [])
-    (c.in-Ok.ensures.asked t refl)
-    (opened-map taxi max i.time plans r lists new opened c.self.invariant.kept.listed c.self.invariant.kept.settled_in)
-    c.self.invariant.kept.each c.tell.ensures.told (rw c.note_fixed.ensures.notices at c.tell.ensures.notices))
-
-pub returns-clause-frozen : goal.returns-clause-frozen
-returns-clause-frozen g c =
+pub returns : goal.returns
+returns g c =
     let i = c.self.inside in
     let s : State = record { time = i.time; store = i.plans; listing = i.regulations; queue = i.queue } in
     let t : State = record { time = i.time; store = i.plans; listing = c.open.new.self; queue = i.queue } in
-    frozen-settled (ord (open_reg c.args.order.now)) s i.told.items i.notices.items c.args.self.now.traffic (traffic_of t c.tell.new.told.items c.tell.new.notices.items) c.accepted.result
-    (ap (λ (v : Undoable). v.traffic) c.self.view_is) c.self.invariant.kept.settled_in (returns-clause-answers g c)
-
-pub returns-clause-few : goal.returns-clause-few
-returns-clause-few g c =
-    let i = c.self.inside in
     let taxi : ℕ = i.plans.taxi in
     let max : ℕ = i.regulations.max_plans in
     let plans : List Plan = i.plans.plans in
@@ -127,12 +103,33 @@ returns-clause-few g c =
     let opened : IsOpened taxi max i.time plans r lists new = rw c.in-Ok.ensures.shape at c.in-Ok-open.ensures.opened in
     let settled = opened-settled taxi max i.time plans r lists new opened c.self.invariant.kept.settled_in in
     let within = c.in-Ok-note_fixed.ensures.fixed.numbers taxi i.time plans settled in
-    omega (
+    let u : LastReading = record c.tell.new.self { which = reading.Open } in
+    let p : State = past reading.Open u t in
+    let told : List (Option Told) = c.tell.new.notified.told.items in
+    let same : c.tell.new.self.changed ≡ c.note_fixed.new.self.changed = ap (λ (v : LastReading). v.changed) c.tell.ensures.others in
+    let lists_were : p.listing.lists ≡ lists = was-opened taxi max i.time plans r lists new opened in
+    let again : IsAgain p s = record { time = refl; plans = refl; taxi = refl; most = refl; lists = sym lists_were; limit = sym c.open.ensures.limit; covers = c.self.invariant.kept.covers } in
+    let told_were : told_past u p told ≡ i.notified.told.items = told-back u p told i.notified.told.items plans refl (rw same c.tell.ensures.again) c.self.invariant.kept.each in
+    let issued : c.tell.new.self.issued ≡ length i.notified.notices.items = ap (λ (v : LastReading). v.issued) c.tell.ensures.others ∙ ap length c.note_fixed.ensures.notices in
+    let more = rw c.note_fixed.ensures.notices at c.tell.ensures.notices in
+    let taken = notices-before i.notified.notices.items c.tell.new.notified.notices.items _ c.tell.new.self.issued more issued in
+    let was = ap (λ (v : Undoable). v.traffic) c.self.view_is in
+    let old : Traffic = traffic_of s i.notified.told.items i.notified.notices.items in
+    let P : LastReading → Type 0 = λ v. undone v.which v t told c.tell.new.notified.notices.items ≡ Some c.args.self.now.traffic in
+    accepting (ord (open_reg c.args.order.now)) c.args.self.now s i.notified.told.items i.notified.notices.items t told c.tell.new.notified.notices.items _ c.finish-2.new.self c.accepted.result
+    was c.self.invariant.kept.settled_in
+    (rw (c.accepted.ensures, sym was)
+    (order-answers s i.time new i.notified.told.items told i.notified.notices.items c.tell.new.notified.notices.items (open_reg c.args.order.now) kind.Open (old.regulations ++ r ∷ [])
+    (c.in-Ok.ensures.asked old refl)
+    (opened-map taxi max i.time plans r lists new opened c.self.invariant.kept.listed c.self.invariant.kept.settled_in)
+    c.self.invariant.kept.each c.tell.ensures.told more))
+    (subst P (sym c.finish-2.ensures) (ap Some (traffic-before u p s told i.notified.told.items c.tell.new.notified.notices.items i.notified.notices.items again told_were taken ∙ was)))
+    more
+    (omega (
       arith,
       c.self.invariant.kept.room,
       c.self.invariant.kept.most,
       c.tell.ensures.few,
       ap (λ (ns : List Notice). length ns) c.note_fixed.ensures.notices,
       few-rising _ _ c.in-Ok-note_fixed.ensures.fixed.rising within,
-      ap (λ (v : Undoable). length v.traffic.notices) c.self.view_is,
-    )
+    ))

@@ -25,4 +25,4 @@ returns-in_default g c =
     let s : State = record { time = i.time; store = i.plans; listing = i.regulations; queue = i.queue } in
     let other : (n : ℕ) → r.which ≡ reading.Message n → ⊥ = λ n e. c.in_default.not-Message n (c.which.ensures ∙ e) in
     rw (sym (ap (λ (v : Undoable). v.before) c.self.view_is))
-    (status-stays (undone r.which r s i.told.items i.notices.items) s.store.plans c.status_at.result c.args.number (plans-stay r.which r s i.told.items i.notices.items other) c.status_at.ensures)
+    (status-stays (undone r.which r s i.notified.told.items i.notified.notices.items) s.store.plans c.status_at.result c.args.number (plans-stay r.which r s i.notified.told.items i.notified.notices.items other) c.status_at.ensures)

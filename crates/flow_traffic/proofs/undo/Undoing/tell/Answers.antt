@@ -13,11 +13,11 @@ returns-clause-again g c =
     let same : c.self.inside.changed.items ≡ changed = ap (λ (r : LastReading). r.changed) c.self.view_is in
     let some : AllByRecursion (λ m. 0 < m) changed = recursion_from_All (λ m. 0 < m) changed (λ k d h. (c.requires.numbers k d h).0) in
     let told_is = rw (c.deref.ensures.value, c.deref-2.ensures.value, same) at c.note_told.ensures.noted in
-    told-undone c.args.plans.now.taxi (map regulation_of c.args.regulations.now.lists) c.args.plans.now.plans c.args.told.now.items c.tell.new.told.items changed c.note_told.new.noted.items
+    told-undone c.args.plans.now.taxi (map regulation_of c.args.regulations.now.lists) c.args.plans.now.plans c.args.notified.now.told.items c.tell.new.told.items changed c.note_told.new.noted.items
     c.tell.ensures.told c.requires.each c.tell.ensures.each c.requires.quiet told_is some
 
 pub returns-clause-were : goal.returns-clause-were
 returns-clause-were g c =
     let same : c.self.inside.changed.items ≡ c.args.self.now.changed = ap (λ (r : LastReading). r.changed) c.self.view_is in
-    told-were c.args.self.now.changed c.args.told.now.items c.note_told.new.noted.items
+    told-were c.args.self.now.changed c.args.notified.now.told.items c.note_told.new.noted.items
     (rw (c.deref.ensures.value, c.deref-2.ensures.value, same) at c.note_told.ensures.noted)

@@ -1,9 +1,0 @@
-use Rattle.std.proofs.Common.{◌≡◌, ℕ, ◌<◌, ◌≤◌}
-use Rattle.flow_regulations.specs.Marks.{word_of, MovesUp}
-use Rattle.flow_regulations.proofs.marks.close_place.Given as goal
-
-abbrev pub invariant-loop-word : goal.invariant-loop-word
-invariant-loop-word l = record {
-  done : (f : ℕ) → f < l.word-index → MovesUp l.index (word_of l.initial.words f) (word_of l.words f);
-  rest : (f : ℕ) → l.word-index ≤ f → word_of l.words f ≡ word_of l.initial.words f;
-}

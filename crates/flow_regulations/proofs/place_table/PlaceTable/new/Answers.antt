@@ -1,0 +1,5 @@
+use Rattle.flow_regulations.proofs.Rows.{rows-none}
+use Rattle.flow_regulations.proofs.place_table.PlaceTable.new.Goals as goal
+
+pub returns : goal.returns
+returns g c = λ ls. rw c.new.ensures.items (rows-none 0 ls)

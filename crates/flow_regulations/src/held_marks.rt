@@ -1,0 +1,132 @@
+//! Where flights may be held: for each flight, by its number, a mask of the regulations that may hold it. If a bit isn't
+//! set, the flight isn't held there, and the slot list need not be asked.
+ghost use Rattle.std.specs.Prelude.{◌≡◌, ◌<◌, ◌++◌, ◌∷◌, [], ℕ, List, false, map};
+ghost use Rattle.std.specs.List.{remove};
+ghost use Rattle.flow_regulations.specs.Listing.{Listed, without_in};
+ghost use Rattle.flow_regulations.specs.Marks.{may_stand, word_of, IsMarked, AreMarked, Keeps, KeepsBelow, IsOut};
+ghost use Rattle.flow_regulations.specs.Marks.{IsOpenedTo};
+
+use crate::mask::{close_place, make_room, may_stand, with_mark, word_of};
+use crate::regulation::Regulation;
+use std::alloc::{AllocError, Allocator, Global};
+use std::marker::Model;
+
+/// For each flight a mask of the regulations that may hold it. Contracts see the masks, by number.
+#[derive(Drop)]
+pub(crate) struct HeldMarks<A: Allocator + Copy = Global> {
+    words: Vec<u64, A>,
+}
+
+impl<A: Allocator + Copy> Model for HeldMarks<A> {
+    ghost use Rattle.std.specs.Prelude.{ℕ, List};
+
+    ghost Value = { List ℕ };
+
+    ghost view = { λ m. m.words.items };
+}
+
+impl<A: Allocator + Copy> HeldMarks<A> {
+    /// No masks: each flight may be held in each regulation. It takes no memory.
+    pub(crate) fn new(alloc: A) -> Self
+        ensures { (lists : List Listed) → AreMarked result lists }
+    {
+        HeldMarks {
+            words: Vec::new(alloc),
+        }
+    }
+
+    /// The mask of a flight.
+    #[inline(always)]
+    pub(crate) fn of(&self, flight: u32) -> u64
+        ensures { (lists : List Listed) → AreMarked self.now lists → IsMarked result flight 0 lists }
+    {
+        word_of(&self.words, flight)
+    }
+
+    /// Makes the masks of the flights up to the last, if there are none. Returns `Err` if allocation fails.
+    pub(crate) fn make(&mut self, alloc: A, last: u32) -> Result<(), AllocError>
+        ensures { (lists : List Listed) → AreMarked self.old lists → AreMarked self.new lists }
+    {
+        make_room(&mut self.words, alloc, last)
+    }
+
+    /// Sets the mask of a flight, the one that was touched in the regulations since.
+    pub(crate) fn set(&mut self, flight: u32, word: u64)
+        ensures { (before lists : List Listed) → map (without_in flight) lists ≡ map (without_in flight) before
+            → IsMarked word flight 0 lists → AreMarked self.old before → AreMarked self.new lists }
+    {
+        set_word(&mut self.words, flight, word);
+    }
+
+    /// Marks the flights of a regulation that is opened after these.
+    pub(crate) fn open(&mut self, regulations: &[Regulation<A>], opened: &Regulation<A>)
+        ensures { AreMarked self.old regulations.now → AreMarked self.new (regulations.now ++ opened.now ∷ []) }
+    {
+        open_place(&mut self.words, regulations.len(), opened);
+    }
+
+    /// Follows the regulations if the one at this index is closed.
+    pub(crate) fn close(&mut self, index: usize)
+        ensures { (lists : List Listed) → AreMarked self.old lists → AreMarked self.new (remove lists index) }
+    {
+        close_place(&mut self.words, index);
+    }
+
+    /// Discards the masks: each flight may be held in each regulation.
+    pub(crate) fn clear(&mut self)
+        ensures { (lists : List Listed) → AreMarked self.new lists }
+    {
+        self.words.clear();
+    }
+}
+
+/// Sets the word of a flight, where it has one.
+pub(crate) fn set_word(words: &mut [u64], flight: u32, word: u64)
+    ensures others { (f : ℕ) → (f ≡ flight → ⊥) → word_of words.new f ≡ word_of words.old f }
+    ensures one { Keeps word (word_of words.new flight) }
+{
+    let place = flight as usize;
+    if place < words.len() {
+        words[place] = word;
+    }
+}
+
+/// Marks the flights of a regulation that is opened at this place, the last.
+fn open_place<A: Allocator + Copy>(words: &mut [u64], index: usize, regulation: &Regulation<A>)
+    ensures { (f : ℕ) → IsOpenedTo index regulation.now f (word_of words.old f) (word_of words.new f) }
+{
+    if index >= 64 {
+        return;
+    }
+    clear_from(words, index);
+    mark_held(words, index, regulation);
+}
+
+/// Clears the marks from this place on, where all flights have the first of them. No flight has the number 0, so its
+/// word tells: it has the marks that all flights were given when the words were made or a regulation was closed, and no
+/// others.
+fn clear_from(words: &mut [u64], index: usize)
+    requires { index < 64 }
+    ensures { (f : ℕ) → KeepsBelow index (word_of words.old f) (word_of words.new f) }
+{
+    if !may_stand(word_of(words, 0), index) {
+        return;
+    }
+    for word in words.iter_mut() {
+        *word %= 1 << index;
+    }
+}
+
+/// Marks the flights that a regulation at this place holds.
+fn mark_held<A: Allocator + Copy>(words: &mut [u64], index: usize, regulation: &Regulation<A>)
+    ensures kept { (f : ℕ) → Keeps (word_of words.old f) (word_of words.new f) }
+    ensures marked { (f : ℕ) → may_stand (word_of words.new f) index ≡ false → IsOut f regulation.now }
+{
+    let last = regulation.last();
+    let mut number = regulation.next_held(0);
+    while number <= last {
+        let word = with_mark(word_of(words, number), index);
+        set_word(words, number, word);
+        number = regulation.next_held(number + 1);
+    }
+}

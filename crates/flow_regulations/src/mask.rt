@@ -1,0 +1,123 @@
+//! Masks of regulations.
+//!
+//! A mask is a word of which each bit is for one of the first 64 open regulations, in the order of opening. A bit that
+//! isn't set says something of its regulation; one that is set says nothing, and nothing is said of the regulations from
+//! the 65th on. A list of masks says nothing at an index that it doesn't have.
+ghost use Rattle.std.specs.Prelude.{◌≡◌, ◌<◌, ◌≤◌, ℕ, true, false};
+ghost use Rattle.flow_regulations.specs.Marks.{may_stand, word_of, Keeps, KeepsBelow, MovesUp};
+
+use std::alloc::{AllocError, Allocator};
+
+/// The mask at an index.
+#[inline(always)]
+pub(crate) fn word_of(words: &[u64], index: u32) -> u64
+    ensures { result ≡ word_of words.now index }
+{
+    match words.get(index as usize) {
+        Some(word) => *word,
+        None => u64::MAX,
+    }
+}
+
+/// Whether a flight of this word may be held in the regulation at this place.
+#[inline(always)]
+#[tactic(auto, unfolding(crate::specs::Marks::may_stand))]
+pub(crate) fn may_stand(word: u64, index: usize) -> bool
+    ensures { result ≡ may_stand word index }
+{
+    if index < 64 {
+        (word >> index) % 2 == 1
+    } else {
+        true
+    }
+}
+
+/// The first place from this one on where a flight of this word may be held.
+#[inline(always)]
+pub(crate) fn next_marked(word: u64, index: usize) -> usize
+    ensures from { index ≤ result }
+    ensures passed { (i : ℕ) → index ≤ i → i < result → may_stand word i ≡ false }
+    ensures marked { may_stand word result ≡ true }
+{
+    if index >= 64 {
+        return index;
+    }
+    let later = word >> index;
+    if later == 0 {
+        return 64;
+    }
+    index + later.trailing_zeros() as usize
+}
+
+/// The word of a flight that may be held at this place too.
+#[inline(always)]
+pub(crate) fn with_mark(word: u64, index: usize) -> u64
+    ensures marked { may_stand result index ≡ true }
+    ensures kept { Keeps word result }
+{
+    if index < 64 { word | 1 << index } else { word }
+}
+
+/// The word of a flight that may be held at this place too, if so.
+#[inline(always)]
+pub(crate) fn mark_where(word: u64, index: usize, is_held: bool) -> u64
+    ensures marked { is_held ≡ true → may_stand result index ≡ true }
+    ensures kept { Keeps word result }
+{
+    if is_held {
+        with_mark(word, index)
+    } else {
+        word
+    }
+}
+
+/// The word of a flight where one more regulation is opened, at this place, in which the flight is held or not. No
+/// place after it is marked.
+pub(crate) fn with_place(word: u64, index: usize, is_held: bool) -> u64
+    ensures before { KeepsBelow index word result }
+    ensures marked { is_held ≡ true → may_stand result index ≡ true }
+{
+    if index >= 64 {
+        return word;
+    }
+    mark_where(word % (1 << index), index, is_held)
+}
+
+/// The word of a flight where the regulation at this place is closed: the marks of the later ones move up by one. The
+/// 64th place is marked, since nothing is known of the 65th.
+#[inline(always)]
+fn without_place(word: u64, index: usize) -> u64
+    requires { index < 64 }
+    ensures { MovesUp index word result }
+{
+    let before = word % (1 << index);
+    let after = word / 2 >> index;
+    with_mark(after << index | before, 63)
+}
+
+/// Makes room for the words of the flights up to the last, where there is none. Each may be held in each regulation.
+/// Refused where memory is.
+pub(crate) fn make_room<A: Allocator + Copy>(
+    words: &mut Vec<u64, A>,
+    alloc: A,
+    last: u32,
+) -> Result<(), AllocError>
+    ensures { (f : ℕ) → word_of words.new.items f ≡ word_of words.old.items f }
+{
+    if words.is_empty() {
+        *words = vec![in alloc; u64::MAX; last as usize + 1]?;
+    }
+    Ok(())
+}
+
+/// Moves the marks of the later regulations up, where the one at this place is closed.
+pub(crate) fn close_place(words: &mut [u64], index: usize)
+    ensures { (f : ℕ) → MovesUp index (word_of words.old f) (word_of words.new f) }
+{
+    if index >= 64 {
+        return;
+    }
+    for word in words.iter_mut() {
+        *word = without_place(*word, index);
+    }
+}
