@@ -465,10 +465,12 @@ impl<A: Allocator + Copy> Plan<A> {
         self.off_block.plus(taxi).unwrap()
     }
 
-    /// The time at which the flight enters a point.
+    /// Returns the time at which the flight enters a point: take-off at its departure, and later by
+    /// the elapsed times of fields 16 and 18 at its destination and at route points. `None` if it
+    /// doesn't enter the point.
     #[inline(always)]
     #[tactic(auto, unfolding(crate::specs::Entries::entry_at))]
-    pub(crate) fn entry_at(&self, taxi: u32, spot: &Spot) -> Option<Minute>
+    pub fn entry_at(&self, taxi: u32, spot: &Spot) -> Option<Minute>
         requires { taxi ≤ MAX_TAXI }
         ensures { result ≡ entry_at taxi spot.now self.now }
     {

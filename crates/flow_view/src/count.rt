@@ -6,7 +6,6 @@ ghost use Rattle.flow_view.specs.Counts.{count_in, counts};
 ghost use Rattle.fpl_text.specs.declared.minute.TheConstants.{GREATEST_MINUTE};
 ghost use Rattle.flow_plans.specs.declared.setup.TheConstants.{MAX_TAXI};
 
-use crate::flight::entry_at;
 use crate::load::is_from_to;
 use crate::windows::Windows;
 use flow_core::Core;
@@ -101,7 +100,7 @@ fn entrant_of<A: Allocator + Copy>(
     if !plan.is_held() {
         return None;
     }
-    let entry = entry_at(plan, taxi, spot)?;
+    let entry = plan.entry_at(taxi, spot)?;
     Some(Entrant {
         entry,
         standing: standing_of(now, plan, entry),

@@ -1,7 +1,6 @@
 //! A flight as it comes to a place.
 ghost use Rattle.std.specs.Prelude.{◌≡◌, ◌≤◌, ◌<◌, ◌-◌, slice_get};
 ghost use Rattle.std.specs.Option.{option_map_or};
-ghost use Rattle.flow_plans.specs.Entries.{take_off, entry_at};
 ghost use Rattle.flow_core.specs.Changes.{rows_at};
 ghost use Rattle.flow_core.specs.History.{state_of};
 ghost use Rattle.flow_view.specs.Shown.{flight_of, flight_at};
@@ -27,43 +26,6 @@ pub struct Flight {
     pub told: Option<Told>,
 }
 
-/// The moment of take-off.
-#[tactic(auto, unfolding(fpl_text::specs::Moments::moment_within))]
-fn take_off<A: Allocator + Copy>(plan: &Plan<A>, taxi: u32) -> Minute
-    requires { taxi ≤ MAX_TAXI }
-    ensures { result ≡ take_off taxi plan.now }
-{
-    plan.off_block().plus(taxi).unwrap()
-}
-
-/// The planned moment of entry at a place.
-#[tactic(auto, unfolding(flow_plans::specs::Entries::entry_at))]
-pub fn entry_at<A: Allocator + Copy>(plan: &Plan<A>, taxi: u32, spot: &Spot) -> Option<Minute>
-    requires { taxi ≤ MAX_TAXI }
-    ensures { result ≡ entry_at taxi spot.now plan.now }
-{
-    match spot {
-        Spot::Dep(place) => {
-            if plan.key().dep.as_bytes() == place.as_bytes() {
-                Some(take_off(plan, taxi))
-            } else {
-                None
-            }
-        }
-        Spot::Arr(place) => {
-            if plan.key().dest.as_bytes() == place.as_bytes() {
-                take_off(plan, taxi).plus(plan.elapsed_time())
-            } else {
-                None
-            }
-        }
-        Spot::Via(place) => {
-            let minutes = plan.elapsed(place.as_bytes())?;
-            take_off(plan, taxi).plus(minutes)
-        }
-    }
-}
-
 /// The flight of a plan that was last told this.
 fn flight_of<A: Allocator + Copy>(
     plan: &Plan<A>,
@@ -81,7 +43,7 @@ fn flight_of<A: Allocator + Copy>(
         dest: key.dest,
         off_block: plan.off_block(),
         state: plan.state(),
-        entry: entry_at(plan, taxi, spot),
+        entry: plan.entry_at(taxi, spot),
         told,
     }
 }

@@ -7,7 +7,7 @@ use crate::sheet::{Cell, Column, Sheet, Side};
 use crate::summary::place_text;
 use flow_core::{Core, Told};
 use flow_plans::PlanState;
-use flow_view::{Opening, SlotRow, entry_at, openings_of};
+use flow_view::{Opening, SlotRow, openings_of};
 use fpl_text::{Minute, Text};
 use std::alloc::{AllocError, Global};
 use std::collections::HashMap;
@@ -134,7 +134,7 @@ fn entry_without_slot(core: &Core, opening: &Opening, number: u32) -> Option<Min
     if opening.shut_by().is_some() {
         return None;
     }
-    entry_at(core.plan(number)?, core.setup().taxi(), opening.spot())
+    core.plan(number)?.entry_at(core.setup().taxi(), opening.spot())
 }
 
 /// The cells of a slot: its number, its time, the delay and how it is held.
