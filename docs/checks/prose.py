@@ -47,7 +47,6 @@ CRATES_NOT_YET = {
     "flow_traffic",
     "flow_view",
     "fpl_items",
-    "fpl_text",
     "slotdesk",
     "slotview",
 }
