@@ -46,7 +46,6 @@ CRATES_NOT_YET = {
     "flow_regulations",
     "flow_traffic",
     "flow_view",
-    "fpl_items",
     "slotdesk",
     "slotview",
 }
