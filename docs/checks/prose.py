@@ -45,7 +45,6 @@ CRATES_NOT_YET = {
     "flow_desk",
     "flow_regulations",
     "flow_traffic",
-    "flow_view",
     "slotdesk",
     "slotview",
 }

@@ -67,11 +67,8 @@ pub(crate) fn is_speed_and_level(text: &[u8]) -> bool
 #[tactic(auto, unfolding(crate::specs::Speeds::is_speed_and_level))]
 pub(crate) fn speed_and_level(word: &[u8]) -> Option<(Text<5>, Text<5>)>
     ensures { result ≡ (if is_speed_and_level word.now
-        then Some (
-          take (speed_len word.now) word.now,
-          drop
-              (speed_len word.now) word.now,
-        ) else None) }
+        then Some (take (speed_len word.now) word.now, drop (speed_len word.now) word.now)
+        else None) }
 {
     let (speed, level) = word.split_at(speed_len(word).min(word.len()));
     if is_speed(speed) && is_level(level) {
