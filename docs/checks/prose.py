@@ -44,7 +44,6 @@ NOT_YET = set()
 CRATES_NOT_YET = {
     "flow_regulations",
     "flow_traffic",
-    "slotview",
 }
 
 
