@@ -43,7 +43,6 @@ NOT_YET = set()
 # Crates of which the comments aren't clean yet. Whoever cleans one takes it off this list.
 CRATES_NOT_YET = {
     "flow_regulations",
-    "flow_traffic",
 }
 
 
