@@ -42,14 +42,7 @@ NOT_YET = set()
 
 # Crates of which the comments aren't clean yet. Whoever cleans one takes it off this list.
 CRATES_NOT_YET = {
-    "flow_desk",
     "flow_regulations",
-    "flow_traffic",
-    "flow_view",
-    "fpl_items",
-    "fpl_text",
-    "slotdesk",
-    "slotview",
 }
 
 

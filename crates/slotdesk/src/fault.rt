@@ -28,13 +28,13 @@ pub enum Fault {
     OutOfMemory,
     /// The store's file can't be reached, or a call that writes or syncs it failed.
     Store,
-    /// No file is there, and nothing says how a new desk starts.
+    /// There is no file, and nothing says how a new desk starts.
     NoStore,
-    /// A file is there already, and a new desk was asked for.
+    /// There is a file already, and a new desk was asked for.
     StoreExists,
-    /// Another desk has the file.
+    /// Another desk has locked the file.
     StoreInUse,
-    /// What is there is no store, one of another version, or damaged.
+    /// The file is no store, one of another version, or damaged.
     BadStore,
 }
 

@@ -21,7 +21,7 @@ use std::io;
 use std::process::ExitCode;
 use stores::SystemStores;
 
-/// How many bytes of the answers are collected before they are written.
+/// The capacity of the buffer of answers, in bytes.
 const WRITTEN_AT_ONCE: usize = 65_536;
 
 fn main(rt: HostRuntime) -> ExitCode {

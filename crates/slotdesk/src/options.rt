@@ -39,20 +39,20 @@ const AFTER: &str =
 pub struct Options<'a> {
     /// The desk's time at the start, as it was given.
     pub start: Option<&'a str>,
-    /// Whether the input begins with the journal of the desk that goes on. The start, the taxi time and the number of
-    /// plans are then those of that journal.
+    /// Whether the input begins with the journal of a desk that resumes. The start, the taxi time
+    /// and the number of plans are then those of that journal.
     pub resume: bool,
-    /// The name of the file in which the desk is kept, if one was given.
+    /// The name of the file of the desk's store, if one was given.
     pub store: Option<&'a str>,
     /// Whether the journal is written at the end.
     pub journal: bool,
-    /// How many feeders file.
+    /// The number of feeders.
     pub feeders: u32,
     /// The name of the folder whose feeds are answered as they file, if one was given.
     pub feeds: Option<&'a str>,
     /// Minutes from off-block to take-off.
     pub taxi: u32,
-    /// How many flight plans are accepted.
+    /// The number of flight plans that the desk accepts.
     pub plans: u32,
 }
 
@@ -62,7 +62,7 @@ impl Options<'_> {
         self.resume || self.start.is_some()
     }
 
-    /// Whether 2 to 64 feeders file. The command line has refused more.
+    /// Whether 2 to 64 feeders file. The command line refuses more.
     pub fn has_many_feeders(&self) -> bool
         ensures some { IsTrue result → 2 ≤ self.now.feeders }
         ensures most { IsTrue result → self.now.feeders ≤ MAX_FEEDERS }
