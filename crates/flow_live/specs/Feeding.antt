@@ -20,8 +20,9 @@ use Rattle.flow_live.specs.declared.fault.LiveFault.TheVariants as live
 use Rattle.flow_live.specs.declared.fault.FeedEnd.{FeedEnd}
 use Rattle.flow_live.specs.declared.fault.FeedEnd.TheVariants as end
 
--- From p to q these frames were answered with this text. The feeder's entries since p are those of the first filings
--- among them, and of all of them unless the journal is full; at a full journal there are none.
+-- From p to q these frames were answered with this text. The feeder's entries since p are those of
+-- the first filings among them, and of all of them unless the journal is full; at a full journal
+-- there are none.
 pub record Serves (setup : Settings) (p : PassView) (done : List (List ℕ)) (q : PassView) (text : List ℕ) : Type 0 where
   pub entries : List Record
   pub later : IsPrefix p.seen q.seen
@@ -33,7 +34,8 @@ pub record Serves (setup : Settings) (p : PassView) (done : List (List ℕ)) (q 
   pub full : setup.max_entries ≤ length p.seen → entries ≡ []
   pub text_is : text ≡ told (after setup q.seen) done entries
 
--- The first of these frames were answered so, and the filings of the others, none of which is too long, are ready.
+-- The first of these frames were answered so, and the filings of the others, none of which is too
+-- long, are ready.
 pub record Prepares (setup : Settings) (p : PassView) (done : List (List ℕ)) (q : PassView) (text : List ℕ) (ready : List FilingText) : Type 0 where
   pub answered : List (List ℕ)
   pub waiting : List (List ℕ)
@@ -68,7 +70,7 @@ pub record Answers (setup : Settings) (p : PassView) (done : List (List ℕ)) (q
   pub served : Serves setup p done q text
   pub text_wrote : wrote text
 
--- what was written of the answers to a piece: all, or a front if the writer failed
+-- what was written of the answers to a piece: all, or a prefix if the writer failed
 abbrev pub PieceIs : {T : Type 0} → Result T FeedEnd → Settings → PassView → PassView → Option (List ℕ) → Option (List ℕ) → Ahead → Ahead → Type 0
 PieceIs (Ok _) setup p q written now taken left = CutsTaken setup p (λ more. Answers setup p more q (λ text. Appends written now text)) taken left
 PieceIs (Err end.Write) setup p q written now taken left = CutsTaken setup p (λ more. Answers setup p more q (λ text. AppendsFront written now text)) taken left
@@ -83,7 +85,8 @@ end_by intake.Read = end.Read
 end_by intake.TooMuch = end.TooMuch
 end_by intake.OutOfMemory = end.Stopped live.OutOfMemory
 
--- which frames of the input were answered when the feed ended so: all, those whose end was read, or first ones
+-- which frames of the input were answered when the feed ended so: all, those whose end was read, or
+-- the first of them
 abbrev pub Took : FeedEnd → List (List ℕ) → Option (List ℕ) → Option (List ℕ) → Type 0
 Took end.Finished done input rest = IfSome input (λ bytes. done ≡ frames bytes)
 Took end.Read done input rest = CutEnded done input rest

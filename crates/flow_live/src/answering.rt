@@ -15,20 +15,21 @@ use std::alloc::{AllocError, Allocator, Global};
 use std::collections::VecDeque;
 use std::sync::Wait;
 
-/// How many filings are filed at most while the lock is held once: others wait for it meanwhile.
+/// The greatest number of filings in one critical section: other feeders wait for the lock
+/// meanwhile.
 const AT_ONCE: usize = 64;
 
 /// The filings of a feeder that are ready to be filed, and the answers to those that were.
 #[derive(Drop)]
 pub(crate) struct Batch<A: Allocator + Copy = Global> {
-    /// Where texts are read.
+    /// The buffer in which texts are read.
     room: Vec<u8, A>,
     ready: VecDeque<Filing<A>, A>,
     pub answers: Vec<u8, A>,
 }
 
 impl<A: Allocator + Copy> Batch<A> {
-    /// Nothing is ready, and nothing was answered.
+    /// Creates an empty batch.
     pub fn new(alloc: A) -> Self
         ensures { (result.ready.items ≡ []) × (result.answers.items ≡ []) }
     {
@@ -54,7 +55,8 @@ fn answer_left<A: Allocator + Copy>(
     ready: &mut VecDeque<Filing<A>, A>,
     answers: &mut Vec<u8, A>,
 ) -> Result<(), AllocError>
-    ensures answers { OnOk result (answers.new.items ≡ answers.old.items ++ full_lines (length ready.old.items)) }
+    ensures answers { OnOk result (answers.new.items ≡ answers.old.items
+        ++ full_lines (length ready.old.items)) }
     ensures none { OnOk result (ready.new.items ≡ []) }
 {
     while let Some(_filing) = ready.pop_front() {
@@ -93,7 +95,8 @@ fn prepare<A: Allocator + Copy>(
     batch: &mut Batch<A>,
 ) -> Result<(), AllocError>
     requires { length frame.now ≤ MAX_BYTES }
-    ensures ready { OnOk result (batch.new.ready.items ≡ batch.old.ready.items ++ second frame.now ∷ []) }
+    ensures ready { OnOk result
+        (batch.new.ready.items ≡ batch.old.ready.items ++ second frame.now ∷ []) }
     ensures answers { batch.new.answers.items ≡ batch.old.answers.items }
 {
     batch.ready.reserve(1)?;
@@ -107,8 +110,8 @@ fn prepare<A: Allocator + Copy>(
     Ok(())
 }
 
-/// Reads the frame that was taken last, to be filed with others. If it is too long, it is answered so, after those that
-/// were ready.
+/// Reads the frame that was taken last, to be filed with others. One that is too long gets its
+/// line, after the answers to those that were ready.
 fn take_in<N: Name, Q: Wait + Drop, P: Wait, A: Allocator + Copy>(
     wait: &P,
     alloc: A,
@@ -117,8 +120,9 @@ fn take_in<N: Name, Q: Wait + Drop, P: Wait, A: Allocator + Copy>(
     input: &Input<A>,
     batch: &mut Batch<A>,
 ) -> Result<(), AllocError>
-    ensures next { OnOk result (TakesNext N.setup (filing_kept input.now.item) pass.old batch.old.answers.items
-        batch.old.ready.items pass.new batch.new.answers.items batch.new.ready.items) }
+    ensures next { OnOk result (TakesNext N.setup (filing_kept input.now.item) pass.old
+        batch.old.answers.items batch.old.ready.items pass.new batch.new.answers.items
+        batch.new.ready.items) }
 {
     let Some(bytes) = input.frame() else {
         answer_ready(wait, alloc, desk, pass, batch)?;
@@ -131,7 +135,7 @@ fn take_in<N: Name, Q: Wait + Drop, P: Wait, A: Allocator + Copy>(
     answer_ready(wait, alloc, desk, pass, batch)
 }
 
-/// Answers the frame that was taken last, and those whose end the bytes that were read show.
+/// Answers the frame that was taken last, and those that are whole in the input's buffer.
 pub(crate) fn answer_taken<N: Name, Q: Wait + Drop, P: Wait, A: Allocator + Copy>(
     wait: &P,
     alloc: A,
@@ -142,8 +146,10 @@ pub(crate) fn answer_taken<N: Name, Q: Wait + Drop, P: Wait, A: Allocator + Copy
 ) -> Result<(), AllocError>
     requires none { (batch.old.ready.items ≡ []) × (batch.old.answers.items ≡ []) }
     ensures serving { OnOk result (CutsTaken N.setup pass.old
-        (λ more. Serves N.setup pass.old more pass.new batch.new.answers.items) input.old input.new) }
-    ensures agrees { OnOk result ((rest : Option (List ℕ)) → Agrees input.old rest → Agrees input.new rest) }
+        (λ more. Serves N.setup pass.old more pass.new batch.new.answers.items) input.old
+        input.new) }
+    ensures agrees { OnOk result ((rest : Option (List ℕ)) → Agrees input.old rest
+        → Agrees input.new rest) }
     ensures nearer { OnOk result (input.old.taken ≤ input.new.taken) }
     ensures none { OnOk result (batch.new.ready.items ≡ []) }
 {

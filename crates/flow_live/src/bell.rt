@@ -1,21 +1,21 @@
-//! What wakes the thread that follows the history, and how all learn that the run has ended.
+//! Wakes the thread that follows the history, and stops all when the run ends.
 ghost use Rattle.std.specs.Prelude.{◌≡◌};
 
 use crate::fault::{FeedEnd, LiveFault, Watch};
 use std::sync::{Condvar, Mutex, Wait};
 
-/// What the follower of a run hears.
+/// What the follower of a run learns.
 #[derive(Clone, Copy)]
 pub(crate) struct Heard {
     /// How many times the bell has rung.
     pub rings: u64,
-    /// Whether a feed is still open.
+    /// Whether a feed hasn't ended yet.
     pub is_open: bool,
     /// The fault with which the run ended, if it did.
     pub fault: Option<LiveFault>,
 }
 
-/// A bell that each feeder rings after it has filed.
+/// A bell that a feeder rings after it has filed.
 #[derive(Drop)]
 pub(crate) struct Bell {
     heard: Mutex<Heard>,
@@ -23,7 +23,7 @@ pub(crate) struct Bell {
 }
 
 impl Bell {
-    /// A bell that nobody has rung.
+    /// Creates a bell that nobody has rung.
     pub fn new() -> Bell {
         Bell {
             heard: Mutex::new(Heard {
@@ -35,7 +35,8 @@ impl Bell {
         }
     }
 
-    /// Tells the follower that there are entries. Returns the fault with which the run ended, if it did.
+    /// Wakes the follower: there are entries. Returns the fault with which the run ended, if it
+    /// did.
     pub fn ring<P: Wait>(&self, wait: &P) -> Option<LiveFault> {
         let mut heard = self.heard.lock(wait);
         heard.rings = heard.rings.wrapping_add(1);
@@ -43,13 +44,13 @@ impl Bell {
         heard.fault
     }
 
-    /// The last feed has ended.
+    /// Wakes the follower: the last feed has ended.
     pub fn close<P: Wait>(&self, wait: &P) {
         self.heard.lock(wait).is_open = false;
         self.changed.notify_all();
     }
 
-    /// A feed has ended with a fault of its own.
+    /// Reports that a feed has ended with a fault of its own.
     pub fn tell<P: Wait, H: Watch>(&self, wait: &P, watch: &H, feeder: u8, end: FeedEnd) {
         let _heard = self.heard.lock(wait);
         watch.feed_ended(feeder, end);
@@ -68,7 +69,8 @@ impl Bell {
         fault
     }
 
-    /// Waits until the bell has rung another number of times, the last feed has ended, or the run has.
+    /// Waits until the bell has rung a number of times other than `rings`, the last feed has ended,
+    /// or the run has.
     pub fn listen<P: Wait>(&self, wait: &P, rings: u64) -> Heard {
         let mut heard = self.heard.lock(wait);
         for _ in wait.forever() {

@@ -9,7 +9,7 @@ use std::alloc::AllocError;
 pub enum LiveFault {
     /// Not 1 to 64 feeds, or an entry of the core has a feeder that isn't below their number.
     Feeds,
-    /// A feeder got no place among the readers of the board.
+    /// A feeder can't be registered as a reader of the board.
     NoReader,
     /// The writer of all answers failed, or took no byte.
     Write,
@@ -42,7 +42,7 @@ pub enum FeedEnd {
     Stopped(LiveFault),
 }
 
-/// Is told of faults as they come, one at a time.
+/// Is called when a fault comes, by one thread at a time.
 pub trait Watch {
     /// The feed of this feeder ended with a fault of its own.
     fn feed_ended(&self, feeder: u8, end: FeedEnd);

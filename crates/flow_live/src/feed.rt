@@ -1,4 +1,4 @@
-//! Where a feeder's filings come from, and where their answers go.
+//! The source of a feeder's filings, and the writer of their answers.
 ghost use Rattle.std.specs.Prelude.{◌≡◌};
 
 use crate::fault::FeedEnd;
@@ -13,7 +13,7 @@ pub struct Feed<R, W> {
 }
 
 impl<R, W> Feed<R, W> {
-    /// A feed that has not begun.
+    /// Creates a feed that has not begun.
     pub fn new(reader: R, writer: W) -> Self
         ensures reader { (result.reader.device ≡ reader) × (result.reader.failures ≡ 0) }
         ensures writer { (result.writer.device ≡ writer) × (result.writer.failures ≡ 0) }

@@ -14,10 +14,10 @@ use std::mem::ManuallyDrop;
 use std::sync::{Mutex, Wait};
 use std::thread::Threads;
 
-/// Answers the feeds of a folder, and returns the exit status: 0 where each feed has ended, 1 where
-/// a device failed, 2 where there was no memory. A line of each fault that comes while they file is
-/// written as it comes; one that comes before or after is returned. All answers go to `writer` too,
-/// and after them the journal where it is asked for, and whether a replay of it comes to the same.
+/// Answers the feeds of a folder, and returns the exit status: 0 if each feed has ended, 1 if a
+/// device failed, 2 if an allocation failed. The line of a fault that comes while they file is
+/// written at once; a fault that comes before or after is returned. All answers go to `writer` too,
+/// then the journal, if it is asked for, and whether a replay of it has the same state.
 pub fn run_feeds<
     T: AllocGlobal + Threads + Sync,
     P: Wait + Sync,
@@ -177,7 +177,7 @@ fn answer<
     }
 }
 
-/// Writes the journal where it is asked for, and whether a replay of it comes to the same.
+/// Writes the journal, if it is asked for, and whether a replay of it has the same state.
 fn write_rest<W: Write>(
     alloc: Global,
     core: &Core,
