@@ -1,9 +1,9 @@
-//! Where a flight stands in a slot list.
+//! What a slot list has of a flight.
 ghost use Rattle.std.specs.Prelude.{◌≡◌, ◌↔◌, true};
 
 use fpl_text::Minute;
 
-/// Where a flight stands in a slot list: it isn't held, it waits with an entry, or it keeps a slot.
+/// What a slot list has of a flight: nothing, a provisional slot by its entry, or a frozen slot.
 #[derive(Clone, Copy, Debug, Drop, PartialEq, Eq)]
 pub enum Place {
     Absent,
@@ -12,7 +12,6 @@ pub enum Place {
 }
 
 impl Place {
-    /// Whether it is this place.
     pub(crate) fn is(&self, other: &Place) -> bool
         ensures { (result ≡ true) ↔ (self.now ≡ other.now) }
     {
