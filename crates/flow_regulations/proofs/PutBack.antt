@@ -1,4 +1,4 @@
--- What a slot list had of a flight is restored.
+-- The state of a flight in a slot list is restored.
 use Rattle.std.proofs.Common.{◌≡◌, ℕ, zero, suc, ◌+◌, ◌<◌, ◌++◌, Bool, true, false, not, cond, eqb, List, [], ◌∷◌, length, map, take, get_or, Option, Some, None, refl, sym, ap, subst, ◌∙◌, arith}
 use Rattle.std.proofs.lemmas.List.{take_more, length-map}
 use Rattle.std.specs.Prelude.{IsSome, IfSome, slice_set}
@@ -33,7 +33,7 @@ out-already f l a b =
     ap (λ ws. let m : Lineup = record { period = l.period; capacity = l.capacity; waiting = ws; fixed = without_fixed f l.fixed } in m) (without-none f l.waiting (entry-none f l.waiting b))
     ∙ ap (λ fs. let m : Lineup = record { period = l.period; capacity = l.capacity; waiting = l.waiting; fixed = fs } in m) (without_fixed-none f l.fixed (slot_in-none f l.fixed a))
 
--- two slot lists that have the same of a flight, and of the others too, are the same
+-- two slot lists in which a flight, and the others too, have the same state are the same
 pub same-place : (f : ℕ) (p : Place) (l m : Listed) → IsPlaceOf f p l → IsPlaceOf f p m → without_in f l ≡ without_in f m → l ≡ m
 same-place f p l m a b e =
     let s : Listed → Listed = λ v. with_lineup (stood p f v.lineup) v in
@@ -109,7 +109,7 @@ open-there f k l lined e =
     let H : Option ℕ → Type 0 = λ o. IfSome o (λ holder. slot_in holder fs ≡ None) in
     subst H (sym (flight-after k fs _ (slot-free f k l.fixed lined.by_slot e))) (holder-waits k (λ e. first_slot l.period e) (slots fs) fs ws (waiting-unfixed f l.fixed l.waiting lined.waiting_apart))
 
--- what the slot list has of a flight
+-- the state of a flight in a slot list
 abbrev place-by : Option ℕ → Option ℕ → Place
 place-by slot entry = option_map_or (λ slot. place.Fixed slot) slot (option_map_or (λ entry. place.Waiting entry) entry place.Absent)
 
@@ -134,7 +134,7 @@ stands-nowhere f l a e = record {
   back = out-already f l.lineup a e;
 }
 
--- what one more regulation has of it
+-- its state in one more regulation
 pub places-more : (f j : ℕ) (ps : List Place) (ls : List Listed) (d : Listed) (p : Place) → j < length ls → IsPlaceOf f p (get_or ls j d) → ArePlaces f ps (take j ls) → ArePlaces f (ps ++ p ∷ []) (take (j + 1) ls)
 places-more f j ps ls d p h i a =
     let A : List Listed → Type 0 = λ xs. ArePlaces f (ps ++ p ∷ []) xs in
@@ -179,7 +179,7 @@ walk-rest R (suc i) (y ∷ ys) [] zs d w = absurd w
 walk-rest R (suc i) (y ∷ ys) (x ∷ xs) [] d w = absurd w
 walk-rest R (suc i) (y ∷ ys) (x ∷ xs) (z ∷ zs) d w = walk-rest R i ys xs zs d w.1
 
--- there are as many recorded as regulations
+-- there are as many recorded states as regulations
 pub places-length : (f : ℕ) (ps : List Place) (bs : List Listed) → ArePlaces f ps bs → length bs ≡ length ps
 places-length f [] [] a = refl
 places-length f [] (b ∷ bs) a = absurd a

@@ -1,9 +1,10 @@
-//! What a slot list has of a flight.
+//! The state of a flight in a slot list.
 ghost use Rattle.std.specs.Prelude.{◌≡◌, ◌↔◌, true};
 
 use fpl_text::Minute;
 
-/// What a slot list has of a flight: nothing, a provisional slot by its entry, or a frozen slot.
+/// The state of a flight in a slot list: absent, with a provisional slot by its entry, or with a
+/// frozen slot.
 #[derive(Clone, Copy, Debug, Drop, PartialEq, Eq)]
 pub enum Place {
     Absent,

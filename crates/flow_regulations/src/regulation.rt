@@ -304,7 +304,7 @@ impl<A: Allocator + Copy> Regulation<A> {
         }
     }
 
-    /// What the slot list has of a flight.
+    /// The state of a flight in the slot list.
     pub(crate) fn place_of(&self, number: u32) -> Place
         ensures { IsPlaceOf number result self.now }
     {
@@ -317,7 +317,7 @@ impl<A: Allocator + Copy> Regulation<A> {
         }
     }
 
-    /// Gives a flight that isn't held what the slot list had of it.
+    /// Gives a flight that isn't held this state in the slot list.
     fn stand_in(&mut self, number: u32, place: Place)
         requires absent { held_slot self.old.lineup number ≡ None }
         requires first { 0 < number }
@@ -332,8 +332,8 @@ impl<A: Allocator + Copy> Regulation<A> {
         }
     }
 
-    /// Restores what the slot list had of a flight. The list is then as it was: of the others it
-    /// has the same already.
+    /// Restores the state of a flight in the slot list. The list is then as it was: the other flights
+    /// have their former states already.
     pub(crate) fn put_back(&mut self, number: u32, place: Place)
         requires first { 0 < number }
         requires last { number ≤ self.old.lineup.capacity }
