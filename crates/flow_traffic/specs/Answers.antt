@@ -1,5 +1,5 @@
 -- The traffic after a reading: each regulation is allocated by the rules, by itself, and then slots
--- are issued to plans, by number.
+-- are issued to plans, by number (EUROCONTROL ATFCM Users Manual, slot allocation).
 use Rattle.std.specs.Prelude.{◌≡◌, List, [], ◌∷◌, ◌++◌, map, Option, None, MatchResult}
 use Rattle.fpl_message.specs.Reads.{Reading, ord}
 use Rattle.fpl_message.specs.Messages.{open_reg, set_time}

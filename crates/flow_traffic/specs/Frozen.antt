@@ -1,5 +1,5 @@
 -- Frozen flights keep their slots: the frozen pairs of flight and slot, and which of them a reading
--- may remove.
+-- may remove (EUROCONTROL ATFCM Users Manual, slot issue).
 use Rattle.std.specs.Prelude.{◌≡◌, ◌⊎◌, ℕ, List, []}
 use Rattle.std.specs.Option.{option_map_or}
 use Rattle.fpl_message.specs.Messages.{shut_reg}

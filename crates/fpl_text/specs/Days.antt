@@ -1,4 +1,5 @@
--- The year, month and day of a day number, by a walk over the years from 1970 and over the months.
+-- The year, month and day of a day number in the Gregorian calendar, by a walk over the years from
+-- 1970 and over the months.
 use Rattle.std.specs.Prelude.{ℕ, zero, suc, ◌+◌, ◌-◌, nat_lt, if◌then◌else◌, pos}
 use Rattle.jiff_core.specs.Calendar.{days_in_year, days_in_month}
 
