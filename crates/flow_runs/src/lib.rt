@@ -25,4 +25,4 @@ mod stored;
 pub use answers::write_end;
 pub use fault::RunFault;
 pub use run::{run_many, run_resumed};
-pub use stored::{StoredRunFault, has_feeders_below, run_stored};
+pub use stored::{StoredRunFault, run_stored};
