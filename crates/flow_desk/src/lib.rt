@@ -6,10 +6,10 @@
 //! proofs alone; at run time its number of entries is all that is stored.
 //!
 //! The claim: each answered filing is one step of one history that begins with all its caller had
-//! seen; it appends one journal entry and returns that entry's outcome; whenever the lock is free,
+//! seen: it appends one journal entry and answers that entry's outcome; whenever the lock is free,
 //! plans, slot lists and notices are those of the one-thread desk over the journal; in every
-//! regulation the flights with provisional slots, by planned entry, each hold the first free slot
-//! not before it, and frozen flights keep theirs. Its parts, and the clauses that say them:
+//! regulation the unfrozen flights, by planned entry, each hold the first free slot not before it,
+//! and frozen flights keep theirs. Its parts, and the clauses that say them:
 //!
 //! - *each answered filing is one step of one history*: `filed` of `Desk::file`, a `Filed`: its
 //!   `before` is the history until then, and its `step` that of the one-thread desk. The histories
@@ -21,7 +21,7 @@
 //!   `Desk::close_followed`).
 //! - *that begins with all its caller had seen*: `later` of that `Filed`. What a pass has seen is
 //!   carried from call to call, and `Desk::look` and `Desk::slots` add to it (`seen`).
-//! - *it appends one journal entry and returns that entry's outcome*: `step` and `seen` of that
+//! - *it appends one journal entry and answers that entry's outcome*: `step` and `seen` of that
 //!   `Filed`; after a refusal `refused` of `Desk::file`: nothing of the feeder's was appended.
 //!   JournalFull is returned only if the journal is full (`full`).
 //! - *whenever the lock is free ..*: the invariant of `Locked` (`one_thread` of `IsLocked`), `row`
