@@ -12,7 +12,7 @@ use std::alloc::Allocator;
 pub const ISSUE_LEAD: u32 = 120;
 
 /// The last off-block moment whose flights are due now, in minutes from 1970-01-01 00:00 UTC.
-#[inline(always)]
+#[inline]
 pub fn due_until(now: Minute) -> u32
     ensures { result ≡ now + ISSUE_LEAD }
 {
@@ -20,7 +20,7 @@ pub fn due_until(now: Minute) -> u32
 }
 
 /// Whether the flight of this number is due: filed, and at most two hours before its off-block moment.
-#[inline(always)]
+#[inline]
 pub(crate) fn is_due<A: Allocator + Copy>(plans: &PlanStore<A>, number: u32, now: Minute) -> bool
     requires { 0 < number }
     ensures { (p : Held) → plan_at plans.now.plans number ≡ Some p → result ≡ is_due now p }

@@ -18,7 +18,7 @@ pub(crate) struct EntryAsked {
 
 impl EntryAsked {
     /// No place was asked.
-    #[inline(always)]
+    #[inline]
     pub(crate) fn nowhere() -> EntryAsked
         ensures { result.spot ≡ None }
     {
@@ -29,7 +29,7 @@ impl EntryAsked {
     }
 
     /// Whether this place was asked last.
-    #[inline(always)]
+    #[inline]
     fn is_at(&self, spot: &Spot) -> bool
         ensures { result ≡ true → self.now.spot ≡ Some spot.now }
     {
@@ -40,7 +40,7 @@ impl EntryAsked {
     }
 
     /// Asks for the entry of the flight of this plan at a place, where that isn't the place that was asked last.
-    #[inline(always)]
+    #[inline]
     pub(crate) fn ask<A: Allocator + Copy>(
         &mut self,
         plans: &PlanStore<A>,
@@ -61,7 +61,7 @@ impl EntryAsked {
 }
 
 /// The entry of the flight of this plan at a place, at any time, where regulations apply to it.
-#[inline(always)]
+#[inline]
 pub(crate) fn entry_of<A: Allocator + Copy>(
     plans: &PlanStore<A>,
     number: u32,
