@@ -8,7 +8,7 @@ Looked at are README.md, docs/*.md, tests/README.md, the stories in samples/ and
   page names, as `name.rt` or `Name.antt`, perhaps with its folders, is there, and so is each `Type::function`;
 - quotations: a block between fences below a line with a link and a colon at its end is found word for word in that file,
   and so are the names in that line; in docs/THEOREM.md each block has such a line;
-- definitions: docs/DEFINITIONS.md has a row for each module of crates/*/specs, which says what it defines;
+- definitions: each module of crates/*/specs begins with a comment that says what it defines;
 - proved: each row of docs/PROVED.md names calls that are in their file, that are `pub` and that their crate exports, and
   definitions that are in theirs; each public call of a crate that has a table there is in it;
 - walks: in docs/ARCHITECTURE.md each function in a walk is in the file named before it, that file in the crate named
@@ -17,7 +17,7 @@ Looked at are README.md, docs/*.md, tests/README.md, the stories in samples/ and
 - unused: what a library exports has a user, in another crate or in a test;
 - prose: no line has over 100 columns, outside tables and fences, and no page and no comment in src/ or specs/ has a word that
   docs/GLOSSARY.md replaces, as far as a script can tell; the pages and crates that aren't so yet are listed there;
-- lists: docs/FORMATS.md and docs/GUIDE.md have each refusal with its number, and README.md just the ported crates of crates.txt.
+- lists: docs/GUIDE.md has each refusal with its number, and README.md just the ported crates of crates.txt.
 With a program, each folder of samples/ is run as well: args (a word a line), stdin, stdout and status (0 where absent).
 Prints a line for each finding, then 'N findings'. The status is 1 if there are any.
 """

@@ -37,6 +37,5 @@ def wrong_crates():
 
 
 def findings():
-    yield from missing_refusals(DOCS / "FORMATS.md")
     yield from missing_refusals(DOCS / "GUIDE.md")
     yield from wrong_crates()

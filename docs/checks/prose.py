@@ -16,14 +16,16 @@ REPLACED = {
     r"rooms?": "capacity, buffer",
     r"(?:is|are|was|were|be|been) told(?! apart)": "is notified, is issued",
     r"tells? (?:a|the|each|its) (?:plan|flight)": "issues a slot or a notice to",
-    r"wants? of memory|memory (?:is|was) refused": "a failed allocation",
+    r"wants? of memory|memory (?:is|was) refused|where memory": "a failed allocation, if allocation fails",
+    r"(?:takes?|took) (?:no )?memory": "allocates (nothing)",
     r"(?:stands|stood)(?! for)": "is, precedes",
     r"(?:take|takes|taken|took) back": "undo, roll back",
     r"(?:go|goes|going|went) on from": "resume",
     r"(?:hands|handed|to hand) (?:\w+ ){0,3}on": "flush",
     r"lets? go|gives? up|gave up": "release, discard",
     r"answers (?:None|Some|Ok|Err|true|false|whether|an? (?:number|value|list|row))": "returns",
-    r"(?:is|are|was|were|be|been) noted": "is recorded, is collected",
+    r"(?:is|are|was|were|be|been) noted|notes (?:the|that|what|its|a|how)": "is recorded, is collected",
+    r"nothing is owed": "no notice is pending",
     r"(?:is|are|was|were|be|been) let in": "is inserted into the slot list",
     r"comes? to (?:a|the|its|that) place": "enters, is planned over",
     r"looks? again at": "reallocates",
@@ -32,7 +34,7 @@ REPLACED = {
     r"a front": "a prefix",
     r"places? (?:of|on) the way": "route point",
     r"(?:comes?|came) to the same": "has the same state",
-    r"so many": "the count by its name",
+    r"so (?:many|long)": "the count, or the length, by its name",
     r"where (?:no|nobody|nothing|none)": "if",
     r"dearest": "slowest",
 }
@@ -42,14 +44,7 @@ NOT_YET = set()
 
 # Crates of which the comments aren't clean yet. Whoever cleans one takes it off this list.
 CRATES_NOT_YET = {
-    "flow_desk",
     "flow_regulations",
-    "flow_traffic",
-    "flow_view",
-    "fpl_items",
-    "fpl_text",
-    "slotdesk",
-    "slotview",
 }
 
 

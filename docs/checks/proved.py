@@ -1,6 +1,6 @@
 """docs/PROVED.md and the crates agree.
 
-The calls of each row are in its file, public and exported; its definitions are in theirs; and each call that a crate
+The calls of each row are in the files that it links, public and exported; its definitions are in theirs; and each call that a crate
 exports is in its table, if it has one."""
 from checks.code import CRATES, functions_of, is_exported, public_functions
 from checks.pages import CODE, DOCS, LINK, crate_of, has_name, name_of, rows, target_of, text_of
@@ -37,7 +37,7 @@ def wrong_call(crate, where, call, files):
 
 def wrong_row(crate, number, cells):
     where = "docs/PROVED.md:%d" % number
-    files = [target_of(PAGE, link)[0] for link in LINK.findall(cells[3])]
+    files = [target_of(PAGE, link)[0] for link in LINK.findall(cells[0])]
     for call in CODE.findall(cells[0]):
         yield from wrong_call(crate, where, call, [file for file in files if file.is_file()])
     for word in CODE.findall(cells[2]):
@@ -48,7 +48,7 @@ def findings():
     named = {}
     for heading, number, cells in rows(text_of(PAGE)):
         crate = crate_of(heading)
-        if len(cells) != 4 or not (CRATES / crate / "src").is_dir():
+        if len(cells) != 3 or not (CRATES / crate / "src").is_dir():
             yield "docs/PROVED.md:%d: no row of a crate: %s" % (number, heading)
             continue
         named.setdefault(crate, set()).update(CODE.findall(cells[0]))

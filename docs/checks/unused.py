@@ -14,7 +14,7 @@ SIGNATURE = re.compile(r"^ *pub (?:const )?fn (\w+)(.*?)(?=\{|\n *(?:requires|en
 FIELD = re.compile(r"^    (?:pub \w+: (.*)|[A-Z]\w*[ ({](.*))$", re.M)
 
 # Calls that a user of the library needs.
-NEEDED = {"flow_desk": {"first_feeder_beyond"}}
+NEEDED = {}
 
 
 @functools.cache

@@ -1,4 +1,5 @@
--- How many plans a desk holds: one more after an accepted flight plan, and never more than the setup allows.
+-- How many plans a desk holds: one more after an accepted flight plan, and never more than the
+-- setup allows.
 use Rattle.std.proofs.Common.{◌≡◌, ◌≤◌, ◌<◌, ◌+◌, ◌∙◌, ℕ, suc, Bool, true, false, List, [], ◌∷◌, length, Option, Result, Ok, Err, refl, sym, ap, subst, arith}
 use Rattle.std.specs.Prelude.{nat_le}
 use Rattle.std.proofs.lemmas.Bool.{leb-false}

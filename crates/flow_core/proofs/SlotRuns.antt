@@ -1,4 +1,5 @@
--- In each state of a run the lineup of each open regulation is sound, so its waiting flights are first served.
+-- In each state of a run the lineup of each open regulation is sound, so its waiting flights are
+-- first served.
 use Rattle.std.proofs.Common.{◌≡◌, ◌≢◌, ℕ, ◌+◌, ◌<◌, ◌≤◌, ◌||◌, Bool, true, false, cond, not, nat_le, if◌then◌else◌, List, [], ◌∷◌, ◌++◌, map, filter, length, Option, Some, None, IfSome, Result, Ok, Err, eqb, refl, sym, ap, subst, ◌∙◌, arith}
 use Rattle.std.specs.List.{AllByRecursion, list_any}
 use Rattle.std.specs.Option.{option_map}

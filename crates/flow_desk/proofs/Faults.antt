@@ -25,7 +25,7 @@ want-beyond : (e : DeskFault) (f : ℕ) (o : Option ℕ) → o ≡ None → Want
 want-beyond e f o none w n =
     (λ is. absurd (⊎_elim (λ (a : e ≡ OutOfMemory). cc (is, a)) (λ (b : e ≡ NoReader). cc (is, b)) w), λ h. absurd (cc (none, h.2)))
 
--- memory or a place was refused
+-- an allocation failed, or the board had no more readers
 pub wanted-size : {T C : Type 0} (r : Result T (DeskFault × C)) (f : ℕ) → 0 < f → f ≤ 64 → IfErr r (λ e. (e.0 ≡ OutOfMemory) ⊎ (e.0 ≡ NoReader)) → IfErr r (λ e. (e.0 ≡ Feeders) ↔ ((f ≡ 0) ⊎ (64 < f)))
 wanted-size (Ok x) f some most w = tt
 wanted-size (Err e) f some most w = want-size e.0 f some most w

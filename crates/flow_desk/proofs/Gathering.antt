@@ -7,7 +7,7 @@ use Rattle.flow_desk.specs.declared.feeders.End.{End}
 use Rattle.flow_desk.specs.Passes.{PassView}
 use Rattle.flow_desk.specs.Feeds.{HasRun, HaveRun}
 
--- what holds place by place holds list by list
+-- what holds at each index holds of the lists
 pub run-each : {X : Type 0} (s : Settings) (pass : X → PassView) (left : X → List FilingText) (receipts : X → List Receipt) (end : X → End) (olds news : List X) → length news ≡ length olds
     → ((i : ℕ) (d : X) → i < length olds → HasRun s (pass (slice_index_or olds i d)) (left (slice_index_or olds i d)) (pass (slice_index_or news i d)) (receipts (slice_index_or news i d)) (left (slice_index_or news i d)) (end (slice_index_or news i d)))
     → HaveRun s (map pass olds) (map left olds) (map pass news) (map receipts news) (map left news) (map end news)

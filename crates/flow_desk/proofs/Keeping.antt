@@ -69,7 +69,7 @@ fold-append : {A B : Type 0} (f : B → A → B) (b : B) (xs ys : List A) → fo
 fold-append f b [] ys = refl
 fold-append f b (x ∷ xs) ys = fold-append f (f b x) xs ys
 
--- and one that takes in an operation behind others that change nothing
+-- and one that absorbs an operation after others that change nothing
 pub publishes : (seat : ℕ) (v : View) (x next : Shown) (op : Turn) (idle : List Turn) → fold absorbed x idle ≡ x → next ≡ fold absorbed x (idle ++ op ∷ [])
     → op.front.book ≡ x.book → IsPrefix x.entries op.front.entries → op.number ≡ length op.front.entries
     → put_all (padded x.setup.max_plans (rows_after x.setup x.entries)) op.changes ≡ padded x.setup.max_plans (rows_after x.setup op.front.entries) → TurnsAt Keeps seat v x next Reads
@@ -79,7 +79,7 @@ publishes seat v x next op idle none is book later number rows =
     let board : IsBoard x → IsBoard y = λ b. record { counted = number; rows = ap (λ (rs : List (Option Row)). put_all rs op.changes) b.rows ∙ rows } in
     subst (λ (z : Shown). TurnsAt Keeps seat v x z Reads) (sym so) (sees seat v x y later book refl board)
 
--- and one that takes in only such
+-- and one that absorbs only such
 pub settles : (seat : ℕ) (v : View) (x next : Shown) (idle : List Turn) → fold absorbed x idle ≡ x → next ≡ fold absorbed x idle → TurnsAt Keeps seat v x next Reads
 settles seat v x next idle none is = subst (λ (z : Shown). TurnsAt Keeps seat v x z Reads) (sym (is ∙ none)) (reads seat v x)
 
@@ -109,7 +109,7 @@ each-snoc b views v h f = record {
   each = λ seat u at. ⊎_elim (h.each seat u) (λ (e : v ≡ u). subst (λ (w : View). Fits b w) e f) (at_snoc views v u seat at);
 }
 
--- what the writer knows can be told
+-- what the writer knows can be shown
 pub forks : (seat : ℕ) (v : View) → Forks Keeps seat v v v
 forks seat v b views h at =
     let f : Fits b v = h.each seat v at in

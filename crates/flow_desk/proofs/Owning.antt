@@ -65,7 +65,7 @@ empty : {A : Type 0} (xs : List A) → length xs ≡ 0 → xs ≡ []
 empty [] e = refl
 empty (x ∷ xs) e = absurd (omega arith)
 
--- where a history has no more of a feeder's than its beginning, it has the same
+-- if a history has no more of a feeder's than its prefix, it has the same
 pub own_same : (k n : ℕ) (xs ys : List Record) → IsPrefix xs ys → length (own k ys) ≡ n → n ≤ length (own k xs) → own k ys ≡ own k xs
 own_same k n xs ys p all had =
     let e : own k ys ≡ own k xs ++ own k p.0 = ap (own k) (sym p.1) ∙ own-append k xs p.0 in

@@ -22,7 +22,7 @@ padded-suc zero (r ∷ rs) = refl
 padded-suc (suc n) [] = ap (λ (l : List (Option Row)). None ∷ l) (padded-suc n [])
 padded-suc (suc n) (r ∷ rs) = ap (λ (l : List (Option Row)). Some r ∷ l) (padded-suc n rs)
 
--- room for one more
+-- capacity for one more
 pub padded-next : (n : ℕ) (rows : List Row) → padded (n + 1) rows ≡ padded n rows ++ slice_get rows n ∷ []
 padded-next n rows = simp unary_clauses (padded-suc n rows)
 
@@ -40,7 +40,7 @@ shown-is b is plan =
     ap (λ (rows : List (Option Row)). shown_row rows plan) is.rows
     ∙ ap (λ (row : Option Row). if plan == 0 then None else row) (within b.setup.max_plans (rows_after b.setup b.entries) (plan - 1) (rows-few b.setup (inputs b.entries)))
 
--- a board with the rows before a filing takes in those that it changed
+-- a board with the rows before a filing absorbs those that it changed
 pub rows-taken_in : (old new : History) (i : Input) (cs ds : List Change) → new.setup ≡ old.setup → new.filed ≡ old.filed ++ i ∷ [] → ds ≡ cs
     → ((before : List Input) (last : Input) → new.filed ≡ before ++ last ∷ [] → put_all (padded new.setup.max_plans (rows_in (run new.setup before).traffic)) cs ≡ padded new.setup.max_plans (rows_at new))
     → put_all (padded old.setup.max_plans (rows_after old.setup (state_of old).journal)) ds ≡ padded old.setup.max_plans (rows_after old.setup (state_of new).journal)

@@ -1,4 +1,4 @@
--- The held slots of a list that is gone through.
+-- The held slots of a list that is read slot by slot.
 use Rattle.std.proofs.Common.{◌≡◌, ℕ, suc, ◌+◌, ◌-◌, ◌<◌, List, ◌++◌, arith, append_assoc}
 use Rattle.flow_slots.specs.Lineup.{Lineup, held_flight}
 use Rattle.flow_desk.specs.declared.slots.SlotRow.{SlotRow}

@@ -10,14 +10,14 @@ use Rattle.flow_desk.specs.Seats.{SeatView, WriterView}
 use Rattle.flow_desk.specs.Locks.{Counts}
 use Rattle.flow_core.specs.declared.entry.TheConstants.{MAX_FEEDERS}
 
--- which desk it will be, and what was filed before
+-- which desk it will be, and the entries so far
 pub record BlankView : Type 0 where
   pub book : Book
   pub setup : Settings
   pub feeders : ℕ
   pub entries : List Record
 
--- a seat at this desk, from which these entries have been read
+-- a reader of this desk's board that has read these entries
 abbrev pub IsFree : Book → Settings → List Record → SeatView → Type 0
 IsFree book setup es s = (s.knows ≡ true) × (s.book ≡ book) × (s.setup ≡ setup) × (s.read ≡ es)
 
@@ -29,7 +29,7 @@ pub record IsBlank (core : History) (head : Book) (front : FrontView) (counts : 
   pub free : All (IsFree head core.setup (state_of core).journal) seats
   pub few : length seats ≤ MAX_FEEDERS
 
--- the number of the first entry whose feeder isn't below this, where they are numbered from n
+-- the number of the first entry whose feeder isn't below this, with entries numbered from n
 abbrev pub first_beyond : ℕ → ℕ → List Record → Option ℕ
 first_beyond feeders n [] = None
 first_beyond feeders n (e ∷ es) = if nat_lt e.input.feeder feeders then first_beyond feeders (n + 1) es else Some n

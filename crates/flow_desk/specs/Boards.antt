@@ -10,7 +10,8 @@ use Rattle.flow_core.specs.Boards.{padded, put_all}
 use Rattle.flow_desk.specs.Fronts.{FrontView}
 use Rattle.flow_desk.specs.Histories.{rows_after}
 
--- whose history it shows, how much of it, the number of its entries, and a row for each plan that there may be
+-- the history that it shows, the number of its entries, and a row for each plan that the setup
+-- allows
 pub record Shown : Type 0 where
   pub book : Book
   pub setup : Settings
@@ -29,7 +30,7 @@ pub record Turn : Type 0 where
   pub number : ℕ
   pub changes : List Change
 
--- changes, of which the first may stand by itself
+-- changes, of which the first may be stored by itself
 abbrev pub with_first : Option Change → List Change → List Change
 with_first None cs = cs
 with_first (Some c) cs = c ∷ cs

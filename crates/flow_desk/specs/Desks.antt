@@ -17,6 +17,7 @@ IsPresent feeders ps = (k : ℕ) → k < feeders → IsTrue (has_pass ps k)
 abbrev pub IsMissing : ℕ → List PassView → Type 0
 IsMissing feeders ps = (k : ℕ) × (k < feeders) × IsFalse (has_pass ps k)
 
--- the i-th pass is that of feeder i, which has seen these entries and has a receipt for each of its own
+-- the i-th pass is that of feeder i, which has seen these entries and has a receipt for each of its
+-- own
 abbrev pub AreOpened : ℕ → List Record → List PassView → Type 0
 AreOpened feeders es ps = (length ps ≡ feeders) × ((i : ℕ) (p : PassView) → slice_get ps i ≡ Some p → p ≡ record { feeder = i; receipts = length (own i es); seen = es })

@@ -11,7 +11,8 @@ use Rattle.flow_desk.specs.declared.feeders.End.TheVariants.{Finished, Stopped, 
 use Rattle.flow_desk.specs.Passes.{PassView}
 use Rattle.flow_desk.specs.Histories.{own}
 
--- from p to q a feed was filed up to what is left: these entries are new, and no other of the feeder's
+-- from p to q a feed was filed up to what is left: these entries are new, and no other of the
+-- feeder's
 pub record Ran (p : PassView) (feed : List FilingText) (q : PassView) (receipts : List Receipt) (left : List FilingText) : Type 0 where
   pub entries : List Record
   pub later : IsPrefix p.seen q.seen
@@ -21,8 +22,8 @@ pub record Ran (p : PassView) (feed : List FilingText) (q : PassView) (receipts 
   pub texts : map (λ (e : Record). e.input.text) entries ++ left ≡ feed
   pub answers : map (λ (e : Record). e.receipt) entries ≡ receipts
 
--- how a feed ended: with nothing left; with the first of what is left refused, as full exactly where the journal was; or before it
--- began
+-- the end of a feed: nothing is left; or the first of what is left was refused, with `JournalFull`
+-- only if the journal was full; or it wasn't begun
 abbrev pub EndsAs : Settings → End → PassView → List Receipt → List FilingText → Type 0
 EndsAs s Finished q receipts left = left ≡ []
 EndsAs s (Stopped fault) q receipts left = (left ≢ []) × (fault ≡ JournalFull → length q.seen ≡ s.max_entries) × (fault ≡ OutOfMemory → length q.seen < s.max_entries)
@@ -32,12 +33,12 @@ pub record HasRun (setup : Settings) (p : PassView) (feed : List FilingText) (q 
   pub ran : Ran p feed q receipts left
   pub ends : EndsAs setup end q receipts left
 
--- feed by feed, each of which was run by its pass
+-- each feed was run by its pass
 abbrev pub HaveRun : Settings → List PassView → List (List FilingText) → List PassView → List (List Receipt) → List (List FilingText) → List End → Type 0
 HaveRun s [] [] [] [] [] [] = Unit {0}
 HaveRun s (p ∷ ps) (feed ∷ feeds) (q ∷ qs) (receipts ∷ rs) (left ∷ ls) (end ∷ es) = HasRun s p feed q receipts left end × HaveRun s ps feeds qs rs ls es
 HaveRun s _ _ _ _ _ _ = ⊥
 
--- a feed that has filed nothing, with room for a receipt of each text
+-- a feed that has filed nothing, with the capacity for a receipt of each text
 abbrev pub IsFresh : List Receipt → List FilingText → ℕ → Type 0
 IsFresh receipts left room = (receipts ≡ []) × (length left ≤ room)

@@ -1,4 +1,4 @@
--- What is true of what lies under the lock, and of the core that it ends with.
+-- What is true of the state under the lock, and of the core with which it ends.
 use Rattle.std.specs.Prelude.{◌≡◌, ℕ, ◌<◌, ◌≤◌, true, List, length, slice_index}
 use mathlib.Core.List.{IsPrefix}
 use Rattle.std.specs.List.{All}
@@ -18,7 +18,8 @@ pub record Counts (feeders : ℕ) (es : List Record) (counts : List ℕ) : Type 
   pub each : (k : ℕ) → k < feeders → slice_index counts k ≡ length (own k es)
   pub below : All (λ e. e.input.feeder < feeders) es
 
--- whenever the lock is free the core is the desk of one thread over its journal, which is the history and what is published
+-- whenever the lock is free the core is the one-thread desk over its journal, which is both the
+-- history and what is published
 pub record IsLocked (book : Book) (setup : Settings) (feeders : ℕ) (core : History) (head : Book) (front : FrontView) (counts : List ℕ) (publisher : WriterView) : Type 0 where
   pub setup_is : core.setup ≡ setup
   pub one_thread : state_of core ≡ after setup (state_of core).journal
@@ -29,7 +30,8 @@ pub record IsLocked (book : Book) (setup : Settings) (feeders : ℕ) (core : His
   pub few : feeders ≤ MAX_FEEDERS
   pub published : (publisher.knows ≡ true) × (publisher.book ≡ book) × (publisher.setup ≡ setup) × (publisher.entries ≡ (state_of core).journal)
 
--- the history begins with what the pass has seen, which has all of its feeder's entries; they are as many as its receipts
+-- the history begins with what the pass has seen, which has all of its feeder's entries; they are
+-- as many as its receipts
 pub record Agrees (es : List Record) (p : PassView) : Type 0 where
   pub later : IsPrefix p.seen es
   pub all_own : length (own p.feeder es) ≡ p.receipts

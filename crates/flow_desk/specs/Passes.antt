@@ -33,7 +33,8 @@ pub record SawMore (p q : PassView) : Type 0 where
   pub feeder : q.feeder ≡ p.feeder
   pub receipts : q.receipts ≡ p.receipts
 
--- q is the pass p, which has seen no less, none of it of its own; its receipts are all of its feeder's entries
+-- q is the pass p, which has seen no less, none of it of its own; its receipts are all of its
+-- feeder's entries
 pub record SawOthers (p q : PassView) : Type 0 where
   pub more : SawMore p q
   pub none_own : own q.feeder q.seen ≡ own p.feeder p.seen
@@ -43,8 +44,9 @@ pub record SawOthers (p q : PassView) : Type 0 where
 abbrev pub entry : ℕ → FilingText → Receipt → Record
 entry feeder text r = record { input = record { feeder = feeder; text = text }; receipt = r }
 
--- before this filing the history began with all that p had seen, and p's receipts were all of its feeder's entries; the journal
--- wasn't full, and the filing is one step of the desk of one thread there, which appends this one entry, and q has seen that
+-- before this filing the history began with all that p had seen, and p's receipts were all of its
+-- feeder's entries; the journal wasn't full, and the filing is one step of the one-thread desk
+-- there, which appends this one entry, and q has seen that
 pub record Filed (setup : Settings) (p : PassView) (text : FilingText) (r : Receipt) (q : PassView) : Type 0 where
   pub before : List Record
   pub room : length before < setup.max_entries
@@ -56,11 +58,12 @@ pub record Filed (setup : Settings) (p : PassView) (text : FilingText) (r : Rece
   pub feeder : q.feeder ≡ p.feeder
   pub receipts : q.receipts ≡ p.receipts + 1
 
--- the pass p as it is when it has seen all of this history, and has a receipt for each entry of its feeder
+-- the pass p as it is when it has seen all of this history, and has a receipt for each entry of its
+-- feeder
 abbrev pub shown : PassView → List Record → PassView
 shown p es = record p { receipts = length (own p.feeder es); seen = es }
 
--- filed where p had seen the whole history: nobody else's entry came between
+-- filed when p had seen the whole history: nobody else's entry came between
 pub record FiledNext (setup : Settings) (p : PassView) (text : FilingText) (r : Receipt) (q : PassView) : Type 0 where
   pub filed : Filed setup p text r q
   pub at_once : filed.before ≡ p.seen
@@ -70,7 +73,8 @@ abbrev pub FiledInTurn : Settings → PassView → List FilingText → PassView 
 FiledInTurn s p [] q = q ≡ p
 FiledInTurn s p (t ∷ ts) q = (r : Receipt) × (m : PassView) × FiledNext s p t r m × FiledInTurn s m ts q
 
--- the pass p saw what others had filed. Then a front of these texts was filed so, and the others are left
+-- the pass p saw what others had filed. Then a prefix of these texts was filed in turn, and the
+-- others are left
 pub record FiledFront (setup : Settings) (p : PassView) (texts : List FilingText) (q : PassView) (left : List FilingText) : Type 0 where
   pub saw : PassView
   pub others : SawOthers p saw

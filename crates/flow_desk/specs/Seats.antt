@@ -1,4 +1,4 @@
--- What contracts see of a reader's seat and of the writer.
+-- What contracts see of a reader of the board and of its writer.
 use Rattle.std.specs.Prelude.{Bool, List}
 use Rattle.logbook.specs.Pages.{Book}
 use Rattle.flow_plans.specs.Settings.{Settings}

@@ -9,17 +9,17 @@ use Rattle.flow_core.specs.State.{Record}
 use Rattle.flow_desk.specs.declared.slots.SlotRow.{SlotRow}
 use Rattle.flow_desk.specs.Histories.{after}
 
--- whether a flight has a slot that it keeps
+-- whether a flight has a frozen slot
 abbrev pub is_kept : Option ℕ → Bool
 is_kept None = false
 is_kept (Some slot) = true
 
--- the slot of this number, where a flight holds it
+-- the slot of this number, if a flight holds it
 abbrev pub held_at : Lineup → ℕ → Option ℕ → List SlotRow
 held_at l slot None = []
 held_at l slot (Some flight) = record { slot = slot; at = slot_time l.period slot; plan = flight; frozen = is_kept (fixed_slot l flight) } ∷ []
 
--- the held ones of so many slots, from this one on
+-- the held ones among `count` slots from this one on
 abbrev pub held_from : Lineup → ℕ → ℕ → List SlotRow
 held_from l slot zero = []
 held_from l slot (suc count) = held_at l slot (held_flight l slot) ++ held_from l (slot + 1) count
@@ -28,6 +28,7 @@ held_from l slot (suc count) = held_at l slot (held_flight l slot) ++ held_from 
 abbrev pub held_slots : Lineup → List SlotRow
 held_slots l = held_from l 0 (len_of l)
 
--- the held slots of the open regulation of this name after these entries, None where none is open
+-- the held slots of the open regulation of this name after these entries; None if no regulation of
+-- this name is open
 abbrev pub slots_at : Settings → List Record → List ℕ → Option (List SlotRow)
 slots_at setup es id = option_map held_slots (slots_of (after setup es).traffic id)

@@ -9,8 +9,8 @@ use flow_input::{Counted, WriteFault, write_bytes};
 use std::alloc::{AllocError, Allocator};
 use std::io::Write;
 
-/// Writes the answers to the entries from one index up to another, each followed by these bytes. It
-/// doesn't fail where there are none.
+/// Writes the answers to the entries at indices `from` to before `to`, each followed by `end`.
+/// Doesn't fail if there are none.
 fn write_answers<W: Write, A: Allocator + Copy>(
     core: &Core<A>,
     from: u32,
@@ -31,8 +31,8 @@ fn write_answers<W: Write, A: Allocator + Copy>(
     Ok(())
 }
 
-/// Appends the answers to the entries from one index up to another, each followed by these bytes,
-/// and returns the vector. It doesn't fail where there are none.
+/// Appends the answers to the entries at indices `from` to before `to`, each followed by `end`, and
+/// returns the vector. Doesn't fail if there are none.
 pub(crate) fn append_answers<A: Allocator + Copy>(
     core: &Core<A>,
     from: u32,

@@ -1,5 +1,6 @@
 //! A desk that has no name yet.
-ghost use Rattle.std.specs.Prelude.{◌≡◌, ◌≢◌, ◌<◌, ◌≤◌, ◌⊎◌, ◌↔◌, ℕ, true, None, Some, [], length, replicate};
+ghost use Rattle.std.specs.Prelude.{◌≡◌, ◌≢◌, ◌<◌, ◌≤◌, ◌⊎◌, ◌↔◌, ℕ};
+ghost use Rattle.std.specs.Prelude.{true, None, Some, [], length, replicate};
 ghost use Rattle.std.specs.Prelude.{slice_get, IfOk, IfErr, IsErrOf, IsTrue, IsFalse};
 ghost use Rattle.std.specs.List.{All};
 ghost use Rattle.flow_core.specs.State.{Record};
@@ -17,14 +18,14 @@ use std::alloc::{AllocError, Allocator, Global};
 use std::marker::Model;
 use std::sync::Wait;
 
-/// Why no desk was made.
+/// Why no desk is made.
 #[derive(Clone, Copy, Debug, PartialEq, Eq)]
 pub enum DeskFault {
-    /// Not 1 to 64 feeders.
+    /// The number of feeders isn't 1 to 64.
     Feeders,
     /// The entry of this number is the first whose feeder isn't below the number of feeders (41).
     FeederBeyond(u32),
-    /// A feeder got no place among the readers of the board.
+    /// The board has no more readers to give to a feeder.
     NoReader,
     OutOfMemory,
 }
@@ -37,8 +38,8 @@ impl From<AllocError> for DeskFault {
     }
 }
 
-/// A desk before it is opened: its core, its history, its board and a place for each feeder. Contracts see which desk
-/// it will be.
+/// A desk before it is opened: its core, its history, its board and a reader of the board for each
+/// feeder. Contracts see which desk it will be.
 #[derive(Drop)]
 pub struct Blank<R: Wait + Drop, A: Allocator + Copy = Global> {
     pub(crate) core: Core<A>,
@@ -72,10 +73,11 @@ impl<R: Wait + Drop, A: Allocator + Copy> Model for Blank<R, A> {
     } };
 
     ghost invariant = { λ b.
-        IsBlank b.core b.parts.head b.parts.front b.parts.counts.items b.parts.publisher b.parts.seats.items };
+        IsBlank b.core b.parts.head b.parts.front b.parts.counts.items
+        b.parts.publisher b.parts.seats.items };
 }
 
-/// Whether a desk may have so many feeders.
+/// Whether a desk may have `feeders` feeders.
 fn is_desk_size(feeders: usize) -> bool
     ensures yes { IsTrue result → (0 < feeders) × (feeders ≤ MAX_FEEDERS) }
     ensures no { IsFalse result → (feeders ≡ 0) ⊎ (MAX_FEEDERS < feeders) }
@@ -83,7 +85,7 @@ fn is_desk_size(feeders: usize) -> bool
     1 <= feeders && feeders <= MAX_FEEDERS
 }
 
-/// A place for each feeder, or none where a place or memory is refused.
+/// Makes a reader of the board for each feeder.
 fn seats_for<R: Wait + Drop, A: Allocator + Copy>(
     alloc: A,
     publisher: &mut Publisher<R, A>,
@@ -107,10 +109,11 @@ fn seats_for<R: Wait + Drop, A: Allocator + Copy>(
     Ok(seats)
 }
 
-/// The feeder of the entry that stands behind so many others.
+/// The feeder of the entry at `index`, counted from 0.
 fn feeder_at<A: Allocator + Copy>(core: &Core<A>, index: u32) -> u8
     requires { index < length (state_of core.now).journal }
-    ensures { (e : Record) × (slice_get (state_of core.now).journal index ≡ Some e) × (result ≡ e.input.feeder) }
+    ensures { (e : Record) × (slice_get (state_of core.now).journal index ≡ Some e)
+        × (result ≡ e.input.feeder) }
 {
     prove!(index < core.entries());
     match core.entry(index + 1) {
@@ -119,7 +122,7 @@ fn feeder_at<A: Allocator + Copy>(core: &Core<A>, index: u32) -> u8
     }
 }
 
-/// The number of the first entry whose feeder isn't below this; None if all are below.
+/// The number of the first entry whose feeder isn't below `feeders`; `None` if all are.
 pub fn first_feeder_beyond<A: Allocator + Copy>(core: &Core<A>, feeders: usize) -> Option<u32>
     ensures { result ≡ first_beyond feeders 1 (state_of core.now).journal }
 {
@@ -131,7 +134,7 @@ pub fn first_feeder_beyond<A: Allocator + Copy>(core: &Core<A>, feeders: usize) 
     None
 }
 
-/// No entries of so many feeders.
+/// A count of zero for each feeder.
 fn no_counts<A: Allocator + Copy>(alloc: A, feeders: usize) -> Result<Vec<u32, A>, DeskFault>
     ensures zeros { IfOk result (λ v. v.items ≡ replicate feeders 0) }
     ensures len { IfOk result (λ v. length v.items ≡ feeders) }
@@ -151,7 +154,7 @@ fn count_all<A: Allocator + Copy>(core: &Core<A>, counts: &mut Vec<u32, A>)
     }
 }
 
-/// What the blank of this core has beside it.
+/// Makes what the blank of this core has beside it.
 fn parts_for<R: Wait + Drop, A: Allocator + Copy>(
     rt: R,
     alloc: A,
@@ -179,7 +182,7 @@ fn parts_for<R: Wait + Drop, A: Allocator + Copy>(
     })
 }
 
-/// A desk that goes on from this core.
+/// Makes a desk that resumes from this core.
 fn made_of<R: Wait + Drop, A: Allocator + Copy>(
     rt: R,
     alloc: A,
@@ -200,11 +203,14 @@ fn made_of<R: Wait + Drop, A: Allocator + Copy>(
 }
 
 impl<R: Wait + Drop, A: Allocator + Copy> Blank<R, A> {
-    /// Makes a desk at which nothing was filed, with one reader place for each of 1 to 64 feeders.
+    /// Makes a desk without entries for 1 to 64 feeders, and a reader of the board for each.
+    /// Returns `Feeders` for any other number of feeders, `NoReader` or `OutOfMemory`.
     pub fn new(rt: R, alloc: A, setup: Setup, feeders: usize) -> Result<Self, DeskFault>
-        ensures made { IfOk result (λ b. (b.setup ≡ setup) × (b.feeders ≡ feeders) × (b.entries ≡ []) × (0 < feeders)
+        ensures made { IfOk result
+            (λ b. (b.setup ≡ setup) × (b.feeders ≡ feeders) × (b.entries ≡ []) × (0 < feeders)
             × (feeders ≤ MAX_FEEDERS)) }
-        ensures feeders { IsErrOf result DeskFault.Feeders ↔ ((feeders ≡ 0) ⊎ (MAX_FEEDERS < feeders)) }
+        ensures feeders { IsErrOf result DeskFault.Feeders
+            ↔ ((feeders ≡ 0) ⊎ (MAX_FEEDERS < feeders)) }
         ensures beyond { IfErr result (λ e. (n : ℕ) → e ≢ DeskFault.FeederBeyond n) }
     {
         if !is_desk_size(feeders) {
@@ -217,8 +223,10 @@ impl<R: Wait + Drop, A: Allocator + Copy> Blank<R, A> {
         }
     }
 
-    /// Makes a desk that goes on from this core, with one reader place for each of 1 to 64 feeders. Each entry's feeder
-    /// is below that number. A refused core comes back.
+    /// Makes a desk that resumes from this core, for 1 to 64 feeders, and a reader of the board for
+    /// each. An `Err` returns the core too: with `Feeders` for any other number of feeders,
+    /// `FeederBeyond` for the first entry whose feeder isn't below that number, `NoReader` or
+    /// `OutOfMemory`.
     pub fn resume(
         rt: R,
         alloc: A,
@@ -228,9 +236,11 @@ impl<R: Wait + Drop, A: Allocator + Copy> Blank<R, A> {
         ensures made { IfOk result (λ b. (b.setup ≡ core.setup) × (b.feeders ≡ feeders)
             × (b.entries ≡ (state_of core).journal) × (0 < feeders) × (feeders ≤ MAX_FEEDERS)) }
         ensures within { IfOk result (λ b. first_beyond feeders 1 (state_of core).journal ≡ None) }
-        ensures feeders { IfErr result (λ e. (e.0 ≡ DeskFault.Feeders) ↔ ((feeders ≡ 0) ⊎ (MAX_FEEDERS < feeders))) }
+        ensures feeders { IfErr result
+            (λ e. (e.0 ≡ DeskFault.Feeders) ↔ ((feeders ≡ 0) ⊎ (MAX_FEEDERS < feeders))) }
         ensures beyond { IfErr result (λ e. (n : ℕ) → (e.0 ≡ DeskFault.FeederBeyond n)
-            ↔ ((0 < feeders) × (feeders ≤ MAX_FEEDERS) × (first_beyond feeders 1 (state_of core).journal ≡ Some n))) }
+            ↔ ((0 < feeders) × (feeders ≤ MAX_FEEDERS)
+            × (first_beyond feeders 1 (state_of core).journal ≡ Some n))) }
         ensures back { IfErr result (λ e. e.1 ≡ core) }
     {
         if !is_desk_size(feeders) {

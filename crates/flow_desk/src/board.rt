@@ -30,7 +30,6 @@ impl<A: Allocator + Copy> Model for Operation<A> {
 }
 
 impl<A: Allocator + Copy> Operation<A> {
-    /// The entry of this number with the history that ends with it.
     pub fn new(front: Front, number: u32, changes: ChangedRows<A>) -> Self
         ensures { result ≡ record { front = front; number = number; changes = changes } }
     {
@@ -48,7 +47,7 @@ pub struct Board<A: Allocator + Copy = Global> {
     front: Front,
     setup: Setup,
     count: u32,
-    /// As many as there may be plans.
+    /// One for each plan that the setup allows.
     rows: Vec<Option<Row>, A>,
 }
 
@@ -66,7 +65,7 @@ impl<A: Allocator + Copy> Model for Board<A> {
     } };
 }
 
-/// The rows of a core, one for each plan that there may be.
+/// The rows of a core, one for each plan that the setup allows.
 fn rows_of<A: Allocator + Copy>(alloc: A, core: &Core<A>) -> Result<Vec<Option<Row>, A>, AllocError>
     ensures { IfOk result (λ v. v.items ≡ padded core.now.setup.max_plans (rows_at core.now)) }
 {
@@ -80,7 +79,7 @@ fn rows_of<A: Allocator + Copy>(alloc: A, core: &Core<A>) -> Result<Vec<Option<R
 }
 
 impl<A: Allocator + Copy> Board<A> {
-    /// The board of a core, whose journal is this history.
+    /// The board of a core whose journal is this history.
     pub fn new(alloc: A, front: &Front, core: &Core<A>) -> Result<Self, AllocError>
         requires { front.now.entries ≡ (state_of core.now).journal }
         ensures { IfOk result (λ b. b ≡ record {
@@ -100,7 +99,7 @@ impl<A: Allocator + Copy> Board<A> {
         })
     }
 
-    /// The history that it shows.
+    /// The history that the board shows.
     pub fn front(&self) -> Front
         ensures { (result.book ≡ self.now.book) × (result.entries ≡ self.now.entries) }
     {
@@ -114,7 +113,7 @@ impl<A: Allocator + Copy> Board<A> {
         self.count
     }
 
-    /// The row of the plan of this number, from 1.
+    /// The row of plan `plan`, counted from 1. `None` if there is no such plan.
     pub fn row(&self, plan: u32) -> Option<Row>
         ensures { result ≡ shown_row self.now.rows plan }
     {

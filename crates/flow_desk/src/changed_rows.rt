@@ -6,8 +6,8 @@ use flow_core::{Change, Row};
 use std::alloc::{AllocError, Allocator, Global};
 use std::marker::Model;
 
-/// The rows that an entry changed, in their order. The first has its place here, so that an entry that changes one row,
-/// as most messages do, takes no memory for it.
+/// The rows that an entry changed, in their order. The first is stored inline, so that an entry
+/// that changes one row, as most messages do, takes no allocation.
 #[derive(Drop)]
 pub struct ChangedRows<A: Allocator + Copy = Global> {
     first: Option<Change>,
@@ -24,7 +24,7 @@ impl<A: Allocator + Copy> Model for ChangedRows<A> {
     ghost view = { λ c. with_first c.first c.others.items };
 }
 
-/// A copy of changes.
+/// A copy of changes. Returns `Err` if allocation fails.
 fn copied<A: Allocator + Copy>(alloc: A, changes: &[Change]) -> Result<Vec<Change, A>, AllocError>
     ensures { IfOk result (λ v. v.items ≡ changes.now) }
 {
@@ -36,7 +36,7 @@ fn copied<A: Allocator + Copy>(alloc: A, changes: &[Change]) -> Result<Vec<Chang
     Ok(all)
 }
 
-/// Puts a changed row. A row of a plan that can't be is left out.
+/// Replaces a changed row. A row of a plan that the setup doesn't allow is left out.
 fn put_row(rows: &mut [Option<Row>], change: &Change)
     ensures { rows.new ≡ put_from 1 rows.old change.now }
 {
@@ -46,7 +46,7 @@ fn put_row(rows: &mut [Option<Row>], change: &Change)
     }
 }
 
-/// Puts the changed rows.
+/// Replaces the changed rows.
 fn put_rows(rows: &mut [Option<Row>], changes: &[Change])
     ensures { rows.new ≡ put_all rows.old changes.now }
 {
@@ -56,7 +56,7 @@ fn put_rows(rows: &mut [Option<Row>], changes: &[Change])
 }
 
 impl<A: Allocator + Copy> ChangedRows<A> {
-    /// No row. It takes no memory.
+    /// No changed row. Allocates nothing.
     pub fn none(alloc: A) -> Self
         ensures { result ≡ [] }
     {
@@ -66,7 +66,7 @@ impl<A: Allocator + Copy> ChangedRows<A> {
         }
     }
 
-    /// The rows of these changes.
+    /// A copy of the rows of these changes. Returns `Err` if allocation fails.
     pub fn of(alloc: A, changes: &[Change]) -> Result<Self, AllocError>
         ensures { IfOk result (λ c. c ≡ changes.now) }
     {
@@ -80,7 +80,7 @@ impl<A: Allocator + Copy> ChangedRows<A> {
         })
     }
 
-    /// Puts them among the rows of all plans.
+    /// Replaces the changed ones among the rows of all plans.
     pub fn put(&self, rows: &mut [Option<Row>])
         ensures { rows.new ≡ put_all rows.old self.now }
     {

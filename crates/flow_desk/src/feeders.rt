@@ -1,5 +1,6 @@
 //! Feeders that file at the same time, each its own feed.
-ghost use Rattle.std.specs.Prelude.{◌≡◌, ◌<◌, ◌≤◌, ◌+◌, ◌++◌, ℕ, [], Some, length, map, vec_len, vec_capacity};
+ghost use Rattle.std.specs.Prelude.{◌≡◌, ◌<◌, ◌≤◌, ◌+◌, ◌++◌, ℕ};
+ghost use Rattle.std.specs.Prelude.{[], Some, length, map, vec_len, vec_capacity};
 ghost use Rattle.std.specs.Prelude.{slice_index_or, IfOk, IfErr, OnOk, OnErr, IsTrue, IsFalse};
 ghost use Rattle.std.specs.List.{All};
 ghost use Rattle.flow_desk.specs.Feeds.{Ran, HasRun, HaveRun, EndsAs, IsFresh};
@@ -15,28 +16,29 @@ use std::sync::Wait;
 use std::thread;
 use std::thread::Threads;
 
-/// What is called round each filing.
+/// What is called before and after each filing.
 pub trait Gate {
-    /// Before the feeder files the `i`-th of its feed, from 0.
+    /// Called before the feeder files the `i`-th filing of its feed, from 0.
     fn before(&self, feeder: u8, i: usize);
 
-    /// After it.
+    /// Called after it.
     fn after(&self, feeder: u8, i: usize);
 }
 
 /// How a feed ended.
 #[derive(Clone, Copy, Debug, PartialEq, Eq)]
 pub enum End {
-    /// All of it has receipts.
+    /// Each filing has a receipt.
     Finished,
-    /// A filing was refused so. It is the first of those that are left.
+    /// A filing was refused with this fault. It is the first of those that are left.
     Stopped(StepFault),
-    /// It was never begun. No feed ends so here: where no thread can be made, feeds run one after the other.
+    /// It was never begun. No feed ends so here: if no thread can be made, feeds run one after the
+    /// other.
     NotStarted,
 }
 
-/// A feed that has run: the pass, the receipts of the filings that have one, the filings that have none, and how it
-/// ended.
+/// A feed that has run: the pass, the receipts of the filings that have one, the filings that have
+/// none, and how it ended.
 #[derive(Drop)]
 pub struct Done<N: Name, A: Allocator + Copy = Global> {
     pub pass: Pass<N, A>,
@@ -45,7 +47,7 @@ pub struct Done<N: Name, A: Allocator + Copy = Global> {
     pub end: End,
 }
 
-/// A feed as it runs.
+/// A feed while it runs.
 #[derive(Drop)]
 struct Feed<N: Name, A: Allocator + Copy = Global> {
     pass: Pass<N, A>,
@@ -54,7 +56,7 @@ struct Feed<N: Name, A: Allocator + Copy = Global> {
     end: End,
 }
 
-/// Files the next text of a feed. False where it was refused or nothing is left.
+/// Files the next filing of a feed. Returns false if it was refused or nothing is left.
 fn file_next<N: Name, Q: Wait + Drop, G: Gate, W: Wait, A: Allocator + Copy>(
     wait: &W,
     alloc: A,
@@ -62,9 +64,12 @@ fn file_next<N: Name, Q: Wait + Drop, G: Gate, W: Wait, A: Allocator + Copy>(
     gate: &G,
     feed: &mut Feed<N, A>,
 ) -> bool
-    requires room { vec_len feed.old.receipts + length feed.old.left.items ≤ vec_capacity feed.old.receipts }
-    ensures room { vec_len feed.new.receipts + length feed.new.left.items ≤ vec_capacity feed.new.receipts }
-    ensures ran { (p : _) (texts : _) → Ran p texts feed.old.pass feed.old.receipts.items feed.old.left.items
+    requires room { vec_len feed.old.receipts + length feed.old.left.items
+        ≤ vec_capacity feed.old.receipts }
+    ensures room { vec_len feed.new.receipts + length feed.new.left.items
+        ≤ vec_capacity feed.new.receipts }
+    ensures ran { (p : _) (texts : _)
+        → Ran p texts feed.old.pass feed.old.receipts.items feed.old.left.items
         → Ran p texts feed.new.pass feed.new.receipts.items feed.new.left.items }
     ensures ends { IsFalse result
         → EndsAs N.setup feed.new.end feed.new.pass feed.new.receipts.items feed.new.left.items }
@@ -100,14 +105,15 @@ fn run_feed<N: Name, Q: Wait + Drop, G: Gate, W: Wait, A: Allocator + Copy>(
     gate: &G,
     feed: &mut Feed<N, A>,
 )
-    requires { IsFresh feed.old.receipts.items feed.old.left.items (vec_capacity feed.old.receipts) }
+    requires { IsFresh feed.old.receipts.items feed.old.left.items
+        (vec_capacity feed.old.receipts) }
     ensures { HasRun N.setup feed.old.pass feed.old.left.items feed.new.pass feed.new.receipts.items
         feed.new.left.items feed.new.end }
 {
     while file_next(wait, alloc, desk, gate, feed) {}
 }
 
-/// Runs all feeds at the same time, each in a thread of its own where one can be made.
+/// Runs all feeds at the same time, each in a thread of its own if one can be made.
 fn run_all<
     N: Name + Send + Sync,
     Q: Wait + Drop + Send,
@@ -116,11 +122,14 @@ fn run_all<
     W: Wait + Sync,
     A: Allocator + Copy + Send + Sync,
 >(rt: &R, wait: &W, alloc: A, desk: &Desk<N, Q, A>, gate: &G, feeds: &mut Vec<Feed<N, A>, A>)
-    requires { All (λ f. IsFresh f.receipts.items f.left.items (vec_capacity f.receipts)) feeds.old.items }
+    requires { All (λ f. IsFresh f.receipts.items f.left.items
+        (vec_capacity f.receipts)) feeds.old.items }
     ensures len { length feeds.new.items ≡ length feeds.old.items }
     ensures each { (i : ℕ) (d : _) → i < length feeds.old.items
-        → HasRun N.setup (slice_index_or feeds.old.items i d).pass (slice_index_or feeds.old.items i d).left.items
-        (slice_index_or feeds.new.items i d).pass (slice_index_or feeds.new.items i d).receipts.items
+        → HasRun N.setup (slice_index_or feeds.old.items i d).pass
+        (slice_index_or feeds.old.items i d).left.items
+        (slice_index_or feeds.new.items i d).pass
+        (slice_index_or feeds.new.items i d).receipts.items
         (slice_index_or feeds.new.items i d).left.items (slice_index_or feeds.new.items i d).end }
 {
     let threads = feeds.len().max(1);
@@ -132,7 +141,8 @@ fn run_all<
     );
 }
 
-/// Makes a feed of each pass and its texts. Where memory is refused passes and texts are as they were.
+/// Makes a feed of each pass and its filings. If allocation fails, passes and filings are
+/// unchanged.
 fn gather<N: Name, A: Allocator + Copy>(
     alloc: A,
     passes: &mut Vec<Pass<N, A>, A>,
@@ -141,17 +151,22 @@ fn gather<N: Name, A: Allocator + Copy>(
 ) -> Result<(), AllocError>
     requires each { length passes.old.items ≡ length texts.old.items }
     requires room { vec_len feeds.old + length passes.old.items ≤ vec_capacity feeds.old }
-    requires fresh { All (λ f. IsFresh f.receipts.items f.left.items (vec_capacity f.receipts)) feeds.old.items }
-    ensures passes { OnOk result (map (λ f. f.pass) feeds.new.items ≡ map (λ f. f.pass) feeds.old.items
+    requires fresh { All (λ f.
+        IsFresh f.receipts.items f.left.items (vec_capacity f.receipts)) feeds.old.items }
+    ensures passes { OnOk result
+        (map (λ f. f.pass) feeds.new.items ≡ map (λ f. f.pass) feeds.old.items
         ++ passes.old.items) }
-    ensures texts { OnOk result (map (λ f. f.left.items) feeds.new.items ≡ map (λ f. f.left.items) feeds.old.items
+    ensures texts { OnOk result
+        (map (λ f. f.left.items) feeds.new.items ≡ map (λ f. f.left.items) feeds.old.items
         ++ map (λ v. v.items) texts.old.items) }
     ensures fresh { OnOk result (All (λ f. IsFresh f.receipts.items f.left.items
         (vec_capacity f.receipts)) feeds.new.items) }
     ensures len { OnOk result (vec_len feeds.new ≡ vec_len feeds.old + length passes.old.items) }
-    ensures back { OnErr result ((passes.new.items ≡ passes.old.items) × (texts.new.items ≡ texts.old.items)) }
+    ensures back { OnErr result
+        ((passes.new.items ≡ passes.old.items) × (texts.new.items ≡ texts.old.items)) }
     ensures rooms { (vec_capacity feeds.new ≡ vec_capacity feeds.old)
-        × (vec_capacity passes.new ≡ vec_capacity passes.old) × (vec_capacity texts.new ≡ vec_capacity texts.old) }
+        × (vec_capacity passes.new ≡ vec_capacity passes.old)
+        × (vec_capacity texts.new ≡ vec_capacity texts.old) }
 {
     let Some(pass) = passes.pop() else {
         return Ok(());
@@ -182,7 +197,7 @@ fn gather<N: Name, A: Allocator + Copy>(
     }
 }
 
-/// Hands each feed over as done, in the same order.
+/// Moves each feed, in order, to those that are done.
 fn hand_over<N: Name, A: Allocator + Copy>(
     feeds: &mut Vec<Feed<N, A>, A>,
     dones: &mut Vec<Done<N, A>, A>,
@@ -190,7 +205,8 @@ fn hand_over<N: Name, A: Allocator + Copy>(
     requires room { vec_len dones.old + length feeds.old.items ≤ vec_capacity dones.old }
     ensures passes { map (λ d. d.pass) dones.new.items ≡ map (λ d. d.pass) dones.old.items
         ++ map (λ f. f.pass) feeds.old.items }
-    ensures receipts { map (λ d. d.receipts.items) dones.new.items ≡ map (λ d. d.receipts.items) dones.old.items
+    ensures receipts { map (λ d. d.receipts.items) dones.new.items
+        ≡ map (λ d. d.receipts.items) dones.old.items
         ++ map (λ f. f.receipts.items) feeds.old.items }
     ensures left { map (λ d. d.left.items) dones.new.items ≡ map (λ d. d.left.items) dones.old.items
         ++ map (λ f. f.left.items) feeds.old.items }
@@ -217,10 +233,10 @@ fn hand_over<N: Name, A: Allocator + Copy>(
     });
 }
 
-/// Files the feeds, each by its pass, and calls the gate round each filing: one thread files a feed in order, in a
-/// thread of its own where one can be made. Feed by feed it answers the pass, the receipts in order, the filings that
-/// have none, and how it ended. Where memory is refused before any feed is begun, passes and feeds come back as they
-/// were.
+/// Files the feeds, each by its pass, and calls the gate before and after each filing: one thread
+/// files a feed in order, a thread of its own if one can be made. Returns for each feed the pass,
+/// the receipts in order, the filings that have none, and how it ended. If allocation fails before
+/// any feed is begun, passes and feeds are returned unchanged.
 pub fn run_feeders<
     N: Name + Send + Sync,
     Q: Wait + Drop + Send,
@@ -239,7 +255,8 @@ pub fn run_feeders<
 ) -> Result<Vec<Done<N, A>, A>, (AllocError, Vec<Pass<N, A>, A>, Vec<Vec<Filing<A>, A>, A>)>
     requires { length passes.items ≡ length feeds.items }
     ensures run { IfOk result (λ ds. HaveRun N.setup passes.items (map (λ v. v.items) feeds.items)
-        (map (λ d. d.pass) ds.items) (map (λ d. d.receipts.items) ds.items) (map (λ d. d.left.items) ds.items)
+        (map (λ d. d.pass) ds.items) (map (λ d. d.receipts.items) ds.items)
+        (map (λ d. d.left.items) ds.items)
         (map (λ d. d.end) ds.items)) }
     ensures refused { IfErr result (λ e. (e.1.items ≡ passes.items) × (e.2.items ≡ feeds.items)) }
 {

@@ -7,8 +7,8 @@ ghost use Rattle.flow_core.specs.State.{Record};
 ghost use Rattle.flow_core.specs.Steps.{steps};
 ghost use Rattle.flow_desk.specs.Histories.{after};
 
-/// A desk that goes on from a journal is the old one: what it comes to is the run over the entries read, and then the
-/// new ones.
+/// A desk that resumes from a journal has the state of the old one: that of the run over the
+/// entries read, and then over the new ones.
 pub fn resumed_desks_go_on()
     ensures { (setup : Settings) (read new : List Record)
         → after setup (read ++ new) ≡ steps (after setup read) (inputs new) }

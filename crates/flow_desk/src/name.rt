@@ -1,8 +1,8 @@
-//! Which desk it is.
+//! The name of a desk, a type.
 use std::marker::Brand;
 
-/// A desk's history, its setup and the number of its feeders. Contracts alone see them: a call that opens a blank picks
-/// them, so that the pass of another desk has another type.
+/// A desk's history, its setup and the number of its feeders. Contracts alone see them: a call that
+/// opens a blank picks them, so that a pass of another desk has another type.
 pub trait Name {
     ghost use Rattle.std.specs.Prelude.{ℕ};
     ghost use Rattle.logbook.specs.Pages.{Book};

@@ -8,8 +8,8 @@ use crossbeam_utils::rule::{Outcome, Protocol};
 use flow_plans::Setup;
 use std::alloc::Allocator;
 
-/// What a reader knows of the desk that it reads: whether it has been told, the setup, and the history so far. No value
-/// of it is made.
+/// What a reader knows of the desk that it reads: whether it knows which desk it is, the setup, and
+/// the history so far. It exists in proofs alone.
 pub struct View {
     pub knows: bool,
     pub setup: Setup,
@@ -32,7 +32,7 @@ impl<A: Allocator + Copy> Outcome<Board<A>, View> for Sees {
     ghost then = { Reads };
 }
 
-/// The writer tells a new reader which desk it is.
+/// The step in which the writer shows a new reader which desk it is.
 pub struct Tells;
 
 impl Split<View> for Tells {

@@ -1,4 +1,4 @@
-//! A reader and the writer of the board, each as contracts see it.
+//! A reader of the board and its writer, each as contracts see it.
 ghost use Rattle.std.specs.Prelude.{◌≡◌, ◌<◌, ◌^◌, ◌++◌, ◌∷◌, [], true, drop, length, IfOk, IfErr};
 ghost use mathlib.Core.List.{IsPrefix};
 ghost use Rattle.flow_core.specs.History.{state_of};
@@ -18,7 +18,7 @@ use std::alloc::{AllocError, Allocator, Global};
 use std::marker::Model;
 use std::sync::Wait;
 
-/// A reader's place at the board.
+/// A reader of the board.
 #[derive(Drop)]
 pub struct Seat<A: Allocator + Copy = Global> {
     reader: Reader<Board<A>, View, Published, A>,
@@ -45,20 +45,20 @@ pub struct Version {
     pub count: u32,
 }
 
-/// No version could be read: the desk is gone.
+/// No version could be read, since the desk is gone.
 #[derive(Clone, Copy, Debug)]
 pub struct NoVersion {
-    // It is made here alone, where no version was given.
+    // Only this module makes one, after no version was given.
     given: (),
 }
 
-/// The writer of the board. What is pending changes nothing.
+/// The writer of the board. Its pending operations change nothing.
 pub struct Publisher<R: Wait + Drop, A: Allocator + Copy = Global>
 where
     Board<A>: Absorb<Operation<A>, State = Board<A>>,
 {
     writer: Writer<Board<A>, Operation<A>, View, Published, A>,
-    // The board's end waits for readers.
+    // What the end of the board waits for readers with.
     rt: R,
 }
 
@@ -82,14 +82,15 @@ where
       entries = p.writer.desk.shown.value.entries;
     } };
 
-    ghost invariant = { λ p. (fold absorbed p.writer.desk.shown.value (drop p.writer.behind p.writer.log.items)
+    ghost invariant = { λ p.
+        (fold absorbed p.writer.desk.shown.value (drop p.writer.behind p.writer.log.items)
         ≡ p.writer.desk.shown.value) × ((view_of p.writer.desk.place).knows ≡ true
         → ((view_of p.writer.desk.place).front.book ≡ p.writer.desk.shown.value.book)
         × ((view_of p.writer.desk.place).setup ≡ p.writer.desk.shown.value.setup)
         × ((view_of p.writer.desk.place).front.entries ≡ p.writer.desk.shown.value.entries)) };
 }
 
-/// Waits for the readers, and ends the board.
+/// Waits for the readers, and frees the board.
 impl<R: Wait + Drop, A: Allocator + Copy> Drop for Publisher<R, A> {
     fn drop(self) {
         let Self { writer, rt } = self;
@@ -98,7 +99,7 @@ impl<R: Wait + Drop, A: Allocator + Copy> Drop for Publisher<R, A> {
 }
 
 impl<A: Allocator + Copy> Seat<A> {
-    /// The row of a plan in one version, without waiting. The seat comes back.
+    /// The row of a plan in one version, without waiting, and the seat.
     pub fn look(self, plan: u32) -> (Self, Result<Option<Row>, NoVersion>)
         ensures none { IfErr result.1 (λ e. result.0 ≡ self) }
         ensures known { IfOk result.1 (λ row. (result.0.knows ≡ true)
@@ -117,13 +118,14 @@ impl<A: Allocator + Copy> Seat<A> {
         }
     }
 
-    /// What one version shows, without waiting. Where none was given, the seat comes back.
+    /// The history that one version shows, without waiting. An `Err` returns the seat alone.
     pub fn read(self) -> Result<(Self, Version), Self>
         ensures none { IfErr result (λ s. s ≡ self) }
         ensures known { IfOk result (λ r. (r.0.knows ≡ true) × (self.knows ≡ true
             → (r.0.book ≡ self.book) × (r.0.setup ≡ self.setup))) }
         ensures later { IfOk result (λ r. IsPrefix self.read r.0.read) }
-        ensures front { IfOk result (λ r. (r.1.front.book ≡ r.0.book) × (r.1.front.entries ≡ r.0.read)) }
+        ensures front { IfOk result
+            (λ r. (r.1.front.book ≡ r.0.book) × (r.1.front.entries ≡ r.0.read)) }
         ensures count { IfOk result (λ r. r.1.count ≡ length r.0.read) }
     {
         let Seat { reader } = self;
@@ -143,9 +145,10 @@ impl<A: Allocator + Copy> Seat<A> {
 }
 
 impl<R: Wait + Drop, A: Allocator + Copy> Publisher<R, A> {
-    /// Makes the board of a core, whose journal is this history, with capacity for so many readers, and appends two
-    /// operations that change nothing. As many are in the list at most once they were published: the last one, which
-    /// one of the boards has still to absorb, and the next. So publishing takes no memory.
+    /// Makes the board of a core whose journal is this history, for `readers` readers, and appends
+    /// two operations that change nothing. The list of operations then never needs more capacity:
+    /// after a publication it has at most the last one, which one of the two boards has still to
+    /// absorb, and the next. So publishing allocates nothing.
     pub fn new(
         rt: R,
         alloc: A,
@@ -172,8 +175,8 @@ impl<R: Wait + Drop, A: Allocator + Copy> Publisher<R, A> {
         Err(AllocError)
     }
 
-    /// Publishes what is pending, which changes nothing, so that both boards have absorbed it and the list of operations
-    /// is empty. The writer then knows its desk.
+    /// Publishes the pending operations, which change nothing, so that both boards have absorbed
+    /// them and the list of operations is empty. The writer then knows its desk.
     pub fn settle(self) -> Self
         ensures { (result.knows ≡ true) × (result.book ≡ self.book) × (result.setup ≡ self.setup)
             × (result.entries ≡ self.entries) }
@@ -184,11 +187,12 @@ impl<R: Wait + Drop, A: Allocator + Copy> Publisher<R, A> {
         Publisher { writer, rt }
     }
 
-    /// A new reader's place, which is told of the desk.
+    /// A new reader, which knows the desk.
     pub fn seat(&mut self) -> Result<Seat<A>, AllocError>
         requires { self.old.knows ≡ true }
         ensures publisher { self.new ≡ self.old }
-        ensures seat { IfOk result (λ s. (s.knows ≡ true) × (s.book ≡ self.old.book) × (s.setup ≡ self.old.setup)
+        ensures seat { IfOk result
+            (λ s. (s.knows ≡ true) × (s.book ≡ self.old.book) × (s.setup ≡ self.old.setup)
             × (s.read ≡ self.old.entries)) }
     {
         let mut reader = self.writer.factory().reader()?;
@@ -196,14 +200,17 @@ impl<R: Wait + Drop, A: Allocator + Copy> Publisher<R, A> {
         Ok(Seat { reader })
     }
 
-    /// Publishes one more entry. It waits for readers, and where memory is refused, until it is given.
+    /// Publishes one more entry. Waits for readers, and if allocation fails, until it succeeds.
     pub fn publish<W: Wait>(&mut self, wait: &W, operation: Operation<A>)
         requires book { operation.front.book ≡ self.old.book }
         requires later { IsPrefix self.old.entries operation.front.entries }
         requires number { operation.number ≡ length operation.front.entries }
-        requires rows { put_all (padded self.old.setup.max_plans (rows_after self.old.setup self.old.entries))
-            operation.changes ≡ padded self.old.setup.max_plans (rows_after self.old.setup operation.front.entries) }
-        ensures { (self.new.knows ≡ true) × (self.new.book ≡ self.old.book) × (self.new.setup ≡ self.old.setup)
+        requires rows { put_all
+            (padded self.old.setup.max_plans (rows_after self.old.setup self.old.entries))
+            operation.changes
+            ≡ padded self.old.setup.max_plans (rows_after self.old.setup operation.front.entries) }
+        ensures { (self.new.knows ≡ true) × (self.new.book ≡ self.old.book)
+            × (self.new.setup ≡ self.old.setup)
             × (self.new.entries ≡ operation.front.entries) }
     {
         append(wait, &mut self.writer, operation);
@@ -211,7 +218,7 @@ impl<R: Wait + Drop, A: Allocator + Copy> Publisher<R, A> {
     }
 }
 
-/// Puts an operation behind those that are pending. Where memory is refused it waits until it is given.
+/// Appends an operation to the pending ones. If allocation fails it waits until it succeeds.
 fn append<A: Allocator + Copy, W: Wait>(
     wait: &W,
     writer: &mut Writer<Board<A>, Operation<A>, View, Published, A>,

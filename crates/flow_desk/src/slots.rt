@@ -14,24 +14,24 @@ use std::alloc::{AllocError, Allocator};
 /// A slot that a flight holds.
 #[derive(Clone, Copy, Debug, PartialEq, Eq)]
 pub struct SlotRow {
-    /// Its number, from 0.
+    /// The number of the slot, from 0.
     pub slot: u32,
-    /// Its moment.
+    /// The time of the slot.
     pub at: Minute,
-    /// The number of the flight's plan.
+    /// The number of the flight's plan, from 1.
     pub plan: u32,
-    /// Whether the flight keeps it.
+    /// Whether the slot is frozen.
     pub frozen: bool,
 }
 
-/// Whether a flight keeps its slot.
+/// Whether a flight has a frozen slot.
 fn is_frozen<A: Allocator + Copy>(list: &SlotList<A>, flight: u32) -> bool
     ensures { result ≡ is_kept (fixed_slot list.now.lineup flight) }
 {
     list.is_fixed(flight)
 }
 
-/// Notes the slot of this number, where a flight holds it.
+/// Appends the slot of this number, if a flight holds it. Returns `Err` if allocation fails.
 fn note<A: Allocator + Copy>(
     held: &mut Vec<SlotRow, A>,
     list: &SlotList<A>,
@@ -52,7 +52,7 @@ fn note<A: Allocator + Copy>(
     Ok(())
 }
 
-/// The held slots of a slot list.
+/// The held slots of a slot list. Returns `Err` if allocation fails.
 fn held_of<A: Allocator + Copy>(alloc: A, list: &SlotList<A>) -> Result<Vec<SlotRow, A>, AllocError>
     ensures { IfOk result (λ v. v.items ≡ held_slots list.now.lineup) }
 {
@@ -63,7 +63,8 @@ fn held_of<A: Allocator + Copy>(alloc: A, list: &SlotList<A>) -> Result<Vec<Slot
     Ok(held)
 }
 
-/// The held slots of the open regulation of this name, None where none is open.
+/// The held slots of the open regulation `id`; `None` if no regulation of this name is open.
+/// Returns `Err` if allocation fails.
 pub fn slots_of<A: Allocator + Copy>(
     alloc: A,
     core: &Core<A>,

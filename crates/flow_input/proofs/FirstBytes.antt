@@ -1,4 +1,5 @@
--- What is found by comparing sixteen bytes at once, and the rest one by one, is the first index that passes a test.
+-- What is found by comparing sixteen bytes at once, and the rest one by one, is the first index
+-- that passes a test.
 use Rattle.std.proofs.Common.{◌≡◌, ◌+◌, ◌-◌, ◌<◌, ◌≤◌, ◌%◌, ◌^◌, ℕ, Bool, true, false, cond, leb, eqb, ltb, ◌||◌, bit_or, List, [], ◌∷◌, map, replicate, length, take, drop, get_or, Some, None, refl, sym, subst, ap, ◌∙◌, arith, w64, ⊎_elim}
 use Rattle.std.specs.Int.{bit_at, trailing_zeros}
 use Rattle.std.specs.List.{position, position_or_len, slice_range}

@@ -13,7 +13,8 @@ use Rattle.flow_input.proofs.Texts.{cut-joins, cut-open}
 
 -- ---- more bytes may come before the frame is taken
 
--- what is unread now begins with the same frame as what was unread and the bytes that came, whatever follows
+-- what is unread now begins with the same frame as what was unread and the bytes that came,
+-- whatever follows
 pub record Sought (old now : Ahead) (before during : Option (List ℕ)) : Type 0 where
   pub came : List ℕ
   pub consumed : Consumes before during came

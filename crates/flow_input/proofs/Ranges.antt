@@ -49,7 +49,8 @@ filled-front front piece kept n h k =
     ∙ take-append-add (take kept front) (take (length piece) piece) n
     ∙ ap (λ (ys : List ℕ). take kept front ++ ys) (take-take n (length piece) piece k)
 
--- what a buffer holds once some of its bytes moved to the beginning, and others were read after them
+-- what a buffer holds once some of its bytes moved to the beginning, and others were read after
+-- them
 module _ (buffer front piece : List ℕ) (at end : ℕ) (moved : front ≡ copy_within buffer at end 0) (order : at ≤ end) (within : end ≤ length buffer) (room : end - at + 65536 ≤ length front) where
   moved-front : take (end - at) front ≡ slice_range buffer at end
   moved-front =

@@ -1,4 +1,5 @@
--- What taking a plan out of its chain, or putting it into one, means for all plans of which these are the chains.
+-- What taking a plan out of its chain, or putting it into one, means for all plans of which these
+-- are the chains.
 use Rattle.std.proofs.Common.{◌≡◌, ℕ, zero, suc, ◌-◌, ◌<◌, ◌≤◌, Bool, true, false, List, [], ◌∷◌, length, Some, Option, IfSome, unwrap_or, slice_get, slice_set, slice_index, get_or, cond, refl, sym, ap, subst, ◌∙◌, arith}
 use Rattle.std.specs.Map.{lookup}
 use Rattle.flow_plans.specs.declared.chains.FlightName.{FlightName}

@@ -1,4 +1,5 @@
--- The chains after a plan of the list left its chain, joined it, came to the list, or was taken from its end.
+-- The chains after a plan of the list left its chain, joined it, came to the list, or was taken
+-- from its end.
 use Rattle.std.proofs.Common.{◌≡◌, ℕ, zero, suc, ◌+◌, ◌-◌, ◌<◌, ◌≤◌, Bool, true, false, if◌then◌else◌, ◌⊎◌, inl, inr, List, [], ◌∷◌, ◌++◌, length, take, Some, slice_get, slice_set, slice_index, get_or, refl, sym, ap, subst, ◌∙◌, arith, length-set}
 use Rattle.std.proofs.lemmas.Bool.{cases_eq, cases_lt}
 use Rattle.std.proofs.lemmas.Option.{slice_get-get_or}

@@ -1,4 +1,5 @@
--- The last index that passes a test, and how it changes when one index passes no more, or passes now.
+-- The last index that passes a test, and how it changes when one index passes no more, or passes
+-- now.
 use Rattle.std.proofs.Common.{◌≡◌, ℕ, zero, suc, ◌+◌, ◌<◌, ◌≤◌, Bool, true, false, if◌then◌else◌, ◌⊎◌, inl, inr, refl, sym, subst, ◌∙◌, arith}
 use Rattle.std.proofs.lemmas.Bool.{cases_eq, cases_lt}
 use Rattle.flow_plans.specs.Chains.{last_number}

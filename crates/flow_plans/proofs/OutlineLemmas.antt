@@ -34,7 +34,8 @@ no-entry : (o : Option ℕ) (b : Bool) → b ≡ false → (IsSome o → b ≡ t
 no-entry None b f h = refl
 no-entry (Some m) b f h = absurd (false≢true (sym f ∙ h refl))
 
--- any outline without a departure comes where the flight of a plan does to which no regulation applies
+-- any outline without a departure comes where the flight of a plan does to which no regulation
+-- applies
 pub outline-of-none : (o : Outline) (p : Plan) → o.is_filed ≡ is_filed p.state → o.off_block ≡ p.off_block → o.dep ≡ 0 → may_be_subject p ≡ false → IsOutlineOf o p
 outline-of-none o p is off_block dep never = record {
   is_filed = is;

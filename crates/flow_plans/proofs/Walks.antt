@@ -136,7 +136,8 @@ others-searched key n (p ∷ ps) b some within found free =
     rw (slice_get-get_or (p ∷ ps) (n - 1) p (omega (arith, some, within)))
     (beside-searched key (p ∷ ps) (n - 1) (with_state state.Cancelled (get_or (p ∷ ps) (n - 1) p)) b refl found free)
 
--- A walk over the chain of a flight goes from each plan that is held under its name to the next older one, and passes by no other.
+-- A walk over the chain of a flight goes from each plan that is held under its name to the next
+-- older one, and passes by no other.
 module _ (name : FlightName) (ps : List Plan) where
   pub nothing-newer : (k : ℕ) → newest_held name ps (length ps) ≤ k → is_held_there name ps k ≡ false
   nothing-newer k a = by (cases_lt k (length ps)) where

@@ -1,4 +1,4 @@
--- The off-block date and time.
+-- The off-block date and time (ICAO Doc 4444, appendix 3, field type 13), and delays of it.
 use Rattle.std.specs.Prelude.{ℕ, ◌+◌, ◌*◌, ◌/◌, ◌%◌, ◌==◌, Bool, nat_lt, if◌then◌else◌, Option, Some, None, Result, Ok, Err}
 use Rattle.fpl_message.specs.declared.refusal.Refusal.{Refusal}
 use Rattle.fpl_message.specs.declared.refusal.Refusal.TheVariants.{NotLater, DelayTooLong, Past, TooEarly}

@@ -1,4 +1,5 @@
--- Time advances: the flights that become due are fixed where they wait, one after the other.
+-- Time advances: the flights that become due are frozen in their provisional slots, one after the
+-- other.
 use Rattle.std.proofs.Common.{◌≡◌, ℕ, ◌+◌, ◌<◌, ◌≤◌, ◌⊎◌, inl, inr, Bool, true, false, ◌||◌, ◌&&◌, cond, eqb, leb, ltb, List, [], ◌∷◌, ◌++◌, length, map, take, get_or, Option, Some, None, refl, sym, ap, subst, ◌∙◌, arith}
 use Rattle.std.specs.List.{AllByRecursion}
 use Rattle.std.specs.Option.{option_map_or, is_some, IsSome}
@@ -38,7 +39,7 @@ advancing-start done taxi now plans l none = record {
   };
 }
 
--- of any flights, where none that waits is due
+-- of any flights, if none with a provisional slot is due
 pub advancing-none : (done : ℕ → Bool) (taxi now : ℕ) (plans : List Plan) (l : Listed) → NoneDue now plans l → IsAdvancing done taxi now plans l l
 advancing-none done taxi now plans l none = record {
   capacity = refl;
@@ -106,7 +107,7 @@ pub advancing-fewer : (n k taxi now : ℕ) (plans : List Plan) (l m : Listed) �
 advancing-fewer n k taxi now plans l m le a = advancing-out n k taxi now plans l m (λ f low high. absurd (omega (arith, le, low, high))) a
 
 module _ (n : ℕ) (done more_done : ℕ → Bool) (o : OneMore n done more_done) (taxi max now : ℕ) (plans : List Plan) (l m : Listed) (positive : 0 < n) (due : is_due_flight now plans n ≡ true) (b : IsAdvanced done taxi max now plans l m) where
-  -- none of the other waiting flights up to this one is due
+  -- none of the other flights with provisional slots up to this one is due
   rest-waits : AllByRecursion (λ w. more_done w.flight ≡ true → is_due_flight now plans w.flight ≡ false) (others taxi max n plans m b.listed positive)
   rest-waits =
       let P : Planned → Type 0 = λ w. done w.flight ≡ true → is_due_flight now plans w.flight ≡ false in
@@ -179,7 +180,7 @@ none-due-below n taxi max now plans l m b all =
     all-map (λ w. (is_below n w.flight ≡ true → is_due_flight now plans w.flight ≡ false) × (w.flight < n)) (λ w. is_due_flight now plans w.flight ≡ false) m.lineup.waiting (λ w h. h.0 (lt-ltb w.flight n h.1))
     (all-both (λ w. is_below n w.flight ≡ true → is_due_flight now plans w.flight ≡ false) (λ w. w.flight < n) m.lineup.waiting b.waiting (subst Q (sym (ap (λ v. v.waiting) b.listed)) (below 1 taxi (regulation_of m) m.lineup.fixed plans n all)))
 
--- a flight is fixed where it waits if it is due
+-- a flight's provisional slot is frozen if it is due
 pub advancing-due : (n : ℕ) (done more : ℕ → Bool) (taxi now : ℕ) (plans : List Plan) (l m x : Listed) → OneMore n done more → 0 < n → IsAdvancing done taxi now plans l m
     → (is_due_flight now plans n ≡ true → IsFixedWaiting n m x) → (is_due_flight now plans n ≡ false → x ≡ m) → IsAdvancing more taxi now plans l x
 advancing-due n done more taxi now plans l m x o positive a f same = cases (is_due_flight now plans n) refl where
@@ -224,7 +225,7 @@ stays-later taxi earlier now plans l h s =
     cases a None e = e
     cases a (Some p) e = keeps-later taxi earlier now a.slot (regulation_of l) p h e
 
--- none of the flights that wait is due, once those that became due are fixed
+-- none of the flights with provisional slots is due, once those that became due are frozen
 still-undue : (taxi earlier now max : ℕ) (plans : List Plan) (flights : List ℕ) (l m : Listed) → HoldNewlyDue earlier now plans flights → IsSettledIn taxi earlier plans l → IsAdvanced (is_among flights) taxi max now plans l m → NoneDue now plans m
 still-undue taxi earlier now max plans flights l m holds was b =
     let P : Planned → Type 0 = λ w. is_among flights w.flight ≡ true → is_due_flight now plans w.flight ≡ false in

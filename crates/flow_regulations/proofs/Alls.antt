@@ -54,7 +54,7 @@ pub others-fixed : (n i f : ℕ) (os ns : List Listed) → (f ≡ n → ⊥) →
 others-fixed n i f os ns ne e w =
     walked-map (IsFixedWaiting n) (λ _. Unit {0}) (λ l. pairs_of f l.lineup.fixed) (λ l. pairs_of f l.lineup.fixed) (λ o m h r. pairs-fixed f n o m ne r.same) i os ns e w (units os)
 
--- the other flights stand where they stood
+-- the other flights are unchanged
 pub alone-looked : (n taxi now i : ℕ) (plans : List Plan) (os ns : List Listed) → i ≡ length ns → Walked (IsLookedAgain n taxi now plans) i os ns → map (without_in n) ns ≡ map (without_in n) os
 alone-looked n taxi now i plans os ns e w = walked-map (IsLookedAgain n taxi now plans) (λ _. Unit {0}) (without_in n) (without_in n) (λ o m h r. r.alone) i os ns e w (units os)
 

@@ -50,7 +50,7 @@ later-is : (from e : ℕ) (o : Option ℕ) → option_and_then (λ elapsed. mome
 later-is from e None is = cc
 later-is from e (Some elapsed) is = let at : from + elapsed ≡ e = moment-is _ _ is in omega arith
 
--- no flight enters a place before its take-off
+-- no flight enters a point before its take-off
 pub entry-after : (taxi e : ℕ) (spot : Spot) (p : Plan) → entry_at taxi spot p ≡ Some e → take_off taxi p ≤ e
 unfolding entry_at
 entry-after taxi e (Dep place) p is = let at : Some (take_off taxi p) ≡ Some e = if-some (bytes_eq p.key.dep place) (Some (take_off taxi p)) e is in let same : take_off taxi p ≡ e = cc in omega arith
@@ -68,14 +68,14 @@ worse-joins (Some a) None c = refl
 worse-joins (Some a) (Some b) None = worse-none (worse (Some a) (Some b))
 worse-joins (Some a) (Some b) (Some c) = grind (arith, nat_tests)
 
--- what both delays keep to, the worse one does
+-- the bound of both delays is one of the worse one
 pub worse-keeps : (from limit : ℕ) (a b : Option Delay) → IfSome a (λ d. from + d.minutes ≤ limit) → IfSome b (λ d. from + d.minutes ≤ limit)
     → IfSome (worse a b) (λ d. from + d.minutes ≤ limit)
 worse-keeps from limit None b ha hb = hb
 worse-keeps from limit (Some a) None ha hb = ha
 worse-keeps from limit (Some a) (Some b) ha hb = elim (ltb a.minutes b.minutes) as (λ t. IfSome (cond t (Some b) (Some a)) (λ d. from + d.minutes ≤ limit)) [ true ↦ hb | false ↦ ha ]
 
--- what a moment of a slot and an entry make
+-- the delay that the time of a slot and an entry make
 pub delay-in : (taxi f : ℕ) (p : Plan) (r : Regulation) (slot : Option ℕ) → slot ≡ option_map (slot_time r.period) (slot_in f r.fixed)
     → delay_in taxi f p r ≡ option_and_then (λ at. option_map (λ e. at - e) (entry_at taxi r.spot p)) slot
 delay-in taxi f p r slot is = delay_among-slot taxi f p r r.fixed ∙ (both (slot_in f r.fixed) ∙ ap (λ o. option_and_then (λ at. option_map (λ e. at - e) (entry_at taxi r.spot p)) o) (sym is))

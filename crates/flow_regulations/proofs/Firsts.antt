@@ -1,4 +1,4 @@
--- First planned, first served, when a waiting flight is fixed where it waits: nobody moves.
+-- First planned, first served, when a flight's provisional slot is frozen: nobody moves.
 use Rattle.std.proofs.Common.{◌≡◌, ℕ, zero, suc, ◌+◌, ◌<◌, ◌≤◌, ◌⊎◌, inl, inr, ◌||◌, Bool, true, false, cond, eqb, ltb, List, [], ◌∷◌, Some, refl, sym, ap, subst, ◌∙◌, arith}
 use Rattle.std.specs.List.{filter}
 use Rattle.std.proofs.lemmas.Bool.{ne_eqb, eqb-false, cases_eq, true_from_ne_false, or_right, or_parts, false≢true}
@@ -114,7 +114,7 @@ greedy-fixed first fixed s t n k (w ∷ ws) apart e h =
           ∙ (ap (λ xs. a ∷ xs) (again (j ∷ s) later (λ i. ap (λ b. eqb j i || b) (h i) ∙ swap (eqb j i) (eqb k i) (is_in i t)))
           ∙ sym (without_fixed-other n a rest q)))
 
--- two fixed flights come in in either order
+-- two frozen flights may be inserted in either order
 insert_fixed-twice : (a b : Placed) (xs : List Placed) → (a.slot ≡ b.slot → ⊥) → insert_fixed a (insert_fixed b xs) ≡ insert_fixed b (insert_fixed a xs)
 insert_fixed-twice a b [] ne = cases (ltb b.slot a.slot) (ltb a.slot b.slot) refl refl where
   cases : (p q : Bool) → ltb b.slot a.slot ≡ p → ltb a.slot b.slot ≡ q → cond p (b ∷ a ∷ []) (a ∷ b ∷ []) ≡ cond q (a ∷ b ∷ []) (b ∷ a ∷ [])

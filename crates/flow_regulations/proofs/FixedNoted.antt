@@ -1,4 +1,4 @@
--- Noting the flights that keep slots, one number after the other.
+-- Collecting the flights with frozen slots, one number after the other.
 use Rattle.std.proofs.Common.{◌≡◌, ◌<◌, ◌≤◌, ◌+◌, ℕ, List, [], ◌∷◌, ◌++◌, length, length-append, get_or, refl, arith, Bool, true, false, nat_le, Option, None, Some, ◌⊎◌, inl, inr}
 use Rattle.std.specs.Prelude.{IsSome}
 use Rattle.std.specs.List.{All, Contains}
@@ -11,7 +11,7 @@ use Rattle.flow_slots.specs.Assignment.{greedy, slots}
 use Rattle.flow_slots.specs.Lineup.{Lineup, fixed_slot, held_slot}
 use Rattle.flow_regulations.proofs.Looks.{slot_in-before}
 
--- of the flights with numbers below this one, all that keep slots
+-- of the flights with numbers below this one, all that have frozen slots
 pub record AreFixed (l : Lineup) (next : ℕ) (flights : List ℕ) : Type 0 where
   pub rising : IsStrictlyIncreasing flights
   pub numbers : All (λ n. n < next) flights
@@ -59,7 +59,7 @@ fixed-one l i xs h here = record {
         let last : n ≡ i = omega (arith, below, after) in
         rw last (Contains-push xs i)
 
--- flights that keep no slot are passed over
+-- flights without a frozen slot are skipped
 pub fixed-past : (l : Lineup) (i j : ℕ) (xs : List ℕ) → i ≤ j → ((n : ℕ) → i ≤ n → n < j → IsSome (fixed_slot l n) → ⊥) → AreFixed l i xs → AreFixed l j xs
 fixed-past l i j xs le none h = record {
   rising = h.rising;
@@ -75,7 +75,7 @@ fixed-past l i j xs le none h = record {
 pub fixed-not : (l : Lineup) (i : ℕ) (xs : List ℕ) → AreFixed l i xs → (IsSome (fixed_slot l i) → ⊥) → AreFixed l (i + 1) xs
 fixed-not l i xs h not = fixed-past l i (i + 1) xs (omega arith) (λ n a b keeps. (let same : n ≡ i = omega (arith, a, b) in not (rw same at keeps))) h
 
--- a flight that keeps a slot holds it
+-- a flight with a frozen slot is held in it
 held-there : (l : Lineup) (n k : ℕ) → fixed_slot l n ≡ Some k → held_slot l n ≡ Some k
 held-there l n k e = slot_in-before n k l.fixed (greedy (λ x. first_slot l.period x) (slots l.fixed) l.waiting) e
 

@@ -81,7 +81,7 @@ all-insert_fixed P x (y ∷ ys) h a = cases (all-insert_fixed P x ys h a.1) (ltb
   cases again true = (a.0, again)
   cases again false = (h, a)
 
--- what a look-up finds is the flight's only slot
+-- what a search finds is the flight's only slot
 pub slot_in-none : (f : ℕ) (xs : List Placed) → slot_in f xs ≡ None → NoneFixed f xs
 slot_in-none f [] e = tt
 slot_in-none f (x ∷ xs) e = cases (λ h. slot_in-none f xs h) (cases_eq x.flight f) where

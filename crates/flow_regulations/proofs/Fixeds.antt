@@ -1,4 +1,4 @@
--- The flights that keep slots in the regulation of a name.
+-- The flights with frozen slots in the regulation of a name.
 use Rattle.std.proofs.Common.{◌≡◌, ℕ, ◌-◌, ◌<◌, ◌≤◌, Bool, true, false, cond, eqb, List, [], ◌∷◌, length, Option, Some, None, refl, sym, ap, subst, ◌∙◌, arith}
 use Rattle.std.specs.Prelude.{IsSome}
 use Rattle.std.specs.List.{AllByRecursion, Contains, list_any}
@@ -16,7 +16,7 @@ use Rattle.flow_regulations.proofs.Fixes.{pairs-none}
 use Rattle.flow_regulations.proofs.Names.{none-names}
 use Rattle.flow_regulations.proofs.Queues.{at-within, contains-in}
 
--- where the flights that keep slots are all among these, another flight has no pair
+-- if the flights with frozen slots are all among these, another flight has no pair
 pub no-pairs : (f : ℕ) (l : Lineup) (v : List ℕ) → ((n : ℕ) → IsSome (fixed_slot l n) → Contains v n) → is_in f v ≡ false → pairs_of f l.fixed ≡ []
 no-pairs f l v all out = cases (fixed_slot l f) refl where
   cases : (o : Option ℕ) → fixed_slot l f ≡ o → pairs_of f l.fixed ≡ []

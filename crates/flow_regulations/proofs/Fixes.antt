@@ -1,4 +1,4 @@
--- A flight is fixed where it waits.
+-- A flight's provisional slot is frozen.
 use Rattle.std.proofs.Common.{◌≡◌, ℕ, ◌-◌, ◌<◌, ◌≤◌, ◌++◌, ◌⊎◌, inl, inr, ◌||◌, ◌&&◌, Bool, true, false, cond, eqb, leb, List, [], ◌∷◌, Option, Some, None, refl, sym, ap, subst, ◌∙◌, arith}
 use Rattle.std.specs.List.{AllByRecursion, filter}
 use mathlib.Core.Logic.{⊎_elim}
@@ -51,7 +51,7 @@ module _ (taxi max n : ℕ) (plans : List Plan) (l : Listed) (listed : IsListedI
   abbrev pub first : ℕ → ℕ
   first = λ e. first_slot l.lineup.period e
 
-  -- the other flights that wait
+  -- the other flights with provisional slots
   abbrev pub others : List Planned
   others = waiting_from 1 taxi r (mark n ∷ fs) plans
 
@@ -64,13 +64,13 @@ module _ (taxi max n : ℕ) (plans : List Plan) (l : Listed) (listed : IsListedI
   pub none : NoneIs n others
   none = waiting-none n 1 taxi r fs plans
 
-  -- it does not wait, and nothing changes
+  -- it has no provisional slot, and nothing changes
   pub record DoesNot : Type 0 where
     pub waiting : l.lineup.waiting ≡ others
     pub same : fixed_waiting n l.lineup ≡ l.lineup
     pub frozen : frozen_at_departure taxi max plans n r ≡ r
 
-  -- it waits from its entry `e` on, in slot `k`
+  -- it has a provisional slot by its entry `e`, slot `k`
   pub record Does (e k : ℕ) : Type 0 where
     pub entry : own ≡ Some e
     pub waiting : l.lineup.waiting ≡ insert (record { entry = e; flight = n }) others
@@ -208,7 +208,7 @@ module _ (taxi max n : ℕ) (plans : List Plan) (l : Listed) (listed : IsListedI
         ap (λ gs. let q : Regulation = record { id = r.id; spot = r.spot; period = r.period; fixed = new_fixed (waiting_from 1 taxi r gs plans) gs } in q) kept-all
         ∙ ap (λ ws. let q : Regulation = record { id = r.id; spot = r.spot; period = r.period; fixed = new_fixed ws fs } in q) waits
 
-    -- where no waiting flight is due, it is settled
+    -- if no flight with a provisional slot is due, it is settled
     pub settled-done : AllByRecursion (λ w. is_due_flight now plans w.flight ≡ false) l.lineup.waiting → settled taxi now plans r ≡ r
     settled-done h = settled-is ∙ ap (λ xs. let q : Regulation = record { id = r.id; spot = r.spot; period = r.period; fixed = insert_all xs fs } in q) (greedy-none (is_due_flight now plans) first (slots fs) l.lineup.waiting h)
 

@@ -1,4 +1,5 @@
--- For the layer above: what a step of the desk does to the slots and to the advice of the flights that it isn't about.
+-- For the layer above: what a step of the desk does to the slots and to the advice of the flights
+-- that it isn't about.
 use Rattle.std.proofs.Common.{◌≡◌, ℕ, ◌+◌, ◌<◌, ◌||◌, ◌&&◌, Bool, true, false, not, cond, leb, List, [], ◌∷◌, ◌++◌, map, length, Option, Some, None, refl, sym, ap, subst, ◌∙◌, arith}
 use Rattle.std.specs.List.{AllByRecursion, filter, list_any}
 use Rattle.std.specs.List.Sorted.{IsNonDecreasing, IsStrictlyIncreasing}
@@ -25,7 +26,7 @@ use Rattle.flow_regulations.proofs.Fixes.{pairs-none, settled-done}
 use Rattle.flow_regulations.proofs.Names.{settled-name}
 use Rattle.flow_regulations.proofs.Stays.{advice-same, advice-other, caused-none, quiet-untouched}
 
--- a change of regulations that leaves their names, places and periods
+-- a change of regulations that leaves their names, points and periods
 keeps-mapped : (f : ℕ) (g : Regulation → Regulation) → ((r : Regulation) → (r.id ≡ (g r).id) × (r.spot ≡ (g r).spot) × (r.period ≡ (g r).period)) → (old new : List Listed) → map regulation_of new ≡ map g (map regulation_of old) → pairs_in f new ≡ pairs_in f old → KeepsSlots f (map regulation_of old) (map regulation_of new)
 keeps-mapped f g h [] [] e p = tt
 keeps-mapped f g h [] (n ∷ ns) e p = absurd cc
@@ -64,7 +65,7 @@ already-settled taxi max now plans (l ∷ ls) h s =
     ap (λ r. r ∷ map (settled taxi now plans) (map regulation_of ls)) (settled-done taxi max 1 plans l h.0 (omega arith) now s.0.fixed s.0.waiting)
     ∙ ap (λ rs. regulation_of l ∷ rs) (already-settled taxi max now plans ls h.1 s.1)
 
--- a flight that is neither due nor departed keeps no slot
+-- a flight that is neither due nor departed has no frozen slot
 pub nothing-to-advise : (taxi now : ℕ) (plans : List Plan) (ls : List Listed) (f : ℕ) → IsSettled taxi now plans ls → is_due_flight now plans f ≡ false → option_map_or (λ p. is_departed p.state) (plan_at plans f) false ≡ false → AllByRecursion (λ r. pairs_of f r.fixed ≡ []) (map regulation_of ls)
 nothing-to-advise taxi now plans [] f s due gone = tt
 nothing-to-advise taxi now plans (l ∷ ls) f s due gone =
@@ -147,7 +148,7 @@ pub quiet-but-due : (taxi : ℕ) (changed : List ℕ) (before after : List Regul
 quiet-but-due taxi changed before after plans told keep quiet f positive out =
     quiet-untouched taxi f before plans told after plans told (refl, refl, λ p _. advice-same taxi f p before after (keep f out)) (quiet f positive)
 
--- a flight that is due now and was not due earlier had no slot to keep
+-- a flight that is due now and was not due earlier had no frozen slot
 pub newly-due-unfixed : (taxi earlier now f : ℕ) (plans : List Plan) (ls : List Listed) → IsSettled taxi earlier plans ls → is_due_flight earlier plans f ≡ false → is_due_flight now plans f ≡ true → AllByRecursion (λ r. pairs_of f r.fixed ≡ []) (map regulation_of ls)
 newly-due-unfixed taxi earlier now f plans ls s then_not now_is = nothing-to-advise taxi earlier plans ls f s then_not (filed (plan_at plans f) now_is) where
   apart-states : (p : Plan) → is_filed p.state ≡ true → is_departed p.state ≡ false
@@ -165,11 +166,11 @@ newly-due-unfixed taxi earlier now f plans ls s then_not now_is = nothing-to-adv
 pub rising-numbers : (xs : List ℕ) → IsStrictlyIncreasing xs → IsNonDecreasing xs
 rising-numbers xs h = non_decreasing_from_sorted xs (sorted_from_strictly_increasing xs h)
 
--- the other flights stand as before over one change after another
+-- the other flights are unchanged over one change after another
 pub alone-in-turn : (n : ℕ) (first middle last : List Listed) → map (without_in n) middle ≡ map (without_in n) first → map (without_in n) last ≡ map (without_in n) middle → map (without_in n) last ≡ map (without_in n) first
 alone-in-turn n first middle last a b = b ∙ a
 
--- a regulation is shut: of the other flights than those that kept slots in it the advice stays
+-- a regulation is shut: of the other flights than those with frozen slots in it the advice stays
 pub quiet-but-shut : (taxi : ℕ) (id : List ℕ) (ls : List Listed) (plans : List Plan) (told : List (Option Told)) (changed : List ℕ) → ((f : ℕ) → is_in f changed ≡ false → AllByRecursion (λ l. is_named id l ≡ true → pairs_of f l.lineup.fixed ≡ []) ls) → AllQuiet taxi (map regulation_of ls) plans told → AreQuietBut changed taxi (map regulation_of (without_named id ls)) plans told
 quiet-but-shut taxi id ls plans told changed none quiet f positive out =
     quiet-untouched taxi f (map regulation_of ls) plans told (map regulation_of (without_named id ls)) plans told (refl, refl, λ p _. advice-without taxi f p id ls (none f out)) (quiet f positive)
@@ -178,7 +179,7 @@ last-of : {X : Type 0} (P : X → Type 0) (xs : List X) (x : X) → AllByRecursi
 last-of P [] x a = a.0
 last-of P (y ∷ ys) x a = last-of P ys x a.1
 
--- a regulation is opened: of the other flights than those that keep slots in it the advice stays
+-- a regulation is opened: of the other flights than those with frozen slots in it the advice stays
 pub quiet-but-opened : (taxi max now : ℕ) (plans : List Plan) (r : Regulation) (lists new : List Listed) (told : List (Option Told)) (changed : List ℕ) → IsOpened taxi max now plans r lists new
     → ((f : ℕ) → is_in f changed ≡ false → AllByRecursion (λ l. is_named r.id l ≡ true → pairs_of f l.lineup.fixed ≡ []) new) → AllQuiet taxi (map regulation_of lists) plans told → AreQuietBut changed taxi (map regulation_of new) plans told
 quiet-but-opened taxi max now plans r lists new told changed o none quiet f positive out =

@@ -1,4 +1,4 @@
--- What looks at a slot list and at the plans find.
+-- What reads of a slot list and of the plans find.
 use Rattle.std.proofs.Common.{◌≡◌, ℕ, ◌≤◌, ◌++◌, ◌⊎◌, inl, inr, ◌&&◌, Bool, true, false, not, cond, leb, ltb, List, [], ◌∷◌, Option, Some, None, refl, sym, ap, subst, ◌∙◌, arith}
 use Rattle.std.specs.Prelude.{IsSome, IfSome, codes}
 use Rattle.std.specs.Str.{bytes_eq}
@@ -22,7 +22,7 @@ slot_in-before f k (x ∷ xs) ys e = cases (λ h. slot_in-before f k xs ys h) (c
   cases again (inl q) = slot_in-here f x (xs ++ ys) q ∙ (sym (slot_in-here f x xs q) ∙ e)
   cases again (inr q) = slot_in-other f x (xs ++ ys) q ∙ again (sym (slot_in-other f x xs q) ∙ e)
 
--- a fixed flight holds the slot that it is fixed in
+-- a frozen flight is held in the slot in which it is frozen
 pub held-fixed : (l : Lineup) (f : ℕ) → IsSome (fixed_slot l f) → held_slot l f ≡ fixed_slot l f
 held-fixed l f h = cases (fixed_slot l f) refl h where
   cases : (o : Option ℕ) → fixed_slot l f ≡ o → IsSome o → held_slot l f ≡ o
@@ -35,7 +35,7 @@ fixed-none l f b h e = cases (fixed_slot l f) h.1 where
   cases None k = refl
   cases (Some k) q = absurd (false≢true (sym e ∙ q refl))
 
--- the entry of a subject flight, found first and then held against the period
+-- the entry of a subject flight, found first and then compared with the period
 narrow : (s t : ℕ) (o : Option ℕ) → t ≤ 100000000 → in_period s t (in_period 0 100000000 o) ≡ in_period s t o
 narrow s t None h = refl
 narrow s t (Some m) h = cases (ltb m 100000000) refl where
@@ -58,7 +58,7 @@ if_some Q o x e h = (let R : Option _ → Type 0 = λ v. IfSome v Q in subst R e
 before-end : (l : Listed) → IsRegular l.lineup.period → l.lineup.period.end ≤ 100000000
 before-end l r = omega (arith, r.before)
 
--- the answer of the store, held against the period
+-- the result of the store, compared with the period
 pub subject-found : (taxi e : ℕ) (l : Listed) (p : Plan) (o : Option ℕ) → IsRegular l.lineup.period → o ≡ subject taxi l.spot 0 100000000 p → o ≡ Some e → IsWithin l.lineup.period e → Some e ≡ subject_to taxi (regulation_of l) p
 subject-found taxi e l p o r s f w =
     let a = l.lineup.period.start in
@@ -80,7 +80,7 @@ subject-outside taxi e l p o r s f w =
 pub subject-asked : (taxi : ℕ) (spot : Spot) (s t : ℕ) → s ≡ 0 → t ≡ 100000000 → (p : Plan) (o : Option ℕ) → o ≡ subject taxi spot s t p → o ≡ subject taxi spot 0 100000000 p
 subject-asked taxi spot s t a b p o e = e ∙ (ap (λ m. subject taxi spot m t p) a ∙ ap (λ m. subject taxi spot 0 m p) b)
 
--- the entry that was asked at a place
+-- the entry that was asked at a point
 pub asked-at : (taxi : ℕ) (p : Plan) (a : EntryAsked) (spot there : Spot) → IsAsked taxi p a → a.spot ≡ Some spot → spot ≡ there → a.entry ≡ subject taxi there 0 100000000 p
 asked-at taxi p a spot there h at same =
     if_some (λ s. a.entry ≡ subject taxi s 0 100000000 p) a.spot spot at h ∙ ap (λ s. subject taxi s 0 100000000 p) same

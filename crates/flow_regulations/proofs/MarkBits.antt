@@ -1,4 +1,4 @@
--- The bits of the words that mark where flights may be held.
+-- The bits of the masks that say which regulations may hold flights.
 use Rattle.std.proofs.Common.{◌≡◌, ℕ, suc, ◌+◌, ◌*◌, ◌/◌, ◌%◌, ◌^◌, ◌<◌, ◌≤◌, Bool, true, false, cond, eqb, ltb, refl, sym, ap, subst, ◌∙◌, arith}
 use Rattle.std.specs.Int.{bit_at, trailing_zeros, w64}
 use Rattle.std.specs.Prelude.{bit_or}
@@ -27,7 +27,7 @@ by-place w i f = cases (ltb i 64) refl where
   cases true q = f (ltb-true i 64 q)
   cases false q = stands-late w i (ltb-false i 64 q)
 
--- a word of ones marks each place
+-- a word of ones has each bit set
 pub ones-stand : (i : ℕ) → may_stand 18_446_744_073_709_551_615 i ≡ true
 ones-stand i = by-place 18_446_744_073_709_551_615 i (λ h. stands-bit 18_446_744_073_709_551_615 i h (bit_at_ones 64 i h))
 
@@ -58,11 +58,11 @@ moved-stands w k i h l s =
     let first : i < 64 = omega arith in
     stands-bit ((w / 2 / 2 ^ k) * 2 ^ k % 18_446_744_073_709_551_616) i first (moved-bit w k i h first ∙ bit-stands w (suc i) (omega arith) s)
 
--- a place after which none is marked
+-- an index after which no bit is set
 pub cut-stands : (w k : ℕ) → k < 64 → KeepsBelow k w (w % (1 * 2 ^ k % 18_446_744_073_709_551_616))
 cut-stands w k h = low-stands w k (1 * 2 ^ k % 18_446_744_073_709_551_616) h (one_shl k 64 h)
 
--- a place that is gone
+-- an index that is gone
 pub moved-up : (w k r : ℕ) → k < 64 → Keeps (bit_or ((w / 2 / 2 ^ k) * 2 ^ k % 18_446_744_073_709_551_616) (w % (1 * 2 ^ k % 18_446_744_073_709_551_616))) r → may_stand r 63 ≡ true → MovesUp k w r
 moved-up w k r h keeps last =
     let high : ℕ = (w / 2 / 2 ^ k) * 2 ^ k % 18_446_744_073_709_551_616 in

@@ -1,4 +1,4 @@
--- Where flights are marked, as the open regulations change.
+-- The masks of flights, as the open regulations change.
 use Rattle.std.proofs.Common.{◌≡◌, ℕ, zero, suc, ◌+◌, ◌<◌, ◌≤◌, ◌++◌, ◌⊎◌, inl, inr, Bool, true, false, not, cond, eqb, ltb, List, [], ◌∷◌, length, map, take, get_or, refl, sym, subst, ◌∙◌, arith}
 use Rattle.std.specs.List.{remove}
 use Rattle.std.specs.Prelude.{slice_set}
@@ -42,14 +42,14 @@ back-waiting f n (w ∷ ws) ne h = cases (λ k. back-waiting f n ws ne k) (eqb w
   cases again true q k = (λ e. ne (sym e ∙ eqb-true w.flight n q), again k)
   cases again false q k = (k.0, again k.1)
 
--- where another flight alone was touched
+-- if another flight alone was changed
 pub out-alone : (f n : ℕ) (l m : Listed) → (f ≡ n → ⊥) → without_in n m ≡ without_in n l → IsOut f l → IsOut f m
 out-alone f n l m ne e h =
     let F : Listed → Type 0 = λ v. NoneFixed f v.lineup.fixed in
     let W : Listed → Type 0 = λ v. NoneIs f v.lineup.waiting in
     (back-fixed f n m.lineup.fixed ne (subst F (sym e) (kept-fixed f n l.lineup.fixed h.0)), back-waiting f n m.lineup.waiting ne (subst W (sym e) (kept-waiting f n l.lineup.waiting h.1)))
 
--- a place that isn't marked wasn't marked before
+-- a bit that isn't set wasn't set before
 pub falls : (w v i : ℕ) → (may_stand w i ≡ true → may_stand v i ≡ true) → may_stand v i ≡ false → may_stand w i ≡ false
 falls w v i k e = cases (may_stand w i) refl where
   cases : (b : Bool) → may_stand w i ≡ b → b ≡ false
@@ -74,7 +74,7 @@ at w f i zero k (l ∷ ls) d e h c m =
     c.0 (subst M same m)
 at w f i (suc j) k (l ∷ ls) d e h c m = at w f (suc i) j k ls d (omega arith) (omega arith) c.1 m
 
--- what a word says of the regulation at a place
+-- what a mask says of the regulation at an index
 pub covers-at : (w f j : ℕ) (ls : List Listed) (d : Listed) → j < length ls → IsMarked w f 0 ls → may_stand w j ≡ false → IsOut f (get_or ls j d)
 covers-at w f j ls d h c m = at w f 0 j j ls d (omega arith) h c m
 
@@ -86,7 +86,7 @@ put w v f i zero k (l ∷ ls) z e s o c =
     (λ m. o (subst M same m), covers-more w v f (suc i) ls s c.1)
 put w v f i (suc j) k (l ∷ ls) z e s o c = (λ m. c.0 (falls w v i (s i) m), put w v f (suc i) j k ls z (omega arith) s o c.1)
 
--- a regulation is replaced, and the word marks more
+-- a regulation is replaced, and the mask has more bits
 pub covers-set : (w v f j : ℕ) (ls : List Listed) (z : Listed) → Keeps w v → (may_stand v j ≡ false → IsOut f z) → IsMarked w f 0 ls → IsMarked v f 0 (slice_set ls j z)
 covers-set w v f j ls z s o c = put w v f 0 j j ls z (omega arith) s o c
 
@@ -99,7 +99,7 @@ covers-alone n w f i (o ∷ os) (m ∷ ms) ne e c =
     let rest : map (without_in n) ms ≡ map (without_in n) os = cc in
     (λ k. out-alone f n o m ne here (c.0 k), covers-alone n w f (suc i) os ms ne rest c.1)
 
--- one flight is touched in each regulation, and has another word
+-- one flight changes in each regulation, and has another mask
 pub marked-one : (n w : ℕ) (olds news : List ℕ) (os ns : List Listed) → ((f : ℕ) → (f ≡ n → ⊥) → word_of news f ≡ word_of olds f) → Keeps w (word_of news n)
     → map (without_in n) ns ≡ map (without_in n) os → IsMarked w n 0 ns → AreMarked olds os → AreMarked news ns
 marked-one n w olds news os ns others one alone covers a f = cases (cases_eq f n) where
@@ -125,7 +125,7 @@ pub covers-ones : (f i : ℕ) (ls : List Listed) → IsMarked 18_446_744_073_709
 covers-ones f i [] = tt
 covers-ones f i (l ∷ ls) = (λ e. absurd (true≢false (sym (ones-stand i) ∙ e)), covers-ones f (suc i) ls)
 
--- without words nothing is said
+-- without masks nothing is said
 pub marked-none : (ls : List Listed) → AreMarked [] ls
 marked-none ls f = covers-ones f 0 ls
 
@@ -147,7 +147,7 @@ covers-front : (w f i : ℕ) (xs ys : List Listed) → IsMarked w f i (xs ++ ys)
 covers-front w f i [] ys c = tt
 covers-front w f i (x ∷ xs) ys c = (c.0, covers-front w f (suc i) xs ys c.1)
 
--- the last one is taken out again
+-- the last one is removed again
 pub marked-front : (words : List ℕ) (xs ys : List Listed) → AreMarked words (xs ++ ys) → AreMarked words xs
 marked-front words xs ys a f = covers-front (word_of words f) f 0 xs ys (a f)
 
@@ -165,7 +165,7 @@ covers-removed w v f i (suc j) k (l ∷ ls) e s c = (λ m. c.0 (falls w v i (s.0
 pub marked-removed : (olds news : List ℕ) (k : ℕ) (ls : List Listed) → ((f : ℕ) → MovesUp k (word_of olds f) (word_of news f)) → AreMarked olds ls → AreMarked news (remove ls k)
 marked-removed olds news k ls m a f = covers-removed (word_of olds f) (word_of news f) f 0 k k ls (omega arith) (m f) (a f)
 
--- the words are replaced in turn
+-- the masks are replaced in turn
 module _ (R : ℕ → ℕ → ℕ → Type 0) (olds news : List ℕ) (j : ℕ) (done : (f : ℕ) → f < j → R f (word_of olds f) (word_of news f)) (rest : (f : ℕ) → j ≤ f → word_of news f ≡ word_of olds f) where
   pub words-done : (w v : ℕ) → j < length news → w ≡ word_of news j → R j w v → (f : ℕ) → f < j + 1 → R f (word_of olds f) (word_of (slice_set news j v) f)
   words-done w v h e r f l = cases (cases_eq f j) where
@@ -193,7 +193,7 @@ module _ (R : ℕ → ℕ → ℕ → Type 0) (olds news : List ℕ) (j : ℕ) (
         let N : ℕ → Type 0 = λ x. R f (word_of olds f) x in
         subst N (sym (rest f past)) (subst O (sym none) (ones f))
 
--- the word of one flight is replaced
+-- the mask of one flight is replaced
 module _ (n v : ℕ) (olds news : List ℕ) (others : (f : ℕ) → (f ≡ n → ⊥) → word_of news f ≡ word_of olds f) (one : Keeps v (word_of news n)) where
   pub one-keeps : Keeps (word_of olds n) v → (f : ℕ) → Keeps (word_of olds f) (word_of news f)
   one-keeps more f i s = cases (cases_eq f n) where
@@ -227,7 +227,7 @@ ones-below k f = λ i l s. s
 pub ones-move : (k f : ℕ) → MovesUp k 18_446_744_073_709_551_615 18_446_744_073_709_551_615
 ones-move k f = (λ i l s. s, λ i l s. ones-stand i)
 
--- a vector of words and one of regulations that were written back whole
+-- a vector of masks and one of regulations that were written back whole
 pub written-marked : (i j : ℕ) (ws vs : List ℕ) (ns ls : List Listed) → i ≡ length ws → j ≡ length ns → AreMarked ws ns → AreMarked (take i (ws ++ vs)) (take j (ns ++ ls))
 written-marked i j ws vs ns ls a b h =
     let M : List Listed → Type 0 = λ ms. AreMarked (take i (ws ++ vs)) ms in
@@ -237,7 +237,7 @@ written-marked i j ws vs ns ls a b h =
 pub written-words : (i : ℕ) (ws vs : List ℕ) (ls : List Listed) → i ≡ length ws → AreMarked ws ls → AreMarked (take i (ws ++ vs)) ls
 written-words i ws vs ls a h = (let V : List ℕ → Type 0 = λ us. AreMarked us ls in subst V (sym (written-back i ws vs a)) h)
 
--- the word of a flight covers it
+-- the mask of a flight covers it
 pub marked-word : (n w : ℕ) (us ws : List ℕ) (ls ms : List Listed) → us ≡ ws → ms ≡ ls → w ≡ word_of us n → AreMarked ws ls → IsMarked w n 0 ms
 marked-word n w us ws ls ms a b e h =
     let C : ℕ → Type 0 = λ v. IsMarked v n 0 ms in

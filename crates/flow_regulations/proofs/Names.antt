@@ -16,7 +16,7 @@ turned x y e = cases (bytes_eq y x) refl where
   cases false q = q
   cases true q = absurd (true≢false (sym ((bytes_eq-Decides x y).1 (sym ((bytes_eq-Decides y x).0 q))) ∙ e))
 
--- where a name stands among names, and among regulations
+-- the index of a name among names, and among regulations
 pub none-names : (id : List ℕ) (ls : List Listed) → list_any (is_named id) ls ≡ list_any (λ y. bytes_eq y id) (names_in ls)
 none-names id [] = refl
 none-names id (l ∷ ls) = ap (λ b. bytes_eq l.id id || b) (none-names id ls)
@@ -33,7 +33,7 @@ none-at id [] i d h n e = absurd (omega arith)
 none-at id (l ∷ ls) zero d h n e = true≢false (sym n ∙ (or_parts (is_named id l) (list_any (is_named id) ls) e).0)
 none-at id (l ∷ ls) (suc i) d h n e = none-at id ls i d (omega (arith, h)) n (or_parts (is_named id l) (list_any (is_named id) ls) e).1
 
--- the others are left where one is taken out
+-- the others are left if one is removed
 pub removed-named : (id : List ℕ) (ls : List Listed) (i : ℕ) (d : Listed) → AreApart (names_in ls) → i < length ls → is_named id (get_or ls i d) ≡ true → remove ls i ≡ without_named id ls
 removed-named id [] i d a h n = absurd (omega arith)
 removed-named id (l ∷ ls) zero d a h n =
@@ -48,7 +48,7 @@ removed-named id (l ∷ ls) (suc i) d a h n = cases (removed-named id ls i d a.1
   cases again true q = absurd (none-at id ls i d (omega (arith, h)) n (apart q))
   cases again false q = ap (λ vs. l ∷ vs) again
 
--- and it comes back to its place
+-- and it comes back to its index
 pub put-back-in-place : (ls : List Listed) (i : ℕ) (d : Listed) → i < length ls → insert (remove ls i) i (get_or ls i d) ≡ ls
 put-back-in-place [] i d h = absurd (omega arith)
 put-back-in-place (l ∷ ls) zero d h = refl
@@ -68,7 +68,7 @@ apart-without id (l ∷ ls) a = cases (apart-without id ls a.1) (not (is_named i
   cases again true = (any-without (λ y. bytes_eq y l.id) id ls a.0, again)
   cases again false = again
 
--- the name that was taken out is none of the others
+-- the name that was removed is none of the others
 pub gone-without : (id : List ℕ) (ls : List Listed) (name : List ℕ) → bytes_eq name id ≡ true → list_any (is_named name) (without_named id ls) ≡ false
 gone-without id [] name e = refl
 gone-without id (l ∷ ls) name e = cases (gone-without id ls name e) (is_named id l) refl where

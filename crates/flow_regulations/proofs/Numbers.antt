@@ -1,4 +1,5 @@
--- Walks along plans and what they were last told, for any rule that says what is said to a plan, and what it is told.
+-- Walks along plans and the CTOTs last issued to them, for any rule that says which notice a plan
+-- gets, and what is issued to it.
 use Rattle.std.proofs.Common.{◌≡◌, ℕ, zero, suc, ◌+◌, ◌<◌, List, [], ◌∷◌, ◌++◌, length, Option, Some, IfSome, refl, sym, ap, ◌∙◌, subst, arith}
 use Rattle.std.proofs.Math.ListN.{set}
 use Rattle.std.specs.List.{slice_get}
@@ -12,13 +13,13 @@ said_along f n [] ts = []
 said_along f n (p ∷ ps) [] = []
 said_along f n (p ∷ ps) (t ∷ ts) = f n p t ++ said_along f (n + 1) ps ts
 
--- and what they are told
+-- and what is issued to them
 abbrev pub told_along : (ℕ → Plan → Option Told → Option Told) → ℕ → List Plan → List (Option Told) → List (Option Told)
 told_along g n [] ts = []
 told_along g n (p ∷ ps) [] = []
 told_along g n (p ∷ ps) (t ∷ ts) = g n p t ∷ told_along g (n + 1) ps ts
 
--- nothing is said to the plan at this place
+-- the plan at this index gets no notice
 abbrev pub QuietPlace : (ℕ → Plan → Option Told → List Notice) → ℕ → List Plan → List (Option Told) → ℕ → Type 0
 QuietPlace f n ps ts k = IfSome (slice_get ps k) (λ p. IfSome (slice_get ts k) (λ t. f (n + k) p t ≡ []))
 
@@ -39,7 +40,7 @@ said-quiet f n (p ∷ ps) [] h = refl
 said-quiet f n (p ∷ ps) (t ∷ ts) h =
     ap (λ xs. xs ++ said_along f (n + 1) ps ts) (quiet-first f n p t (h zero)) ∙ said-quiet f (n + 1) ps ts (λ k. quiet-next f n k p ps t ts (h (suc k)))
 
--- and what they were told stays
+-- and what was issued to them stays
 pub told-quiet : (f : ℕ → Plan → Option Told → List Notice) (g : ℕ → Plan → Option Told → Option Told) (n : ℕ) (ps : List Plan) (ts : List (Option Told))
     → ((m : ℕ) (p : Plan) (t : Option Told) → f m p t ≡ [] → g m p t ≡ t) → length ts ≡ length ps → ((k : ℕ) → QuietPlace f n ps ts k)
     → told_along g n ps ts ≡ ts
@@ -51,7 +52,7 @@ told-quiet f g n (p ∷ ps) (t ∷ ts) stays e h =
     ap (λ u. u ∷ told_along g (n + 1) ps ts) (stays n p t (quiet-first f n p t (h zero)))
     ∙ ap (λ (us : List (Option Told)). t ∷ us) (told-quiet f g (n + 1) ps ts stays e' (λ k. quiet-next f n k p ps t ts (h (suc k))))
 
--- one plan is told, and those before it are quiet
+-- one plan is issued its advice, and those before it are quiet
 pub said-one : (f : ℕ → Plan → Option Told → List Notice) (n m i : ℕ) (ps : List Plan) (ts : List (Option Told)) (p : Plan) (t new : Option Told)
     → m ≡ n + i → slice_get ps i ≡ Some p → slice_get ts i ≡ Some t → f m p new ≡ [] → ((k : ℕ) → k < i → QuietPlace f n ps ts k)
     → said_along f n ps ts ≡ f m p t ++ said_along f n ps (set ts i new)
@@ -69,7 +70,7 @@ said-one f n m (suc i) (q ∷ ps) (u ∷ ts) p t new e at was after h =
     ∙ said-one f (n + 1) m i ps ts p t new e' at was after (λ k lt. quiet-next f n k q ps u ts (h (suc k) (omega arith)))
     ∙ ap (λ xs. f m p t ++ (xs ++ said_along f (n + 1) ps (set ts i new))) (sym first)
 
--- which is told the same when it is told again
+-- which changes nothing when it is issued again
 pub told-one : (g : ℕ → Plan → Option Told → Option Told) (n m i : ℕ) (ps : List Plan) (ts : List (Option Told)) (p : Plan) (t new : Option Told)
     → m ≡ n + i → slice_get ps i ≡ Some p → slice_get ts i ≡ Some t → g m p new ≡ g m p t
     → told_along g n ps (set ts i new) ≡ told_along g n ps ts
@@ -83,7 +84,7 @@ told-one g n m (suc i) (q ∷ ps) (u ∷ ts) p t new e at was again =
     let e' : m ≡ n + 1 + i = omega arith in
     ap (λ (us : List (Option Told)). g n q u ∷ us) (told-one g (n + 1) m i ps ts p t new e' at was again)
 
--- what was told at other places
+-- what was issued at other indices
 pub slice_get-set : (ts : List (Option Told)) (i k : ℕ) (new : Option Told) → (k ≡ i → ⊥) → slice_get (set ts i new) k ≡ slice_get ts k
 slice_get-set [] i k new ne = refl
 slice_get-set (t ∷ ts) zero zero new ne = absurd (ne refl)

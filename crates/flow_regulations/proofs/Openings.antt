@@ -1,4 +1,4 @@
--- A regulation is opened: the flights of the plans are let in one after the other.
+-- A regulation is opened: the flights of the plans are inserted one after the other.
 use Rattle.std.proofs.Common.{◌≡◌, ℕ, zero, suc, ◌+◌, ◌-◌, ◌<◌, ◌≤◌, Bool, true, false, ltb, List, [], ◌∷◌, ◌++◌, length, take, get_or, Option, Some, None, refl, sym, ap, subst, ◌∙◌, arith}
 use Rattle.std.specs.List.{slice_get}
 use Rattle.std.proofs.lemmas.Bool.{ltb-true, ltb-false}
@@ -54,7 +54,8 @@ coming-past taxi (suc k) i j r plans e none =
         let all : length plans ≤ i = ltb-false i (length plans) q in
         ap (coming_from 1 taxi r) (take_all j plans (omega (arith, e, all)) ∙ sym (take_all i plans all))
 
--- a turn of the noting: the flight of plan `n`, where the regulation applies to it, and none before it
+-- one turn of collecting: the flight of plan `n`, if the regulation applies to it, and none before
+-- it
 pub coming-on : (taxi from n : ℕ) (r : Regulation) (plans : List Plan) (p : Plan) (o : Option ℕ) (noted now : List Planned) → 0 < from → from ≤ n → n ≤ length plans → plan_at plans n ≡ Some p → o ≡ subject_to taxi r p → AppliesToNone from n taxi r plans
     → noted ≡ coming_from 1 taxi r (take (from - 1) plans) → now ≡ noted ++ entering o n [] → now ≡ coming_from 1 taxi r (take (n + 1 - 1) plans)
 coming-on taxi from n r plans p o noted now some on within at is none so_far made =

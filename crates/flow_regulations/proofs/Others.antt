@@ -1,4 +1,4 @@
--- The pairs of the other flights, when one flight is taken out, put in, or fixed.
+-- The pairs of the other flights, when one flight is removed, inserted, or frozen.
 use Rattle.std.proofs.Common.{◌≡◌, ℕ, ◌⊎◌, inl, inr, Bool, true, false, cond, eqb, ltb, List, [], ◌∷◌, Option, Some, None, refl, sym, ap, ◌∙◌}
 use Rattle.std.specs.Option.{is_some}
 use Rattle.std.proofs.lemmas.Bool.{ne_eqb, cases_eq}
@@ -35,7 +35,7 @@ pairs-placed f n None d l ne = refl
 pairs-placed f n (Some e) false l ne = refl
 pairs-placed f n (Some e) true l ne = pairs-there f n (held_slot (with_waiting (record { entry = e; flight = n }) l) n) (with_waiting (record { entry = e; flight = n }) l) ne
 
--- taken out, and placed afresh
+-- removed, and inserted again
 pub pairs-out : (f n : ℕ) (l t : Listed) → (f ≡ n → ⊥) → t ≡ with_lineup (without_flight n l.lineup) l → pairs_of f t.lineup.fixed ≡ pairs_of f l.lineup.fixed
 pairs-out f n l t ne e = ap (λ v. pairs_of f v.lineup.fixed) e ∙ pairs-without f n l.lineup.fixed ne
 

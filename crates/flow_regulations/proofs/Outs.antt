@@ -61,7 +61,7 @@ out-fixes f l h =
       regular = λ s. absurd (true≢false (sym s ∙ unheld));
     }
 
--- a flight that isn't held isn't held after another is fixed, or waits again
+-- a flight that isn't held isn't held after another is frozen, or has a provisional slot again
 pub out-fixed : (n f : ℕ) (l m : Listed) → IsFixedWaiting n l m → IsOut f l → IsOut f m
 out-fixed n f l m r h = cases (cases_eq f n) where
   cases : (f ≡ n) ⊎ (f ≡ n → ⊥) → IsOut f m
@@ -94,7 +94,7 @@ out-released n taxi plans a b f l m r h = cases (cases_eq f n) where
       subst O (sym (r.same there.0 there.1 ∙ ap (λ v. with_lineup v l) (same-released (subject_to taxi (regulation_of l) there.0) n l.lineup none))) h
   cases (inr ne) = out-alone f n l m ne (ap (without_in n) (r.same there.0 there.1) ∙ ap (λ v. with_lineup v l) (alone-released (subject_to taxi (regulation_of l) there.0) n l.lineup)) h
 
--- to a second look nothing changes, where the regulation doesn't apply to it
+-- reallocating the flight changes nothing if the regulation doesn't apply to it
 pub out-looks : (n taxi now : ℕ) (plans : List Plan) (l : Listed) (o : Option ℕ) → 0 < n → n ≤ length plans → IsOut n l
     → ((p : Plan) → plan_at plans n ≡ Some p → o ≡ subject_to taxi (regulation_of l) p) → o ≡ None → IsLookedAgain n taxi now plans l l
 out-looks n taxi now plans l o a b h s none =

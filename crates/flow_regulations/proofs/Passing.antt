@@ -18,11 +18,11 @@ use Rattle.flow_regulations.proofs.Outs.{out-delay, out-fixes, out-looks, out-pl
 use Rattle.flow_regulations.proofs.PutBack.{places-more}
 use Rattle.flow_regulations.proofs.Walks.{walked-past}
 
--- the places from i to before j aren't marked
+-- the bits from i to before j aren't set
 abbrev pub AreUnmarked : ℕ → ℕ → ℕ → Type 0
 AreUnmarked word i j = (k : ℕ) → i ≤ k → k < j → may_stand word k ≡ false
 
--- the worst of the regulations from one place on is that from a later one on
+-- the worst of the regulations from one index on is that from a later one on
 worst-later : (taxi n m i : ℕ) (p : Plan) (ls : List Listed) → ((k : ℕ) (d : Listed) → i ≤ k → k < i + m → k < length ls → IsOut n (get_or ls k d))
     → worst taxi n p (map regulation_of (drop i ls)) ≡ worst taxi n p (map regulation_of (drop (i + m) ls))
 worst-later taxi n zero i p ls f =
@@ -53,11 +53,11 @@ worst-past taxi n w i j (Some p) ls d c h u was =
     let later = worst-later taxi n (j - i) i p ls (λ k e a b l. covers-at w n k ls e l c (u k a (omega (arith, b, next)))) in
     ap (λ k. worse d (worst taxi n p (map regulation_of (drop k ls)))) (sym next) ∙ (ap (worse d) (sym later) ∙ was)
 
--- no flight waits there to be fixed
+-- no flight has a provisional slot there to be frozen
 pub fixes-past : (n w i j : ℕ) (os ns : List Listed) → IsMarked w n 0 os → i ≤ j → AreUnmarked w i j → Walked (IsFixedWaiting n) i os ns → Walked (IsFixedWaiting n) j os ns
 fixes-past n w i j os ns c h u walked = walked-past (IsFixedWaiting n) i j os ns (λ k d a b l. out-fixes n (get_or os k d) (covers-at w n k os d l c (u k a b))) h walked
 
--- a second look changes nothing where the flight isn't held and that doesn't apply to it
+-- reallocating a flight changes nothing if the regulation doesn't hold it and doesn't apply to it
 pub looks-past : (n taxi now w near i j : ℕ) (plans : List Plan) (os ns : List Listed) → 0 < n → n ≤ length plans → IsMarked w n 0 os
     → ((p : Plan) → plan_at plans n ≡ Some p → MarksNear near taxi p os) → i ≤ j → AreUnmarked (bit_or w near) i j → Walked (IsLookedAgain n taxi now plans) i os ns → Walked (IsLookedAgain n taxi now plans) j os ns
 looks-past n taxi now w near i j plans os ns some within c m h u walked =
@@ -66,7 +66,7 @@ looks-past n taxi now w near i j plans os ns some within c m h u walked =
     out-looks n taxi now plans (get_or os k d) None some within (covers-at w n k os d l c (falls w (bit_or w near) k (or-first w near k) out))
     (λ p at. sym (m p at k d l (falls near (bit_or w near) k (or-second w near k) out))) refl)) h walked
 
--- one more place is noted as absent, and none
+-- one more regulation is recorded not to hold it, and none
 pub absent-more : (ps : List Place) (j : ℕ) → length ps < j → (ps ++ place.Absent ∷ []) ++ replicate (j - length (ps ++ place.Absent ∷ [])) place.Absent ≡ ps ++ replicate (j - length ps) place.Absent
 absent-more ps j h =
     let m : ℕ = j - length (ps ++ place.Absent ∷ []) in
@@ -84,7 +84,7 @@ absent-length i j qs ps e h k = ap length e ∙ (length-append ps (replicate (j 
 pub unmarked-from : (word i j k : ℕ) → j ≡ i → AreUnmarked word i k → AreUnmarked word j k
 unmarked-from word i j k e u = (let U : ℕ → Type 0 = λ m. AreUnmarked word m k in subst U (sym e) u)
 
--- it stands in none of them
+-- none of them holds it
 absent-run : (n m j : ℕ) (ps : List Place) (ls : List Listed) → ((k : ℕ) (d : Listed) → j ≤ k → k < j + m → k < length ls → IsPlaceOf n place.Absent (get_or ls k d)) → j + m ≤ length ls → ArePlaces n ps (take j ls) → ArePlaces n (ps ++ replicate m place.Absent) (take (j + m) ls)
 absent-run n zero j ps ls f h a =
     let same : j ≡ j + 0 = omega arith in

@@ -1,4 +1,4 @@
--- One flight is taken out of a slot list, put in, and fixed.
+-- One flight is removed from a slot list, inserted, and frozen.
 use Rattle.std.proofs.Common.{◌≡◌, ℕ, ◌≤◌, ◌++◌, ◌⊎◌, inl, inr, Bool, true, false, cond, List, [], ◌∷◌, Option, Some, None, refl, sym, ap, subst, ◌∙◌}
 use Rattle.std.specs.Prelude.{IsSome, IfSome}
 use Rattle.std.specs.Option.{is_some}
@@ -49,7 +49,7 @@ pub fixed-is : (o : Option ℕ) (f : ℕ) (l m : Lineup) → IsSome o → IfSome
 fixed-is None f l m s h = absurd (false≢true s)
 fixed-is (Some k) f l m s h = h
 
--- a flight that isn't held is taken out already
+-- removing a flight that isn't held changes nothing
 pub without-absent : (f : ℕ) (l : Lineup) → held_slot l f ≡ None → without_flight f l ≡ l
 without-absent f l h =
     ap (λ ws. let m : Lineup = record { period = l.period; capacity = l.capacity; waiting = ws; fixed = without_fixed f l.fixed } in m) (without-none f l.waiting (absent-waiting l f h))
@@ -79,7 +79,7 @@ keeps-open o f l m n w a b h =
     let C : ℕ → Type 0 = λ k. k ≤ 20000 in
     (subst IsRegular p h.0, subst C c h.1)
 
--- a flight that keeps its slot stays, and another is fixed where it waits
+-- a flight that keeps its slot stays, and another is frozen in its provisional slot
 pub fixes-none : (f : ℕ) (l : Lineup) → IsSome (fixed_slot l f) → fixed_waiting f l ≡ l
 fixes-none f l h = cases (fixed_slot l f) h where
   cases : (o : Option ℕ) → IsSome o → cond (is_some o) l (fixed_there (held_slot l f) f l) ≡ l

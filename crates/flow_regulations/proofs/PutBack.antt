@@ -1,4 +1,4 @@
--- A flight is put back where it stood.
+-- The state of a flight in a slot list is restored.
 use Rattle.std.proofs.Common.{◌≡◌, ℕ, zero, suc, ◌+◌, ◌<◌, ◌++◌, Bool, true, false, not, cond, eqb, List, [], ◌∷◌, length, map, take, get_or, Option, Some, None, refl, sym, ap, subst, ◌∙◌, arith}
 use Rattle.std.proofs.lemmas.List.{take_more, length-map}
 use Rattle.std.specs.Prelude.{IsSome, IfSome, slice_set}
@@ -20,7 +20,7 @@ use Rattle.flow_regulations.proofs.Looks.{slot_in-before}
 use Rattle.flow_regulations.proofs.Standing.{none-slot}
 use Rattle.flow_regulations.proofs.Waiting.{without-none}
 
--- a flight that neither waits nor is fixed is none of them
+-- a flight that has neither a provisional nor a frozen slot is none of them
 entry-none : (f : ℕ) (ws : List Planned) → entry_in f ws ≡ None → NoneIs f ws
 entry-none f [] e = tt
 entry-none f (w ∷ ws) e = cases (entry-none f ws) (eqb w.flight f) refl e where
@@ -33,7 +33,7 @@ out-already f l a b =
     ap (λ ws. let m : Lineup = record { period = l.period; capacity = l.capacity; waiting = ws; fixed = without_fixed f l.fixed } in m) (without-none f l.waiting (entry-none f l.waiting b))
     ∙ ap (λ fs. let m : Lineup = record { period = l.period; capacity = l.capacity; waiting = l.waiting; fixed = fs } in m) (without_fixed-none f l.fixed (slot_in-none f l.fixed a))
 
--- two slot lists in which a flight stands in the same place, and the others too, are the same
+-- two slot lists in which a flight, and the others too, have the same state are the same
 pub same-place : (f : ℕ) (p : Place) (l m : Listed) → IsPlaceOf f p l → IsPlaceOf f p m → without_in f l ≡ without_in f m → l ≡ m
 same-place f p l m a b e =
     let s : Listed → Listed = λ v. with_lineup (stood p f v.lineup) v in
@@ -76,7 +76,7 @@ flight-after k (x ∷ xs) ys e = cases (flight-after k xs ys) (eqb x.slot k) e w
   cases again true q = absurd cc
   cases again false q = again q
 
--- a flight of the fresh assignment is one that waits
+-- a flight of the fresh assignment has a provisional slot
 holder-waits : (k : ℕ) (first : ℕ → ℕ) (taken : List ℕ) (fixed : List Placed) (ws : List Planned) → AllByRecursion (λ w. slot_in w.flight fixed ≡ None) ws → IfSome (flight_in k (greedy first taken ws)) (λ holder. slot_in holder fixed ≡ None)
 holder-waits k first taken fixed [] h = tt
 holder-waits k first taken fixed (w ∷ ws) h =
@@ -101,7 +101,7 @@ waiting-unfixed f fixed (w ∷ ws) a = cases (waiting-unfixed f fixed ws a.2) (n
   cases again true = (none-slot w.flight (without_fixed f fixed) (none-less w.flight f fixed a.0), again)
   cases again false = again
 
--- a slot from which a flight was taken out is open
+-- a slot from which a flight was removed is open
 open-there : (f k : ℕ) (l : Lineup) → IsLineup l → fixed_slot l f ≡ Some k → IfSome (held_flight (without_flight f l) k) (λ holder. fixed_slot (without_flight f l) holder ≡ None)
 open-there f k l lined e =
     let fs = without_fixed f l.fixed in
@@ -109,7 +109,7 @@ open-there f k l lined e =
     let H : Option ℕ → Type 0 = λ o. IfSome o (λ holder. slot_in holder fs ≡ None) in
     subst H (sym (flight-after k fs _ (slot-free f k l.fixed lined.by_slot e))) (holder-waits k (λ e. first_slot l.period e) (slots fs) fs ws (waiting-unfixed f l.fixed l.waiting lined.waiting_apart))
 
--- where a flight stands
+-- the state of a flight in a slot list
 abbrev place-by : Option ℕ → Option ℕ → Place
 place-by slot entry = option_map_or (λ slot. place.Fixed slot) slot (option_map_or (λ entry. place.Waiting entry) entry place.Absent)
 
@@ -134,7 +134,7 @@ stands-nowhere f l a e = record {
   back = out-already f l.lineup a e;
 }
 
--- the places of one more regulation
+-- its state in one more regulation
 pub places-more : (f j : ℕ) (ps : List Place) (ls : List Listed) (d : Listed) (p : Place) → j < length ls → IsPlaceOf f p (get_or ls j d) → ArePlaces f ps (take j ls) → ArePlaces f (ps ++ p ∷ []) (take (j + 1) ls)
 places-more f j ps ls d p h i a =
     let A : List Listed → Type 0 = λ xs. ArePlaces f (ps ++ p ∷ []) xs in
@@ -171,7 +171,7 @@ walk-by R i ys xs zs dy d z h k r w =
     let same : suc i ≡ i + 1 = omega arith in
     subst W same (walk-suc R i ys xs zs dy d z h k r w)
 
--- those that it hasn't come to are as they were
+-- those that it hasn't reached are unchanged
 pub walk-rest : {X Y : Type 0} (R : Y → X → X → Type 0) (i : ℕ) (ys : List Y) (xs zs : List X) (d : X) → WalkedBy R i ys xs zs → get_or zs i d ≡ get_or xs i d
 walk-rest R zero ys xs zs d w = ap (λ vs. get_or vs zero d) w
 walk-rest R (suc i) [] xs zs d w = absurd w
@@ -179,7 +179,7 @@ walk-rest R (suc i) (y ∷ ys) [] zs d w = absurd w
 walk-rest R (suc i) (y ∷ ys) (x ∷ xs) [] d w = absurd w
 walk-rest R (suc i) (y ∷ ys) (x ∷ xs) (z ∷ zs) d w = walk-rest R i ys xs zs d w.1
 
--- there are as many places as regulations
+-- there are as many recorded states as regulations
 pub places-length : (f : ℕ) (ps : List Place) (bs : List Listed) → ArePlaces f ps bs → length bs ≡ length ps
 places-length f [] [] a = refl
 places-length f [] (b ∷ bs) a = absurd a

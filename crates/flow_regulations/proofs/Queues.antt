@@ -17,7 +17,7 @@ use Rattle.flow_regulations.specs.Settling.{is_due}
 use Rattle.flow_regulations.specs.Listing.{is_due_flight, AreSameBut, AreDue, HoldNewlyDue}
 use Rattle.flow_regulations.specs.Awaiting.{Covers, awaits, BecameDue, AreHeld, earlier_first}
 
--- no moment lies before the first one's
+-- no time is before the first one's
 pub later-all : (limit : ℕ) (x : Reverse Awaited) (xs : List (Reverse Awaited)) → limit < x.0.off_block → IsUpperBound earlier_first x xs → AllByRecursion (λ y. limit < y.0.off_block) xs
 later-all limit x [] h u = tt
 later-all limit x (y ∷ ys) h u = (omega (arith, h, first y.0.off_block x.0.off_block (nat_cmp y.0.number x.0.number) u.0), later-all limit x ys h u.1) where
@@ -167,7 +167,8 @@ covers-more now plans flights new more covers number p some at filed late = more
 pub noted-kept : (a : Awaited) (flights new : List Awaited) → IsPermutation (a ∷ flights) new → (b : Awaited) → Contains flights b → Contains new b
 noted-kept a flights new moved b (k, h, e) = Contains-permutation (a ∷ flights) new b moved (suc k, omega (arith, h), e)
 
--- a flight is noted, and the queue covers the plans with that of the flight changed or added, and those before
+-- a flight is put in, and the queue covers the plans with that of the flight changed or added, and
+-- those before
 pub covers-noted : (now n off_block : ℕ) (before plans : List Plan) (flights new : List Awaited) → AreSameBut n before plans → ((p : Plan) → plan_at plans n ≡ Some p → p.off_block ≡ off_block)
     → IsPermutation (record { off_block = off_block; number = n } ∷ flights) new → Covers now before flights → Covers now plans new
 covers-noted now n off_block before plans flights new same is moved covers number p some at filed late = ⊎_elim own other (cases_eq number n) where
@@ -182,7 +183,7 @@ covers-noted now n off_block before plans flights new same is moved covers numbe
       let C : Awaited → Type 0 = λ v. Contains new v in
       subst C pair (Contains-permutation (a ∷ flights) new a moved (zero, omega arith, refl))
 
--- a plan that isn't filed any more needs no place
+-- a plan that isn't filed any more needs no element
 pub covers-ended : (now n : ℕ) (before plans : List Plan) (flights : List Awaited) → AreSameBut n before plans → ((p : Plan) → plan_at plans n ≡ Some p → is_filed p.state ≡ false) → Covers now before flights → Covers now plans flights
 covers-ended now n before plans flights same ended covers number p some at filed late = ⊎_elim own other (cases_eq number n) where
   own : number ≡ n → Contains flights (record { off_block = p.off_block; number = number })

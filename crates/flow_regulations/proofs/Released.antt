@@ -1,4 +1,4 @@
--- Flights that were fixed when they became due wait again.
+-- Flights that were frozen when they became due have provisional slots again.
 use Rattle.std.proofs.Common.{◌≡◌, ℕ, ◌+◌, ◌<◌, ◌++◌, Bool, true, false, cond, eqb, ltb, List, [], ◌∷◌, length, map, take, get_or, Option, Some, None, refl, sym, ap, subst, ◌∙◌, arith}
 use mathlib.Core.Logic.{⊎_elim}
 use Rattle.std.specs.List.{All, AllByRecursion}
@@ -54,7 +54,7 @@ module _ (taxi max n : ℕ) (plans : List Plan) (l : Listed) (listed : IsListedI
     does : (e : ℕ) × (k : ℕ) × Does taxi max n plans l listed positive e k → IsListedIn taxi max plans (with_lineup (fixed_waiting n l.lineup) l)
     does (e, k, d) = let P : Lineup → Type 0 = λ v. IsListedIn taxi max plans (with_lineup v l) in subst P (sym (is taxi max n plans l listed positive e k d)) (listed-more taxi max n plans l listed positive e k d)
 
-  -- and waits again
+  -- and has a provisional slot again
   pub released-fixed : (p : Plan) → plan_at plans n ≡ Some p → NoneFixed n l.lineup.fixed → released_in taxi p n (with_lineup (fixed_waiting n l.lineup) l) ≡ l
   released-fixed p at unfixed = ⊎_elim not does (either taxi max n plans l listed positive) where
     stays : (o : Option ℕ) → released o n l.lineup ≡ l.lineup
@@ -84,7 +84,7 @@ listed-all : (taxi max : ℕ) (plans : List Plan) (ns : List ℕ) (l : Listed) �
 listed-all taxi max plans [] l a h = h
 listed-all taxi max plans (n ∷ ns) l a h = listed-all taxi max plans ns (with_lineup (fixed_waiting n l.lineup) l) a.1 (listed-fixed taxi max n plans l h a.0)
 
--- the last of them waits again in each regulation
+-- the last of them has a provisional slot again in each regulation
 released-each : (taxi max n : ℕ) (plans : List Plan) (p : Plan) (ns : List ℕ) (ls : List Listed) → plan_at plans n ≡ Some p → 0 < n → AllByRecursion (λ m. 0 < m) ns → is_in n ns ≡ false → IsListed taxi max plans ls → AllByRecursion (λ l. pairs_of n l.lineup.fixed ≡ []) ls
     → map (released_in taxi p n) (map (with_fixed_waiting (ns ++ n ∷ [])) ls) ≡ map (with_fixed_waiting ns) ls
 released-each taxi max n plans p ns [] at some all out h unpaired_all = refl

@@ -20,7 +20,7 @@ use Rattle.flow_regulations.proofs.FixedOnes.{all-map, all-both, all-without, no
 use Rattle.flow_regulations.proofs.Subjects.{subject-within}
 use Rattle.flow_regulations.proofs.Served.{greedy-none, IsFound, found, slot_in-after}
 
--- a slot list with these waiting and fixed flights
+-- a slot list with these provisional and frozen flights
 abbrev lined : Lineup → List Planned → List Placed → Lineup
 lined l ws fs = record { period = l.period; capacity = l.capacity; waiting = ws; fixed = fs }
 
@@ -48,7 +48,8 @@ pub record IsChanged (taxi max now n : ℕ) (before plans : List Plan) (l : List
   pub same : AreSameBut n before plans
   pub listed : IsListedIn taxi max before l
   pub settled_but : IsSettledBut n taxi now before l
-  -- where the flight keeps a slot, no flight keeps two; where the regulation applies to it, the period is regular
+  -- if the flight has a frozen slot, no flight has two; if the regulation applies to it, the period
+  -- is regular
   pub apart : (k : ℕ) → fixed_slot l.lineup n ≡ Some k → FixedApart l.lineup.fixed
   pub regular : (e : ℕ) → subject_to taxi (regulation_of l) p ≡ Some e → IsRegular l.lineup.period
 
@@ -59,7 +60,7 @@ module _ (taxi max now n : ℕ) (before plans : List Plan) (l : Listed) (p : Pla
   abbrev fs : List Placed
   fs = l.lineup.fixed
 
-  -- the other flights that wait
+  -- the other flights with provisional slots
   abbrev others : List Planned
   others = waiting_from 1 taxi r (mark n ∷ fs) before
 
@@ -72,7 +73,7 @@ module _ (taxi max now n : ℕ) (before plans : List Plan) (l : Listed) (p : Pla
   waiting-before : l.lineup.waiting ≡ with_entry (option_and_then (subject_to taxi r) (plan_at before n)) (has_flight n fs) n others
   waiting-before = ap (λ v. v.waiting) h.listed ∙ waiting-apart (n - 1) n 1 taxi r fs before (omega (arith, h.number))
 
-  -- the waiting flights now, whichever of the others are fixed
+  -- the flights with provisional slots now, whichever of the others are frozen
   waiting-now : (gs : List Placed) → ((f : ℕ) → has_flight f (mark n ∷ gs) ≡ has_flight f (mark n ∷ fs)) → waiting_from 1 taxi r gs plans ≡ with_entry (subject_to taxi r p) (has_flight n gs) n others
   waiting-now gs e =
       waiting-apart (n - 1) n 1 taxi r gs plans (omega (arith, h.number))
@@ -104,7 +105,7 @@ module _ (taxi max now n : ℕ) (before plans : List Plan) (l : Listed) (p : Pla
   capacity : l.lineup.capacity ≡ max
   capacity = ap (λ v. v.capacity) h.listed
 
-  -- where the flight keeps its slot, nothing changes
+  -- if the flight keeps its slot, nothing changes
   kept-slot : (k : ℕ) → slot_in n fs ≡ Some k → keeps taxi now r k p ≡ true → IsMade taxi max now plans l l.lineup.waiting fs
   kept-slot k at keeps_it =
       let own = one-slot n k fs (h.apart k at) at in
@@ -126,7 +127,7 @@ module _ (taxi max now n : ℕ) (before plans : List Plan) (l : Listed) (p : Pla
         waiting = subst Q (sym old) not-due;
       }
 
-  -- where it does not, its pair is dropped
+  -- if it does not, its pair is dropped
   gone : (o : Option ℕ) → slot_in n fs ≡ o → option_map_or (λ k. keeps taxi now r k p) o false ≡ false → AllByRecursion (λ a. a.flight ≡ n → stays taxi now plans r a ≡ false) fs
   gone None at e = all-map (λ a. a.flight ≡ n → ⊥) (λ a. a.flight ≡ n → stays taxi now plans r a ≡ false) fs (λ a ne q. absurd (ne q)) (slot_in-none n fs at)
   gone (Some k) at e =

@@ -1,4 +1,4 @@
--- A table that marks the open regulations by their places.
+-- A table of masks for the points of the open regulations.
 use Rattle.std.proofs.Common.{◌≡◌, ℕ, zero, suc, ◌+◌, ◌<◌, ◌≤◌, ◌++◌, Bool, true, false, ltb, List, [], ◌∷◌, length, map, take, get_or, Option, Some, None, refl, sym, ap, subst, ◌∙◌, arith}
 use Rattle.std.specs.Prelude.{IsSome, IfSome}
 use Rattle.std.specs.List.{remove}
@@ -14,7 +14,7 @@ use Rattle.flow_regulations.proofs.Walks.{written-back, walked-map, map-map}
 use Rattle.flow_regulations.proofs.Alls.{units}
 use Rattle.flow_regulations.proofs.Looked.{plan-there}
 
--- where the regulations are
+-- which regulations are where
 abbrev pub spots_in : List Listed → List Spot
 spots_in ls = map (λ l. l.spot) ls
 
@@ -27,7 +27,7 @@ pub rows-as : (olds news : List ℕ) (i : ℕ) (ls : List Listed) → ((r : ℕ)
 rows-as olds news i [] e a = tt
 rows-as olds news i (l ∷ ls) e a = (ap (λ w. may_stand w i) (e (row_of l.spot)) ∙ a.0, rows-as olds news (suc i) ls e a.1)
 
--- the same places
+-- the same points
 pub rows-there : (table : List ℕ) (i : ℕ) (os ns : List Listed) → spots_in ns ≡ spots_in os → AreInRows table i os → AreInRows table i ns
 rows-there table i os [] e a = tt
 rows-there table i [] (n ∷ ns) e a = absurd (let no : spots_in (n ∷ ns) ≡ [] = e in cc)
@@ -80,7 +80,7 @@ at table i zero k (l ∷ ls) d e h a =
     subst M same a.0
 at table i (suc j) k (l ∷ ls) d e h a = at table (suc i) j k ls d (omega (arith, e)) (omega (arith, h)) a.1
 
--- a word with the bits of the rows to which a flight comes marks the regulations that apply to it
+-- a mask with the bits of the rows of a flight's points has the regulations that apply to it
 pub marks-near : (taxi n near : ℕ) (table : List ℕ) (plans : List Plan) (ls : List Listed) → AreInRows table 0 ls
     → ((start end : ℕ) (spot : Spot) → IfSome (plan_at plans n) (λ p. IsSome (subject taxi spot start end p) → HasBitsOf near (word_at table (row_of spot))))
     → (p : Plan) → plan_at plans n ≡ Some p → MarksNear near taxi p ls
@@ -103,7 +103,7 @@ marks-near taxi n near table plans ls rows covers p there k d h out = cases (sub
       let row : may_stand (word_of table (row_of l.spot)) k ≡ true = at table 0 k k ls d (omega arith) h rows in
       absurd (true≢false (sym (stands-bit near k within (has k within (bit-stands (word_of table (row_of l.spot)) k within row))) ∙ out))
 
--- places that stay
+-- points that stay
 pub spots-alone : (n : ℕ) (os ns : List Listed) → map (without_in n) ns ≡ map (without_in n) os → spots_in ns ≡ spots_in os
 spots-alone n os ns e = map-map (without_in n) (λ l. l.spot) ns ∙ (ap spots_in e ∙ sym (map-map (without_in n) (λ l. l.spot) os))
 

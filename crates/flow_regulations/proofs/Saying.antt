@@ -1,4 +1,4 @@
--- What one plan is told, and that it is then quiet.
+-- What one plan is issued, and that it is then quiet.
 use Rattle.std.proofs.Common.{◌≡◌, cond, Bool, eqb, true, false, [], Option, None, Some, refl, ap}
 use Rattle.std.proofs.lemmas.Bool.{eq-eqb}
 use Rattle.flow_plans.specs.Plans.{Plan, is_departed}
@@ -7,7 +7,7 @@ use Rattle.flow_regulations.specs.declared.notice.Said.{Said}
 use Rattle.flow_regulations.specs.declared.notice.Said.TheVariants.{Srm}
 use Rattle.flow_regulations.specs.Notices.{says, told_then, notice_of, notices_to, told_to_plan}
 
--- where nothing is said, what was told stays
+-- if there is no notice, what was issued stays
 pub says-none : (t a : Option Told) → says t a ≡ None → told_then t a ≡ t
 says-none None None = λ e. refl
 says-none None (Some new) = λ e. cc
@@ -15,7 +15,7 @@ says-none (Some old) None = λ e. cc
 says-none (Some old) (Some new) =
     elim (eqb old.ctot new.ctot) as (λ b. cond b None (Some (Srm new)) ≡ None → cond b (Some old) (Some new) ≡ Some old) [ true ↦ (λ e. refl) | false ↦ (λ e. cc) ]
 
--- where something is said, the advice is told
+-- if there is a notice, the advice is issued
 pub says-some : (t a : Option Told) (s : Said) → says t a ≡ Some s → told_then t a ≡ a
 says-some None None s = λ e. cc
 says-some None (Some new) s = λ e. refl
@@ -38,12 +38,12 @@ notice-none : (p : Plan) (s : Option Said) → notice_of p s ≡ [] → s ≡ No
 notice-none p None e = refl
 notice-none p (Some s) e = cc
 
--- a plan that was told is quiet
+-- a plan that was issued its advice is quiet
 pub quiet-after : (p : Plan) (t a : Option Told) → notices_to p (told_to_plan p t a) a ≡ []
 quiet-after p t a =
     elim (is_departed p.state) as (λ b. cond b [] (notice_of p (says (cond b t (told_then t a)) a)) ≡ []) [ true ↦ refl | false ↦ ap (λ s. notice_of p s) (says-again t a) ]
 
--- and what a quiet plan was told stays
+-- and what was issued to a quiet plan stays
 pub quiet-told : (p : Plan) (t a : Option Told) → notices_to p t a ≡ [] → told_to_plan p t a ≡ t
 quiet-told p t a =
     elim (is_departed p.state) as (λ b. cond b [] (notice_of p (says t a)) ≡ [] → cond b t (told_then t a) ≡ t)

@@ -1,4 +1,5 @@
--- One flight is taken out of a slot list, put in and fixed: the others stay, and where it stood it comes back to.
+-- One flight is removed from a slot list, inserted and frozen: the others stay, and it can get back
+-- what it had.
 use Rattle.std.proofs.Common.{◌≡◌, ℕ, Bool, true, false, not, cond, eqb, ltb, List, [], ◌∷◌, Option, Some, None, refl, sym, ap, subst, ◌∙◌}
 use Rattle.std.specs.Option.{is_some}
 use Rattle.std.proofs.lemmas.Bool.{eq-eqb, eqb-true}
@@ -11,7 +12,7 @@ use Rattle.flow_slots.proofs.TakenBack.{removed-inserted}
 use Rattle.flow_regulations.specs.Listing.{Listed, with_lineup, placed, fixed_waiting}
 use Rattle.flow_regulations.proofs.Placing.{fixes-there}
 
--- a list without a flight, where the flight comes in or leaves
+-- a list without a flight, after the flight is inserted or removed
 without-twice : (f : ℕ) (ws : List Planned) → without f (without f ws) ≡ without f ws
 without-twice f [] = refl
 without-twice f (w ∷ ws) = cases (without-twice f ws) (eqb w.flight f) refl where
@@ -67,7 +68,7 @@ alone-placed None d f l = refl
 alone-placed (Some e) false f l = alone-waiting (record { entry = e; flight = f }) l
 alone-placed (Some e) true f l = alone-there (held_slot (with_waiting (record { entry = e; flight = f }) l) f) f (with_waiting (record { entry = e; flight = f }) l) ∙ alone-waiting (record { entry = e; flight = f }) l
 
--- a flight that waits isn't fixed
+-- a flight with a provisional slot isn't frozen
 waits-apart : (f e : ℕ) (fixed : List Placed) (ws : List Planned) → WaitingApart fixed ws → entry_in f ws ≡ Some e → NoneFixed f fixed
 waits-apart f e fixed [] a h = cc
 waits-apart f e fixed (w ∷ ws) a h = cases (waits-apart f e fixed ws a.2) (eqb w.flight f) refl h where
@@ -85,12 +86,12 @@ none-slot f (x ∷ xs) h = cases (none-slot f xs h.1) (eqb x.flight f) refl wher
 pub waits-unfixed : (f e : ℕ) (l : Lineup) → IsLineup l → waiting_entry l f ≡ Some e → fixed_slot l f ≡ None
 waits-unfixed f e l lined h = none-slot f l.fixed (waits-apart f e l.fixed l.waiting lined.waiting_apart h)
 
--- a flight that waits from its entry on already
+-- a flight with a provisional slot by its entry already
 pub stands : (d : Bool) (f e : ℕ) (l : Lineup) → IsLineup l → waiting_entry l f ≡ Some e → placed (Some e) d f (without_flight f l) ≡ cond d (fixed_waiting f l) l
 stands d f e l lined h =
     ap (λ v. cond d (fixed_there (held_slot v f) f v) v) (removed-inserted l (record { entry = e; flight = f }) lined h)
     ∙ ap (λ v. cond d v l) (sym (fixes-there f l (held_slot l f) (waits-unfixed f e l lined h) refl))
 
--- the flight is out, wherever it stood
+-- the flight is removed, whatever it had
 pub stands-out : (f : ℕ) (l t m : Listed) (o : Option ℕ) (d : Bool) → t ≡ with_lineup (without_flight f l.lineup) l → m ≡ with_lineup (placed o d f t.lineup) t → m ≡ with_lineup (placed o d f (without_flight f l.lineup)) l
 stands-out f l t m o d a b = b ∙ ap (λ v. with_lineup (placed o d f v.lineup) v) a

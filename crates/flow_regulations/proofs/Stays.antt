@@ -1,4 +1,4 @@
--- Advice that stays where a flight keeps its slots.
+-- Advice that stays if a flight keeps its slots.
 use Rattle.std.proofs.Common.{◌≡◌, ℕ, ◌-◌, cond, eqb, true, false, List, [], ◌∷◌, ◌++◌, Option, None, Some, IfSome, refl, sym, ap, ◌∙◌}
 use Rattle.std.specs.Option.{option_map}
 use Rattle.std.specs.List.{AllByRecursion}

@@ -1,4 +1,5 @@
--- For the callers of the regulations: which plans a message leaves as they were, and what a closing leaves.
+-- For the callers of the regulations: which plans a message leaves as they were, and what a closing
+-- leaves.
 use Rattle.std.proofs.Common.{◌≡◌, ℕ, zero, suc, ◌+◌, ◌-◌, ◌<◌, List, [], ◌∷◌, ◌++◌, length, true, false, Option, Some, None, refl, arith}
 use Rattle.std.specs.List.{slice_get}
 use Rattle.std.specs.Prelude.{slice_set}

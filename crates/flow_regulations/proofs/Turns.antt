@@ -1,4 +1,4 @@
--- Telling plan after plan, by rising number.
+-- Issuing slots plan after plan, by rising number.
 use Rattle.std.proofs.Common.{◌≡◌, ℕ, zero, suc, ◌+◌, ◌-◌, ◌<◌, ◌≤◌, ◌||◌, eqb, true, false, List, [], ◌∷◌, ◌++◌, length, get_or, drop, Option, Some, IfSome, refl, sym, ap, ◌∙◌, subst, arith, ⊎_elim, append_assoc, add-one}
 use Rattle.std.proofs.Math.ListN.{set, length-set}
 use Rattle.std.proofs.Math.Seq.{drop-cons}
@@ -21,7 +21,7 @@ use Rattle.flow_regulations.proofs.Advised.{plan_at-there}
 use Rattle.flow_regulations.proofs.Saying.{quiet-after, quiet-told}
 use Rattle.flow_regulations.proofs.Numbers.{said_along, told_along, QuietPlace, said-quiet, told-quiet, said-one, told-one, slice_get-set, slice_get-set_same}
 
--- what is said to a plan by these regulations, and what it is told
+-- the notice to a plan by these regulations, and what is issued to it
 abbrev pub say : ℕ → List Regulation → ℕ → Plan → Option Told → List Notice
 say taxi rs n p t = notices_to p t (advice taxi n p rs)
 
@@ -45,12 +45,12 @@ quiet-place taxi k rs ps ts h =
     let e : 1 + k - 1 ≡ k = omega arith in
     subst (λ (j : ℕ). IfSome (slice_get ps j) (λ p. IfSome (slice_get ts j) (λ t. say taxi rs (1 + k) p t ≡ []))) e h
 
--- where every plan is quiet, nothing is said
+-- if every plan is quiet, there is no notice
 pub AllQuiet-said : (taxi : ℕ) (rs : List Regulation) (ps : List Plan) (ts : List (Option Told)) → AllQuiet taxi rs ps ts → notices_from 1 taxi rs ps ts ≡ []
 AllQuiet-said taxi rs ps ts h =
     notices_from-is 1 taxi rs ps ts ∙ said-quiet (say taxi rs) 1 ps ts (λ k. quiet-place taxi k rs ps ts (h (1 + k) (omega arith)))
 
--- and what was told stays
+-- and what was issued stays
 pub AllQuiet-told : (taxi : ℕ) (rs : List Regulation) (ps : List Plan) (ts : List (Option Told)) → length ts ≡ length ps → AllQuiet taxi rs ps ts
     → told_from 1 taxi rs ps ts ≡ ts
 AllQuiet-told taxi rs ps ts e h =
@@ -68,7 +68,8 @@ absent-before : (x m : ℕ) (rest : List ℕ) → IsNonDecreasing (m ∷ rest) �
 absent-before x m rest rises lt =
     absent-below x (m ∷ rest) (λ k d l. (let le : m ≤ get_or (m ∷ rest) k d = rises zero k d (omega arith) l in omega arith))
 
--- plans are told so far: what is left to be said and told from here is what was left at first, and only the rest may not be quiet
+-- slots are issued so far: the notices that are left, and what is issued from here, are those that
+-- were left at first, and only the rest may not be quiet
 pub record IsTelling (taxi : ℕ) (rs : List Regulation) (ps : List Plan) (first : List (Option Told)) (begun : List Notice) (told : List (Option Told)) (notices : List Notice) (rest : List ℕ) : Type 0 where
   pub told_on : told_from 1 taxi rs ps told ≡ told_from 1 taxi rs ps first
   pub said_on : notices ++ notices_from 1 taxi rs ps told ≡ begun ++ notices_from 1 taxi rs ps first
@@ -81,7 +82,7 @@ said-new taxi m rs p t new is = ap (λ v. say taxi rs m p v) is ∙ quiet-after 
 told-again : (taxi m : ℕ) (rs : List Regulation) (p : Plan) (t new : Option Told) → new ≡ keep taxi rs m p t → keep taxi rs m p new ≡ keep taxi rs m p t
 told-again taxi m rs p t new is = quiet-told p new (advice taxi m p rs) (said-new taxi m rs p t new is) ∙ is
 
--- the plan that was told is quiet from then on, and the others as before
+-- the plan that was issued its advice is quiet from then on, and the others as before
 quiet-but : (taxi m : ℕ) (rs : List Regulation) (ps : List Plan) (told : List (Option Told)) (rest : List ℕ) (p : Plan) (t new : Option Told)
     → 0 < m → slice_get ps (m - 1) ≡ Some p → slice_get told (m - 1) ≡ Some t → say taxi rs m p new ≡ [] → AreQuietBut (m ∷ rest) taxi rs ps told
     → AreQuietBut rest taxi rs ps (set told (m - 1) new)

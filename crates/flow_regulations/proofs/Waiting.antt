@@ -1,4 +1,4 @@
--- The waiting flights of a regulation, when one flight's plan or slot changes.
+-- The flights with provisional slots in a regulation, when one flight's plan or slot changes.
 use Rattle.std.proofs.Common.{◌≡◌, ℕ, zero, suc, ◌+◌, ◌≤◌, ◌⊎◌, inl, inr, ◌||◌, Bool, true, false, cond, List, [], ◌∷◌, Option, Some, None, refl, sym, ap, ◌∙◌, arith}
 use Rattle.std.specs.List.{AllByRecursion, slice_get}
 use Rattle.std.specs.Option.{option_and_then}
@@ -31,7 +31,7 @@ all-insert P x (w ∷ ws) h a = cases (all-insert P x ws h a.1) (stands_before w
   cases again true = (a.0, again)
   cases again false = (h, a)
 
--- two flights come in in either order
+-- two flights may be inserted in either order
 pub insert-insert : (x y : Planned) (ws : List Planned) → (x.flight ≡ y.flight → ⊥) → insert x (insert y ws) ≡ insert y (insert x ws)
 insert-insert x y [] ne = cases (stands_before y x) (stands_before x y) refl refl where
   cases : (b c : Bool) → stands_before y x ≡ b → stands_before x y ≡ c → cond b (y ∷ x ∷ []) (x ∷ y ∷ []) ≡ cond c (x ∷ y ∷ []) (y ∷ x ∷ [])
@@ -73,7 +73,7 @@ without-with_entry None b f ws a = without-none f ws a
 without-with_entry (Some e) true f ws a = without-none f ws a
 without-with_entry (Some e) false f ws a = without-insert (record { entry = e; flight = f }) ws a
 
--- a pair of this flight, wherever
+-- a pair of this flight, at any index
 abbrev pub mark : ℕ → Placed
 mark n = record { flight = n; slot = 0 }
 
@@ -83,7 +83,7 @@ has-other f n fs ne = ap (λ b. b || has_flight f fs) (ne_eqb n f ne)
 pub has-here : (f n : ℕ) (fs : List Placed) → n ≡ f → has_flight f (mark n ∷ fs) ≡ true
 has-here f n fs e = ap (λ b. b || has_flight f fs) (eq-eqb n f e)
 
--- the waiting flights read of the fixed ones which they are
+-- the flights with provisional slots depend only on which flights are frozen
 pub waiting-fixed : (k taxi : ℕ) (r : Regulation) (fs gs : List Placed) (ps : List Plan) → ((f : ℕ) → k ≤ f → has_flight f fs ≡ has_flight f gs) → waiting_from k taxi r fs ps ≡ waiting_from k taxi r gs ps
 waiting-fixed k taxi r fs gs [] h = refl
 waiting-fixed k taxi r fs gs (p ∷ ps) h =
@@ -109,7 +109,7 @@ waiting-apart (suc i) n k taxi r fs (p ∷ ps) e =
     ∙ (with_entry-with_entry o q (has_flight k fs) (has_flight n fs) k n (waiting_from (k + 1) taxi r (mark n ∷ fs) ps) (λ q. omega (arith, e, q))
     ∙ ap (λ b. with_entry q (has_flight n fs) n (with_entry o b k (waiting_from (k + 1) taxi r (mark n ∷ fs) ps))) other)
 
--- the other flights read the other plans alone
+-- the other flights depend on the other plans alone
 pub waiting-others : (n k taxi : ℕ) (r : Regulation) (fs : List Placed) (ps qs : List Plan) → ((i : ℕ) → (k + i ≡ n → ⊥) → slice_get ps i ≡ slice_get qs i) → waiting_from k taxi r (mark n ∷ fs) ps ≡ waiting_from k taxi r (mark n ∷ fs) qs
 waiting-others n k taxi r fs [] [] h = refl
 waiting-others n k taxi r fs [] (q ∷ qs) h = cases (waiting-others n (k + 1) taxi r fs [] qs (λ i ne. h (suc i) (λ e. ne (omega (arith, e))))) (cases_eq n k) where
@@ -138,7 +138,7 @@ waiting-none n k taxi r fs (p ∷ ps) =
     all-with_entry (λ w. w.flight ≡ n → ⊥) (subject_to taxi r p) (has_flight k (mark n ∷ fs)) k (waiting_from (k + 1) taxi r (mark n ∷ fs) ps)
     (λ e _ not q. true≢false (sym (has-here k n fs (sym q)) ∙ not)) (waiting-none n (k + 1) taxi r fs ps)
 
--- a fact of all holds of those that were there before one came in
+-- a fact of all holds of those that were there before one was inserted
 all-insert-back : (P : Planned → Type 0) (x : Planned) (ws : List Planned) → AllByRecursion P (insert x ws) → AllByRecursion P ws
 all-insert-back P x [] a = tt
 all-insert-back P x (w ∷ ws) a = cases (λ h. all-insert-back P x ws h) (stands_before w x) a where
@@ -156,7 +156,7 @@ waiting-from j k taxi r fs [] h = tt
 waiting-from j k taxi r fs (p ∷ ps) h =
     all-with_entry (λ w. j ≤ w.flight) (subject_to taxi r p) (has_flight k fs) k (waiting_from (k + 1) taxi r fs ps) (λ _ _ _. h) (waiting-from j (k + 1) taxi r fs ps (omega arith))
 
--- of the regulation, only whom it applies to matters
+-- only the flights to which the regulation applies matter
 pub waiting-like : (k taxi : ℕ) (r s : Regulation) (fs : List Placed) (ps : List Plan) → ((p : Plan) → subject_to taxi r p ≡ subject_to taxi s p) → waiting_from k taxi r fs ps ≡ waiting_from k taxi s fs ps
 waiting-like k taxi r s fs [] h = refl
 waiting-like k taxi r s fs (p ∷ ps) h =

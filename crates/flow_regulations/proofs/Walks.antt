@@ -79,7 +79,7 @@ walked-then R S T f (suc n) [] (y ∷ ys) zs e w v = absurd w
 walked-then R S T f (suc n) (x ∷ xs) (y ∷ ys) [] e w v = absurd v
 walked-then R S T f (suc n) (x ∷ xs) (y ∷ ys) (z ∷ zs) e w v = (f x y z w.0 v.0, walked-then R S T f n xs ys zs (omega (arith, e)) w.1 v.1)
 
--- the next ones are as they were, and each may be replaced by itself
+-- the next ones are unchanged, and each may be replaced by itself
 pub walked-past : {X : Type 0} (R : X → X → Type 0) (i j : ℕ) (xs ys : List X) → ((k : ℕ) (d : X) → i ≤ k → k < j → k < length xs → R (get_or xs k d) (get_or xs k d)) → i ≤ j → Walked R i xs ys → Walked R j xs ys
 walked-past R zero zero xs ys f h w = w
 walked-past {X} R zero (suc j) [] ys f h w =

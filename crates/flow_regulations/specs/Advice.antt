@@ -1,4 +1,5 @@
--- The calculated take-off time: the most penalising regulation decides (ATFCM Users Manual, slot allocation).
+-- The calculated take-off time: the most penalising regulation decides (ATFCM Users Manual, slot
+-- allocation).
 use Rattle.std.specs.Prelude.{ℕ, ◌+◌, ◌-◌, ◌==◌, nat_lt, if◌then◌else◌, List, [], ◌∷◌, Option, Some, None}
 use Rattle.std.specs.Option.{option_map}
 use Rattle.flow_plans.specs.Plans.{Plan}
@@ -33,7 +34,7 @@ abbrev pub worst : ℕ → ℕ → Plan → List Regulation → Option Delay
 worst taxi flight p [] = None
 worst taxi flight p (r ∷ rs) = worse (option_map (caused_by r) (delay_in taxi flight p r)) (worst taxi flight p rs)
 
--- what a flight would be told; nothing where it is frozen nowhere
+-- the CTOT that a flight would be issued; none if it is frozen nowhere
 unfoldable pub advice : ℕ → ℕ → Plan → List Regulation → Option Told
 advice taxi flight p regulations =
     option_map (λ d. record { ctot = take_off taxi p + d.minutes; regulation = d.regulation }) (worst taxi flight p regulations)

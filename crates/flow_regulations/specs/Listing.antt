@@ -22,7 +22,7 @@ pub record Listed : Type 0 where
 abbrev pub regulation_of : Listed → Regulation
 regulation_of l = record { id = l.id; spot = l.spot; period = l.lineup.period; fixed = l.lineup.fixed }
 
--- the open regulations in order of opening, for how many there is room, and the greatest flight number
+-- the open regulations in order of opening, their capacity, and the greatest flight number
 pub record Listing : Type 0 where
   pub max_plans : ℕ
   pub lists : List Listed
@@ -38,7 +38,7 @@ IsListed taxi max plans lists = AllByRecursion (IsListedIn taxi max plans) lists
 abbrev pub is_due_flight : ℕ → List Plan → ℕ → Bool
 is_due_flight now plans flight = option_map_or (is_due now) (plan_at plans flight) false
 
--- the fixed flights may all keep their slots, and no waiting flight is due
+-- the frozen flights may all keep their slots, and no flight with a provisional slot is due
 pub record IsSettledIn (taxi now : ℕ) (plans : List Plan) (l : Listed) : Type 0 where
   pub fixed : AllByRecursion (λ a. (0 < a.flight) × (stays taxi now plans (regulation_of l) a ≡ true)) l.lineup.fixed
   pub waiting : AllByRecursion (λ w. is_due_flight now plans w.flight ≡ false) l.lineup.waiting
@@ -64,7 +64,8 @@ pub record IsRenewed (taxi max now : ℕ) (plans : List Plan) (l : Listed) (line
   pub listed : IsListedIn taxi max plans (with_lineup lineup l)
   pub settled_in : IsSettledIn taxi now plans (with_lineup lineup l)
 
--- the plans of all numbers but one are those before: a message changed that plan, or added it as the last
+-- the plans of all numbers but one are those before: a message changed that plan, or added it as
+-- the last
 abbrev pub AreSameBut : ℕ → List Plan → List Plan → Type 0
 AreSameBut number before plans = (flight : ℕ) → 0 < flight → (flight ≡ number → ⊥) → plan_at plans flight ≡ plan_at before flight
 
@@ -72,24 +73,25 @@ AreSameBut number before plans = (flight : ℕ) → 0 < flight → (flight ≡ n
 abbrev pub without_in : ℕ → Listed → Listed
 without_in flight l = with_lineup (without_flight flight l.lineup) l
 
--- whether a fixed flight keeps its slot
+-- whether a frozen flight keeps its slot
 abbrev pub keeps_slot : ℕ → ℕ → Regulation → ℕ → Plan → Lineup → Bool
 keeps_slot taxi now r flight p l = option_map_or (λ slot. keeps taxi now r slot p) (fixed_slot l flight) false
 
--- a flight waits from its entry on, and is fixed there if it is due
+-- a flight gets a slot by its entry, and is frozen in it if it is due
 abbrev pub placed : Option ℕ → Bool → ℕ → Lineup → Lineup
 placed None due flight l = l
 placed (Some entry) due flight l =
     let waits = with_waiting (record { entry = entry; flight = flight }) l in
     if due then fixed_there (held_slot waits flight) flight waits else waits
 
--- a slot list after one of its flights was looked at again
+-- a slot list after one of its flights was reallocated
 abbrev pub looked_again : ℕ → ℕ → Regulation → ℕ → Plan → Lineup → Lineup
 looked_again taxi now r flight p l =
     if keeps_slot taxi now r flight p l then l
     else placed (subject_to taxi r p) (is_due now p) flight (without_flight flight l)
 
--- the first ones were replaced in turn, each by one that is related to it, and the others are as they were
+-- the first ones were replaced in turn, each by one that is related to it, and the others are
+-- unchanged
 abbrev pub Walked : {X : Type 0} → (X → X → Type 0) → ℕ → List X → List X → Type 0
 Walked R zero xs ys = ys ≡ xs
 Walked R (suc i) [] [] = Unit {0}
@@ -114,7 +116,7 @@ pub record AreRenewed (taxi max now : ℕ) (plans : List Plan) (lists new : List
 abbrev pub HaveCapacity : ℕ → List Listed → Type 0
 HaveCapacity max lists = AllByRecursion (λ l. l.lineup.capacity ≡ max) lists
 
--- a slot list in which a flight is fixed where it waits, if it waits
+-- a slot list in which a flight's provisional slot is frozen, if it has one
 abbrev pub fixed_waiting : ℕ → Lineup → Lineup
 fixed_waiting flight l = if is_some (fixed_slot l flight) then l else fixed_there (held_slot l flight) flight l
 
@@ -124,8 +126,8 @@ pub record IsFrozen (taxi max flight : ℕ) (before : List Plan) (l : Listed) (l
   pub listed : IsListedIn taxi max before (with_lineup lineup l)
   pub settled_but : (now : ℕ) → IsSettledIn taxi now before l → IsSettledBut flight taxi now before (with_lineup lineup l)
 
--- what fixing a flight where it waits does to an open regulation; where the flight is held, none stood twice there and the period is
--- regular
+-- what freezing a flight's provisional slot does to an open regulation; if the flight is held, none
+-- was in the list twice and the period is regular
 pub record IsFixedWaiting (flight : ℕ) (l m : Listed) : Type 0 where
   pub same : m ≡ with_lineup (fixed_waiting flight l.lineup) l
   pub capacity : m.lineup.capacity ≡ l.lineup.capacity
@@ -138,7 +140,7 @@ pub record AreFrozen (taxi max flight : ℕ) (before : List Plan) (lists new : L
   pub listed : IsListed taxi max before new
   pub settled_but : (now : ℕ) → IsSettled taxi now before lists → AreSettledBut flight taxi now before new
 
--- all fixed flights may keep their slots at this time
+-- all frozen flights may keep their slots at this time
 abbrev pub AllStay : ℕ → ℕ → List Plan → Listed → Type 0
 AllStay taxi now plans l = AllByRecursion (λ a. (0 < a.flight) × (stays taxi now plans (regulation_of l) a ≡ true)) l.lineup.fixed
 
@@ -146,11 +148,11 @@ AllStay taxi now plans l = AllByRecursion (λ a. (0 < a.flight) × (stays taxi n
 abbrev pub AreUndue : ℕ → List Plan → List Planned → Type 0
 AreUndue now plans flights = AllByRecursion (λ w. is_due_flight now plans w.flight ≡ false) flights
 
--- no waiting flight is due
+-- no flight with a provisional slot is due
 abbrev pub NoneDue : ℕ → List Plan → Listed → Type 0
 NoneDue now plans l = AreUndue now plans l.lineup.waiting
 
--- on the way to the settled regulation: of these flights, those that are due are fixed
+-- part of the way to the settled regulation: of these flights, those that are due are frozen
 pub record IsAdvanced (done : ℕ → Bool) (taxi max now : ℕ) (plans : List Plan) (l m : Listed) : Type 0 where
   pub regulation : settled taxi now plans (regulation_of m) ≡ settled taxi now plans (regulation_of l)
   pub listed : IsListedIn taxi max plans m
@@ -170,7 +172,7 @@ is_below number flight = nat_lt flight number
 abbrev pub is_among : List ℕ → ℕ → Bool
 is_among numbers flight = is_in flight numbers
 
--- an open regulation in which these flights are fixed where they wait, one after the other
+-- an open regulation in which these flights' provisional slots are frozen, one after the other
 abbrev pub all_fixed_waiting : List ℕ → Lineup → Lineup
 all_fixed_waiting [] l = l
 all_fixed_waiting (n ∷ ns) l = all_fixed_waiting ns (fixed_waiting n l)
@@ -178,7 +180,7 @@ all_fixed_waiting (n ∷ ns) l = all_fixed_waiting ns (fixed_waiting n l)
 abbrev pub with_fixed_waiting : List ℕ → Listed → Listed
 with_fixed_waiting flights l = with_lineup (all_fixed_waiting flights l.lineup) l
 
--- a fixed flight waits again, if it has an entry
+-- a frozen flight has a provisional slot again, if it has an entry
 abbrev pub released : Option ℕ → ℕ → Lineup → Lineup
 released None flight l = l
 released (Some entry) flight l =
@@ -187,7 +189,7 @@ released (Some entry) flight l =
 abbrev pub released_in : ℕ → Plan → ℕ → Listed → Listed
 released_in taxi p flight l = with_lineup (released (subject_to taxi (regulation_of l) p) flight l.lineup) l
 
--- what letting a flight wait again does to an open regulation
+-- what making a flight's slot provisional again does to an open regulation
 pub record IsReleased (flight taxi : ℕ) (plans : List Plan) (l m : Listed) : Type 0 where
   pub id : m.id ≡ l.id
   pub same : (p : Plan) → plan_at plans flight ≡ Some p → m ≡ released_in taxi p flight l
@@ -206,12 +208,12 @@ HoldNewlyDue earlier now plans flights =
 abbrev pub with_no_flights : List ℕ → Spot → Period → ℕ → Listed
 with_no_flights id spot period max = record { id = id; spot = spot; lineup = record { period = period; capacity = max; waiting = []; fixed = [] } }
 
--- it with the flights of these plans waiting
+-- the same with the flights of these plans in provisional slots
 abbrev pub opened : ℕ → List Plan → Listed → Listed
 opened taxi plans l =
     with_lineup (record { period = l.lineup.period; capacity = l.lineup.capacity; waiting = waiting_from 1 taxi (regulation_of l) [] plans; fixed = [] }) l
 
--- one more regulation, the last, which is settled from no fixed flights
+-- one more regulation, the last, which is settled from no frozen flights
 abbrev pub IsOpened : ℕ → ℕ → ℕ → List Plan → Regulation → List Listed → List Listed → Type 0
 IsOpened taxi max now plans r lists new =
     (l : Listed) × (new ≡ lists ++ l ∷ []) × (regulation_of l ≡ settled taxi now plans r) × IsListedIn taxi max plans l × IsSettledIn taxi now plans l
@@ -231,7 +233,7 @@ abbrev pub AreApart : List (List ℕ) → Type 0
 AreApart [] = Unit {0}
 AreApart (x ∷ xs) = (list_any (λ y. bytes_eq y x) xs ≡ false) × AreApart xs
 
--- a closed regulation, with its place in the order of opening
+-- a closed regulation, with its index in the order of opening
 pub record Closing : Type 0 where
   pub index : ℕ
   pub listed : Listed
@@ -243,7 +245,7 @@ pub record MayReopen (closing : Closing) (listing : Listing) : Type 0 where
   pub name : list_any (is_named closing.listed.id) listing.lists ≡ false
   pub room : length listing.lists < listing.room
 
--- the regulation at this place has this name
+-- the regulation at this index has this name
 abbrev pub IsNamedAt : List ℕ → ℕ → List Listed → Type 0
 IsNamedAt id index lists = (index < length lists) × ((l : Listed) → is_named id (get_or lists index l) ≡ true)
 
@@ -252,7 +254,7 @@ abbrev pub lineup_named : List ℕ → List Listed → Option Lineup
 lineup_named id [] = None
 lineup_named id (l ∷ ls) = if is_named id l then Some l.lineup else lineup_named id ls
 
--- whether a flight keeps a slot in the first regulation of this name
+-- whether a flight has a frozen slot in the first regulation of this name
 abbrev pub keeps_slot_in : List ℕ → List Listed → ℕ → Bool
 keeps_slot_in id lists flight = option_map_or (λ l. is_some (fixed_slot l flight)) (lineup_named id lists) false
 

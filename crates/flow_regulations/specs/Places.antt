@@ -1,4 +1,4 @@
--- Where a flight stands in the slot lists, by which it is put back there.
+-- The state of a flight in slot lists, by which it is restored there.
 use Rattle.std.specs.Prelude.{◌≡◌, ℕ, ◌<◌, List, [], ◌∷◌, None, IfSome}
 use Rattle.std.specs.Option.{option_map_or}
 use Rattle.flow_slots.specs.Period.{IsWithin}
@@ -7,25 +7,26 @@ use Rattle.flow_regulations.specs.declared.places.Place.{Place}
 use Rattle.flow_regulations.specs.declared.places.Place.TheVariants as place
 use Rattle.flow_regulations.specs.Listing.{Listed}
 
--- where a flight stands in a slot list
+-- the state of a flight in a slot list
 abbrev pub place_in : ℕ → Lineup → Place
 place_in flight l =
     option_map_or (λ slot. place.Fixed slot) (fixed_slot l flight)
     (option_map_or (λ entry. place.Waiting entry) (waiting_entry l flight) place.Absent)
 
--- the slot list where it stands there
+-- the slot list after a flight that isn't held gets this state
 abbrev pub stood : Place → ℕ → Lineup → Lineup
 stood place.Absent flight l = l
 stood (place.Waiting entry) flight l = with_waiting (record { entry = entry; flight = flight }) l
 stood (place.Fixed slot) flight l = with_fixed (record { flight = flight; slot = slot }) l
 
--- a flight that isn't held may stand there
+-- a flight that isn't held may get this state
 abbrev pub MayStand : Place → Lineup → Type 0
 MayStand place.Absent l = Unit {0}
 MayStand (place.Waiting entry) l = IsWithin l.period entry
 MayStand (place.Fixed slot) l = (slot < len_of l) × IfSome (held_flight l slot) (λ holder. fixed_slot l holder ≡ None)
 
--- that is where the flight stands in an open regulation: taken out it may stand there again, and then the slot list is as it was
+-- the state of the flight in an open regulation: once removed, it may get this state again, and the
+-- slot list is then as it was
 pub record IsPlaceOf (flight : ℕ) (place : Place) (l : Listed) : Type 0 where
   pub is : place ≡ place_in flight l.lineup
   pub may : MayStand place (without_flight flight l.lineup)

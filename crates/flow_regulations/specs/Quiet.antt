@@ -1,4 +1,4 @@
--- When nothing is left to be said to plans.
+-- When no notice is pending to plans.
 use Rattle.std.specs.Prelude.{◌≡◌, ℕ, ◌-◌, ◌<◌, false, List, [], ◌∷◌, Option, Some, IfSome, slice_get}
 use Rattle.flow_plans.specs.Plans.{Plan, plan_at}
 use Rattle.flow_slots.specs.Assignment.{is_in}
@@ -8,11 +8,11 @@ use Rattle.flow_regulations.specs.Settling.{pairs_of}
 use Rattle.flow_regulations.specs.Advice.{advice}
 use Rattle.flow_regulations.specs.Notices.{notices_to}
 
--- a plan of this number that was last told this gets no notice
+-- a plan of this number with this CTOT last issued gets no notice
 abbrev pub IsQuiet : ℕ → ℕ → List Regulation → Plan → Option Told → Type 0
 IsQuiet taxi number regulations p told = notices_to p told (advice taxi number p regulations) ≡ []
 
--- what the plan of this number was last told
+-- the CTOT last issued to the plan of this number
 abbrev pub told_at : List (Option Told) → ℕ → Option (Option Told)
 told_at told number = slice_get told (number - 1)
 
@@ -20,7 +20,7 @@ abbrev pub IsQuietAt : ℕ → List Regulation → List Plan → List (Option To
 IsQuietAt taxi regulations plans told number =
     IfSome (plan_at plans number) (λ p. IfSome (told_at told number) (λ t. IsQuiet taxi number regulations p t))
 
--- no plan gets a notice, but for those of these numbers
+-- no plan gets a notice, except those of these numbers
 abbrev pub AreQuietBut : List ℕ → ℕ → List Regulation → List Plan → List (Option Told) → Type 0
 AreQuietBut changed taxi regulations plans told =
     (number : ℕ) → 0 < number → is_in number changed ≡ false → IsQuietAt taxi regulations plans told number
@@ -37,7 +37,7 @@ KeepsSlots flight (r ∷ rs) (s ∷ ss) =
     (r.id ≡ s.id) × (r.spot ≡ s.spot) × (r.period ≡ s.period) × (pairs_of flight r.fixed ≡ pairs_of flight s.fixed)
     × KeepsSlots flight rs ss
 
--- a plan is as before, what it was last told is, and so is its advice
+-- a plan is unchanged, with the CTOT last issued to it and its advice
 abbrev pub IsUntouched : ℕ → List Regulation → List Plan → List (Option Told) → List Regulation → List Plan → List (Option Told) → ℕ → Type 0
 IsUntouched taxi before plans told after plans_after told_after number =
     (plan_at plans_after number ≡ plan_at plans number)

@@ -1,4 +1,5 @@
--- Regulations, and the flights that wait in them (ATFCM Users Manual, slot allocation).
+-- Regulations, and the flights with provisional slots in them (ATFCM Users Manual, slot
+-- allocation).
 use Rattle.std.specs.Prelude.{◌≡◌, ℕ, ◌+◌, ◌<◌, ◌≤◌, Bool, ◌==◌, if◌then◌else◌, List, [], ◌∷◌, Option, Some, None}
 use Rattle.std.specs.List.{list_any}
 use Rattle.fpl_message.specs.declared.order.Spot.{Spot}
@@ -10,14 +11,14 @@ use Rattle.flow_slots.specs.Order.{insert}
 use Rattle.flow_slots.specs.Assignment.{Placed}
 use Rattle.flow_slots.specs.Lineup.{Lineup}
 
--- an open regulation, with the flights that keep their slots in it, by slot
+-- an open regulation, with the flights that have frozen slots in it, by slot
 pub record Regulation : Type 0 where
   pub id : List ℕ
   pub spot : Spot
   pub period : Period
   pub fixed : List Placed
 
--- the entry of a flight that the regulation applies to
+-- the entry of a flight to which the regulation applies
 abbrev pub subject_to : ℕ → Regulation → Plan → Option ℕ
 subject_to taxi r plan = subject taxi r.spot r.period.start r.period.end plan
 
@@ -29,28 +30,29 @@ AppliesToNone from to taxi r plans =
 abbrev pub has_flight : ℕ → List Placed → Bool
 has_flight flight placed = list_any (λ a. a.flight == flight) placed
 
--- one more waiting flight, where it enters and keeps no slot
+-- one more flight with a provisional slot, if it enters and has no frozen one
 abbrev pub with_entry : Option ℕ → Bool → ℕ → List Planned → List Planned
 with_entry None keeps flight others = others
 with_entry (Some entry) keeps flight others =
     if keeps then others else insert (record { entry = entry; flight = flight }) others
 
--- of the plans numbered from n, those that the regulation applies to and that keep no slot, in the order
+-- of the plans numbered from n, those to which the regulation applies and that have no frozen slot,
+-- in the order
 abbrev pub waiting_from : ℕ → ℕ → Regulation → List Placed → List Plan → List Planned
 waiting_from n taxi r fixed [] = []
 waiting_from n taxi r fixed (p ∷ ps) =
     with_entry (subject_to taxi r p) (has_flight n fixed) n (waiting_from (n + 1) taxi r fixed ps)
 
--- one more flight, where it enters
+-- one more flight, if it enters
 abbrev pub entering : Option ℕ → ℕ → List Planned → List Planned
 entering None flight others = others
 entering (Some entry) flight others = record { entry = entry; flight = flight } ∷ others
 
--- of the plans numbered from n, those that the regulation applies to, by number
+-- of the plans numbered from n, those to which the regulation applies, by number
 abbrev pub coming_from : ℕ → ℕ → Regulation → List Plan → List Planned
 coming_from n taxi r [] = []
 coming_from n taxi r (p ∷ ps) = entering (subject_to taxi r p) n (coming_from (n + 1) taxi r ps)
 
--- what the slot list of a regulation stands for
+-- the slot list of a regulation
 abbrev pub lineup_of : ℕ → ℕ → List Plan → Regulation → Lineup
 lineup_of taxi max plans r = record { period = r.period; capacity = max; waiting = waiting_from 1 taxi r r.fixed plans; fixed = r.fixed }

@@ -1,4 +1,5 @@
--- Freezing: a slot is issued two hours before the off-block moment, and kept from then on (ATFCM Users Manual, slot issue).
+-- Freezing: a slot is issued two hours before the off-block time, and kept from then on (ATFCM
+-- Users Manual, slot issue).
 use Rattle.std.specs.Prelude.{ℕ, ◌+◌, Bool, false, ◌&&◌, ◌||◌, ◌==◌, if◌then◌else◌, nat_le, List, [], ◌∷◌, filter}
 use Rattle.std.specs.Option.{option_map_or}
 use Rattle.flow_plans.specs.Plans.{Plan, plan_at, is_filed, is_departed}
@@ -8,11 +9,12 @@ use Rattle.flow_slots.specs.Lineup.{insert_fixed, assigned}
 use Rattle.flow_regulations.specs.Regulations.{Regulation, subject_to, has_flight, waiting_from, lineup_of}
 use Rattle.flow_regulations.specs.declared.due.TheConstants.{ISSUE_LEAD}
 
--- a filed flight is due from two hours before its off-block moment on
+-- a filed flight is due from two hours before its off-block time on
 abbrev pub is_due : ℕ → Plan → Bool
 is_due now p = is_filed p.state && nat_le p.off_block (now + ISSUE_LEAD)
 
--- a flight keeps its slot when it has departed, or while it is subject and due and its slot is not before its entry
+-- a flight keeps its slot when it has departed, or while it is subject and due and its slot is not
+-- before its entry
 abbrev pub keeps : ℕ → ℕ → Regulation → ℕ → Plan → Bool
 keeps taxi now r slot p =
     is_departed p.state
@@ -27,7 +29,7 @@ kept taxi now plans r = filter (stays taxi now plans r) r.fixed
 abbrev pub is_due_at : ℕ → List Plan → Placed → Bool
 is_due_at now plans a = option_map_or (is_due now) (plan_at plans a.flight) false
 
--- more fixed flights, each at its place by slot
+-- more frozen flights, each inserted by its slot
 abbrev pub insert_all : List Placed → List Placed → List Placed
 insert_all [] fixed = fixed
 insert_all (a ∷ others) fixed = insert_all others (insert_fixed a fixed)
@@ -36,7 +38,7 @@ insert_all (a ∷ others) fixed = insert_all others (insert_fixed a fixed)
 abbrev pub assigned_around : ℕ → List Plan → Regulation → List Placed → List Placed
 assigned_around taxi plans r fixed = greedy (λ e. first_slot r.period e) (slots fixed) (waiting_from 1 taxi r fixed plans)
 
--- the regulation after its flights were looked at afresh: of those assigned, the due ones are frozen
+-- the regulation after all its flights were reallocated: of those assigned, the due ones are frozen
 unfoldable pub settled : ℕ → ℕ → List Plan → Regulation → Regulation
 settled taxi now plans r =
     let fixed = kept taxi now plans r in

@@ -1,4 +1,4 @@
-//! What flights are to be told of their slots.
+//! The slot that flights are to be issued, by their most penalising regulation.
 ghost use Rattle.std.specs.Prelude.{◌≡◌, ◌+◌, ◌-◌, ◌<◌, ◌≤◌, length, map, IfSome};
 ghost use Rattle.std.specs.Option.{option_map};
 ghost use Rattle.flow_plans.specs.Plans.{plan_at};
@@ -25,9 +25,10 @@ pub(crate) struct Delay {
     pub(crate) regulation: Text<8>,
 }
 
-/// The moment of the slot that a flight keeps.
+/// The time of a flight's frozen slot.
 fn fixed_moment<A: Allocator + Copy>(list: &SlotList<A>, flight: u32) -> Option<Minute>
-    ensures { result ≡ option_map (slot_time list.now.lineup.period) (fixed_slot list.now.lineup flight) }
+    ensures { result ≡ option_map (slot_time list.now.lineup.period)
+        (fixed_slot list.now.lineup flight) }
 {
     if !list.is_fixed(flight) {
         return None;
@@ -36,7 +37,8 @@ fn fixed_moment<A: Allocator + Copy>(list: &SlotList<A>, flight: u32) -> Option<
     Some(list.shape().slot_time(slot))
 }
 
-/// The delay that the slot gives which a flight keeps in a regulation: the slot less the entry.
+/// The delay that a flight's frozen slot gives in a regulation: the time of the slot less the
+/// entry.
 fn delay_in<A: Allocator + Copy>(
     regulation: &Regulation<A>,
     plans: &PlanStore<A>,
@@ -75,9 +77,10 @@ pub(crate) fn worse(first: Option<Delay>, later: Option<Delay>) -> Option<Delay>
     }
 }
 
-/// What the flight of a plan is to be told: its take-off delayed by the most penalising of the regulations where it
-/// keeps a slot, of equal ones by the one opened first, and the name of that one. None where it keeps no slot. The
-/// regulations stand in the order of opening. The word marks those where the flight may be held: no other is asked.
+/// The slot that the flight of plan `number` is to be issued: its take-off delayed by the most
+/// penalising of the regulations in which it has a frozen slot, of equal ones by the one opened
+/// first, and the name of that one. `None` if it has no frozen slot. The regulations are in the
+/// order of opening. `word` is the bit mask of those that may hold the flight: no other is read.
 pub(crate) fn advice_of<A: Allocator + Copy>(
     regulations: &[Regulation<A>],
     plans: &PlanStore<A>,

@@ -4,7 +4,8 @@ use crate::regulation::Regulation;
 use std::alloc::{Allocator, Global};
 use std::marker::Model;
 
-/// A regulation that was closed, with its slot list and its place in the order of opening, by which it is opened again.
+/// A regulation that was closed, with its slot list and its index in the order of opening, by which
+/// it is opened again.
 #[derive(Drop)]
 pub struct Closed<A: Allocator + Copy = Global> {
     pub(crate) index: usize,

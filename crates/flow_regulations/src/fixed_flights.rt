@@ -1,4 +1,4 @@
-//! The flights that keep slots.
+//! The flights with frozen slots.
 ghost use Rattle.std.specs.Prelude.{ℕ, OnOk, IsSome};
 ghost use Rattle.std.specs.List.{All, Contains};
 ghost use Rattle.std.specs.List.Sorted.{IsStrictlyIncreasing};
@@ -7,14 +7,17 @@ ghost use Rattle.flow_slots.specs.Lineup.{fixed_slot};
 use flow_slots::SlotList;
 use std::alloc::{AllocError, Allocator};
 
-/// Notes the flights that keep slots in a slot list, by rising number. Refused where memory is.
+/// Appends the flights with frozen slots in a slot list, by rising number. Returns `Err` if
+/// allocation fails.
 pub(crate) fn note_fixed<A: Allocator + Copy>(
     list: &SlotList<A>,
     flights: &mut Vec<u32, A>,
 ) -> Result<(), AllocError>
     ensures rising { OnOk result (IsStrictlyIncreasing flights.new.items) }
-    ensures each { OnOk result (All (λ n. IsSome (fixed_slot list.now.lineup n)) flights.new.items) }
-    ensures all { OnOk result ((n : ℕ) → IsSome (fixed_slot list.now.lineup n) → Contains flights.new.items n) }
+    ensures each { OnOk result
+        (All (λ n. IsSome (fixed_slot list.now.lineup n)) flights.new.items) }
+    ensures all { OnOk result
+        ((n : ℕ) → IsSome (fixed_slot list.now.lineup n) → Contains flights.new.items n) }
 {
     flights.clear();
     if list.keeps_none() {

@@ -1,9 +1,11 @@
-//! Where flights may be held: for each flight, by its number, a mask of the regulations that may hold it. If a bit isn't
-//! set, the flight isn't held there, and the slot list need not be asked.
+//! Which regulations may hold flights: for each flight, by its number, a bit mask of the
+//! regulations that may hold it. If a bit isn't set, the flight isn't held there, and the slot list
+//! need not be searched.
 ghost use Rattle.std.specs.Prelude.{◌≡◌, ◌<◌, ◌++◌, ◌∷◌, [], ℕ, List, false, map};
 ghost use Rattle.std.specs.List.{remove};
 ghost use Rattle.flow_regulations.specs.Listing.{Listed, without_in};
-ghost use Rattle.flow_regulations.specs.Marks.{may_stand, word_of, IsMarked, AreMarked, Keeps, KeepsBelow, IsOut};
+ghost use Rattle.flow_regulations.specs.Marks.{may_stand, word_of, IsMarked, AreMarked};
+ghost use Rattle.flow_regulations.specs.Marks.{Keeps, KeepsBelow, IsOut};
 ghost use Rattle.flow_regulations.specs.Marks.{IsOpenedTo};
 
 use crate::mask::{close_place, make_room, may_stand, with_mark, word_of};
@@ -11,7 +13,8 @@ use crate::regulation::Regulation;
 use std::alloc::{AllocError, Allocator, Global};
 use std::marker::Model;
 
-/// For each flight a mask of the regulations that may hold it. Contracts see the masks, by number.
+/// For each flight a bit mask of the regulations that may hold it. Contracts see the masks, by
+/// number.
 #[derive(Drop)]
 pub(crate) struct HeldMarks<A: Allocator + Copy = Global> {
     words: Vec<u64, A>,
@@ -26,7 +29,7 @@ impl<A: Allocator + Copy> Model for HeldMarks<A> {
 }
 
 impl<A: Allocator + Copy> HeldMarks<A> {
-    /// No masks: each flight may be held in each regulation. It takes no memory.
+    /// No masks: each flight may be held in each regulation. Allocates nothing.
     pub(crate) fn new(alloc: A) -> Self
         ensures { (lists : List Listed) → AreMarked result lists }
     {
@@ -38,36 +41,41 @@ impl<A: Allocator + Copy> HeldMarks<A> {
     /// The mask of a flight.
     #[inline]
     pub(crate) fn of(&self, flight: u32) -> u64
-        ensures { (lists : List Listed) → AreMarked self.now lists → IsMarked result flight 0 lists }
+        ensures { (lists : List Listed) → AreMarked self.now lists
+            → IsMarked result flight 0 lists }
     {
         word_of(&self.words, flight)
     }
 
-    /// Makes the masks of the flights up to the last, if there are none. Returns `Err` if allocation fails.
+    /// Makes the masks of the flights up to number `last`, if there are none. Returns `Err` if
+    /// allocation fails.
     pub(crate) fn make(&mut self, alloc: A, last: u32) -> Result<(), AllocError>
         ensures { (lists : List Listed) → AreMarked self.old lists → AreMarked self.new lists }
     {
         make_room(&mut self.words, alloc, last)
     }
 
-    /// Sets the mask of a flight, the one that was touched in the regulations since.
+    /// Sets the mask of a flight, the only one that the regulations changed since.
     pub(crate) fn set(&mut self, flight: u32, word: u64)
-        ensures { (before lists : List Listed) → map (without_in flight) lists ≡ map (without_in flight) before
+        ensures { (before lists : List Listed)
+            → map (without_in flight) lists ≡ map (without_in flight) before
             → IsMarked word flight 0 lists → AreMarked self.old before → AreMarked self.new lists }
     {
         set_word(&mut self.words, flight, word);
     }
 
-    /// Marks the flights of a regulation that is opened after these.
+    /// Sets the bits for a regulation that is opened after these.
     pub(crate) fn open(&mut self, regulations: &[Regulation<A>], opened: &Regulation<A>)
-        ensures { AreMarked self.old regulations.now → AreMarked self.new (regulations.now ++ opened.now ∷ []) }
+        ensures { AreMarked self.old regulations.now
+            → AreMarked self.new (regulations.now ++ opened.now ∷ []) }
     {
         open_place(&mut self.words, regulations.len(), opened);
     }
 
-    /// Follows the regulations if the one at this index is closed.
+    /// Removes the bits of the regulation at this index, which is closed.
     pub(crate) fn close(&mut self, index: usize)
-        ensures { (lists : List Listed) → AreMarked self.old lists → AreMarked self.new (remove lists index) }
+        ensures { (lists : List Listed) → AreMarked self.old lists
+            → AreMarked self.new (remove lists index) }
     {
         close_place(&mut self.words, index);
     }
@@ -80,7 +88,7 @@ impl<A: Allocator + Copy> HeldMarks<A> {
     }
 }
 
-/// Sets the word of a flight, where it has one.
+/// Sets the mask of a flight, if it has one.
 pub(crate) fn set_word(words: &mut [u64], flight: u32, word: u64)
     ensures others { (f : ℕ) → (f ≡ flight → ⊥) → word_of words.new f ≡ word_of words.old f }
     ensures one { Keeps word (word_of words.new flight) }
@@ -91,9 +99,10 @@ pub(crate) fn set_word(words: &mut [u64], flight: u32, word: u64)
     }
 }
 
-/// Marks the flights of a regulation that is opened at this place, the last.
+/// Sets the bits for a regulation that is opened at this index, the last.
 fn open_place<A: Allocator + Copy>(words: &mut [u64], index: usize, regulation: &Regulation<A>)
-    ensures { (f : ℕ) → IsOpenedTo index regulation.now f (word_of words.old f) (word_of words.new f) }
+    ensures { (f : ℕ) → IsOpenedTo index regulation.now f (word_of words.old f)
+        (word_of words.new f) }
 {
     if index >= 64 {
         return;
@@ -102,9 +111,9 @@ fn open_place<A: Allocator + Copy>(words: &mut [u64], index: usize, regulation: 
     mark_held(words, index, regulation);
 }
 
-/// Clears the marks from this place on, where all flights have the first of them. No flight has the number 0, so its
-/// word tells: it has the marks that all flights were given when the words were made or a regulation was closed, and no
-/// others.
+/// Clears the bits from this index on, if all masks have the first of them set. No flight has the
+/// number 0, so its mask shows that: it has the bits that all flights were given when the masks
+/// were made or a regulation was closed, and no others.
 fn clear_from(words: &mut [u64], index: usize)
     requires { index < 64 }
     ensures { (f : ℕ) → KeepsBelow index (word_of words.old f) (word_of words.new f) }
@@ -117,10 +126,11 @@ fn clear_from(words: &mut [u64], index: usize)
     }
 }
 
-/// Marks the flights that a regulation at this place holds.
+/// Sets the bit of the regulation at this index in the masks of the flights that it holds.
 fn mark_held<A: Allocator + Copy>(words: &mut [u64], index: usize, regulation: &Regulation<A>)
     ensures kept { (f : ℕ) → Keeps (word_of words.old f) (word_of words.new f) }
-    ensures marked { (f : ℕ) → may_stand (word_of words.new f) index ≡ false → IsOut f regulation.now }
+    ensures marked { (f : ℕ) → may_stand (word_of words.new f) index ≡ false
+        → IsOut f regulation.now }
 {
     let last = regulation.last();
     let mut number = regulation.next_held(0);

@@ -1,6 +1,7 @@
-//! Laws over the definitions that the contracts cite: which frozen slots stay, and which plans need not be looked at
-//! when plans are told their slots.
-ghost use Rattle.std.specs.Prelude.{◌≡◌, ℕ, ◌<◌, ◌++◌, ◌∷◌, [], true, false, List, Option, None, length};
+//! Laws over the definitions that the contracts cite: which frozen slots stay, and which plans need
+//! not be read when slots are issued.
+ghost use Rattle.std.specs.Prelude.{◌≡◌, ℕ, ◌<◌, ◌++◌, ◌∷◌, []};
+ghost use Rattle.std.specs.Prelude.{true, false, List, Option, None, length};
 ghost use Rattle.std.specs.List.{AllByRecursion};
 ghost use Rattle.flow_plans.specs.Plans.{Plan, is_departed};
 ghost use Rattle.flow_slots.specs.Assignment.{Placed, is_in};
@@ -9,74 +10,92 @@ ghost use Rattle.flow_regulations.specs.Settling.{pairs_of, stays, settled, froz
 ghost use Rattle.flow_regulations.specs.Listing.{HasPair};
 ghost use Rattle.flow_regulations.specs.Advice.{advice};
 ghost use Rattle.flow_regulations.specs.Notices.{told_to_plan, notices_from, told_from};
-ghost use Rattle.flow_regulations.specs.Quiet.{IsQuiet, AreQuietBut, AllQuiet, KeepsSlots, IsUntouched};
+ghost use Rattle.flow_regulations.specs.Quiet.{IsQuiet, AreQuietBut, AllQuiet};
+ghost use Rattle.flow_regulations.specs.Quiet.{KeepsSlots, IsUntouched};
 ghost use Rattle.flow_regulations.specs.declared.notice.Told.{Told};
 
-/// A frozen flight keeps its slot while it has departed, or is filed, subject and due with a slot that is not before
-/// its entry: settling takes no other pair away, and the departure of any flight takes none.
+/// A frozen flight keeps its slot while it has departed, or is filed, subject and due with a slot
+/// that is not before its entry: settling removes no other pair, and the departure of any flight
+/// removes none.
 pub fn frozen_pairs_stay()
     ensures settling { (taxi now : ℕ) (plans : List Plan) (r : Regulation) (a : Placed)
-        → stays taxi now plans r a ≡ true → HasPair a r.fixed → HasPair a (settled taxi now plans r).fixed }
+        → stays taxi now plans r a ≡ true → HasPair a r.fixed
+        → HasPair a (settled taxi now plans r).fixed }
     ensures departing { (taxi max flight : ℕ) (before : List Plan) (r : Regulation) (a : Placed)
         → HasPair a r.fixed → HasPair a (frozen_at_departure taxi max before flight r).fixed }
 {}
 
-/// A plan whose record, told time and frozen slots are as before stays one to which nothing is to be said.
+/// A plan to which no notice is pending stays one while the plan, the CTOT last issued to it and
+/// its frozen slots are unchanged.
 pub fn quiet_stays()
-    ensures advice { (taxi number : ℕ) (p : Plan) (before after : List Regulation) → KeepsSlots number before after
+    ensures advice { (taxi number : ℕ) (p : Plan) (before after : List Regulation)
+        → KeepsSlots number before after
         → advice taxi number p after ≡ advice taxi number p before }
-    ensures quiet { (taxi number : ℕ) (p : Plan) (told : Option Told) (before after : List Regulation)
+    ensures quiet { (taxi number : ℕ) (p : Plan) (told : Option Told)
+        (before after : List Regulation)
         → KeepsSlots number before after
         → IsQuiet taxi number before p told → IsQuiet taxi number after p told }
 {}
 
-/// Where nothing was to be said to any plan, nothing is to be said to those that are as before, whose told time is and
-/// whose advice is.
+/// If no notice was pending, none is pending to the plans that are unchanged, with the CTOT last
+/// issued to them and their advice.
 pub fn untouched_are_quiet()
-    ensures { (taxi : ℕ) (changed : List ℕ) (before : List Regulation) (plans : List Plan) (told : List (Option Told))
+    ensures { (taxi : ℕ) (changed : List ℕ) (before : List Regulation) (plans : List Plan)
+        (told : List (Option Told))
         (after : List Regulation) (plans_after : List Plan) (told_after : List (Option Told))
         → ((number : ℕ) → 0 < number → is_in number changed ≡ false
         → IsUntouched taxi before plans told after plans_after told_after number)
         → AllQuiet taxi before plans told → AreQuietBut changed taxi after plans_after told_after }
 {}
 
-/// A regulation in which the flight has no frozen slot makes no difference to its advice: it may be opened or shut.
+/// A regulation in which the flight has no frozen slot makes no difference to its advice: it may be
+/// opened or shut.
 pub fn other_regulation()
     ensures { (taxi number : ℕ) (p : Plan) (r : Regulation) (before after : List Regulation)
         → pairs_of number r.fixed ≡ []
         → advice taxi number p (before ++ r ∷ after) ≡ advice taxi number p (before ++ after) }
 {}
 
-/// To a departed plan nothing is to be said, and what it was told stays.
+/// No notice is pending to a departed plan, and the CTOT last issued to it stays.
 pub fn departed_is_quiet()
-    ensures quiet { (taxi number : ℕ) (regulations : List Regulation) (p : Plan) (told : Option Told)
+    ensures quiet { (taxi number : ℕ) (regulations : List Regulation) (p : Plan)
+        (told : Option Told)
         → is_departed p.state ≡ true
         → IsQuiet taxi number regulations p told }
-    ensures stays { (taxi number : ℕ) (regulations : List Regulation) (p : Plan) (told : Option Told)
-        → IsQuiet taxi number regulations p told → told_to_plan p told (advice taxi number p regulations) ≡ told }
+    ensures stays { (taxi number : ℕ) (regulations : List Regulation) (p : Plan)
+        (told : Option Told)
+        → IsQuiet taxi number regulations p told
+        → told_to_plan p told (advice taxi number p regulations) ≡ told }
 {}
 
-/// Where nothing is to be said to any plan, nothing is said, and what the plans were told stays.
+/// If no notice is pending to any plan, none is issued, and the CTOTs last issued stay.
 pub fn telling_again()
-    ensures says { (taxi : ℕ) (regulations : List Regulation) (plans : List Plan) (told : List (Option Told))
+    ensures says { (taxi : ℕ) (regulations : List Regulation) (plans : List Plan)
+        (told : List (Option Told))
         → AllQuiet taxi regulations plans told → notices_from 1 taxi regulations plans told ≡ [] }
-    ensures stays { (taxi : ℕ) (regulations : List Regulation) (plans : List Plan) (told : List (Option Told))
+    ensures stays { (taxi : ℕ) (regulations : List Regulation) (plans : List Plan)
+        (told : List (Option Told))
         → length told ≡ length plans → AllQuiet taxi regulations plans told
         → told_from 1 taxi regulations plans told ≡ told }
 {}
 
-/// A flight that has no frozen slot in any regulation is to be told nothing.
+/// A flight that has no frozen slot in any regulation is to be issued none.
 pub fn nowhere_frozen()
     ensures { (taxi number : ℕ) (p : Plan) (regulations : List Regulation)
-        → AllByRecursion (λ r. pairs_of number r.fixed ≡ []) regulations → advice taxi number p regulations ≡ None }
+        → AllByRecursion (λ r. pairs_of number r.fixed ≡ []) regulations
+        → advice taxi number p regulations ≡ None }
 {}
 
-/// A flight keeps its slots where nothing changes, over one change after another, and over two lists of regulations
-/// where it does over each.
+/// A flight keeps its slots if nothing changes, over one change after another, and over two lists
+/// of regulations if it does over each.
 pub fn slots_are_kept()
-    ensures same { (number : ℕ) (regulations : List Regulation) → KeepsSlots number regulations regulations }
-    ensures in_turn { (number : ℕ) (first middle last : List Regulation) → KeepsSlots number first middle
+    ensures same { (number : ℕ) (regulations : List Regulation)
+        → KeepsSlots number regulations regulations }
+    ensures in_turn { (number : ℕ) (first middle last : List Regulation)
+        → KeepsSlots number first middle
         → KeepsSlots number middle last → KeepsSlots number first last }
-    ensures joined { (number : ℕ) (before after others others_after : List Regulation) → KeepsSlots number before after
-        → KeepsSlots number others others_after → KeepsSlots number (before ++ others) (after ++ others_after) }
+    ensures joined { (number : ℕ) (before after others others_after : List Regulation)
+        → KeepsSlots number before after
+        → KeepsSlots number others others_after
+        → KeepsSlots number (before ++ others) (after ++ others_after) }
 {}

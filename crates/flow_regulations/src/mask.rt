@@ -1,8 +1,9 @@
-//! Masks of regulations.
+//! Bit masks of regulations.
 //!
-//! A mask is a word of which each bit is for one of the first 64 open regulations, in the order of opening. A bit that
-//! isn't set says something of its regulation; one that is set says nothing, and nothing is said of the regulations from
-//! the 65th on. A list of masks says nothing at an index that it doesn't have.
+//! A mask is a word in which each bit is for one of the first 64 open regulations, in the order of
+//! opening. A bit that isn't set says something of its regulation; one that is set says nothing,
+//! and nothing is said of the regulations from the 65th on. A list of masks says nothing at an
+//! index that it doesn't have.
 ghost use Rattle.std.specs.Prelude.{◌≡◌, ◌<◌, ◌≤◌, ℕ, true, false};
 ghost use Rattle.flow_regulations.specs.Marks.{may_stand, word_of, Keeps, KeepsBelow, MovesUp};
 
@@ -19,7 +20,7 @@ pub(crate) fn word_of(words: &[u64], index: u32) -> u64
     }
 }
 
-/// Whether a flight of this word may be held in the regulation at this place.
+/// Whether the regulation at this index may hold the flight of this mask.
 #[inline]
 #[tactic(auto, unfolding(crate::specs::Marks::may_stand))]
 pub(crate) fn may_stand(word: u64, index: usize) -> bool
@@ -32,7 +33,7 @@ pub(crate) fn may_stand(word: u64, index: usize) -> bool
     }
 }
 
-/// The first place from this one on where a flight of this word may be held.
+/// The first index from `index` on of a regulation that may hold the flight of this mask.
 #[inline]
 pub(crate) fn next_marked(word: u64, index: usize) -> usize
     ensures from { index ≤ result }
@@ -49,7 +50,7 @@ pub(crate) fn next_marked(word: u64, index: usize) -> usize
     index + later.trailing_zeros() as usize
 }
 
-/// The word of a flight that may be held at this place too.
+/// The mask with bit `index` set.
 #[inline]
 pub(crate) fn with_mark(word: u64, index: usize) -> u64
     ensures marked { may_stand result index ≡ true }
@@ -58,7 +59,7 @@ pub(crate) fn with_mark(word: u64, index: usize) -> u64
     if index < 64 { word | 1 << index } else { word }
 }
 
-/// The word of a flight that may be held at this place too, if so.
+/// The mask with bit `index` set if the flight is held there.
 #[inline]
 pub(crate) fn mark_where(word: u64, index: usize, is_held: bool) -> u64
     ensures marked { is_held ≡ true → may_stand result index ≡ true }
@@ -71,8 +72,8 @@ pub(crate) fn mark_where(word: u64, index: usize, is_held: bool) -> u64
     }
 }
 
-/// The word of a flight where one more regulation is opened, at this place, in which the flight is held or not. No
-/// place after it is marked.
+/// The mask after one more regulation is opened, at `index`, that holds the flight or not. No bit
+/// after it is set.
 pub(crate) fn with_place(word: u64, index: usize, is_held: bool) -> u64
     ensures before { KeepsBelow index word result }
     ensures marked { is_held ≡ true → may_stand result index ≡ true }
@@ -83,8 +84,8 @@ pub(crate) fn with_place(word: u64, index: usize, is_held: bool) -> u64
     mark_where(word % (1 << index), index, is_held)
 }
 
-/// The word of a flight where the regulation at this place is closed: the marks of the later ones move up by one. The
-/// 64th place is marked, since nothing is known of the 65th.
+/// The mask after the regulation at `index` is closed: the later bits move down by one. Bit 63 is
+/// set, since nothing is known of the 65th regulation.
 #[inline]
 fn without_place(word: u64, index: usize) -> u64
     requires { index < 64 }
@@ -95,8 +96,8 @@ fn without_place(word: u64, index: usize) -> u64
     with_mark(after << index | before, 63)
 }
 
-/// Makes room for the words of the flights up to the last, where there is none. Each may be held in each regulation.
-/// Refused where memory is.
+/// Makes the masks of the flights up to number `last`, if there are none, with all bits set.
+/// Returns `Err` if allocation fails.
 pub(crate) fn make_room<A: Allocator + Copy>(
     words: &mut Vec<u64, A>,
     alloc: A,
@@ -110,7 +111,7 @@ pub(crate) fn make_room<A: Allocator + Copy>(
     Ok(())
 }
 
-/// Moves the marks of the later regulations up, where the one at this place is closed.
+/// Moves the later bits of all masks down by one, after the regulation at `index` was closed.
 pub(crate) fn close_place(words: &mut [u64], index: usize)
     ensures { (f : ℕ) → MovesUp index (word_of words.old f) (word_of words.new f) }
 {

@@ -10,7 +10,7 @@ pub struct Told {
     pub regulation: Text<8>,
 }
 
-/// What is said to a plan: a slot (SAM), another slot (SRM), or none any more (SLC).
+/// What a notice says: a slot (SAM), another slot (SRM), or none any more (SLC).
 #[derive(Debug, Drop, PartialEq, Eq)]
 pub enum Said {
     Sam(Told),
@@ -18,7 +18,7 @@ pub enum Said {
     Slc,
 }
 
-/// A slot notice to a plan, as the plan stood then.
+/// A slot notice to a plan, with the plan's values at that time.
 #[derive(Debug, Drop, PartialEq, Eq)]
 pub struct Notice {
     pub ident: Text<7>,
@@ -28,8 +28,9 @@ pub struct Notice {
     pub says: Said,
 }
 
-/// How a departure lies to the calculated take-off time: from 5 minutes before it to 10 minutes after it is within
-/// the window (ATFCM Users Manual, slot tolerance). None where the plan has been told no such time.
+/// How a departure compares with the CTOT: from 5 minutes before it to 10 minutes after it is
+/// within the window (ATFCM Users Manual, slot tolerance). `None` if no CTOT was issued to the
+/// plan.
 #[derive(Clone, Copy, Debug, PartialEq, Eq)]
 pub enum Window {
     None,

@@ -1,9 +1,10 @@
-//! Where a flight stands in a slot list.
+//! The state of a flight in a slot list.
 ghost use Rattle.std.specs.Prelude.{◌≡◌, ◌↔◌, true};
 
 use fpl_text::Minute;
 
-/// Where a flight stands in a slot list: it isn't held, it waits with an entry, or it keeps a slot.
+/// The state of a flight in a slot list: absent, with a provisional slot by its entry, or with a
+/// frozen slot.
 #[derive(Clone, Copy, Debug, Drop, PartialEq, Eq)]
 pub enum Place {
     Absent,
@@ -12,7 +13,6 @@ pub enum Place {
 }
 
 impl Place {
-    /// Whether it is this place.
     pub(crate) fn is(&self, other: &Place) -> bool
         ensures { (result ≡ true) ↔ (self.now ≡ other.now) }
     {

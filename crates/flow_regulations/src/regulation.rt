@@ -1,11 +1,13 @@
 //! An open regulation.
-ghost use Rattle.std.specs.Prelude.{◌≡◌, ◌<◌, ◌≤◌, ℕ, List, None, Some, true, false, IfSome, IsSome, IfOk, OnOk};
+ghost use Rattle.std.specs.Prelude.{◌≡◌, ◌<◌, ◌≤◌, ℕ, List, None, Some};
+ghost use Rattle.std.specs.Prelude.{true, false, IfSome, IsSome, IfOk, OnOk};
 ghost use Rattle.std.specs.Prelude.{IfNone, IsTrue, ◌+◌, ◌↔◌, length};
 ghost use Rattle.flow_plans.specs.Plans.{Plan as Held, plan_at, is_departed};
 ghost use Rattle.flow_plans.specs.Entries.{subject};
 ghost use Rattle.flow_plans.specs.Near.{row_of};
 ghost use Rattle.flow_plans.specs.Places.{IsDepartureOf};
-ghost use Rattle.flow_slots.specs.Lineup.{held_slot, fixed_slot, without_flight, waiting_entry, len_of};
+ghost use Rattle.flow_slots.specs.Lineup.{held_slot, fixed_slot, without_flight};
+ghost use Rattle.flow_slots.specs.Lineup.{waiting_entry, len_of};
 ghost use Rattle.flow_slots.specs.Lineup.{with_all_waiting, MayFill, IsLineup};
 ghost use Rattle.flow_slots.specs.Period.{IsWithin, IsRegular};
 ghost use Rattle.flow_regulations.specs.Asked.{IsAsked};
@@ -13,9 +15,12 @@ ghost use Rattle.flow_regulations.specs.Places.{IsPlaceOf, MayStand, stood};
 ghost use Rattle.flow_regulations.specs.Marks.{IsOut, IsInOrder};
 ghost use Rattle.flow_regulations.specs.Regulations.{subject_to, AppliesToNone};
 ghost use Rattle.flow_regulations.specs.Settling.{is_due, pairs_of};
-ghost use Rattle.flow_regulations.specs.Listing.{Listed, regulation_of, with_lineup, without_in, released_in};
-ghost use Rattle.flow_regulations.specs.Listing.{keeps_slot, placed, with_no_flights, is_named, fixed_waiting};
-ghost use Rattle.flow_regulations.specs.Listing.{IsListedIn, IsSettledBut, AreSameBut, IsRenewed, IsFixedWaiting};
+ghost use Rattle.flow_regulations.specs.Listing.{Listed, regulation_of, with_lineup};
+ghost use Rattle.flow_regulations.specs.Listing.{without_in, released_in};
+ghost use Rattle.flow_regulations.specs.Listing.{keeps_slot, placed, with_no_flights};
+ghost use Rattle.flow_regulations.specs.Listing.{is_named, fixed_waiting};
+ghost use Rattle.flow_regulations.specs.Listing.{IsListedIn, IsSettledBut, AreSameBut};
+ghost use Rattle.flow_regulations.specs.Listing.{IsRenewed, IsFixedWaiting};
 ghost use Rattle.flow_regulations.specs.Listing.{IsLookedAgain, is_due_flight};
 ghost use Rattle.fpl_text.specs.declared.minute.TheConstants.{GREATEST_MINUTE};
 ghost use Rattle.flow_plans.specs.declared.setup.TheConstants.{MAX_PLANS};
@@ -49,11 +54,12 @@ impl<A: Allocator + Copy> Model for Regulation<A> {
 
     ghost view = { λ r. record { id = r.id; spot = r.spot; lineup = r.list.lineup } };
 
-    ghost invariant = { λ r. IsRegular r.list.lineup.period × (r.list.lineup.capacity ≤ MAX_PLANS) };
+    ghost invariant = { λ r. IsRegular r.list.lineup.period
+        × (r.list.lineup.capacity ≤ MAX_PLANS) };
 }
 
 impl<A: Allocator + Copy> Regulation<A> {
-    /// A regulation without flights. Refused where memory is.
+    /// A regulation without flights. Returns `Err` if allocation fails.
     pub(crate) fn new(
         alloc: A,
         id: Text<8>,
@@ -77,21 +83,21 @@ impl<A: Allocator + Copy> Regulation<A> {
         self.id.is(id)
     }
 
-    /// Whether it is this regulation: of the same name and place, with the same slot list.
+    /// Whether both are the same regulation: of the same name and point, with the same slot list.
     pub(crate) fn is(&self, other: &Regulation<A>) -> bool
         ensures { IsTrue result ↔ (self.now ≡ other.now) }
     {
         self.is_named(&other.id) && self.spot == other.spot && self.list.same(&other.list)
     }
 
-    /// The row of its place in a table of words by places.
+    /// The row of its point in a table of masks by points.
     pub(crate) fn row(&self) -> usize
         ensures { result ≡ row_of self.now.spot }
     {
         row_of(&self.spot)
     }
 
-    /// Its name.
+    /// The name of the regulation.
     pub fn id(&self) -> &Text<8>
         ensures { result.now ≡ self.now.id }
     {
@@ -105,7 +111,7 @@ impl<A: Allocator + Copy> Regulation<A> {
         &self.spot
     }
 
-    /// Its slot list, which has its period and rates.
+    /// The slot list, which has the period and the rates.
     pub fn list(&self) -> &SlotList<A>
         ensures { result.now.lineup ≡ self.now.lineup }
     {
@@ -120,18 +126,19 @@ impl<A: Allocator + Copy> Regulation<A> {
         self.list.max_plans()
     }
 
-    /// The first number from this one on of a flight that it holds, or one past the last, after which it holds none.
-    /// The flights before it aren't held.
+    /// The first number from `from` on of a flight that it holds, or one past the last, after which
+    /// it holds none. The flights before it aren't held.
     #[inline]
     pub(crate) fn next_held(&self, from: u32) -> u32
         ensures from { from ≤ result }
         ensures passed { (f : ℕ) → from ≤ f → f < result → IsOut f self.now }
-        ensures stops { result ≤ self.now.lineup.capacity → IsSome (held_slot self.now.lineup result) }
+        ensures stops { result ≤ self.now.lineup.capacity
+            → IsSome (held_slot self.now.lineup result) }
     {
         self.list.next_held(from)
     }
 
-    /// The letters of its place, where that is a departure of four letters.
+    /// The letters of its point, if that is a departure aerodrome of four letters.
     pub(crate) fn departure(&self) -> Option<u32>
         ensures { IfSome result (λ letters. IsDepartureOf letters self.now.spot) }
     {
@@ -142,12 +149,14 @@ impl<A: Allocator + Copy> Regulation<A> {
         if letters != 0 { Some(letters) } else { None }
     }
 
-    /// The first number from this one on of a plan to whose flight the regulation may apply. To the flights of the
-    /// plans before it the regulation doesn't apply, and to none from there on where it is None.
+    /// The first number from `from` on of a plan to whose flight the regulation may apply. The
+    /// regulation doesn't apply to the flights of the plans before it, and to none from there on if
+    /// it is `None`.
     #[inline]
     pub(crate) fn next_coming(&self, plans: &PlanStore<A>, from: u32) -> Option<u32>
         requires { 0 < from }
-        ensures from { IfSome result (λ number. (from ≤ number) × (number ≤ length plans.now.plans)) }
+        ensures from { IfSome result
+            (λ number. (from ≤ number) × (number ≤ length plans.now.plans)) }
         ensures passed { IfSome result (λ number. AppliesToNone from number plans.now.taxi
             (regulation_of self.now) plans.now.plans) }
         ensures most { IfSome result (λ number. number ≤ MAX_PLANS) }
@@ -163,7 +172,7 @@ impl<A: Allocator + Copy> Regulation<A> {
         }
     }
 
-    /// Takes flights into the slot list, in which there are none yet.
+    /// Inserts flights into the slot list, which has none yet.
     pub(crate) fn fill(&mut self, flights: &[Planned])
         requires { MayFill flights.now self.old.lineup }
         ensures { self.new ≡ with_lineup (with_all_waiting flights.now self.old.lineup) self.old }
@@ -171,7 +180,7 @@ impl<A: Allocator + Copy> Regulation<A> {
         self.list.fill(flights);
     }
 
-    /// The entry of the plan of this number, where the regulation applies to it.
+    /// The entry of the flight of plan `number`, if the regulation applies to it.
     #[inline]
     pub(crate) fn subject(&self, plans: &PlanStore<A>, number: u32) -> Option<Minute>
         requires some { 0 < number }
@@ -183,7 +192,7 @@ impl<A: Allocator + Copy> Regulation<A> {
         plans.subject(number, &self.spot, start, end)
     }
 
-    /// This entry at its place, where it lies in the period.
+    /// This entry at its point, if it is in the period.
     #[inline]
     fn subject_from(&self, entry: &Option<Minute>) -> Option<Minute>
         ensures { (taxi : ℕ) (p : Held) → entry.now ≡ subject taxi self.now.spot 0 GREATEST_MINUTE p
@@ -200,7 +209,7 @@ impl<A: Allocator + Copy> Regulation<A> {
         }
     }
 
-    /// The slot that a flight keeps, None where it keeps none. No flight stands twice.
+    /// The flight's frozen slot. `None` if it has none. No flight is in the list twice.
     #[inline]
     fn fixed_slot(&self, number: u32) -> Option<u32>
         ensures slot { result ≡ fixed_slot self.now.lineup number }
@@ -215,8 +224,8 @@ impl<A: Allocator + Copy> Regulation<A> {
         }
     }
 
-    /// Whether a fixed flight keeps its slot: it has departed, or it is subject and due and its slot is not before its
-    /// entry.
+    /// Whether a frozen flight keeps its slot: it has departed, or it is subject and due and its
+    /// slot is not before its entry.
     #[inline]
     fn keeps(&self, plans: &PlanStore<A>, number: u32, now: Minute, entry: &Option<Minute>) -> bool
         requires some { 0 < number }
@@ -224,7 +233,8 @@ impl<A: Allocator + Copy> Regulation<A> {
         requires entry { (p : Held) → plan_at plans.now.plans number ≡ Some p
             → entry.now ≡ subject_to plans.now.taxi (regulation_of self.now) p }
         ensures kept { (p : Held) → plan_at plans.now.plans number ≡ Some p
-            → result ≡ keeps_slot plans.now.taxi now (regulation_of self.now) number p self.now.lineup }
+            → result ≡ keeps_slot plans.now.taxi now
+            (regulation_of self.now) number p self.now.lineup }
         ensures order { IsInOrder self.now }
     {
         let Some(slot) = self.fixed_slot(number) else {
@@ -239,7 +249,7 @@ impl<A: Allocator + Copy> Regulation<A> {
         is_due(plans, number, now) && *entry <= self.list.shape().slot_time(slot)
     }
 
-    /// Takes a flight out, where it is held.
+    /// Removes a flight, if it is held.
     #[inline]
     fn take_out(&mut self, number: u32)
         ensures { self.new ≡ with_lineup (without_flight number self.old.lineup) self.old }
@@ -249,7 +259,7 @@ impl<A: Allocator + Copy> Regulation<A> {
         }
     }
 
-    /// Lets a flight wait from its entry on, and fixes it where it waits if it is due.
+    /// Inserts a flight with this entry, and freezes its slot if it is due.
     pub(crate) fn place(&mut self, number: u32, entry: Minute, due: bool)
         requires absent { held_slot self.old.lineup number ≡ None }
         requires first { 0 < number }
@@ -263,8 +273,8 @@ impl<A: Allocator + Copy> Regulation<A> {
         }
     }
 
-    /// Lets a flight wait from this entry on, wherever it stood, and fixes it where it waits if it is due. Nothing
-    /// moves where it waits from there already.
+    /// Gives a flight a slot by this entry, whatever it had before, and freezes it if it is due.
+    /// Nothing moves if it has a provisional slot by that entry already.
     fn stand(&mut self, number: u32, entry: Minute, due: bool)
         requires first { 0 < number }
         requires last { number ≤ self.old.lineup.capacity }
@@ -282,7 +292,7 @@ impl<A: Allocator + Copy> Regulation<A> {
         }
     }
 
-    /// Whether a flight waits with this entry.
+    /// Whether a flight has a provisional slot by this entry.
     fn waits_from(&self, number: u32, entry: Minute) -> bool
         ensures lined { IsLineup self.now.lineup }
         ensures yes { result ≡ true → waiting_entry self.now.lineup number ≡ Some entry }
@@ -294,7 +304,7 @@ impl<A: Allocator + Copy> Regulation<A> {
         }
     }
 
-    /// Where a flight stands.
+    /// The state of a flight in the slot list.
     pub(crate) fn place_of(&self, number: u32) -> Place
         ensures { IsPlaceOf number result self.now }
     {
@@ -307,7 +317,7 @@ impl<A: Allocator + Copy> Regulation<A> {
         }
     }
 
-    /// Lets a flight that isn't held stand in a place.
+    /// Gives a flight that isn't held this state in the slot list.
     fn stand_in(&mut self, number: u32, place: Place)
         requires absent { held_slot self.old.lineup number ≡ None }
         requires first { 0 < number }
@@ -322,7 +332,8 @@ impl<A: Allocator + Copy> Regulation<A> {
         }
     }
 
-    /// Puts a flight back where it stood, and all stand as they did then: the others stand so already.
+    /// Restores the state of a flight in the slot list. The list is then as it was: the other flights
+    /// have their former states already.
     pub(crate) fn put_back(&mut self, number: u32, place: Place)
         requires first { 0 < number }
         requires last { number ≤ self.old.lineup.capacity }
@@ -338,7 +349,7 @@ impl<A: Allocator + Copy> Regulation<A> {
         self.stand_in(number, place);
     }
 
-    /// Fixes a flight where it waits, if it waits.
+    /// Freezes a flight's provisional slot, if it has one.
     pub(crate) fn fix_waiting(&mut self, number: u32)
         ensures fixed { self.new ≡ with_lineup (fixed_waiting number self.old.lineup) self.old }
         ensures capacity { self.new.lineup.capacity ≡ self.old.lineup.capacity }
@@ -353,11 +364,12 @@ impl<A: Allocator + Copy> Regulation<A> {
         }
     }
 
-    /// Fixes a flight where it waits, if it waits and is due.
+    /// Freezes a flight's provisional slot, if it has one and is due.
     pub(crate) fn fix_due(&mut self, plans: &PlanStore<A>, number: u32, now: Minute)
         requires some { 0 < number }
         requires within { number ≤ length plans.now.plans }
-        ensures due { is_due_flight now plans.now.plans number ≡ true → IsFixedWaiting number self.old self.new }
+        ensures due { is_due_flight now plans.now.plans number ≡ true
+            → IsFixedWaiting number self.old self.new }
         ensures other { is_due_flight now plans.now.plans number ≡ false → self.new ≡ self.old }
     {
         if is_due(plans, number, now) {
@@ -365,7 +377,8 @@ impl<A: Allocator + Copy> Regulation<A> {
         }
     }
 
-    /// Lets a flight that keeps a slot wait again with the entry of its plan, where the regulation applies to it.
+    /// Makes a flight's frozen slot provisional again, by the entry of its plan, if the regulation
+    /// applies to it.
     pub(crate) fn release(&mut self, plans: &PlanStore<A>, number: u32)
         requires some { 0 < number }
         requires within { number ≤ length plans.now.plans }
@@ -382,9 +395,10 @@ impl<A: Allocator + Copy> Regulation<A> {
         }
     }
 
-    /// Settles the regulation after a message about one flight, which touches that flight alone, and answers whether
-    /// the flight may be held then. One that may not be held before is let in where the regulation applies to it. The
-    /// entry of the flight at the regulation's place is asked for where that isn't the place that was asked last.
+    /// Settles the regulation after a message about one flight, which changes that flight alone,
+    /// and returns whether the flight may be held then. A flight that may not be held before is
+    /// inserted if the regulation applies to it. The entry of the flight at the regulation's point
+    /// is computed unless that is the point that was asked last.
     #[inline]
     pub(crate) fn look_where(
         &mut self,
@@ -396,12 +410,14 @@ impl<A: Allocator + Copy> Regulation<A> {
     ) -> bool
         requires some { 0 < number }
         requires within { number ≤ length plans.now.plans }
-        requires asked { (p : Held) → plan_at plans.now.plans number ≡ Some p → IsAsked plans.now.taxi p asked.old }
+        requires asked { (p : Held) → plan_at plans.now.plans number ≡ Some p
+            → IsAsked plans.now.taxi p asked.old }
         requires room { number ≤ self.old.lineup.capacity }
         requires out { may_stand ≡ false → IsOut number self.old }
         ensures looked { IsLookedAgain number plans.now.taxi now plans.now.plans self.old self.new }
         ensures out { result ≡ false → IsOut number self.new }
-        ensures asked { (p : Held) → plan_at plans.now.plans number ≡ Some p → IsAsked plans.now.taxi p asked.new }
+        ensures asked { (p : Held) → plan_at plans.now.plans number ≡ Some p
+            → IsAsked plans.now.taxi p asked.new }
     {
         asked.ask(plans, number, &self.spot);
         let entry = self.subject_from(&asked.entry);
@@ -416,7 +432,7 @@ impl<A: Allocator + Copy> Regulation<A> {
         true
     }
 
-    /// Settles the regulation after a message about one flight, which touches that flight alone.
+    /// Settles the regulation after a message about one flight, which changes that flight alone.
     fn look_again(&mut self, plans: &PlanStore<A>, number: u32, now: Minute, entry: &Option<Minute>)
         requires some { 0 < number }
         requires within { number ≤ length plans.now.plans }
@@ -444,7 +460,7 @@ impl<A: Allocator + Copy> Regulation<A> {
     }
 }
 
-/// Whether the flight of this number has departed.
+/// Whether the flight of plan `number` has departed.
 fn has_departed<A: Allocator + Copy>(plans: &PlanStore<A>, number: u32) -> bool
     requires { 0 < number }
     ensures { (p : Held) → plan_at plans.now.plans number ≡ Some p → result ≡ is_departed p.state }

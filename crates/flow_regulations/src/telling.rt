@@ -1,4 +1,4 @@
-//! Telling plans their slots.
+//! Issues slots to plans.
 ghost use Rattle.std.specs.Prelude.{◌≡◌, ◌+◌, ◌++◌, ◌<◌, ◌≤◌, length, map, vec_capacity, IfSome};
 ghost use Rattle.std.specs.List.{All};
 ghost use Rattle.std.specs.List.Sorted.{IsNonDecreasing};
@@ -6,7 +6,8 @@ ghost use Rattle.flow_plans.specs.Plans.{plan_at};
 ghost use Rattle.flow_regulations.specs.Advice.{advice};
 ghost use Rattle.flow_regulations.specs.Listing.{regulation_of};
 ghost use Rattle.flow_regulations.specs.Marks.{AreMarked};
-ghost use Rattle.flow_regulations.specs.Notices.{says, notices_to, told_to_plan, notices_from, told_from};
+ghost use Rattle.flow_regulations.specs.Notices.{says, notices_to, told_to_plan};
+ghost use Rattle.flow_regulations.specs.Notices.{notices_from, told_from};
 ghost use Rattle.flow_regulations.specs.Quiet.{AreQuietBut, AllQuiet};
 
 use crate::advice::advice_of;
@@ -16,8 +17,8 @@ use crate::regulation::Regulation;
 use flow_plans::{Plan, PlanState, PlanStore};
 use std::alloc::Allocator;
 
-/// What is said to a plan that was last told this and now has this advice: SAM where it was told nothing, SRM where the
-/// take-off time is another, SLC where there is none any more.
+/// What a notice says to a plan with this CTOT last issued and this advice: SAM if none was issued,
+/// SRM if the time is another, SLC if there is none any more. `None` if nothing is to be said.
 pub(crate) fn says(told: &Option<Told>, advice: &Option<Told>) -> Option<Said>
     ensures { result ≡ says told.now advice.now }
 {
@@ -35,7 +36,6 @@ pub(crate) fn says(told: &Option<Told>, advice: &Option<Told>) -> Option<Said>
     }
 }
 
-/// A notice to a plan.
 fn notice_to<A: Allocator + Copy>(plan: &Plan<A>, says: Said) -> Notice
     ensures { result ≡ record {
       ident = plan.now.key.ident;
@@ -55,8 +55,8 @@ fn notice_to<A: Allocator + Copy>(plan: &Plan<A>, says: Said) -> Notice
     }
 }
 
-/// Tells a plan its advice, with a notice where that says another take-off time than the plan was last told. A departed
-/// plan is told nothing more.
+/// Issues a plan its advice, with a notice if that has another CTOT than was last issued to the
+/// plan. A departed plan is issued nothing more.
 fn tell_plan<A: Allocator + Copy>(
     plan: &Plan<A>,
     advice: Option<Told>,
@@ -69,7 +69,7 @@ fn tell_plan<A: Allocator + Copy>(
     ensures few { length notices.new.items ≤ length notices.old.items + 1 }
     ensures capacity { vec_capacity notices.new ≡ vec_capacity notices.old }
 {
-    // Few are told anything, and only their plans are read.
+    // Few plans get a notice, and only their plans are read.
     let Some(said) = says(told, &advice) else {
         return;
     };
@@ -80,7 +80,7 @@ fn tell_plan<A: Allocator + Copy>(
     *told = advice;
 }
 
-/// Tells the plan of this number its advice.
+/// Issues plan `number` its advice.
 fn tell_number<A: Allocator + Copy>(
     regulations: &[Regulation<A>],
     marks: &HeldMarks<A>,
@@ -94,7 +94,8 @@ fn tell_number<A: Allocator + Copy>(
     requires room { length notices.old.items < vec_capacity notices.old }
     requires marked { AreMarked marks.now regulations.now }
     ensures told { IfSome (plan_at plans.now.plans number) (λ p. told.new
-        ≡ told_to_plan p told.old (advice plans.now.taxi number p (map regulation_of regulations.now))) }
+        ≡ told_to_plan p told.old
+        (advice plans.now.taxi number p (map regulation_of regulations.now))) }
     ensures notices { IfSome (plan_at plans.now.plans number) (λ p. notices.new.items
         ≡ notices.old.items ++ notices_to p told.old
         (advice plans.now.taxi number p (map regulation_of regulations.now))) }
@@ -107,13 +108,13 @@ fn tell_number<A: Allocator + Copy>(
     }
 }
 
-/// Compares the advice of these plans with what each was last told, by plan number, and appends a notice where the
-/// take-off time is another: a slot allocation message (SAM), its revision (SRM) or its cancellation (SLC). From then
-/// on the plan is told the advice.
+/// Compares the advice of these plans with the CTOT last issued to each, by plan number, and
+/// appends a notice if the time is another: a slot allocation message (SAM), its revision (SRM) or
+/// its cancellation (SLC). The advice is then the CTOT last issued.
 ///
-/// The numbers of the plans rise, and hold each plan whose advice may be another than it was told; the caller keeps
-/// room for as many notices. Then no plan is left to which anything is to be said. The marks say where flights may be
-/// held.
+/// The numbers of the plans rise, and include each plan whose advice may have another CTOT than was
+/// last issued to it; the caller has reserved capacity for as many notices. No notice is pending
+/// afterwards. `marks` say which regulations may hold flights.
 pub(crate) fn tell<A: Allocator + Copy>(
     regulations: &[Regulation<A>],
     marks: &HeldMarks<A>,
@@ -130,11 +131,13 @@ pub(crate) fn tell<A: Allocator + Copy>(
         (map regulation_of regulations.now) plans.now.plans told.old.items }
     requires marked { AreMarked marks.now regulations.now }
     ensures told { told.new.items
-        ≡ told_from 1 plans.now.taxi (map regulation_of regulations.now) plans.now.plans told.old.items }
+        ≡ told_from 1 plans.now.taxi
+        (map regulation_of regulations.now) plans.now.plans told.old.items }
     ensures notices { notices.new.items
         ≡ notices.old.items ++ notices_from 1 plans.now.taxi
         (map regulation_of regulations.now) plans.now.plans told.old.items }
-    ensures quiet { AllQuiet plans.now.taxi (map regulation_of regulations.now) plans.now.plans told.new.items }
+    ensures quiet { AllQuiet plans.now.taxi
+        (map regulation_of regulations.now) plans.now.plans told.new.items }
     ensures each { length told.new.items ≡ length plans.now.plans }
     ensures few { length notices.new.items ≤ length notices.old.items + length changed.now }
     ensures capacity { vec_capacity notices.new ≡ vec_capacity notices.old }

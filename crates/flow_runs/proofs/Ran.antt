@@ -195,7 +195,7 @@ ended-on _ feeders journal begun written input rest others b = b
 
 -- ---- after a journal text
 
--- the journal text was read, and the run went on from there
+-- the journal text was read, and the run resumed there
 pub RanOn-made : (setup : Settings) (filed : List Input) (feeders : ℕ) (journal : Bool) (input mid begun written : Option (List ℕ)) → HoldsJournal setup filed input mid → first_beyond feeders 1 (run setup filed).journal ≡ None
     → IfSome mid (λ bytes. length bytes ≤ MAX_INPUT) → IfSome mid (λ bytes. RanMany setup (run setup filed).journal feeders journal (frames bytes) begun written) → IfSome input (λ bytes. RanOn bytes feeders journal begun written)
 RanOn-made setup filed feeders journal None mid begun written h within most ran = tt

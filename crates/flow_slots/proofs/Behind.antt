@@ -1,5 +1,5 @@
--- The cells that were made, beside the row that they represent, where a flight leaves: empty cells after them change
--- nothing.
+-- The cells that were made, beside the row that they represent, where a flight leaves: empty cells
+-- after them change nothing.
 use Rattle.std.proofs.Common.{◌≡◌, ℕ, zero, suc, ◌+◌, ◌-◌, ◌<◌, ◌≤◌, ◌++◌, List, [], ◌∷◌, map, length, take, drop, replicate, Option, None, Some, refl, sym, ap, subst, ◌∙◌, add-one, arith}
 use Rattle.std.proofs.lemmas.List.{length-map, map-append}
 use Rattle.flow_slots.specs.declared.cell.Cell.{Cell}

@@ -51,8 +51,8 @@ insert-last x (w ∷ ws) a =
 later-entry : (v w : Planned) → stands_before v w ≡ true → v.entry ≤ w.entry
 later-entry v w h = grind (arith, nat_tests)
 
--- The first flights wait in the row, and all slots from `next` on are empty. A flight that is after them finds none empty
--- from its first slot to `next`.
+-- The first flights wait in the row, and all slots from `next` on are empty. A flight that is after
+-- them finds none empty from its first slot to `next`.
 pub record Filling (p : Period) (capacity : ℕ) (ws : List Planned) (i next : ℕ) (row : List Cell) (places : List (Option ℕ)) : Type 0 where
   pub kept : IsKept p capacity row places
   pub waiting : waiting_of row ≡ take i ws

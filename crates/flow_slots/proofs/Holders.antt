@@ -1,4 +1,5 @@
--- What the row says of a flight that has a slot, and of the slot: the flight is the one there, and both are of the list.
+-- What the row says of a flight that has a slot, and of the slot: the flight is the one there, and
+-- both are of the list.
 use Rattle.std.proofs.Common.{◌≡◌, ℕ, ◌<◌, List, Option, None, Some, IfSome, refl, sym, ◌∙◌, arith}
 use Rattle.flow_slots.specs.declared.cell.Cell.{Cell}
 use Rattle.flow_slots.specs.Period.{Period}

@@ -1,5 +1,5 @@
--- The cells that were made, beside the row that they represent: entries are counted from a start there, and empty cells
--- follow.
+-- The cells that were made, beside the row that they represent: entries are counted from a start
+-- there, and empty cells follow.
 use Rattle.std.proofs.Common.{◌≡◌, ℕ, zero, suc, ◌+◌, ◌-◌, ◌<◌, ◌≤◌, ◌++◌, ◌⊎◌, inl, inr, Bool, true, false, cond, List, [], ◌∷◌, map, length, take, drop, replicate, Option, refl, sym, ap, ◌∙◌, arith}
 use Rattle.std.proofs.lemmas.Bool.{cases_lt, false≢true}
 use Rattle.flow_slots.specs.declared.cell.Cell.{Cell}

@@ -26,7 +26,8 @@ placed_of-none k a xs rest at e =
     let none : flight_in k (a ∷ xs) ≡ None = ap (flight_in k) (sym e) ∙ placed_of-later k (k + 1) rest (omega arith) in
     cc
 
--- cells are determined by their number, and by the provisional flights and those that are frozen, with their slots
+-- cells are determined by their number, and by the provisional flights and those that are frozen,
+-- with their slots
 row-told : (k : ℕ) (cs ds : List Cell) → length cs ≡ length ds → waiting_of cs ≡ waiting_of ds → placed_of k cs ≡ placed_of k ds → fixed_of k cs ≡ fixed_of k ds → cs ≡ ds
 row-told k [] [] n w p f = refl
 row-told k [] (b ∷ ds) n w p f = absurd (omega arith)

@@ -1,5 +1,5 @@
--- The fresh assignment of a lineup, read as a list: which pairs it has, that none has a flight or a slot of another, and
--- what lies before the slot of a flight.
+-- The fresh assignment of a lineup, read as a list: which pairs it has, that none has a flight or a
+-- slot of another, and what lies before the slot of a flight.
 use Rattle.std.proofs.Common.{◌≡◌, ◌≢◌, ℕ, zero, suc, ◌+◌, ◌<◌, ◌≤◌, ◌⊎◌, inl, inr, ◌||◌, Bool, true, false, cond, eqb, nat_le, List, [], ◌∷◌, ◌++◌, length, Some, refl, sym, ap, subst, ◌∙◌, arith}
 use Rattle.std.specs.List.{AllByRecursion}
 use Rattle.std.specs.Option.{is_some}

@@ -1,4 +1,5 @@
--- What every sound lineup has of its fresh assignment, and that the changes of a slot list leave a lineup sound.
+-- What every sound lineup has of its fresh assignment, and that the changes of a slot list leave a
+-- lineup sound.
 use Rattle.std.proofs.Common.{◌≡◌, ◌≢◌, ℕ, suc, ◌+◌, ◌<◌, ◌≤◌, ◌⊎◌, inl, inr, ◌||◌, ◌↔◌, true, false, eqb, List, [], ◌∷◌, length, Option, None, Some, refl, sym, ap, subst, ◌∙◌, arith}
 use Rattle.std.specs.List.{AllByRecursion, IsDistinct, list_any}
 use Rattle.std.specs.Option.{is_some, IsSome, IsSomeAnd}

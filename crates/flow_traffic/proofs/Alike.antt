@@ -1,4 +1,4 @@
--- How plans stand, one by one, and the slot lists of the open regulations.
+-- The states of plans, one by one, and the slot lists of the open regulations.
 use Rattle.std.proofs.Common.{◌≡◌, ℕ, Bool, zero, suc, ◌+◌, List, [], ◌∷◌, map, take, Option, refl, sym, ap, ◌∙◌, add-one}
 use Rattle.std.specs.Prelude.{slice_get}
 use Rattle.std.specs.Bool.{Decides}
@@ -9,7 +9,7 @@ use Rattle.flow_regulations.specs.Listing.{Listed, regulation_of, with_lineup, I
 use Rattle.flow_traffic.specs.Traffic.{Traffic}
 use Rattle.flow_traffic.specs.Same.{Standing, standing_of, standings, slot_lists, IsSame}
 
--- how the plan at an index stands
+-- the state of the plan at an index
 abbrev pub standing_at : List Plan → ℕ → Option Standing
 standing_at ps i = option_map standing_of (slice_get ps i)
 
@@ -18,7 +18,7 @@ standing-at [] i = refl
 standing-at (p ∷ ps) zero = refl
 standing-at (p ∷ ps) (suc i) = standing-at ps i
 
--- in plans that stand alike those of each number do
+-- in plans of the same states those of each number have the same
 pub alike-at : (ps qs : List Plan) (i : ℕ) → standings ps ≡ standings qs → standing_at ps i ≡ standing_at qs i
 alike-at ps qs i e = standing-at ps i ∙ (ap (λ v. slice_get v i) e ∙ sym (standing-at qs i))
 
@@ -49,6 +49,6 @@ kept-lists taxi max plans [] h = refl
 kept-lists taxi max plans (l ∷ ls) h =
     ap (λ v. with_lineup v l ∷ map (listed_by taxi max plans) (map regulation_of ls)) (sym h.0) ∙ ap (λ vs. l ∷ vs) (kept-lists taxi max plans ls h.1)
 
--- where the other parts are the same, the slot lists decide
+-- if the other parts are the same, the slot lists decide
 pub same-lists : (t u : Traffic) (r : Bool) → t.notices ≡ u.notices → t.told ≡ u.told → standings t.plans ≡ standings u.plans → Decides r (slot_lists t ≡ slot_lists u) → Decides r (IsSame t u)
 same-lists t u r n o p d = ((λ h. record { notices = n; plans = p; told = o; lists = d.0 h }), (λ s. d.1 s.lists))

@@ -41,7 +41,7 @@ pub refused : (reading : Reading) (t : Traffic) (r : Refusal) → asked t readin
 refused reading t r e =
     subst (λ (r' : Result Asked Refusal). MatchResult r' (λ a. (t ≡ settle t a) × (Refused r ≡ a.verdict)) (λ refusal. (t ≡ t) × (Refused r ≡ Refused refusal))) (sym e) (refl, refl)
 
--- the traffic after the regulations were settled and plans were told their slots
+-- the traffic after the regulations were settled and slots were issued to plans
 pub settled-traffic : (t : Traffic) (a : Asked) (taxi max : ℕ) (regulations : List Regulation) (told1 told2 : List (Option Told)) (notices2 : List Notice)
     → taxi ≡ t.taxi → max ≡ t.max_plans → regulations ≡ map (settled t.taxi a.now a.plans) a.regulations → told1 ≡ told_to a.plans t.told
     → told2 ≡ told_from 1 t.taxi regulations a.plans told1 → notices2 ≡ t.notices ++ notices_from 1 t.taxi regulations a.plans told1
@@ -101,7 +101,7 @@ pub back-refused : (t : Traffic) (at : ℕ) → nat_lt at t.now ≡ true → ask
 unfolding asked_at
 back-refused t at a = rw a refl
 
--- one more settled regulation behind the others
+-- one more settled regulation after the others
 pub opened-map : (taxi max now : ℕ) (plans : List Plan) (r : Regulation) (lists new : List Listed) → IsOpened taxi max now plans r lists new → IsListed taxi max plans lists → IsSettled taxi now plans lists
     → map regulation_of new ≡ map (settled taxi now plans) (map regulation_of lists ++ r ∷ [])
 opened-map taxi max now plans r lists new h listed settled_in =
@@ -162,7 +162,7 @@ renewed-count taxi max now plans lists new h =
     sym (count-regulations new) ∙ ap (λ (rs : List Regulation). length rs) h.regulations
     ∙ length-map (settled taxi now plans) (map regulation_of lists) ∙ count-regulations lists
 
--- the period or a rate passes a limit
+-- the period or a rate exceeds a limit
 pub shape-refused : (t : Traffic) (m : OpenReg) (r : Refusal)
     → ((r ≡ refusal.BadPeriod) × (is_period m ≡ false)) ⊎ ((r ≡ refusal.BadRate) × (is_period m ≡ true) × (rates_fit m.rate m.more ≡ false))
     → asked t (ord (open_reg m)) ≡ Err r

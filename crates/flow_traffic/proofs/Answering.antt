@@ -1,4 +1,5 @@
--- What answering a reading promises, for each way in which it ends: of the state that is left, and what undoes it.
+-- What answering a reading promises, for each way in which it ends: of the state that is left, and
+-- what undoes it.
 use Rattle.std.proofs.Common.{◌≡◌, ◌≤◌, ◌+◌, ◌++◌, List, length, Option, Some, None, Ok, Err, sym, ap, subst, ◌∙◌, arith, length-append, inl}
 use Rattle.std.specs.declared.alloc.AllocError.{AllocError}
 use Rattle.fpl_message.specs.declared.refusal.Refusal.{Refusal}

@@ -1,4 +1,4 @@
--- Frozen pairs stay through a reading, but for those that it may take away.
+-- Frozen pairs stay through a reading, except those that it may remove.
 use Rattle.std.proofs.Common.{◌≡◌, ℕ, ◌+◌, ◌-◌, ◌<◌, ◌≤◌, ◌⊎◌, inl, inr, Bool, true, false, not, nat_lt, nat_le, if◌then◌else◌, List, [], ◌∷◌, ◌++◌, map, filter, length, Option, Some, None, Result, Ok, Err, MatchResult, refl, sym, ap, subst, ◌∙◌, arith}
 use mathlib.Core.Logic.{⊎_elim}
 use Rattle.std.specs.List.{AllByRecursion, list_any}
@@ -59,7 +59,7 @@ pair-of P a [] all h = absurd h
 pair-of P a (x ∷ xs) all (inl e) = subst P e all.0
 pair-of P a (x ∷ xs) all (inr h) = pair-of P a xs all.1 h
 
--- the pair may stay where it is frozen
+-- the pair may stay if it is frozen
 abbrev AStays : ℕ → ℕ → List Plan → Placed → Regulation → Type 0
 AStays taxi at plans a r = HasPair a r.fixed → (0 < a.flight) × (stays taxi at plans r a ≡ true)
 
@@ -75,15 +75,15 @@ stays-within taxi at plans r a h = by (plan_at plans a.flight) h where
   by None e = absurd (cc)
   by (Some p) e = (p, refl)
 
--- where its plan is as before, it may stay
+-- if its plan is as before, it may stay
 stays-same : (taxi at : ℕ) (plans later : List Plan) (r : Regulation) (a : Placed) → plan_at later a.flight ≡ plan_at plans a.flight → stays taxi at plans r a ≡ true → stays taxi at later r a ≡ true
 stays-same taxi at plans later r a same h = ap (λ (o : Option Plan). option_map_or (keeps taxi at r a.slot) o false) same ∙ h
 
--- and where its flight has departed
+-- and if its flight has departed
 stays-departed : (taxi at : ℕ) (later : List Plan) (r : Regulation) (a : Placed) (p : Plan) → plan_at later a.flight ≡ Some (with_state state.Departed p) → stays taxi at later r a ≡ true
 stays-departed taxi at later r a p gone = ap (λ (o : Option Plan). option_map_or (keeps taxi at r a.slot) o false) gone
 
--- freezing a departing flight takes none away, and changes no period
+-- freezing a departing flight removes none, and changes no period
 stays-frozen : (taxi at max n : ℕ) (before later : List Plan) (r : Regulation) (a : Placed) → stays taxi at later r a ≡ true → stays taxi at later (frozen_at_departure taxi max before n r) a ≡ true
 unfolding frozen_at_departure
 stays-frozen taxi at max n before later r a h = by (has_flight n r.fixed) where
@@ -155,7 +155,7 @@ pairs-settled taxi at plans later rs id a all on =
     (all-map (AStays taxi at plans a) (λ r. HasPair a r.fixed → HasPair a (settled taxi at later r).fixed) rs
     (λ r may has. settling-keeps taxi at later r a (on r (may has).0 (may has).1) has) all)
 
--- the same where one flight departs
+-- the same if one flight departs
 pairs-departing : (taxi max at n : ℕ) (plans later : List Plan) (rs : List Regulation) (id : List ℕ) (a : Placed) → AllByRecursion (AStays taxi at plans a) rs
     → ((r : Regulation) → 0 < a.flight → stays taxi at plans r a ≡ true → stays taxi at later r a ≡ true)
     → HasPair a (frozen_pairs id rs) → HasPair a (frozen_pairs id (map (settled taxi at later) (map (frozen_at_departure taxi max plans n) rs)))
@@ -192,7 +192,7 @@ module _ (t : Traffic) (id : List ℕ) (a : Placed) (all : MayStay t.taxi t.now 
         let there : plan_at t.plans n ≡ Some p.0 = ap (λ k. plan_at t.plans k) (sym e) ∙ p.1 in
         stays-departed t.taxi t.now later r a p.0 (ap (λ k. plan_at later k) e ∙ gone p.0 there)
 
-  -- after a message about that plan, which may take its pair away
+  -- after a message about that plan, which may remove its pair
   pairs-after : (n : ℕ) (later : List Plan) → AreSameBut n t.plans later → HasPair a (frozen_pairs id (map (settled t.taxi t.now later) t.regulations)) ⊎ (n ≡ a.flight)
   pairs-after n later same = ⊎_elim (λ e. inr (sym e)) (λ ne. inl (stay ne)) (cases_eq a.flight n) where
     stay : (a.flight ≡ n → ⊥) → HasPair a (frozen_pairs id (map (settled t.taxi t.now later) t.regulations))
@@ -280,7 +280,7 @@ module _ (t : Traffic) (all : (at : ℕ) → t.now ≤ at → MayStay t.taxi at 
   accepted-stays (ord (set_time at)) x e = time-accepted at x e
   accepted-stays (bad refusal) x e = absurd (cc)
 
--- where all frozen pairs may stay from now on, they do, but for those that the reading may take away
+-- if all frozen pairs may stay from now on, they do, except those that the reading may remove
 pub frozen-stay : (reading : Reading) (old new : Traffic) (v : Verdict) → ((at : ℕ) → old.now ≤ at → MayStay old.taxi at old.plans old.regulations) → Answers reading old new v → FrozenPairsStay reading old new v
 unfolding settle
 frozen-stay reading old new v all answers id a h = by (asked old reading) refl answers where
@@ -291,7 +291,7 @@ frozen-stay reading old new v all answers id a h = by (asked old reading) refl a
       (subst (λ (w : Verdict). IsFrozenStill reading w (settled_by old x) id a) (sym is.1) (accepted-stays old all id a h reading x e))
   by (Err r) e is = subst (λ (s : Traffic). IsFrozenStill reading v s.regulations id a) (sym is.0) (inl h)
 
--- the same where the traffic before is that of settled slot lists
+-- the same if the traffic before is that of settled slot lists
 pub frozen-settled : (reading : Reading) (s : State) (told : List (Option Told)) (notices : List Notice) (old new : Traffic) (v : Verdict)
     → traffic_of s told notices ≡ old → IsSettled s.store.taxi s.time s.store.plans s.listing.lists → Answers reading old new v → FrozenPairsStay reading old new v
 frozen-settled reading s told notices old new v was settled_in answers =

@@ -1,4 +1,4 @@
--- What plans were told before, in the order of their numbers.
+-- The CTOTs issued to plans before, in the order of their numbers.
 use Rattle.std.proofs.Common.{◌≡◌, ◌∙◌, ◌-◌, ◌<◌, ◌≤◌, ℕ, zero, suc, List, [], ◌∷◌, length, map, take, refl, sym, ap, subst, arith, Bool, true, false, ◌||◌, eqb, nat_lt, Option, None, slice_get, slice_set}
 use Rattle.std.specs.Option.{option_map_or}
 use Rattle.std.specs.List.{AllByRecursion}
@@ -19,7 +19,7 @@ use Rattle.flow_traffic.proofs.ToldAgain.{set-other}
 abbrev told-in : List (Option Told) → ℕ → Option Told
 told-in ts i = option_map_or (λ t. t) (slice_get ts i) None
 
--- what was noted of plans is what they were told
+-- what was recorded of plans is the CTOTs issued to them
 pub told-were : (ns : List ℕ) (told os : List (Option Told)) → AreTold ns told os → os ≡ map (told_of told) ns
 told-were [] told [] h = refl
 told-were [] told (o ∷ os) h = absurd h
@@ -28,7 +28,7 @@ told-were (n ∷ ns) told (o ∷ os) h =
     ap (λ (x : Option Told). x ∷ os) (sym (ap (λ (x : Option (Option Told)). option_map_or (λ t. t) x None) h.0))
     ∙ ap (λ (xs : List (Option Told)). told_of told n ∷ xs) (told-were ns told os h.1)
 
--- a new plan was told nothing, as one that there is not
+-- to a new plan nothing was issued, as to one that there is not
 new-told : (ps : List Plan) (ts : List (Option Told)) (i : ℕ) → length ts ≤ length ps → told-in (told_to ps ts) i ≡ told-in ts i
 new-told [] [] i e = refl
 new-told [] (t ∷ ts) i e = absurd (omega (arith, e))
@@ -43,7 +43,7 @@ new-told-all ps ts (n ∷ ns) e =
     ap (λ (o : Option Told). o ∷ map (told_of (told_to ps ts)) ns) (new-told ps ts (n - 1) e)
     ∙ ap (λ (os : List (Option Told)). told_of ts n ∷ os) (new-told-all ps ts ns e)
 
--- where no plan changed
+-- if no plan changed
 pub same-noted : (r : LastReading) (plans : List Plan) (told : List (Option Told)) → IsStrictlyIncreasing r.changed → length told ≡ length plans → r.noted ≡ map (told_of told) r.changed
     → AreNoted r plans plans told
 same-noted r plans told rising each were = record { rising = rising; each = each; others = λ n some out. refl; were = were }
@@ -54,7 +54,7 @@ one-rises n k h = absurd (omega (arith, h))
 apart : (f n : ℕ) → is_in f (n ∷ []) ≡ false → f ≡ n → ⊥
 apart f n out e = true≢false (sym (ap (λ b. b || false) (eq-eqb n f (sym e))) ∙ out)
 
--- where one did
+-- if one did
 pub one-noted : (r : LastReading) (n : ℕ) (plans before : List Plan) (told mid : List (Option Told)) → r.changed ≡ n ∷ [] → AreSameBut n before plans
     → mid ≡ told_to plans told → length told ≡ length before → length told ≤ length plans → r.noted ≡ map (told_of mid) r.changed → AreNoted r plans before told
 one-noted r n plans before told mid one same place each few were = record {
@@ -70,7 +70,7 @@ or-false : (a b : Bool) → (a || b) ≡ false → (a ≡ false) × (b ≡ false
 or-false true b e = absurd (true≢false e)
 or-false false b e = (refl, e)
 
--- what is put back is put back of no other plan
+-- what is restored is restored of no other plan
 again-others : (ns : List ℕ) (os ts : List (Option Told)) (n : ℕ) → 0 < n → AllByRecursion (λ m. 0 < m) ns → is_in n ns ≡ false → slice_get (told_again ns os ts) (n - 1) ≡ slice_get ts (n - 1)
 again-others [] os ts n some all out = refl
 again-others (m ∷ ns) [] ts n some all out = refl
@@ -85,7 +85,7 @@ none-past [] i e = omega arith
 none-past (p ∷ ps) zero e = absurd (cc)
 none-past (p ∷ ps) (suc i) e = omega (arith, none-past ps i e)
 
--- the others were told what they are told
+-- to the others was issued what is issued now
 pub others-told : (r : LastReading) (plans before : List Plan) (was told : List (Option Told)) → AreNoted r plans before was → length told ≡ length plans
     → AllByRecursion (λ m. 0 < m) r.changed → (n : ℕ) → 0 < n → is_in n r.changed ≡ false → told_of told n ≡ told_of (take (length before) (told_again r.changed r.noted told)) n
 others-told r plans before was told h each all n some out = by (nat_lt (n - 1) (length before)) refl where

@@ -7,7 +7,7 @@ use Rattle.flow_regulations.proofs.ForTheDesk.{kept-slots-settled, kept-slots-fr
 use Rattle.flow_traffic.specs.State.{State}
 use Rattle.flow_traffic.specs.Kept.{IsSettledFor}
 
--- where it does not depart
+-- if it does not depart
 pub staying : (n : ℕ) (s : State) (plans : List Plan) (new : List Listed)
     → ((f : ℕ) → (f ≡ n → ⊥) → pairs_in f new ≡ pairs_in f s.listing.lists) → AreRenewed s.store.taxi s.listing.max_plans s.time plans s.listing.lists new
     → IsSettledFor false n s plans new
@@ -18,7 +18,7 @@ staying n s plans new others renewed = record {
   others = λ f ne. kept-slots-settled f s.store.taxi s.time plans s.listing.lists new renewed.regulations (others f ne);
 }
 
--- where it departs: its slots were frozen before
+-- if it departs: its slots were frozen before
 pub leaving : (n : ℕ) (s : State) (plans : List Plan) (mid new : List Listed)
     → ((f : ℕ) → (f ≡ n → ⊥) → pairs_in f mid ≡ pairs_in f s.listing.lists) → AreFrozen s.store.taxi s.listing.max_plans n s.store.plans s.listing.lists mid
     → ((f : ℕ) → (f ≡ n → ⊥) → pairs_in f new ≡ pairs_in f mid) → AreRenewed s.store.taxi s.listing.max_plans s.time plans mid new

@@ -36,7 +36,7 @@ abbrev head-of : Listed → List Listed → Listed
 head-of d [] = d
 head-of d (l ∷ ls) = l
 
--- a flight stands where it stood
+-- a flight has its former slots again
 pub stands-again : (n : ℕ) (ps : List Place) (ls bs : List Listed) → ArePlaces n ps bs → map (without_in n) ls ≡ map (without_in n) bs → stood_again n ps ls ≡ bs
 stands-again n [] [] [] h e = refl
 stands-again n [] (l ∷ ls) [] h e = absurd cc
@@ -49,7 +49,7 @@ stands-again n (p ∷ ps) (l ∷ ls) (b ∷ bs) h e =
     ap (λ x. x ∷ stood_again n ps ls) (stood-there n p l (without_in n l) (with_lineup (stood p n (without_flight n l.lineup)) l) b h.0 here refl refl)
     ∙ ap (λ xs. b ∷ xs) (stands-again n ps ls bs h.1 rest)
 
--- ---- flights that became due wait again
+-- ---- flights that became due have provisional slots again
 
 keeps-capacity : (o : Option ℕ) (n : ℕ) (l : Lineup) → (released o n l).capacity ≡ l.capacity
 keeps-capacity None n l = refl
@@ -183,11 +183,11 @@ pub traffic-before : (r : LastReading) (p old : State) (told old_told : List (Op
     → traffic_past r p told notices ≡ traffic_of old old_told old_notices
 traffic-before r p old told old_told notices old_notices h e n = rw (e, n, sym h.time, sym h.plans, sym h.lists, sym h.taxi, sym h.most) refl
 
--- the notices of the last reading are taken away
+-- the notices of the last reading are removed
 pub notices-before : (old new more : List Notice) (count : ℕ) → new ≡ old ++ more → count ≡ length old → take count new ≡ old
 notices-before old new more count e c = ap (λ (ns : List Notice). take count ns) e ∙ ap (λ k. take k (old ++ more)) c ∙ take-append_seam old more
 
--- what was told before
+-- the CTOTs issued before
 pub told-before : (r : LastReading) (p : State) (told mid old_told : List (Option Told)) (plans old_plans : List Plan)
     → p.store.plans ≡ old_plans → told_again r.changed r.noted told ≡ mid → mid ≡ told_to plans old_told
     → length old_told ≡ length old_plans → length old_plans ≤ length plans → length plans ≤ length old_plans + 1 → told_past r p told ≡ old_told
@@ -196,7 +196,7 @@ told-before r p told mid old_told plans old_plans e again place each one more =
     ∙ ap (λ (ts : List (Option Told)). take (length old_plans) ts) (again ∙ place)
     ∙ told_to-undone plans old_told (length old_plans) each one more
 
--- and where the plans are the same
+-- and if the plans are the same
 pub told-back : (r : LastReading) (p : State) (told old_told : List (Option Told)) (plans : List Plan)
     → p.store.plans ≡ plans → told_again r.changed r.noted told ≡ old_told → length old_told ≡ length plans → told_past r p told ≡ old_told
 told-back r p told old_told plans e again each =
@@ -263,7 +263,7 @@ pub if-same : (before : Option Traffic) (t : Traffic) (P : Traffic → Type 0) �
 if-same None t P same h = tt
 if-same (Some b) t P same h = subst P (sym same) h
 
--- what a plan was, where the plans before are known
+-- the state of a plan, if the plans before are known
 pub status-was : (o : Option (List Plan)) (ps : List Plan) (r : Option Status) (number : ℕ) → o ≡ Some ps → IfSome o (λ plans. r ≡ status_at plans number) → r ≡ status_at (option_map_or (λ qs. qs) o []) number
 status-was None ps r number e h = absurd (cc)
 status-was (Some qs) ps r number e h = h

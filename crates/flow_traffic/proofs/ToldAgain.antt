@@ -1,4 +1,4 @@
--- What plans were told, put back where it changed.
+-- The CTOTs issued to plans, restored after they changed.
 use Rattle.std.proofs.Common.{◌≡◌, ◌∙◌, ◌+◌, ◌-◌, ◌<◌, ◌≤◌, ℕ, zero, suc, List, [], ◌∷◌, ◌++◌, length, take, refl, sym, ap, subst, arith, Bool, true, false, ◌||◌, eqb, nat_le, Option, Some, None, IfSome, slice_get, slice_set}
 use mathlib.Core.Logic.{⊎_elim}
 use Rattle.std.specs.List.{AllByRecursion}
@@ -74,7 +74,7 @@ again-same (n ∷ ns) (o ∷ os) ts us e some told same = again-same ns os (slic
         let apart : eqb n (i + 1) ≡ false = ne_eqb n (i + 1) (λ q. ne (omega (arith, q))) in
         set-other ts (n - 1) i o ne ∙ same i (ap (λ b. b || is_in (i + 1) ns) apart ∙ out)
 
--- a quiet plan is told what it was
+-- a quiet plan is issued what it was
 told-at : (f n taxi : ℕ) (regulations : List Regulation) (ps : List Plan) (ts : List (Option Told)) (i : ℕ) → f ≡ n + i → length ts ≡ length ps
     → IfSome (slice_get ps i) (λ p. IfSome (slice_get ts i) (λ t. IsQuiet taxi f regulations p t)) → slice_get (told_from n taxi regulations ps ts) i ≡ slice_get ts i
 told-at f n taxi regulations [] [] i e l q = refl
@@ -86,7 +86,7 @@ told-at f n taxi regulations (p ∷ ps) (t ∷ ts) zero e l q =
     ap Some (quiet-told p t (advice taxi n p regulations) (subst Q same q))
 told-at f n taxi regulations (p ∷ ps) (t ∷ ts) (suc i) e l q = told-at f (n + 1) taxi regulations ps ts i (omega (arith, e)) (omega (arith, l)) q
 
--- what was told where it changed is put back, and all are told what they were
+-- what was issued is restored if it changed, and all plans have the CTOTs that they had
 pub told-undone : (taxi : ℕ) (regulations : List Regulation) (plans : List Plan) (told new : List (Option Told)) (changed : List ℕ) (noted : List (Option Told))
     → new ≡ told_from 1 taxi regulations plans told → length told ≡ length plans → length new ≡ length plans → AreQuietBut changed taxi regulations plans told
     → AreTold changed told noted → AllByRecursion (λ n. 0 < n) changed → told_again changed noted new ≡ told
@@ -96,7 +96,7 @@ told-undone taxi regulations plans told new changed noted is each each_new quiet
     let Q : ℕ → Type 0 = λ k. IfSome (slice_get plans k) (λ p. IfSome (slice_get told k) (λ t. IsQuiet taxi (i + 1) regulations p t)) in
     ap (λ (ts : List (Option Told)). slice_get ts i) is ∙ told-at (i + 1) 1 taxi regulations plans told i (omega arith) each (subst Q back (quiet (i + 1) (omega arith) out)))
 
--- the place of a new plan is taken away
+-- the entry of a new plan is removed
 pub told_to-undone : (plans : List Plan) (told : List (Option Told)) (count : ℕ) → length told ≡ count → count ≤ length plans → length plans ≤ count + 1 → take count (told_to plans told) ≡ told
 told_to-undone plans told count e one more = by (nat_le (length plans) (length told)) refl where
   by : (b : Bool) → nat_le (length plans) (length told) ≡ b → take count (told_to plans told) ≡ told

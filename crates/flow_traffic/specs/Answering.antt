@@ -9,8 +9,9 @@ use Rattle.flow_traffic.specs.Answers.{Answers}
 use Rattle.flow_traffic.specs.Frozen.{FrozenPairsStay}
 use Rattle.flow_traffic.specs.Memory.{MayTakeMemory}
 
--- with a verdict the traffic is that after the reading, frozen flights have kept their slots, and the reading can be undone; else
--- allocation failed, for a reading that may allocate, and the traffic is as before. No notice goes, and a plan gets at most one
+-- with a verdict the traffic is that after the reading, frozen flights have kept their slots, and
+-- the reading can be undone; else allocation failed, for a reading that may allocate, and the
+-- traffic is unchanged. No notice is removed, and a plan gets at most one
 pub record AnswersReading (reading : Reading) (old new : Undoable) (result : Result Verdict AllocError) : Type 0 where
   pub answers : IfOk result (Answers reading old.traffic new.traffic)
   pub frozen : IfOk result (FrozenPairsStay reading old.traffic new.traffic)

@@ -1,4 +1,5 @@
--- What becomes of the traffic: each regulation is settled by itself, and then plans are told their slots, by number.
+-- The traffic after a reading: each regulation is allocated by the rules, by itself, and then slots
+-- are issued to plans, by number (EUROCONTROL ATFCM Users Manual, slot allocation).
 use Rattle.std.specs.Prelude.{◌≡◌, List, [], ◌∷◌, ◌++◌, map, Option, None, MatchResult}
 use Rattle.fpl_message.specs.Reads.{Reading, ord}
 use Rattle.fpl_message.specs.Messages.{open_reg, set_time}
@@ -12,7 +13,7 @@ use Rattle.flow_traffic.specs.declared.verdict.Verdict.TheVariants.{Refused}
 use Rattle.flow_traffic.specs.Traffic.{Traffic}
 use Rattle.flow_traffic.specs.Asked.{Asked, asked}
 
--- what each plan was last told, a new one nothing
+-- the CTOT last issued to each plan, to a new one none
 abbrev pub told_to : List Plan → List (Option Told) → List (Option Told)
 told_to [] told = []
 told_to (p ∷ ps) [] = None ∷ told_to ps []
@@ -38,7 +39,7 @@ Answers reading old new verdict =
     (λ a. (new ≡ settle old a) × (verdict ≡ a.verdict))
     (λ refusal. (new ≡ old) × (verdict ≡ Refused refusal))
 
--- the moments of an order lie in the years 2000 to 2098
+-- the times of an order are in the years 2000 to 2098
 abbrev pub HasDeskMoments : Reading → Type 0
 HasDeskMoments (ord (open_reg m)) = IsDeskTime m.from × IsDeskTime m.to
 HasDeskMoments (ord (set_time at)) = IsDeskTime at

@@ -24,7 +24,8 @@ use Rattle.flow_slots.specs.Limits.{rates_fit}
 use Rattle.flow_traffic.specs.Opening.{is_period, regulation_by}
 use Rattle.flow_traffic.specs.declared.opening.TheConstants.{MAX_REGULATIONS}
 
--- plans, time and regulations as they are asked for, before the regulations are settled, and the verdict
+-- plans, time and regulations as they are asked for, before the regulations are settled, and the
+-- verdict
 pub record Asked : Type 0 where
   pub plans : List Plan
   pub now : ℕ
@@ -41,7 +42,8 @@ changed_by max now plans (chg m) = amended now plans m
 changed_by max now plans (cnl m) = cancelled plans m
 changed_by max now plans (dep m) = departed plans m
 
--- the verdict on a message about that plan; a departure is compared with what the plan was last told
+-- the verdict on a message about that plan; a departure is compared with the CTOT last issued to
+-- the plan
 unfoldable pub verdict_on : List (Option Told) → Message → ℕ → Verdict
 verdict_on told (fpl m) number = Accepted kind.Fpl number
 verdict_on told (dla m) number = Accepted kind.Dla number
@@ -75,7 +77,7 @@ asked_by_message t m =
 abbrev pub is_called : List ℕ → Regulation → Bool
 is_called id r = bytes_eq r.id id
 
--- an accepted order leaves the plans as they are
+-- an accepted order leaves the plans unchanged
 abbrev pub ordered : Traffic → Kind → ℕ → List Regulation → Asked
 ordered t kind now regulations = record { plans = t.plans; now = now; regulations = regulations; verdict = Accepted kind 0 }
 

@@ -1,5 +1,6 @@
--- How the traffic is kept: the slot lists are those of the plans, all regulations are settled, the queue holds each filed
--- flight that isn't due, and no plan is left to which anything is to be said.
+-- What is true of the traffic between two readings: the slot lists are those of the plans, all
+-- regulations are settled, the queue holds each filed flight that isn't due, and no notice is
+-- pending.
 use Rattle.std.specs.Prelude.{◌≡◌, ◌≤◌, ◌<◌, ℕ, Bool, true, false, List, [], length, map, Option}
 use Rattle.std.specs.List.{All, AllByRecursion}
 use Rattle.std.specs.List.Sorted.{IsStrictlyIncreasing}
@@ -28,8 +29,8 @@ pub record IsKept (s : State) (told : List (Option Told)) : Type 0 where
   pub covers : Covers s.time s.store.plans s.queue.flights
   pub quiet : AllQuiet s.store.taxi (map regulation_of s.listing.lists) s.store.plans told
 
--- the regulations were settled after a message about one flight, which departs or does not: in that state before, with these
--- plans and slot lists after
+-- the regulations were settled after a message about one flight, which departs or does not: in that
+-- state before, with these plans and slot lists after
 pub record IsSettledFor (departs : Bool) (number : ℕ) (s : State) (plans : List Plan) (lists : List Listed) : Type 0 where
   pub regulations : map regulation_of lists
       ≡ map (settled s.store.taxi s.time plans)
@@ -38,7 +39,8 @@ pub record IsSettledFor (departs : Bool) (number : ℕ) (s : State) (plans : Lis
   pub settled_in : IsSettled s.store.taxi s.time plans lists
   pub others : (f : ℕ) → (f ≡ number → ⊥) → KeepsSlots f (map regulation_of s.listing.lists) (map regulation_of lists)
 
--- the flights that keep slots in the open regulation of this name, by number: it makes a difference to the advice of no other
+-- the flights with frozen slots in the open regulation of this name, by number: it makes a
+-- difference to the advice of no other
 pub record AreFixedIn (id : List ℕ) (lists : List Listed) (flights : List ℕ) : Type 0 where
   pub rising : IsStrictlyIncreasing flights
   pub numbers : (taxi now : ℕ) (plans : List Plan) → IsSettled taxi now plans lists → All (λ n. (0 < n) × (n ≤ length plans)) flights

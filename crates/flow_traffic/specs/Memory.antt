@@ -1,10 +1,10 @@
--- Which readings may take memory.
+-- Which readings may allocate.
 use Rattle.std.specs.Prelude.{IsOk}
 use Rattle.fpl_message.specs.Reads.{Reading, msg, ord, bad}
 use Rattle.flow_traffic.specs.Traffic.{Traffic}
 use Rattle.flow_traffic.specs.Asked.{asked}
 
--- an unreadable text takes none, nor does an order that is refused
+-- an unreadable text allocates nothing, nor does an order that is refused
 abbrev pub MayTakeMemory : Reading → Traffic → Type 0
 MayTakeMemory (msg m) t = Unit {0}
 MayTakeMemory (ord order) t = IsOk (asked t (ord order))

@@ -3,7 +3,7 @@ use Rattle.std.specs.Prelude.{List, Option, None, Some}
 use Rattle.std.specs.List.{insert}
 use Rattle.flow_regulations.specs.Listing.{Listed, Closing}
 
--- the regulations with a closed one in its place again
+-- the regulations with a closed one at its former index again
 abbrev pub open_again : Option Closing → List Listed → List Listed
 open_again None lists = lists
 open_again (Some c) lists = insert lists c.index c.listed

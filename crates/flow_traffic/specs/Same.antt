@@ -1,4 +1,5 @@
--- Whether two desks have allocated the same: what a reader of them sees of plans, notices and slot lists.
+-- Whether two desks have allocated the same: what a reader of them sees of plans, notices and slot
+-- lists.
 use Rattle.std.specs.Prelude.{◌≡◌, ℕ, List, map}
 use Rattle.flow_plans.specs.declared.plan.PlanState.{PlanState}
 use Rattle.flow_plans.specs.Plans.{Plan}
@@ -6,7 +7,7 @@ use Rattle.flow_regulations.specs.Regulations.{Regulation, lineup_of}
 use Rattle.flow_regulations.specs.Listing.{Listed}
 use Rattle.flow_traffic.specs.Traffic.{Traffic}
 
--- how a plan stands
+-- the state and the off-block time of a plan
 pub record Standing : Type 0 where
   pub state : PlanState
   pub off_block : ℕ
@@ -14,7 +15,7 @@ pub record Standing : Type 0 where
 abbrev pub standing_of : Plan → Standing
 standing_of p = record { state = p.state; off_block = p.off_block }
 
--- how the plans stand, by number
+-- those of all plans, by number
 abbrev pub standings : List Plan → List Standing
 standings plans = map standing_of plans
 
@@ -26,8 +27,8 @@ listed_in t r = record { id = r.id; spot = r.spot; lineup = lineup_of t.taxi t.m
 abbrev pub slot_lists : Traffic → List Listed
 slot_lists t = map (listed_in t) t.regulations
 
--- the notices are the same, the plans stand alike and were last told the same, and the same regulations are open with the
--- same slot lists
+-- the notices are the same, the plans have the same states, off-block times and CTOTs, and the same
+-- regulations are open with the same slot lists
 pub record IsSame (t u : Traffic) : Type 0 where
   pub notices : t.notices ≡ u.notices
   pub plans : standings t.plans ≡ standings u.plans

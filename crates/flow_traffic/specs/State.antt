@@ -1,4 +1,5 @@
--- What a reading changes of a desk, beside what plans are told: as it is kept, and as the traffic is seen.
+-- What a reading changes of a desk, beside what is issued to plans: as it is kept, and as the
+-- traffic is seen.
 use Rattle.std.specs.Prelude.{ℕ, List, map, Option}
 use Rattle.flow_plans.specs.Plans.{Plan}
 use Rattle.flow_plans.specs.Stores.{Store}
@@ -8,7 +9,8 @@ use Rattle.flow_regulations.specs.declared.notice.Told.{Told}
 use Rattle.flow_regulations.specs.declared.notice.Notice.{Notice}
 use Rattle.flow_traffic.specs.Traffic.{Traffic}
 
--- the desk's time, its plans, its open regulations with their slot lists, and the flights that aren't due
+-- the desk's time, its plans, its open regulations with their slot lists, and the flights that
+-- aren't due
 pub record State : Type 0 where
   pub time : ℕ
   pub store : Store
@@ -23,7 +25,7 @@ with_plans plans s = record s { store = record s.store { plans = plans } }
 abbrev pub with_lists : List Listed → State → State
 with_lists lists s = record s { listing = record s.listing { lists = lists } }
 
--- the traffic in that state, where plans were told this and these notices were issued
+-- the traffic in that state, with these CTOTs and notices issued
 abbrev pub traffic_of : State → List (Option Told) → List Notice → Traffic
 traffic_of s told notices = record {
   taxi = s.store.taxi;

@@ -20,17 +20,17 @@ use Rattle.flow_traffic.specs.Telling.{told_again}
 use Rattle.flow_traffic.specs.Reopening.{open_again}
 use Rattle.flow_traffic.specs.Kept.{IsKept}
 
--- a flight stands in its places again
+-- a flight has its former slots again
 abbrev pub stood_again : ℕ → List Place → List Listed → List Listed
 stood_again number [] lists = lists
 stood_again number (p ∷ ps) [] = []
 stood_again number (p ∷ ps) (l ∷ ls) = with_lineup (stood p number (without_flight number l.lineup)) l ∷ stood_again number ps ls
 
--- a flight waits again
+-- a flight has a provisional slot again
 abbrev pub waiting_again : ℕ → List Plan → ℕ → List Listed → List Listed
 waiting_again taxi plans number lists = option_map_or (λ p. map (released_in taxi p number) lists) (plan_at plans number) lists
 
--- these flights do, the last one first
+-- these flights have, the last one first
 abbrev pub all_waiting_again : ℕ → List Plan → List ℕ → List Listed → List Listed
 all_waiting_again taxi plans [] lists = lists
 all_waiting_again taxi plans (n ∷ ns) lists = waiting_again taxi plans n (all_waiting_again taxi plans ns lists)
@@ -39,25 +39,25 @@ all_waiting_again taxi plans (n ∷ ns) lists = waiting_again taxi plans n (all_
 abbrev pub before_last : List Listed → List Listed
 before_last lists = take (length lists - 1) lists
 
--- for how many places, for how many numbers, and for what how many plans were told there is room
+-- the capacities: for slots, for plan numbers, and for CTOTs issued before
 pub record Room : Type 0 where
   pub places : ℕ
   pub numbers : ℕ
   pub told : ℕ
 
--- what is noted of the last reading
+-- what is recorded of the last reading
 pub record LastReading : Type 0 where
-  -- which it was
+  -- which reading it was
   pub which : Last
-  -- where the flight of a message stood before, in each regulation
+  -- the slots that the flight of a message had before, in each regulation
   pub places : List Place
   -- the numbers of the plans whose slots it may have changed
   pub changed : List ℕ
-  -- what those were told before
+  -- the CTOTs issued to those before
   pub noted : List (Option Told)
   -- the regulation that was closed last
   pub closed : Option Closing
-  -- how many notices there were before
+  -- the number of notices before
   pub issued : ℕ
   pub room : Room
 
@@ -67,7 +67,7 @@ has_changed reading.Nothing = false
 has_changed reading.Refused = false
 has_changed which = true
 
--- the state before it, but that the queue is that of now
+-- the state before it, with the queue of now
 abbrev pub past : Last → LastReading → State → State
 past reading.Nothing r s = s
 past reading.Refused r s = s
@@ -77,21 +77,21 @@ past (reading.Time earlier) r s = record (with_lists (all_waiting_again s.store.
 past reading.Open r s = with_lists (before_last s.listing.lists) s
 past reading.Shut r s = with_lists (open_again r.closed s.listing.lists) s
 
--- what plans were told in that state
+-- the CTOTs issued to plans in that state
 abbrev pub told_past : LastReading → State → List (Option Told) → List (Option Told)
 told_past r p told = take (length p.store.plans) (told_again r.changed r.noted told)
 
--- the traffic in that state: the notices since are taken away
+-- the traffic in that state, without the notices since
 abbrev pub traffic_past : LastReading → State → List (Option Told) → List Notice → Traffic
 traffic_past r p told notices = traffic_of p (told_past r p told) (take r.issued notices)
 
--- the traffic before the last reading, where that can be taken back
+-- the traffic before the last reading, if that can be undone
 abbrev pub undone : Last → LastReading → State → List (Option Told) → List Notice → Option Traffic
 undone reading.Nothing r s told notices = None
 undone reading.Refused r s told notices = Some (traffic_of s told notices)
 undone which r s told notices = Some (traffic_past r (past which r s) told notices)
 
--- a message about the plan of this number can be taken back
+-- a message about the plan of this number can be undone
 pub record CanForget (number : ℕ) (r : LastReading) (s p : State) : Type 0 where
   pub some : 0 < number
   pub room : number ≤ s.listing.max_plans
@@ -100,7 +100,7 @@ pub record CanForget (number : ℕ) (r : LastReading) (s p : State) : Type 0 whe
   pub alone : map (without_in number) s.listing.lists ≡ map (without_in number) p.listing.lists
   pub covers : Covers s.time p.store.plans s.queue.flights
 
--- TIME can, which advanced the desk's time from this one
+-- so can TIME, which advanced the desk's time from this one
 pub record CanGoBack (earlier : ℕ) (r : LastReading) (s p : State) : Type 0 where
   pub due : HaveBecomeDue s.store.taxi s.listing.max_plans earlier s.time s.store.plans r.changed p.listing.lists
   pub fixed : s.listing.lists ≡ map (with_fixed_waiting r.changed) p.listing.lists
@@ -109,7 +109,7 @@ pub record CanGoBack (earlier : ℕ) (r : LastReading) (s p : State) : Type 0 wh
   pub covers : Covers s.time s.store.plans s.queue.flights
   pub room : length s.queue.flights + length r.changed ≤ s.queue.room
 
--- the last reading can
+-- so can the last reading
 abbrev pub CanUndo : Last → LastReading → State → Type 0
 CanUndo reading.Nothing r s = Unit {0}
 CanUndo reading.Refused r s = Unit {0}
@@ -118,7 +118,8 @@ CanUndo (reading.Time earlier) r s = CanGoBack earlier r s (past (reading.Time e
 CanUndo reading.Open r s = (l : Listed) × (s.listing.lists ≡ before_last s.listing.lists ++ l ∷ [])
 CanUndo reading.Shut r s = IfSome r.closed (λ c. MayReopen c s.listing)
 
--- a state has the time, plans and slot lists of an earlier one again, and its queue each filed flight that isn't due
+-- a state has the time, plans and slot lists of an earlier one again, and its queue each filed
+-- flight that isn't due
 pub record IsAgain (p s : State) : Type 0 where
   pub time : s.time ≡ p.time
   pub plans : s.store.plans ≡ p.store.plans
@@ -128,14 +129,15 @@ pub record IsAgain (p s : State) : Type 0 where
   pub limit : s.listing.max_plans ≡ p.listing.max_plans
   pub covers : Covers s.time s.store.plans s.queue.flights
 
--- the noted numbers rise, all other plans stand as before, and this is what those were told before
+-- the recorded numbers rise, all other plans are unchanged, and these are the CTOTs issued to those
+-- before
 pub record AreNoted (r : LastReading) (plans before : List Plan) (told : List (Option Told)) : Type 0 where
   pub rising : IsStrictlyIncreasing r.changed
   pub each : length told ≡ length before
   pub others : (number : ℕ) → 0 < number → is_in number r.changed ≡ false → plan_at plans number ≡ plan_at before number
   pub were : r.noted ≡ map (told_of told) r.changed
 
--- what plans were told can be put back, and then the traffic is kept as before
+-- the CTOTs issued to plans can be restored, and then the traffic is kept as before
 pub record WasKept (r : LastReading) (s p : State) (told : List (Option Told)) : Type 0 where
   pub each : length r.noted ≡ length r.changed
   pub numbers : All (λ n. (0 < n) × (n ≤ length told)) r.changed

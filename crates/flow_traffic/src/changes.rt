@@ -1,4 +1,4 @@
-//! What the last reading changed of plans.
+//! Which plans the last reading changed.
 ghost use Rattle.std.specs.Prelude.{◌≡◌, ◌≤◌, ◌<◌, IfSome, IsSome, false, length, map};
 ghost use Rattle.std.specs.List.{All};
 ghost use Rattle.std.specs.List.Sorted.{IsStrictlyIncreasing};
@@ -13,16 +13,20 @@ use flow_regulations::Told;
 use std::alloc::Allocator;
 
 impl<A: Allocator + Copy> Traffic<A> {
-    /// The numbers of the plans that the last reading may have changed, rising, and what each of them was told before.
-    /// All other plans are in the same state, with the same off-block moment, and were last told the same.
+    /// The numbers of the plans that the last reading may have changed, rising, and the CTOT issued
+    /// to each of them before. All other plans have the same state, off-block time and CTOT last
+    /// issued.
     pub fn changed(&self) -> (&[u32], &[Option<Told>])
         requires { IsSome self.now.before }
         ensures rising { IsStrictlyIncreasing result.0.now }
         ensures numbers { All (λ n. (0 < n) × (n ≤ length self.now.traffic.plans)) result.0.now }
-        ensures others { IfSome self.now.before (λ before. ChangeAtMost result.0.now before self.now.traffic) }
+        ensures others { IfSome self.now.before
+            (λ before. ChangeAtMost result.0.now before self.now.traffic) }
         ensures each { length self.now.traffic.told ≡ length self.now.traffic.plans }
-        ensures each_before { IfSome self.now.before (λ before. length before.told ≡ length before.plans) }
-        ensures told { IfSome self.now.before (λ before. result.1.now ≡ map (told_of before.told) result.0.now) }
+        ensures each_before { IfSome self.now.before
+            (λ before. length before.told ≡ length before.plans) }
+        ensures told { IfSome self.now.before
+            (λ before. result.1.now ≡ map (told_of before.told) result.0.now) }
     {
         if !self.undoing.has_changed() {
             return (&[], &[]);
@@ -30,8 +34,8 @@ impl<A: Allocator + Copy> Traffic<A> {
         (self.undoing.changed(), self.undoing.noted())
     }
 
-    /// Where the plan of this number stood before the last reading, and its off-block moment then. None where it wasn't
-    /// filed yet.
+    /// The state and the off-block time of plan `number` before the last reading. `None` if it
+    /// wasn't filed yet.
     pub fn previous(&self, number: u32) -> Option<Status>
         requires some { 0 < number }
         requires change { IsSome self.now.before }
@@ -43,10 +47,11 @@ impl<A: Allocator + Copy> Traffic<A> {
         }
     }
 
-    /// Whether the last reading may have changed where plans stand, or their off-block moments. A message may, and
-    /// where it was none the plans are what they were.
+    /// Whether the last reading may have changed the state or the off-block time of a plan. Only a
+    /// message may; after any other reading the plans are unchanged.
     pub fn may_have_moved_plans(&self) -> bool
-        ensures { result ≡ false → IfSome self.now.before (λ before. before.plans ≡ self.now.traffic.plans) }
+        ensures { result ≡ false
+            → IfSome self.now.before (λ before. before.plans ≡ self.now.traffic.plans) }
     {
         match self.undoing.which() {
             Last::Message { .. } => true,
@@ -55,7 +60,7 @@ impl<A: Allocator + Copy> Traffic<A> {
     }
 }
 
-/// Where the plan of this number stands, and its off-block moment.
+/// The state and the off-block time of plan `number`.
 fn status_at<A: Allocator + Copy>(plans: &PlanStore<A>, number: u32) -> Option<Status>
     requires { 0 < number }
     ensures { result ≡ status_at plans.now.plans number }

@@ -1,25 +1,29 @@
-//! What a desk allocates: its time, plans, open regulations with their slots, what each plan was told, and the
-//! notices.
+//! What a desk allocates: its time, plans, open regulations with their slots, the CTOT last issued
+//! to each plan, and the notices.
 //!
-//! A reading asks for something or is refused (`asked`): a message asks for other plans, OPEN and SHUT for other
-//! regulations, TIME for another time. What is asked for is settled (`settle`), and then plans are told their slots.
-//! `Traffic::answer` does both in place.
+//! A reading asks for something or is refused (`asked`): a message asks for other plans, OPEN and
+//! SHUT for other regulations, TIME for another time. The regulations are then allocated by the
+//! rules, each by itself (`settle`), and slots are issued to plans. `Traffic::answer` does both in
+//! place.
 //!
-//! - *The order of doing*: find the verdict on values, make room for all that will be added, make the one change that
-//!   can fail, then only what can't. Where memory is refused nothing has changed, or what has is taken back without
-//!   memory.
-//! - *Between two readings* (`IsKept`) each slot list is that of the plans, all regulations are settled, the queue
-//!   holds each filed flight that isn't due, and nothing is owed to any plan. That is why a reading has to look only
-//!   at what it changes.
-//! - *Frozen flights keep their slots* (`FrozenPairsStay`): a reading takes a frozen pair of flight and slot away
-//!   only as the accepted DLA, CHG or CNL of that flight, or as the accepted SHUT of that regulation.
-//! - *The last reading can be taken back* (`undo`). `Undoing` notes what it was, where its flight stood, which plans
-//!   were told something, what they had been told and how many notices there were; the store of plans notes its last
-//!   change by itself. A SHUT keeps the regulation that it closed. Each reading begins, notes, tells the noted plans
-//!   their slots and finishes by the same calls.
+//! - *The order of doing*: find the verdict on values, reserve capacity for all that will be added,
+//!   make the one change that can fail, then only what can't. If allocation fails nothing has
+//!   changed, or the change is undone without allocation.
+//! - *Between two readings* (`IsKept`) each slot list is that of the plans, all regulations are
+//!   settled, the queue holds each filed flight that isn't due, and no notice is pending. So a
+//!   reading reads only what it changes.
+//! - *Frozen flights keep their slots* (`FrozenPairsStay`): a reading removes a frozen pair of
+//!   flight and slot only as the accepted DLA, CHG or CNL of that flight, or as the accepted SHUT
+//!   of that regulation.
+//! - *The last reading can be undone* (`undo`). `Undoing` records which reading it was, the slots
+//!   that its flight had, the plans that got a notice with their CTOT before, and the number of
+//!   notices; the store of plans records its last change by itself. A SHUT keeps the regulation
+//!   that it closed. Each reading begins, records, issues slots to the recorded plans and finishes
+//!   by the same calls.
 //!
-//! `messages` and `orders` carry out what is asked for, `opening` says whether a regulation may be opened, `notified`
-//! holds what plans were told, `changes` says which plans a reading may have changed, `same` compares two desks.
+//! `messages` and `orders` carry out what is asked for, `opening` says whether a regulation may be
+//! opened, `notified` holds the CTOT last issued and the notices, `changes` says which plans a
+//! reading may have changed, `same` compares two desks.
 #![tactic(auto)]
 
 mod changes;

@@ -1,6 +1,8 @@
-//! What messages do to the traffic.
-ghost use Rattle.std.specs.Prelude.{◌≡◌, ◌≤◌, ◌<◌, ◌+◌, List, Ok, Some, None, IfOk, IsErr, OnOk, OnErr, IfErr};
-ghost use Rattle.std.specs.Prelude.{MatchOption, length, map, slice_get, option_copied, vec_len, vec_capacity, ◌-◌};
+//! What messages change.
+ghost use Rattle.std.specs.Prelude.{◌≡◌, ◌≤◌, ◌<◌, ◌+◌, List, Ok, Some};
+ghost use Rattle.std.specs.Prelude.{None, IfOk, IsErr, OnOk, OnErr, IfErr};
+ghost use Rattle.std.specs.Prelude.{MatchOption, length, map, slice_get};
+ghost use Rattle.std.specs.Prelude.{option_copied, vec_len, vec_capacity, ◌-◌};
 ghost use Rattle.std.specs.Prelude.{◌&&◌, nat_lt, true, IfSome, IsSome};
 ghost use Rattle.fpl_message.specs.Said.{said_message};
 ghost use Rattle.fpl_message.specs.Reads.{msg};
@@ -31,7 +33,7 @@ use fpl_text::{Minute, TimeOfDay};
 use std::alloc::{AllocError, Allocator};
 
 impl<A: Allocator + Copy> Traffic<A> {
-    /// Takes in a message, and answers the verdict on it.
+    /// Carries out a message, and returns the verdict on it. Returns `Err` if allocation fails.
     pub(crate) fn answer_message(&mut self, message: &Message<A>) -> Result<Verdict, AllocError>
         ensures { AnswersReading (msg (said_message message.now)) self.old self.new result }
     {
@@ -67,8 +69,8 @@ impl<A: Allocator + Copy> Traffic<A> {
     }
 }
 
-/// Makes room for what a message adds: to what plans are told, to the notices and to the queue, and to what undoes it
-/// where so many regulations are open.
+/// Reserves capacity for what a message adds: to the CTOTs issued, to the notices and to the queue,
+/// and to what undoes the message with `regulations` open regulations.
 fn make_room<A: Allocator + Copy>(
     regulations: usize,
     undoing: &mut Undoing<A>,
@@ -80,7 +82,8 @@ fn make_room<A: Allocator + Copy>(
     ensures notices { notified.new.notices.items ≡ notified.old.notices.items }
     ensures flights { queue.new.flights ≡ queue.old.flights }
     ensures told_room { OnOk result (vec_len notified.new.told < vec_capacity notified.new.told) }
-    ensures notices_room { OnOk result (vec_len notified.new.notices < vec_capacity notified.new.notices) }
+    ensures notices_room { OnOk result
+        (vec_len notified.new.notices < vec_capacity notified.new.notices) }
     ensures queue_room { OnOk result (length queue.new.flights < queue.new.room) }
     ensures places_room { OnOk result (regulations ≤ undoing.new.room.places) }
     ensures changed_room { OnOk result (1 ≤ undoing.new.room.numbers) }
@@ -92,7 +95,7 @@ fn make_room<A: Allocator + Copy>(
     undoing.make_room_to_tell(1, &mut notified.notices)
 }
 
-/// Does what a message asks of the plans, and answers the number of the plan that it is about.
+/// Changes the plans as a message asks, and returns the number of the plan that it is about.
 #[tactic(auto, unfolding(crate::specs::Asked::changed_by))]
 fn change_plans<A: Allocator + Copy>(
     plans: &mut PlanStore<A>,
@@ -108,10 +111,12 @@ fn change_plans<A: Allocator + Copy>(
     ensures same { IfOk result (λ n. AreSameBut n plans.old.plans plans.new.plans) }
     ensures one { length plans.old.plans ≤ length plans.new.plans }
     ensures more { length plans.new.plans ≤ length plans.old.plans + 1 }
-    ensures last { IfOk result (λ n. length plans.old.plans < length plans.new.plans → n ≡ length plans.new.plans) }
+    ensures last { IfOk result
+        (λ n. length plans.old.plans < length plans.new.plans → n ≡ length plans.new.plans) }
     ensures before { OnOk result (plans.new.before ≡ Some plans.old.plans) }
     ensures refused { IfErr result (λ e.
-        IsRefusal e (changed_by plans.old.max_plans now plans.old.plans (said_message message.now))) }
+        IsRefusal e (changed_by plans.old.max_plans now plans.old.plans
+        (said_message message.now))) }
     ensures err { OnErr result (plans.new.plans ≡ plans.old.plans) }
     ensures limit { plans.new.max_plans ≡ plans.old.max_plans }
     ensures taxi { plans.new.taxi ≡ plans.old.taxi }
@@ -125,8 +130,8 @@ fn change_plans<A: Allocator + Copy>(
     }
 }
 
-/// The verdict on an accepted message about the plan of this number. A departure is compared with what the plan was
-/// last told.
+/// The verdict on an accepted message about plan `number`. A departure is compared with the CTOT
+/// last issued to the plan.
 #[tactic(auto, unfolding(crate::specs::Asked::verdict_on))]
 fn verdict_on<A: Allocator + Copy>(
     told: &[Option<Told>],
@@ -151,7 +156,8 @@ fn verdict_on<A: Allocator + Copy>(
     Verdict::Accepted { kind, plan: number }
 }
 
-/// How a departure of the plan of this number lies to what it was last told.
+/// The slot tolerance window in which a departure of plan `number` is, by the CTOT last issued to
+/// it.
 fn departure_window(told: &[Option<Told>], number: u32, time: TimeOfDay) -> Window
     requires { 0 < number }
     ensures { result ≡ window_of (told_of told.now number) time }
@@ -162,7 +168,7 @@ fn departure_window(told: &[Option<Told>], number: u32, time: TimeOfDay) -> Wind
     }
 }
 
-/// What the plan of this number was last told, where there is such a plan.
+/// The CTOT last issued to plan `number`. `None` if there is no such plan.
 fn told_at(told: &[Option<Told>], number: u32) -> Option<&Option<Told>>
     requires { 0 < number }
     ensures { option_copied result ≡ slice_get told.now (number - 1) }
@@ -170,7 +176,6 @@ fn told_at(told: &[Option<Told>], number: u32) -> Option<&Option<Told>>
     told.get((number - 1) as usize)
 }
 
-/// Whether a message is a departure.
 #[tactic(auto, unfolding(crate::specs::Asked::is_departure))]
 fn is_departure<A: Allocator + Copy>(message: &Message<A>) -> bool
     ensures { result ≡ is_departure (said_message message.now) }
@@ -178,7 +183,8 @@ fn is_departure<A: Allocator + Copy>(message: &Message<A>) -> bool
     matches!(message, Message::Dep(_))
 }
 
-/// Settles the regulations after a message about the plan of this number, which departs or does not.
+/// Allocates the regulations by the rules after a message about plan `number`, which departs if
+/// `departs`.
 fn settle_for<A: Allocator + Copy>(
     regulations: &mut Regulations<A>,
     plans: &PlanStore<A>,
@@ -190,8 +196,10 @@ fn settle_for<A: Allocator + Copy>(
     requires within { number ≤ length plans.now.plans }
     requires room { number ≤ regulations.old.max_plans }
     ensures limit { regulations.new.max_plans ≡ regulations.old.max_plans }
-    ensures alone { map (without_in number) regulations.new.lists ≡ map (without_in number) regulations.old.lists }
-    ensures settled { (s : State) → s.time ≡ now → s.store.taxi ≡ plans.now.taxi → s.listing ≡ regulations.old
+    ensures alone { map (without_in number) regulations.new.lists
+        ≡ map (without_in number) regulations.old.lists }
+    ensures settled { (s : State) → s.time ≡ now → s.store.taxi ≡ plans.now.taxi
+        → s.listing ≡ regulations.old
         → IsListed s.store.taxi s.listing.max_plans s.store.plans s.listing.lists
         → IsSettled s.store.taxi s.time s.store.plans s.listing.lists
         → AreSameBut number s.store.plans plans.now.plans
@@ -203,19 +211,20 @@ fn settle_for<A: Allocator + Copy>(
     regulations.look_again(plans, number, now);
 }
 
-/// Whether a plan is filed, and its flight isn't due.
+/// Whether a plan is filed and its flight isn't due.
 fn awaits<A: Allocator + Copy>(plan: &Plan<A>, now: Minute) -> bool
     ensures { result ≡ (is_filed plan.now.state && nat_lt (now + ISSUE_LEAD) plan.now.off_block) }
 {
     matches!(plan.state(), PlanState::Filed) && due_until(now) < plan.off_block().minutes()
 }
 
-/// Whether the plan of this number was filed before the last message, too, with this off-block moment.
+/// Whether plan `number` was filed before the last message, too, with this off-block time.
 fn was_filed<A: Allocator + Copy>(plans: &PlanStore<A>, number: u32, off_block: Minute) -> bool
     requires some { 0 < number }
     requires change { IsSome plans.now.before }
     ensures { result ≡ true → IfSome plans.now.before (λ before.
-        status_at before number ≡ Some (record { state = PlanState.Filed; off_block = off_block })) }
+        status_at before number
+        ≡ Some (record { state = PlanState.Filed; off_block = off_block })) }
 {
     match plans.previous(number) {
         Some(before) => {
@@ -225,8 +234,8 @@ fn was_filed<A: Allocator + Copy>(plans: &PlanStore<A>, number: u32, off_block: 
     }
 }
 
-/// Notes the flight of the plan of this number, if it is filed and isn't due. Where the last message left its off-block
-/// moment as it was, it is noted already.
+/// Puts the flight of plan `number` in the queue if it is filed and isn't due. If the last message
+/// left its off-block time unchanged, it is there already.
 fn note_flight<A: Allocator + Copy>(
     queue: &mut DueQueue<A>,
     plans: &PlanStore<A>,
@@ -236,7 +245,8 @@ fn note_flight<A: Allocator + Copy>(
     requires some { 0 < number }
     requires change { IsSome plans.now.before }
     requires room { length queue.old.flights < queue.old.room }
-    ensures covers { (before : List Held) → plans.now.before ≡ Some before → AreSameBut number before plans.now.plans
+    ensures covers { (before : List Held) → plans.now.before ≡ Some before
+        → AreSameBut number before plans.now.plans
         → Covers now before queue.old.flights → Covers now plans.now.plans queue.new.flights }
     ensures kept { (a : Awaited) → Contains queue.old.flights a → Contains queue.new.flights a }
 {
@@ -250,12 +260,13 @@ fn note_flight<A: Allocator + Copy>(
     queue.note(number, off_block);
 }
 
-/// A place for what a new plan is told.
+/// Appends an entry for a new plan, to which no CTOT was issued yet.
 fn make_place<A: Allocator>(count: u32, told: &mut Vec<Option<Told>, A>)
     requires one { count ≤ length told.old.items + 1 }
     requires all { length told.old.items ≤ count }
     requires room { vec_len told.old < vec_capacity told.old }
-    ensures told { (plans : List Held) → length plans ≡ count → told.new.items ≡ told_to plans told.old.items }
+    ensures told { (plans : List Held) → length plans ≡ count
+        → told.new.items ≡ told_to plans told.old.items }
     ensures each { length told.new.items ≡ count }
 {
     if told.len() < count as usize {
@@ -263,7 +274,7 @@ fn make_place<A: Allocator>(count: u32, told: &mut Vec<Option<Told>, A>)
     }
 }
 
-/// The verdict on a message that the plans refused, but where memory was.
+/// The verdict on a message that the plans refuse. An allocation failure is an `Err`.
 fn refused(fault: PlanFault) -> Result<Verdict, AllocError>
     ensures { MatchOption (refusal_of fault) (IsErr result) (λ r. result ≡ Ok (Verdict.Refused r)) }
 {

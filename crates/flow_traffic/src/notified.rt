@@ -1,4 +1,4 @@
-//! What plans were told of their slots.
+//! What was issued to plans.
 use flow_regulations::{Notice, Told};
 use std::alloc::{Allocator, Global};
 

@@ -1,4 +1,5 @@
-//! What orders do to the traffic. Most filings are messages, so the code of orders stands apart from theirs (`inline(never)`).
+//! What orders change. Most filings are messages, so the code of orders is kept apart from theirs
+//! (`inline(never)`).
 ghost use Rattle.std.specs.Prelude.{◌≡◌};
 ghost use Rattle.fpl_message.specs.Messages.{open_reg, shut_reg, set_time};
 ghost use Rattle.fpl_message.specs.Reads.{ord};
@@ -14,7 +15,7 @@ use fpl_text::{Minute, Text};
 use std::alloc::{AllocError, Allocator};
 
 impl<A: Allocator + Copy> Traffic<A> {
-    /// Opens a regulation, and answers the verdict on it.
+    /// Opens a regulation, and returns the verdict on the order. Returns `Err` if allocation fails.
     #[inline(never)]
     pub(crate) fn open(&mut self, order: &OpenReg) -> Result<Verdict, AllocError>
         requires from { IsDeskTime order.now.from }
@@ -53,7 +54,8 @@ impl<A: Allocator + Copy> Traffic<A> {
         Ok(accepted(Kind::Open))
     }
 
-    /// Closes a regulation, and answers the verdict on it.
+    /// Closes a regulation, and returns the verdict on the order. Returns `Err` if allocation
+    /// fails.
     #[inline(never)]
     pub(crate) fn shut(&mut self, id: &Text<8>) -> Result<Verdict, AllocError>
         ensures { AnswersReading (ord (shut_reg id.now)) self.old self.new result }
@@ -76,7 +78,8 @@ impl<A: Allocator + Copy> Traffic<A> {
         Ok(accepted(Kind::Shut))
     }
 
-    /// Sets the desk's time, and answers the verdict on it.
+    /// Sets the desk's time, and returns the verdict on the order. Returns `Err` if allocation
+    /// fails.
     #[inline(never)]
     pub(crate) fn set_time(&mut self, at: Minute) -> Result<Verdict, AllocError>
         requires { IsDeskTime at }

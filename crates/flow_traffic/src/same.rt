@@ -8,9 +8,10 @@ use flow_plans::{Plan, PlanStore};
 use std::alloc::Allocator;
 
 impl<A: Allocator + Copy> Traffic<A> {
-    /// Whether both have allocated the same: the same notices were issued, the plans stand alike, by number, and were
-    /// last told the same, and the same regulations are open with the same slot lists, in the same order. Times, and
-    /// what else the plans say, make a difference only where they do to these. It takes no memory.
+    /// Whether both have allocated the same: the same notices were issued, the plans have the same
+    /// states, off-block times and CTOTs by number, and the same regulations are open with the same
+    /// slot lists, in the same order. Times, and what else the plans say, make a difference only if
+    /// they do to these. Allocates nothing.
     pub fn same(&self, other: &Traffic<A>) -> bool
         ensures { IsTrue result ↔ IsSame self.now.traffic other.now.traffic }
     {
@@ -21,7 +22,8 @@ impl<A: Allocator + Copy> Traffic<A> {
     }
 }
 
-/// Whether there are as many plans in both, and those of each number stand alike.
+/// Whether there are as many plans in both, and those of each number have the same state and
+/// off-block time.
 fn stand_alike<A: Allocator + Copy>(plans: &PlanStore<A>, others: &PlanStore<A>) -> bool
     ensures { IsTrue result ↔ (standings plans.now.plans ≡ standings others.now.plans) }
 {
@@ -36,10 +38,11 @@ fn stand_alike<A: Allocator + Copy>(plans: &PlanStore<A>, others: &PlanStore<A>)
     true
 }
 
-/// Whether two plans stand alike: in state and off-block moment.
+/// Whether two plans have the same state and off-block time.
 fn stands_as<A: Allocator + Copy>(plan: Option<&Plan<A>>, other: Option<&Plan<A>>) -> bool
     ensures { IsTrue result
-        ↔ (option_map standing_of (option_copied plan.entry) ≡ option_map standing_of (option_copied other.entry)) }
+        ↔ (option_map standing_of (option_copied plan.entry)
+        ≡ option_map standing_of (option_copied other.entry)) }
 {
     match (plan, other) {
         (Some(plan), Some(other)) => {

@@ -1,5 +1,6 @@
-//! The traffic of a desk: plans, open regulations, and what each plan was told.
-ghost use Rattle.std.specs.Prelude.{◌≡◌, ◌≤◌, ◌<◌, ◌+◌, ◌-◌, IfOk, IsSome, OnErr, OnOk, Some, None, IsTrue, ◌↔◌};
+//! The traffic of a desk: plans, open regulations, and what was issued to plans.
+ghost use Rattle.std.specs.Prelude.{◌≡◌, ◌≤◌, ◌<◌, ◌+◌, ◌-◌, IfOk, IsSome};
+ghost use Rattle.std.specs.Prelude.{OnErr, OnOk, Some, None, IsTrue, ◌↔◌};
 ghost use Rattle.std.specs.Prelude.{MatchOption, length, map, slice_get, option_copied};
 ghost use Rattle.fpl_message.specs.Said.{said};
 ghost use Rattle.flow_plans.specs.Settings.{IsDeskTime};
@@ -21,8 +22,9 @@ use fpl_text::{Minute, Text};
 use std::alloc::{AllocError, Allocator, Global};
 use std::marker::Model;
 
-/// The desk's time, plans, open regulations with their slot lists, what each plan was last told, and the notices
-/// issued. Contracts see them, and what they were before the last reading, where that can be taken back.
+/// The desk's time, plans, open regulations with their slot lists, the CTOT last issued to each
+/// plan, and the notices issued. Contracts see them, and what they were before the last reading, if
+/// that can be undone.
 #[derive(Drop)]
 pub struct Traffic<A: Allocator + Copy = Global> {
     pub(crate) alloc: A,
@@ -44,18 +46,21 @@ impl<A: Allocator + Copy> Model for Traffic<A> {
     ghost Value = { Undoable };
 
     ghost view = { λ t.
-        let s : State = record { time = t.time; store = t.plans; listing = t.regulations; queue = t.queue } in
+        let s : State =
+        record { time = t.time; store = t.plans; listing = t.regulations; queue = t.queue } in
         record {
           traffic = traffic_of s t.notified.told.items t.notified.notices.items;
-          before = undone t.undoing.which t.undoing s t.notified.told.items t.notified.notices.items;
+          before = undone t.undoing.which t.undoing s t.notified.told.items
+              t.notified.notices.items;
         } };
 
     ghost invariant = { λ t. IsKeptWith t.undoing
-        (record { time = t.time; store = t.plans; listing = t.regulations; queue = t.queue }) t.notified.told.items };
+        (record { time = t.time; store = t.plans; listing = t.regulations; queue = t.queue })
+        t.notified.told.items };
 }
 
 impl<A: Allocator + Copy> Traffic<A> {
-    /// No traffic, at the time of the setup. It takes no memory.
+    /// No traffic, at the start time of the setup. Allocates nothing.
     pub fn new(alloc: A, setup: &Setup) -> Self
         ensures traffic { result.traffic ≡ no_traffic setup.now }
         ensures before { result.before ≡ None }
@@ -83,15 +88,17 @@ impl<A: Allocator + Copy> Traffic<A> {
         self.time
     }
 
-    /// The plan of this number, from 1. None where no plan has it.
+    /// Plan `number`, counted from 1. `None` if there is no such plan.
     pub fn plan(&self, number: u32) -> Option<&Plan<A>>
-        ensures plan { 0 < number → option_copied result ≡ slice_get self.now.traffic.plans (number - 1) }
+        ensures plan { 0 < number
+            → option_copied result ≡ slice_get self.now.traffic.plans (number - 1) }
         ensures zero { number ≡ 0 → result ≡ None }
     {
         self.plans.plan(number)
     }
 
-    /// What the plan of this number, from 1, was last told. None where there is no such plan.
+    /// The CTOT last issued to plan `number`, counted from 1, with the regulation that causes it.
+    /// `None` if there is no such plan.
     pub fn told(&self, number: u32) -> Option<&Option<Told>>
         requires { 0 < number }
         ensures value { option_copied result ≡ slice_get self.now.traffic.told (number - 1) }
@@ -100,7 +107,7 @@ impl<A: Allocator + Copy> Traffic<A> {
         self.notified.told.get((number - 1) as usize)
     }
 
-    /// The notices issued.
+    /// The notices issued, in order.
     pub fn notices(&self) -> &[Notice]
         ensures { result.now ≡ self.now.traffic.notices }
     {
@@ -110,12 +117,13 @@ impl<A: Allocator + Copy> Traffic<A> {
     /// The open regulations, in order of opening, each with its slot list.
     pub fn regulations(&self) -> &[Regulation<A>]
         ensures open { map regulation_of result.now ≡ self.now.traffic.regulations }
-        ensures lists { IsListed self.now.traffic.taxi self.now.traffic.max_plans self.now.traffic.plans result.now }
+        ensures lists { IsListed self.now.traffic.taxi self.now.traffic.max_plans
+            self.now.traffic.plans result.now }
     {
         self.regulations.all()
     }
 
-    /// The slot list of the open regulation of this name. None where none is open.
+    /// The slot list of the open regulation `id`. `None` if no regulation of this name is open.
     pub fn slots(&self, id: &Text<8>) -> Option<&SlotList<A>>
         ensures { MatchOption result (slots_of self.now.traffic id.now ≡ None) (λ list.
             slots_of self.now.traffic id.now ≡ Some list.now.lineup) }
@@ -123,19 +131,24 @@ impl<A: Allocator + Copy> Traffic<A> {
         self.regulations.slots(id)
     }
 
-    /// Takes in a reading, and answers the verdict on it. A refused one changes nothing. Frozen flights keep their
-    /// slots, but for the flight of an accepted DLA, CHG or CNL, and those of a regulation that is shut. Where memory
-    /// is refused, nothing has changed, but that no reading can be taken back. An unreadable text takes no memory, nor
-    /// does an order that is refused.
+    /// Carries out a reading, and returns the verdict on it. A refused one changes nothing. Frozen
+    /// flights keep their slots, except the flight of an accepted DLA, CHG or CNL, and those of a
+    /// regulation that is shut. An `Err`, returned if allocation fails, leaves all unchanged, but
+    /// no reading can then be undone. An unreadable text and an order that is refused allocate
+    /// nothing.
     pub fn answer(&mut self, reading: &Reading<A>) -> Result<Verdict, AllocError>
         requires { HasDeskMoments (said reading.now) }
-        ensures answers { IfOk result (Answers (said reading.now) self.old.traffic self.new.traffic) }
-        ensures frozen { IfOk result (FrozenPairsStay (said reading.now) self.old.traffic self.new.traffic) }
+        ensures answers { IfOk result
+            (Answers (said reading.now) self.old.traffic self.new.traffic) }
+        ensures frozen { IfOk result
+            (FrozenPairsStay (said reading.now) self.old.traffic self.new.traffic) }
         ensures before { OnOk result (self.new.before ≡ Some self.old.traffic) }
-        ensures err { OnErr result (self.new ≡ record { traffic = self.old.traffic; before = None }) }
+        ensures err { OnErr result
+            (self.new ≡ record { traffic = self.old.traffic; before = None }) }
         ensures memory { OnErr result (MayTakeMemory (said reading.now) self.old.traffic) }
         ensures grow { length self.old.traffic.notices ≤ length self.new.traffic.notices }
-        ensures few { length self.new.traffic.notices ≤ length self.old.traffic.notices + MAX_PLANS }
+        ensures few { length self.new.traffic.notices
+            ≤ length self.old.traffic.notices + MAX_PLANS }
     {
         match reading {
             Reading::Msg(message) => self.answer_message(message),
@@ -149,7 +162,8 @@ impl<A: Allocator + Copy> Traffic<A> {
         }
     }
 
-    /// Whether the last reading can be taken back: from an answer until the next reading or until it is taken back.
+    /// Whether the last reading can be undone: from an answer until the next reading, or until it
+    /// is undone.
     pub fn can_take_back(&self) -> bool
         ensures { IsTrue result ↔ IsSome self.now.before }
     {
@@ -159,7 +173,7 @@ impl<A: Allocator + Copy> Traffic<A> {
         }
     }
 
-    /// Takes the last reading back: the traffic is as it was before it. It takes no memory.
+    /// Undoes the last reading: the traffic is as it was before. Allocates nothing.
     pub fn take_back(&mut self)
         requires { IsSome self.old.before }
         ensures traffic { self.old.before ≡ Some self.new.traffic }

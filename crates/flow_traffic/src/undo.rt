@@ -1,5 +1,6 @@
 //! What undoes the last reading.
-ghost use Rattle.std.specs.Prelude.{◌≡◌, ◌≤◌, ◌<◌, ◌+◌, ◌++◌, ◌∷◌, [], OnOk, IfSome, length, map, take, vec_capacity};
+ghost use Rattle.std.specs.Prelude.{◌≡◌, ◌≤◌, ◌<◌, ◌+◌, ◌++◌, ◌∷◌, []};
+ghost use Rattle.std.specs.Prelude.{OnOk, IfSome, length, map, take, vec_capacity};
 ghost use Rattle.std.specs.List.{All};
 ghost use Rattle.std.specs.List.Sorted.{IsNonDecreasing, IsStrictlyIncreasing};
 ghost use Rattle.flow_regulations.specs.Listing.{MayReopen, HoldNewlyDue, regulation_of};
@@ -23,13 +24,13 @@ use std::marker::Model;
 /// The last reading, with what it replaced.
 #[derive(Clone, Copy, Debug)]
 pub(crate) enum Last {
-    /// None, or it was taken back.
+    /// None, or it was undone.
     Nothing,
     /// It was refused.
     Refused,
-    /// It was a message about the plan of this number.
+    /// It was a message about plan `number`.
     Message { number: u32 },
-    /// It was TIME, and this was the desk's time before.
+    /// It was TIME, and the desk's time was `earlier` before.
     Time { earlier: Minute },
     /// It was OPEN.
     Open,
@@ -37,21 +38,22 @@ pub(crate) enum Last {
     Shut,
 }
 
-/// What undoes the last reading: it is noted while that is carried out. Contracts see all of it, and for how much there
-/// is room.
+/// What undoes the last reading, recorded while that is carried out. Contracts see all of it, and
+/// the capacities.
 #[derive(Drop)]
 pub(crate) struct Undoing<A: Allocator + Copy = Global> {
     /// Which reading it was.
     which: Last,
-    /// Where the flight of a message stood before, in each regulation, in the order of opening.
+    /// The slots that the flight of a message had before, in each regulation, in the order of
+    /// opening.
     places: Vec<Place, A>,
     /// The numbers of the plans whose slots it may have changed, rising.
     changed: Vec<u32, A>,
-    /// What each of those was told before, in the same order.
+    /// The CTOT issued to each of those before, in the same order.
     noted: Vec<Option<Told>, A>,
     /// The regulation that was closed last, until it is opened again.
     closed: Option<Closed<A>>,
-    /// How many notices there were before.
+    /// The number of notices before.
     issued: usize,
 }
 
@@ -68,12 +70,16 @@ impl<A: Allocator + Copy> Model for Undoing<A> {
       noted = u.noted.items;
       closed = u.closed;
       issued = u.issued;
-      room = record { places = vec_capacity u.places; numbers = vec_capacity u.changed; told = vec_capacity u.noted };
+      room = record {
+        places = vec_capacity u.places;
+        numbers = vec_capacity u.changed;
+        told = vec_capacity u.noted;
+      };
     } };
 }
 
 impl<A: Allocator + Copy> Undoing<A> {
-    /// No reading that could be undone. It takes no memory.
+    /// No reading that could be undone. Allocates nothing.
     pub(crate) fn new(alloc: A) -> Self
         ensures { result.which ≡ Last.Nothing }
     {
@@ -94,7 +100,7 @@ impl<A: Allocator + Copy> Undoing<A> {
         self.which
     }
 
-    /// Whether the reading may have changed anything: it was not refused, and can be taken back.
+    /// Whether the reading may have changed anything: it was not refused, and can be undone.
     pub(crate) fn has_changed(&self) -> bool
         ensures { result ≡ has_changed self.now.which }
     {
@@ -105,23 +111,24 @@ impl<A: Allocator + Copy> Undoing<A> {
         }
     }
 
-    /// The numbers that are noted.
+    /// The numbers of the plans whose slots the reading may have changed.
     pub(crate) fn changed(&self) -> &[u32]
         ensures { result.now ≡ self.now.changed }
     {
         self.changed.as_slice()
     }
 
-    /// What the plans of those numbers were told before.
+    /// The CTOTs issued to those plans before.
     pub(crate) fn noted(&self) -> &[Option<Told>]
         ensures { result.now ≡ self.now.noted }
     {
         self.noted.as_slice()
     }
 
-    /// A reading begins: the one before can't be undone any more.
+    /// Begins a reading: the one before can't be undone any more.
     pub(crate) fn begin(&mut self)
-        ensures { self.new ≡ record self.old { which = Last.Nothing; places = []; changed = []; noted = [] } }
+        ensures { self.new
+            ≡ record self.old { which = Last.Nothing; places = []; changed = []; noted = [] } }
     {
         self.which = Last::Nothing;
         self.places.clear();
@@ -129,7 +136,8 @@ impl<A: Allocator + Copy> Undoing<A> {
         self.noted.clear();
     }
 
-    /// Makes room for so many places and so many numbers. Refused where memory is.
+    /// Reserves capacity for `places` slots and `numbers` plan numbers. Returns `Err` if allocation
+    /// fails.
     pub(crate) fn make_room(&mut self, places: usize, numbers: usize) -> Result<(), AllocError>
         ensures same { self.new ≡ record self.old { room = self.new.room } }
         ensures told { self.new.room.told ≡ self.old.room.told }
@@ -140,7 +148,8 @@ impl<A: Allocator + Copy> Undoing<A> {
         self.changed.reserve(numbers)
     }
 
-    /// Makes room for so many notices, and for what so many plans were told. Refused where memory is.
+    /// Reserves capacity for `count` notices, and for the CTOTs issued before to `count` plans.
+    /// Returns `Err` if allocation fails.
     pub(crate) fn make_room_to_tell(
         &mut self,
         count: usize,
@@ -157,21 +166,23 @@ impl<A: Allocator + Copy> Undoing<A> {
         notices.reserve(count)
     }
 
-    /// Notes the plan that a message is about, and where its flight stands. The caller makes room.
+    /// Records the plan that a message is about, and the slots of its flight. The caller has
+    /// reserved the capacity.
     pub(crate) fn note(&mut self, number: u32, regulations: &Regulations<A>)
         requires none { self.old.changed ≡ [] }
         requires places { length regulations.now.lists ≤ self.old.room.places }
         requires room { 1 ≤ self.old.room.numbers }
         ensures places { ArePlaces number self.new.places regulations.now.lists }
         ensures changed { self.new.changed ≡ number ∷ [] }
-        ensures others { self.new ≡ record self.old { places = self.new.places; changed = self.new.changed } }
+        ensures others { self.new
+            ≡ record self.old { places = self.new.places; changed = self.new.changed } }
     {
         regulations.note_places(number, &mut self.places);
         self.changed.push_reserved(number);
     }
 
-    /// Notes the flights that keep slots in the open regulation of this name, and makes room for what they were told
-    /// and for a notice to each. Refused where memory is.
+    /// Records the flights with frozen slots in the open regulation `id`, and reserves capacity for
+    /// the CTOT issued before and a notice to each. Returns `Err` if allocation fails.
     pub(crate) fn note_fixed(
         &mut self,
         regulations: &Regulations<A>,
@@ -179,18 +190,20 @@ impl<A: Allocator + Copy> Undoing<A> {
         notices: &mut Vec<Notice, A>,
     ) -> Result<(), AllocError>
         ensures fixed { OnOk result (AreFixedIn id.now regulations.now.lists self.new.changed) }
-        ensures others { self.new ≡ record self.old { changed = self.new.changed; room = self.new.room } }
+        ensures others { self.new
+            ≡ record self.old { changed = self.new.changed; room = self.new.room } }
         ensures told { OnOk result (length self.new.changed ≤ self.new.room.told) }
         ensures notices { notices.new.items ≡ notices.old.items }
-        ensures room { OnOk result (length notices.new.items + length self.new.changed ≤ vec_capacity notices.new) }
+        ensures room { OnOk result
+            (length notices.new.items + length self.new.changed ≤ vec_capacity notices.new) }
     {
         regulations.note_fixed(id, &mut self.changed)?;
         let count = self.changed.len();
         self.make_room_to_tell(count, notices)
     }
 
-    /// Takes the flights that have become due from `earlier` to `now` out of the queue, and notes their numbers. The
-    /// caller makes room for as many as are in the queue.
+    /// Takes the flights that have become due from `earlier` to `now` out of the queue, and records
+    /// their numbers. The caller has reserved as much capacity as the queue has flights.
     pub(crate) fn take_due(
         &mut self,
         queue: &mut DueQueue<A>,
@@ -205,7 +218,8 @@ impl<A: Allocator + Copy> Undoing<A> {
             → HoldNewlyDue earlier now plans.now.plans self.new.changed }
         ensures covers { earlier ≤ now → Covers earlier plans.now.plans queue.old.flights
             → Covers now plans.now.plans queue.new.flights }
-        ensures left { length queue.new.flights + length self.new.changed ≤ length queue.old.flights }
+        ensures left { length queue.new.flights + length self.new.changed
+            ≤ length queue.old.flights }
         ensures fits { length queue.new.flights + length self.new.changed ≤ queue.new.room }
         ensures others { self.new ≡ record self.old { changed = self.new.changed } }
     {
@@ -219,8 +233,8 @@ impl<A: Allocator + Copy> Undoing<A> {
         self.closed = closed;
     }
 
-    /// Tells the noted plans their slots, and notes what they were told before and how many notices there were. The
-    /// caller makes room.
+    /// Issues slots to the recorded plans, and records the CTOTs issued to them before and the
+    /// number of notices. The caller has reserved the capacity.
     pub(crate) fn tell(
         &mut self,
         regulations: &Regulations<A>,
@@ -262,15 +276,15 @@ impl<A: Allocator + Copy> Undoing<A> {
         regulations.tell(plans, &self.changed, told, notices);
     }
 
-    /// The reading is carried out, and was this one.
+    /// Ends the reading, which was this one.
     pub(crate) fn finish(&mut self, which: Last)
         ensures { self.new ≡ record self.old { which = which } }
     {
         self.which = which;
     }
 
-    /// Puts the time, the plans, the regulations and the queue back as they were before the last reading. It takes no
-    /// memory.
+    /// Undoes the changes of the last reading to the time, the plans, the regulations and the
+    /// queue. Allocates nothing.
     pub(crate) fn put_back(
         &mut self,
         time: &mut Minute,
@@ -279,12 +293,27 @@ impl<A: Allocator + Copy> Undoing<A> {
         queue: &mut DueQueue<A>,
     )
         requires can { CanUndo self.old.which self.old
-            (record { time = time.old; store = plans.old; listing = regulations.old; queue = queue.old }) }
+            (record {
+              time = time.old;
+              store = plans.old;
+              listing = regulations.old;
+              queue = queue.old;
+            }) }
         requires covers { Covers time.old plans.old.plans queue.old.flights }
         ensures again { IsAgain
             (past self.old.which self.old
-            (record { time = time.old; store = plans.old; listing = regulations.old; queue = queue.old }))
-            (record { time = time.new; store = plans.new; listing = regulations.new; queue = queue.new }) }
+            (record {
+              time = time.old;
+              store = plans.old;
+              listing = regulations.old;
+              queue = queue.old;
+            }))
+            (record {
+              time = time.new;
+              store = plans.new;
+              listing = regulations.new;
+              queue = queue.new;
+            }) }
         ensures others { self.new ≡ record self.old { closed = self.new.closed } }
     {
         let which = self.which;
@@ -305,13 +334,16 @@ impl<A: Allocator + Copy> Undoing<A> {
         }
     }
 
-    /// Puts back what the noted plans were told, for so many plans, and takes away the notices since.
+    /// Restores the CTOTs issued to the recorded plans, for `plans` plans, and removes the notices
+    /// since.
     pub(crate) fn untell(&self, plans: u32, notified: &mut Notified<A>)
-        requires numbers { All (λ n. (0 < n) × (n ≤ length notified.old.told.items)) self.now.changed }
+        requires numbers { All
+            (λ n. (0 < n) × (n ≤ length notified.old.told.items)) self.now.changed }
         requires each { length self.now.noted ≡ length self.now.changed }
         ensures told { notified.new.told.items
             ≡ take plans (told_again self.now.changed self.now.noted notified.old.told.items) }
-        ensures notices { notified.new.notices.items ≡ take self.now.issued notified.old.notices.items }
+        ensures notices { notified.new.notices.items
+            ≡ take self.now.issued notified.old.notices.items }
     {
         tell_again(&self.changed, &self.noted, &mut notified.told);
         notified.told.truncate(plans as usize);
@@ -319,7 +351,7 @@ impl<A: Allocator + Copy> Undoing<A> {
     }
 }
 
-/// Notes what these plans were last told.
+/// Records the CTOTs last issued to these plans.
 fn note_told<A: Allocator + Copy>(
     changed: &[u32],
     told: &[Option<Told>],
@@ -337,7 +369,7 @@ fn note_told<A: Allocator + Copy>(
     }
 }
 
-/// Puts back what these plans were told.
+/// Restores the CTOTs issued to these plans.
 fn tell_again<A: Allocator + Copy>(
     changed: &[u32],
     noted: &[Option<Told>],
@@ -352,7 +384,7 @@ fn tell_again<A: Allocator + Copy>(
     }
 }
 
-/// Opens a closed regulation again in its place.
+/// Opens a closed regulation again, at its former index.
 fn reopen<A: Allocator + Copy>(closed: &mut Option<Closed<A>>, regulations: &mut Regulations<A>)
     requires { IfSome closed.old (λ c. MayReopen c regulations.old) }
     ensures limit { regulations.new.max_plans ≡ regulations.old.max_plans }

@@ -1,4 +1,4 @@
-//! How a filing went.
+//! The outcome of a filing.
 use flow_regulations::Window;
 use fpl_message::Refusal;
 
@@ -14,15 +14,15 @@ pub enum Kind {
     Time,
 }
 
-/// How a filing went.
+/// The outcome of a filing.
 #[derive(Clone, Copy, Debug, PartialEq, Eq)]
 pub enum Verdict {
     /// The plan is 0 for an order.
     Accepted { kind: Kind, plan: u32 },
-    /// A departure was accepted.
+    /// A departure was accepted, in this slot tolerance window.
     Departed { window: Window, plan: u32 },
     Refused(Refusal),
 }
 
-// Each filing keeps one for good.
+// Each filing keeps one as long as the desk is there.
 const _: () = prove!(size_of::<Verdict>() <= 8);

@@ -57,7 +57,7 @@ shifted t a b = by (nat_lt (t + a) (t + b)) (nat_lt a b) refl refl where
   by true false p q = absurd (omega (arith, ltb-true (t + a) (t + b) p, ltb-false a b q))
   by false true p q = absurd (omega (arith, ltb-false (t + a) (t + b) p, ltb-true a b q))
 
--- whatever delays are kept as, where the greater is chosen the later slot is
+-- whatever delays are kept as, if the greater is chosen the later slot is
 chosen : {D : Type 0} (greater : Option D → Option D → Option D) (minutes : D → ℕ) (slot : D → Told) (t : ℕ)
     → ((y : Option D) → greater None y ≡ y) → ((d : D) → greater (Some d) None ≡ Some d)
     → ((d e : D) → greater (Some d) (Some e) ≡ (if nat_lt (minutes d) (minutes e) then Some e else Some d))

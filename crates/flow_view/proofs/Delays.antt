@@ -16,7 +16,7 @@ kept : {X : Type 0} (f : X → X) (o : Option X) → ((x : X) → f x ≡ x) →
 kept f None same = refl
 kept f (Some x) same = ap (λ y. Some y) (sym (same x))
 
--- one place is changed by what changes no other
+-- one index is changed by what changes no other
 set-one : {X : Type 0} (f : ℕ → X → X) (xs : List X) (i : ℕ) (d v : X) → i < length xs → v ≡ f i (slice_index_or xs i d)
     → ((n : ℕ) (x : X) → (n ≡ i → ⊥) → f n x ≡ x) → (n : ℕ) → slice_get (slice_set xs i v) n ≡ option_map (f n) (slice_get xs n)
 set-one f [] i d v lt e other n = absurd (omega (arith, lt))
@@ -48,7 +48,7 @@ noted o r table d v some lt e n =
     (e ∙ sym (of-plan (r.plan - 1 + 1) o (slice_index_or table (r.plan - 1) d) r own))
     (λ m most ne. of-another (m + 1) o most r (λ q. ne (omega (arith, q)))) n
 
--- and none of a plan that has no place
+-- and none of a plan that has no index
 pub beyond : (o : Opened) (r : SlotRow) (table : List (Option FlightDelay)) → (r.plan ≡ 0 → ⊥) → length table ≤ r.plan - 1
     → (n : ℕ) → slice_get table n ≡ option_map (λ most. worse_by (n + 1) o most r) (slice_get table n)
 beyond o r table some le n =

@@ -13,7 +13,7 @@ use Rattle.flow_core.specs.State.{State, Input, fresh}
 use Rattle.flow_core.specs.Steps.{step, steps, run, answered}
 use Rattle.flow_core.proofs.SlotRuns.{Fits, step-fits, fresh-fits}
 
--- one more is taken in
+-- one more is appended
 pub next-taken : {X Y : Type 0} (f : X → Option Y) (xs : List X) (i : ℕ) (x : X) (made more : List Y) (o : Option Y) → slice_get xs i ≡ Some x
     → made ≡ flat_map (λ y. option_to_list (f y)) (take i xs) → o ≡ f x → more ≡ made ++ option_to_list o
     → more ≡ flat_map (λ y. option_to_list (f y)) (take (i + 1) xs)

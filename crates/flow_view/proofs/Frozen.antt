@@ -49,7 +49,7 @@ slots-other : (x : Placed) (xs : List Placed) → AllByRecursion (λ b. (b.fligh
 slots-other x [] a = tt
 slots-other x (y ∷ ys) a = (a.0.1, slots-other x ys a.1)
 
--- where none stands twice, a flight that is found in a slot has that slot
+-- if none is there twice, a flight that is found in a slot has that slot
 pub slot-of-held : (k f : ℕ) (xs : List Placed) → NoneTwice xs → flight_in k xs ≡ Some f → slot_in f xs ≡ Some k
 slot-of-held k f [] a e = absurd cc
 slot-of-held k f (x ∷ xs) a e = by (slot-of-held k f xs a.1) (eqb x.slot k) refl e where
@@ -152,7 +152,7 @@ module _ (taxi n : ℕ) (t : Traffic) (spot : Spot) (l : Lineup) (o : Opened) wh
         let less : s < k = omega (arith, lt, ne) in
         one-slot k ∙ (other-slot k (in-first k) (held_flight l k) (λ e. ne (sym (one k e))) ∙ again less)
 
--- ---- beside the advice
+-- ---- compared with the advice
 
 -- a frozen slot gives the delay of the advice
 advised-among : (taxi n k : ℕ) (p : Plan) (r : Regulation) (fs : List Placed) → slot_in n fs ≡ Some k

@@ -1,4 +1,4 @@
--- What a plan was last told stands in its row.
+-- The CTOT last issued to a plan is that of its row.
 use Rattle.std.proofs.Common.{◌≡◌, ℕ, zero, suc, List, [], ◌∷◌, refl, Option, Some, None, slice_get}
 use Rattle.std.specs.Option.{option_map_or}
 use Rattle.flow_plans.specs.Plans.{Plan}

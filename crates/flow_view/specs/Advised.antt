@@ -14,11 +14,12 @@ use Rattle.flow_view.specs.declared.delay.FlightDelay.{FlightDelay}
 use Rattle.flow_view.specs.Openings.{Opened, rows_at}
 use Rattle.flow_view.specs.Delays.{worse_in, delay_of_flight}
 
--- the slot of a flight with a delay: its take-off, delayed so, and the regulation that causes it
+-- the slot of a flight with a delay: its CTOT, and the regulation that causes it
 abbrev pub slot_with : ℕ → Plan → FlightDelay → Told
 slot_with taxi p d = record { ctot = take_off taxi p + d.minutes; regulation = d.regulation }
 
--- what is shown of a regulation gives the flight of a plan the slot that the advice gives it in this regulation alone
+-- what is shown of a regulation gives the flight of a plan the slot that the advice gives it in
+-- this regulation alone
 abbrev pub GivesAdvised : ℕ → ℕ → Plan → Opened → Regulation → Type 0
 GivesAdvised taxi number p o r =
     option_map (slot_with taxi p) (worse_in number None o) ≡ advice taxi number p (r ∷ [])
@@ -42,13 +43,14 @@ pub record IsShownOf (h : History) (o : Opened) (r : Regulation) : Type 0 where
 abbrev pub list_of : History → Regulation → Lineup
 list_of h r = let t = (state_of h).traffic in lineup_of t.taxi t.max_plans t.plans r
 
--- the flight of a plan has a frozen slot in a regulation whose place it enters, or none at all
+-- the flight of a plan has a frozen slot in a regulation that it is planned to enter, or none at
+-- all
 abbrev pub IsFrozenOrOut : History → ℕ → Plan → Regulation → Type 0
 IsFrozenOrOut h number p r =
     (IsSome (fixed_slot (list_of h r) number) × IsSome (entry_at h.setup.taxi r.spot p)) ⊎ (held_slot (list_of h r) number ≡ None)
 
--- Where the flight of a plan is frozen in all regulations of a desk that hold it, its delay in what is shown of them, and the cause of
--- that, are those of the advice.
+-- If the flight of a plan is frozen in all regulations of a desk that hold it, its delay in what is
+-- shown of them, and the cause of that, are those of the advice.
 abbrev pub IsAdvisedAt : Type 0
 IsAdvisedAt =
     (h : History) (number : ℕ) (p : Plan) (os : List Opened) → let rs = (state_of h).traffic.regulations in

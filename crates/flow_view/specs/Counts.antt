@@ -1,4 +1,5 @@
--- How many flights enter a place, of all plans, regulated or not: entry counts (EUROCONTROL ATFCM Users Manual), by planned entry.
+-- How many flights enter an aerodrome or route point, of all plans, regulated or not: entry counts
+-- (EUROCONTROL ATFCM Users Manual), by planned entry.
 use Rattle.std.specs.Prelude.{ℕ, zero, suc, ◌+◌, ◌-◌, ◌*◌, ◌/◌, Bool, true, false, ◌&&◌, not, nat_le, if◌then◌else◌, List, [], ◌∷◌, ◌++◌, count_by, flat_map, min, Option, None, codes}
 use Rattle.std.specs.Option.{option_map, option_to_list}
 use Rattle.std.specs.Str.{bytes_eq}
@@ -14,17 +15,19 @@ use Rattle.flow_view.specs.declared.count.Count.{Count}
 use Rattle.flow_view.specs.declared.windows.Windows.{Windows}
 use Rattle.flow_view.specs.Load.{is_from_to}
 
--- a regulation may apply to the flight: it isn't flown by visual flight rules, filed in the air or exempt
+-- a regulation may apply to the flight: it isn't flown by visual flight rules, filed in the air or
+-- exempt
 abbrev pub is_regulated : Plan → Bool
 is_regulated p = not (is_visual p.rules) && not (bytes_eq p.key.dep (codes "AFIL")) && not p.exempt
 
--- how a held flight stands at a time to a place that it is planned to enter then: a departed one is on its way there, or has entered
+-- what a held flight counts as, at a time, at a point that it is planned to enter: a departed one
+-- is on its way there, or has entered
 abbrev pub standing_of : ℕ → Plan → ℕ → Standing
 standing_of now p entry =
     if is_departed p.state then (if nat_le entry now then Entered else Departed)
     else (if is_regulated p then Subject else Exempt)
 
--- a flight that enters the place
+-- a flight that enters the point
 abbrev pub entrant_of : ℕ → ℕ → Spot → Plan → Option Entrant
 entrant_of taxi now spot p =
     if is_held p.state then option_map (λ e. record { entry = e; standing = standing_of now p e }) (entry_at taxi spot p) else None
@@ -41,7 +44,7 @@ same_standing Departed Departed = true
 same_standing Entered Entered = true
 same_standing _ _ = false
 
--- how many of them enter from one time to before another and stand so
+-- how many of them enter from one time to before another and count as this
 abbrev pub entering : ℕ → ℕ → Standing → List Entrant → ℕ
 entering from to s es = count_by (λ e. is_from_to from to e.entry && same_standing e.standing s) es
 
@@ -57,7 +60,7 @@ count_in from to es =
       entered = entering from to Entered es;
     }
 
--- those of the first windows: each begins so many minutes after the one before it
+-- those of the first windows: each begins `slide` minutes after the one before it
 abbrev pub counts_before : ℕ → Windows → List Entrant → List Count
 counts_before zero w es = []
 counts_before (suc i) w es =

@@ -1,5 +1,6 @@
--- The delay of a flight: that of its most penalising regulation, which gives the greatest delay; of equal ones that which was opened
--- first (EUROCONTROL ATFCM Users Manual, slot allocation). Each flight counts once, however many regulations it is in.
+-- The delay of a flight: that of its most penalising regulation, which gives the greatest delay; of
+-- equal ones that which was opened first (EUROCONTROL ATFCM Users Manual, slot allocation). Each
+-- flight counts once, however many regulations it is in.
 use Rattle.std.specs.Prelude.{ℕ, zero, suc, ◌+◌, ◌-◌, ◌*◌, ◌==◌, ◌&&◌, nat_lt, nat_le, if◌then◌else◌, List, [], ◌++◌, map, length, count_by, sum, max, fold, Option, None, Some}
 use Rattle.std.specs.Option.{option_to_list}
 use Rattle.flow_view.specs.declared.delay.FlightDelay.{FlightDelay}
@@ -26,7 +27,8 @@ worse_by plan o most r = if r.plan == plan then worse most (delay_in o r) else m
 abbrev pub worse_in : ℕ → Option FlightDelay → Opened → Option FlightDelay
 worse_in plan most o = fold (worse_by plan o) most o.rows
 
--- the delay of the flight of a plan: the greatest in all these regulations, and none if it has no slot in them
+-- the delay of the flight of a plan: the greatest in all these regulations, and none if it has no
+-- slot in them
 abbrev pub delay_of_flight : List Opened → ℕ → Option FlightDelay
 delay_of_flight os plan = fold (worse_in plan) None os
 
@@ -37,11 +39,11 @@ delays (suc n) os = delays n os ++ option_to_list (delay_of_flight os (n + 1))
 
 -- ---- sums and counts, each flight once
 
--- how many flights have a delay of so many minutes, both included
+-- how many flights have a delay of `least` to `most` minutes
 abbrev pub flights_from_to : ℕ → ℕ → List FlightDelay → ℕ
 flights_from_to least most ds = count_by (λ d. nat_le least d.minutes && nat_le d.minutes most) ds
 
--- and of more than so many
+-- and of more than `minutes`
 abbrev pub flights_over : ℕ → List FlightDelay → ℕ
 flights_over minutes ds = count_by (λ d. nat_lt minutes d.minutes) ds
 
@@ -73,6 +75,7 @@ delay_totals ds =
       spread = spread_of ds;
     }
 
--- the place of a flight among the most delayed, as one number: the greater delay comes first, of equal ones that of the first plan
+-- the rank of a flight among the most delayed, as one number: the greater delay comes first, of
+-- equal ones that of the first plan
 abbrev pub rank_of : FlightDelay → ℕ
 rank_of d = 4_294_967_296 * (4_294_967_295 - d.minutes) + d.plan

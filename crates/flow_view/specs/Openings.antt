@@ -1,5 +1,5 @@
--- The regulations that were opened at a desk, by its journal: those that were shut as they stood after the last entry before their SHUT,
--- and those that are open as they stand.
+-- The regulations that were opened at a desk, by its journal: those that were shut as they were
+-- after the last entry before their SHUT, and the open ones as they are now.
 use Rattle.std.specs.Prelude.{ℕ, zero, suc, ◌+◌, ◌-◌, Bool, true, false, ◌&&◌, if◌then◌else◌, List, [], ◌++◌, length, map, slice_get, Option, None, Some}
 use Rattle.std.specs.Option.{option_map, option_map_or, option_to_list, is_none}
 use Rattle.std.specs.Str.{bytes_eq}
@@ -52,12 +52,13 @@ shut_name _ = None
 abbrev pub shut_in : Record → Option (List ℕ)
 shut_in e = if is_shut e.receipt.verdict then shut_name (reading_of e.input.text) else None
 
--- a regulation of this name that is open is shut by the entry of this number, with the rows of the desk before it
+-- a regulation of this name that is open is shut by the entry of this number, with the rows of the
+-- desk before it
 abbrev pub shut_one : History → ℕ → List ℕ → Opened → Opened
 shut_one before number id o =
     if is_none o.shut_by && bytes_eq o.id id then record o { shut_by = Some number; rows = rows_at before o } else o
 
--- those that are shut by an entry
+-- the openings, with those that an entry shuts
 abbrev pub with_shut : History → ℕ → Option (List ℕ) → List Opened → List Opened
 with_shut before number None os = os
 with_shut before number (Some id) os = map (shut_one before number id) os
@@ -76,7 +77,7 @@ abbrev pub with_opened : History → ℕ → Bool → List Opened → List Opene
 with_opened after number false os = os
 with_opened after number true os = os ++ option_to_list (option_map (opened_with number) (last_open after))
 
--- what becomes of them by the entry after so many
+-- the openings after the entry at `index`
 abbrev pub after_entry : History → ℕ → Record → List Opened → List Opened
 after_entry h index e os =
     with_opened (past (index + 1) h) (index + 1) (is_open e.receipt.verdict) (with_shut (past index h) (index + 1) (shut_in e) os)
@@ -88,7 +89,7 @@ openings_after (suc i) h = option_map_or (λ e. after_entry h i e (openings_afte
 
 -- ---- all of them
 
--- one that is open has the rows of the desk as it stands
+-- an open one has the rows of the desk as it is now
 abbrev pub shown_now : History → Opened → Opened
 shown_now h o = if is_none o.shut_by then record o { rows = rows_at h o } else o
 

@@ -13,7 +13,7 @@ use Rattle.flow_core.specs.History.{History, state_of}
 use Rattle.flow_view.specs.declared.flight.Flight.{Flight}
 use Rattle.flow_view.specs.declared.slot_row.SlotRow.{SlotRow}
 
--- the flight of a plan that was last told this, as it comes to a place
+-- the flight of a plan with the CTOT last issued to it, as it enters a point
 abbrev pub flight_of : ℕ → Spot → Plan → Option Told → Flight
 flight_of taxi spot p told =
     record {
@@ -50,6 +50,6 @@ held_before (suc k) l = held_before k l ++ option_to_list (option_map (λ f. rec
 abbrev pub held : Lineup → List Placed
 held l = held_before (len_of l) l
 
--- the rows of a slot list of a desk, at this place
+-- the rows of a slot list of a desk, at this point
 abbrev pub shown : History → Spot → Lineup → List SlotRow
 shown h spot l = map (row_of h.setup.taxi (state_of h).traffic spot l) (held l)

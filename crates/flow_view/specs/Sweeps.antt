@@ -1,4 +1,5 @@
--- What a regulation would do at other rates: it is opened at each rate by an order, looked at, and taken back.
+-- What a regulation would do at other rates: it is opened at each rate by an order, and the order
+-- is undone.
 use Rattle.std.specs.Prelude.{◌≡◌, ℕ, ◌≤◌, ◌<◌, true, List, [], ◌∷◌, ◌++◌, length, slice_get, codes, decimal, take, Option, None, Some}
 use Rattle.std.specs.List.{AllByRecursion}
 use Rattle.std.specs.Option.{option_map, option_map_or, option_and_then}
@@ -46,7 +47,7 @@ swept h order rate = record { rate = rate; totals = totals_of (last_rows (with_f
 abbrev pub verdict_of : History → List ℕ → Option Verdict
 verdict_of h text = option_map (λ e. e.receipt.verdict) (slice_get (state_of (with_filing h text)).journal (length h.filed))
 
--- the text is short enough to be filed, and the journal has room for it
+-- the text is short enough to be filed, and the journal isn't full
 abbrev pub CanFile : History → List ℕ → Type 0
 CanFile h text = (length text ≤ MAX_BYTES) × (length h.filed < h.setup.max_entries)
 
@@ -54,27 +55,29 @@ CanFile h text = (length text ≤ MAX_BYTES) × (length h.filed < h.setup.max_en
 abbrev pub Opens : History → List ℕ → Type 0
 Opens h text = CanFile h text × (option_map is_open (verdict_of h text) ≡ Some true)
 
--- the refusal of a verdict: that of an OPEN is none, and that of what else is accepted BadOrder
+-- the refusal of a verdict: none for an accepted OPEN, and `BadOrder` for anything else that is
+-- accepted
 abbrev pub refusal_of : Verdict → Option Refusal
 refusal_of (Refused why) = Some why
 refusal_of (Accepted kind.Open plan) = None
 refusal_of _ = Some BadOrder
 
--- a refusal that is told is that of the verdict
+-- the fault of a sweep is the refusal of this verdict
 abbrev pub IsToldOf : Verdict → SweepFault → Type 0
 IsToldOf verdict (fault.Refused why) = refusal_of verdict ≡ Some why
 IsToldOf verdict fault.OutOfMemory = Unit {0}
 IsToldOf verdict _ = ⊥
 
--- what is told of a text: that it is too long, else that the journal is full, else the refusal of the desk; and no memory is
--- refused to what can't be filed
+-- the fault for a text: that it is too long, else that the journal is full, else the refusal of the
+-- desk; allocation doesn't fail for what can't be filed
 abbrev pub IsToldBy : History → List ℕ → SweepFault → Type 0
 IsToldBy h text (fault.Refused why) = CanFile h text × (option_and_then refusal_of (verdict_of h text) ≡ Some why)
 IsToldBy h text fault.TooLong = MAX_BYTES < length text
 IsToldBy h text fault.JournalFull = (length text ≤ MAX_BYTES) × (h.setup.max_entries ≤ length h.filed)
 IsToldBy h text fault.OutOfMemory = CanFile h text
 
--- what ends a sweep of these rates: at each of the first of them a regulation is opened, and at the next one that is told
+-- the end of a sweep of these rates: at each of the first of them a regulation is opened, and the
+-- next one has this fault
 pub record IsEndedBy (h : History) (order rates : List ℕ) (e : SweepFault) : Type 0 where
   pub count : ℕ
   pub next : ℕ

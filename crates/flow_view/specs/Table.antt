@@ -13,11 +13,11 @@ use Rattle.flow_view.specs.Totals.{delay_of}
 abbrev pub holding_of : SlotRow → Holding
 holding_of r = if option_map_or (λ f. is_departed f.state) r.flight false then Departed else if r.frozen then Frozen else Waiting
 
--- the slot last issued to it
+-- the CTOT last issued to it
 abbrev pub told_in : SlotRow → Option Told
 told_in r = option_and_then (λ f. f.told) r.flight
 
--- its take-off time
+-- the time alone
 abbrev pub ctot_of : SlotRow → Option ℕ
 ctot_of r = option_map (λ t. t.ctot) (told_in r)
 
@@ -25,7 +25,8 @@ ctot_of r = option_map (λ t. t.ctot) (told_in r)
 abbrev pub cause_of : SlotRow → Option (List ℕ)
 cause_of r = option_map (λ t. t.regulation) (told_in r)
 
--- how many empty slots are between a held slot and the held one before it, or before it if there is none
+-- how many empty slots are between a held slot and the held one before it, or before it if there is
+-- none
 abbrev pub empty_between : Option ℕ → ℕ → ℕ
 empty_between before slot = option_map_or (λ b. slot - b - 1) before slot
 

@@ -29,6 +29,6 @@ totals_of rows =
 abbrev pub counted : ℕ → ℕ
 counted n = min n 18_446_744_073_709_551_615
 
--- the mean of a sum of delays over so many flights, in tenths of a minute, rounded, and 0 over none
+-- the mean delay of these flights, in tenths of a minute, rounded; 0 for no flights
 abbrev pub mean_tenths : ℕ → ℕ → ℕ
 mean_tenths total flights = if flights == 0 then 0 else counted (counted (total * 10) + flights / 2) / flights

@@ -1,7 +1,10 @@
-//! Entry counts: how many flights are planned to enter a place, regulated or not.
-ghost use Rattle.std.specs.Prelude.{◌≡◌, ◌≤◌, ◌++◌, ◌+◌, ◌*◌, IfOk, OnOk, option_to_list, min, codes};
+//! Entry counts: how many flights are planned to enter an aerodrome or route point, regulated or
+//! not.
+ghost use Rattle.std.specs.Prelude.{◌≡◌, ◌≤◌, ◌++◌, ◌+◌, ◌*◌};
+ghost use Rattle.std.specs.Prelude.{IfOk, OnOk, option_to_list, min, codes};
 ghost use Rattle.std.specs.Str.{bytes_eq};
-ghost use Rattle.flow_view.specs.Counts.{is_regulated, standing_of, entrant_of, entrants, same_standing, entering};
+ghost use Rattle.flow_view.specs.Counts.{is_regulated, standing_of, entrant_of};
+ghost use Rattle.flow_view.specs.Counts.{entrants, same_standing, entering};
 ghost use Rattle.flow_view.specs.Counts.{count_in, counts};
 ghost use Rattle.fpl_text.specs.declared.minute.TheConstants.{GREATEST_MINUTE};
 ghost use Rattle.flow_plans.specs.declared.setup.TheConstants.{MAX_TAXI};
@@ -14,27 +17,28 @@ use fpl_message::Spot;
 use fpl_text::{FlightRules, GREATEST_MINUTE, Minute};
 use std::alloc::{AllocError, Allocator};
 
-/// How a held flight stands to a place that it is planned to enter.
+/// What a held flight counts as at a point that it is planned to enter.
 #[derive(Clone, Copy)]
 enum Standing {
     /// Filed, and a regulation there may apply to it.
     Subject,
-    /// Filed, and none applies to it: it is flown by visual flight rules, filed in the air or exempt.
+    /// Filed, and no regulation applies to it: it is flown by visual flight rules, filed in the air
+    /// or exempt.
     Exempt,
     /// Departed, and on its way: its planned entry is after the desk's time.
     Departed,
-    /// Departed, and there: its planned entry isn't after the desk's time.
+    /// Departed, and past its planned entry: that isn't after the desk's time.
     Entered,
 }
 
-/// A flight that is planned to enter a place.
+/// A flight that is planned to enter a point.
 #[derive(Clone, Copy)]
 struct Entrant {
     entry: Minute,
     standing: Standing,
 }
 
-/// How many flights are planned to enter a place in a window.
+/// How many flights are planned to enter a point in a window.
 #[derive(Clone, Copy)]
 pub struct Count {
     pub from: Minute,
@@ -42,15 +46,16 @@ pub struct Count {
     pub to: Minute,
     /// Filed flights to which a regulation there may apply.
     pub subject: u64,
-    /// Filed flights to which none applies: flown by visual flight rules, filed in the air or exempt.
+    /// Filed flights to which none applies: flown by visual flight rules, filed in the air or
+    /// exempt.
     pub exempt: u64,
     /// Departed flights on their way: their planned entry is after the desk's time.
     pub departed: u64,
-    /// Departed flights that are there: their planned entry isn't after the desk's time.
+    /// Departed flights past their planned entry: that isn't after the desk's time.
     pub entered: u64,
 }
 
-/// Whether a flight plan with this departure was filed in the air.
+/// Whether a flight plan with this departure was filed in the air (AFIL).
 fn is_filed_in_the_air(departure: &[u8]) -> bool
     ensures { result ≡ bytes_eq departure.now (codes "AFIL") }
 {
@@ -70,7 +75,7 @@ fn is_regulated<A: Allocator + Copy>(plan: &Plan<A>) -> bool
     !plan.exempt()
 }
 
-/// How the flight of a held plan stands to a place that it is planned to enter then.
+/// What the flight of a held plan counts as at a point that it is planned to enter at `entry`.
 fn standing_of<A: Allocator + Copy>(now: Minute, plan: &Plan<A>, entry: Minute) -> Standing
     ensures { result ≡ standing_of now plan.now entry }
 {
@@ -87,7 +92,7 @@ fn standing_of<A: Allocator + Copy>(now: Minute, plan: &Plan<A>, entry: Minute) 
     }
 }
 
-/// The flight of a plan, if it is held and enters the place.
+/// The flight of a plan, if it is held and is planned to enter the point.
 fn entrant_of<A: Allocator + Copy>(
     taxi: u32,
     now: Minute,
@@ -107,7 +112,7 @@ fn entrant_of<A: Allocator + Copy>(
     })
 }
 
-/// Adds a flight, if there is one.
+/// Appends a flight, if there is one. Returns `Err` if allocation fails.
 fn add_entrant<A: Allocator + Copy>(
     entrants: &mut Vec<Entrant, A>,
     entrant: Option<Entrant>,
@@ -120,7 +125,7 @@ fn add_entrant<A: Allocator + Copy>(
     Ok(())
 }
 
-/// The flights that enter a place, by plan.
+/// The flights that are planned to enter a point, by plan number.
 fn entrants_of<A: Allocator + Copy>(
     alloc: A,
     core: &Core<A>,
@@ -139,7 +144,6 @@ fn entrants_of<A: Allocator + Copy>(
     Ok(entrants)
 }
 
-/// Whether a standing is this one.
 fn same_standing(standing: Standing, other: Standing) -> bool
     ensures { result ≡ same_standing standing other }
 {
@@ -151,7 +155,7 @@ fn same_standing(standing: Standing, other: Standing) -> bool
     }
 }
 
-/// How many flights enter from one time to before another and stand so.
+/// The number of flights that enter from `from` to before `to` and count as `standing`.
 fn entering(entrants: &[Entrant], from: Minute, to: Minute, standing: Standing) -> u64
     ensures { result ≡ entering from to standing entrants.now }
 {
@@ -163,7 +167,7 @@ fn entering(entrants: &[Entrant], from: Minute, to: Minute, standing: Standing) 
     count
 }
 
-/// The entry counts from one time to before another.
+/// The entry counts from `from` to before `to`.
 fn count_in(entrants: &[Entrant], from: Minute, to: Minute) -> Count
     ensures { result ≡ count_in from to entrants.now }
 {
@@ -177,11 +181,12 @@ fn count_in(entrants: &[Entrant], from: Minute, to: Minute) -> Count
     }
 }
 
-/// The entry counts of the window at this index, from 0.
+/// The entry counts of window `index`, from 0.
 fn count_at(entrants: &[Entrant], windows: &Windows, index: u32) -> Count
     requires { windows.now.from + windows.now.slide * index ≤ GREATEST_MINUTE }
     ensures { result ≡ count_in (windows.now.from + windows.now.slide * index)
-        (min (windows.now.from + windows.now.slide * index + windows.now.step) GREATEST_MINUTE) entrants.now }
+        (min (windows.now.from + windows.now.slide * index + windows.now.step) GREATEST_MINUTE)
+        entrants.now }
 {
     let from = windows.from.minutes() + windows.slide * index;
     let to = (from + windows.step).min(GREATEST_MINUTE);
@@ -209,7 +214,8 @@ fn counts_with<A: Allocator + Copy>(
     Ok(counts)
 }
 
-/// The entry counts of a place in each of these windows, from all plans but cancelled ones. It goes over the plans once.
+/// The entry counts of a point in each of these windows, over all plans but cancelled ones
+/// (EUROCONTROL ATFCM Users Manual). Reads the plans once. Returns `Err` if allocation fails.
 pub fn counts_of<A: Allocator + Copy>(
     alloc: A,
     core: &Core<A>,

@@ -2,8 +2,10 @@
 ghost use Rattle.std.specs.Prelude.{◌≡◌, ◌≤◌, ◌+◌, ◌-◌, ◌*◌, ℕ, IfOk, length, flat_map, slice_get};
 ghost use Rattle.std.specs.Option.{option_map, option_to_list};
 ghost use Rattle.std.specs.List.Sorted.{IsPermutation, IsNonDecreasingBy};
-ghost use Rattle.flow_view.specs.Delays.{delay_in, worse, worse_by, worse_in, delays, flights_from_to, flights_over};
-ghost use Rattle.flow_view.specs.Delays.{spread_of, total_delay, greatest_delay, delay_totals, rank_of};
+ghost use Rattle.flow_view.specs.Delays.{delay_in, worse, worse_by, worse_in};
+ghost use Rattle.flow_view.specs.Delays.{delays, flights_from_to, flights_over};
+ghost use Rattle.flow_view.specs.Delays.{spread_of, total_delay, greatest_delay};
+ghost use Rattle.flow_view.specs.Delays.{delay_totals, rank_of};
 ghost use Rattle.flow_plans.specs.declared.setup.TheConstants.{MAX_PLANS};
 
 use crate::opening::Opening;
@@ -24,7 +26,7 @@ pub struct FlightDelay {
     pub regulation: Text<8>,
 }
 
-/// How many flights have which delay, in minutes.
+/// The number of flights by delay, in minutes.
 #[derive(Clone, Copy)]
 pub struct Spread {
     pub none: u64,
@@ -42,11 +44,11 @@ pub struct Spread {
 /// Sums and counts of the delays of flights, each flight once.
 #[derive(Clone, Copy)]
 pub struct DelayTotals {
-    /// How many flights have a slot.
+    /// The number of flights that have a slot.
     pub flights: u64,
-    /// How many of them have a slot after their planned entry.
+    /// The number of them that have a slot after their planned entry.
     pub delayed: u64,
-    /// How many have a delay of more than 15 minutes.
+    /// The number of them that have a delay of more than 15 minutes.
     pub over_15: u64,
     /// The sum of the delays, in minutes.
     pub total: u64,
@@ -78,14 +80,15 @@ fn worse(most: Option<FlightDelay>, later: FlightDelay) -> Option<FlightDelay>
     }
 }
 
-/// Takes a further row into the greatest delays, of which that of plan `n` is at index `n - 1`.
+/// Includes a further row in the greatest delays, of which that of plan `n` is at index `n - 1`.
 fn note_row<A: Allocator + Copy>(
     greatest: &mut [Option<FlightDelay>],
     opening: &Opening<A>,
     row: &SlotRow,
 )
     ensures { (n : ℕ) → slice_get greatest.new n
-        ≡ option_map (λ most. worse_by (n + 1) opening.now most row.now) (slice_get greatest.old n) }
+        ≡ option_map (λ most. worse_by (n + 1) opening.now most row.now)
+        (slice_get greatest.old n) }
 {
     if row.plan == 0 {
         return;
@@ -96,7 +99,7 @@ fn note_row<A: Allocator + Copy>(
     }
 }
 
-/// Takes the rows of a further regulation into the greatest delays.
+/// Includes the rows of a further regulation in the greatest delays.
 fn note_rows<A: Allocator + Copy>(greatest: &mut [Option<FlightDelay>], opening: &Opening<A>)
     ensures { (n : ℕ) → slice_get greatest.new n
         ≡ option_map (λ most. worse_in (n + 1) most opening.now) (slice_get greatest.old n) }
@@ -106,12 +109,13 @@ fn note_rows<A: Allocator + Copy>(greatest: &mut [Option<FlightDelay>], opening:
     }
 }
 
-/// Those delays that there are.
+/// Collects the delays that there are.
 fn collected<A: Allocator + Copy>(
     alloc: A,
     greatest: &[Option<FlightDelay>],
 ) -> Result<Vec<FlightDelay, A>, AllocError>
-    ensures delays { IfOk result (λ made. made.items ≡ flat_map (λ d. option_to_list d) greatest.now) }
+    ensures delays { IfOk result
+        (λ made. made.items ≡ flat_map (λ d. option_to_list d) greatest.now) }
     ensures few { IfOk result (λ made. length made.items ≤ length greatest.now) }
 {
     let mut delays = Vec::new(alloc);
@@ -123,8 +127,9 @@ fn collected<A: Allocator + Copy>(
     Ok(delays)
 }
 
-/// The delays of the flights of the first `plans` plans, by number: for each flight that has a slot in one of these
-/// regulations the delay of the most penalising one, of equal ones of that which was opened first.
+/// The delays of the flights of plans 1 to `plans`, by number. The delay of a flight that has a
+/// slot in one of these regulations is that of the most penalising one, of equal ones the first
+/// opened. Returns `Err` if allocation fails.
 pub fn delays_of<A: Allocator + Copy>(
     alloc: A,
     plans: u32,
@@ -140,7 +145,7 @@ pub fn delays_of<A: Allocator + Copy>(
     collected(alloc, greatest.as_slice())
 }
 
-/// How many flights have a delay of so many minutes, both included.
+/// The number of flights with a delay of `least` to `most` minutes.
 fn flights_from_to(delays: &[FlightDelay], least: u32, most: u32) -> u64
     ensures { result ≡ flights_from_to least most delays.now }
 {
@@ -151,7 +156,7 @@ fn flights_from_to(delays: &[FlightDelay], least: u32, most: u32) -> u64
     count
 }
 
-/// How many have a delay of more minutes.
+/// The number of flights with a delay of more than `minutes`.
 fn flights_over(delays: &[FlightDelay], minutes: u32) -> u64
     ensures { result ≡ flights_over minutes delays.now }
 {
@@ -214,15 +219,15 @@ pub fn delay_totals(delays: &[FlightDelay]) -> DelayTotals
     }
 }
 
-/// The place of a flight among the most delayed, as one number: the greater delay comes first, of equal ones that of the
-/// first plan.
+/// The rank of a flight among the most delayed, as one number: the greater delay comes first, of
+/// equal ones that of the first plan.
 fn rank(minutes: u32, plan: u32) -> u64
     ensures { result ≡ 4_294_967_296 * (4_294_967_295 - minutes) + plan }
 {
     4_294_967_296 * u64::from(u32::MAX - minutes) + u64::from(plan)
 }
 
-/// Puts the delays of flights in order, the greatest first and equal ones by plan.
+/// Sorts the delays of flights, the greatest first and equal ones by plan.
 pub fn most_delayed_first(delays: &mut [FlightDelay])
     ensures permutation { IsPermutation delays.old delays.new }
     ensures order { IsNonDecreasingBy rank_of delays.new }

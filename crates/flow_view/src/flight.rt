@@ -1,4 +1,4 @@
-//! A flight as it comes to a place.
+//! A flight as it enters a point.
 ghost use Rattle.std.specs.Prelude.{◌≡◌, ◌≤◌, ◌<◌, ◌-◌, slice_get};
 ghost use Rattle.std.specs.Option.{option_map_or};
 ghost use Rattle.flow_core.specs.Changes.{rows_at};
@@ -12,7 +12,7 @@ use fpl_message::Spot;
 use fpl_text::{Minute, Text};
 use std::alloc::Allocator;
 
-/// A flight as it comes to a place, by its plan.
+/// A flight as it enters an aerodrome or route point, by its plan.
 #[derive(Clone, Copy)]
 pub struct Flight {
     pub ident: Text<7>,
@@ -20,13 +20,13 @@ pub struct Flight {
     pub dest: Text<4>,
     pub off_block: Minute,
     pub state: PlanState,
-    /// The planned moment of entry at the place. None where the flight doesn't come there.
+    /// The planned time of entry at the point. `None` if the flight isn't planned over it.
     pub entry: Option<Minute>,
-    /// What the plan was last told.
+    /// The CTOT last issued to the plan, with the regulation that causes it.
     pub told: Option<Told>,
 }
 
-/// The flight of a plan that was last told this.
+/// The flight of a plan, with the CTOT last issued to it.
 fn flight_of<A: Allocator + Copy>(
     plan: &Plan<A>,
     taxi: u32,
@@ -48,10 +48,11 @@ fn flight_of<A: Allocator + Copy>(
     }
 }
 
-/// What the plan of this number was last told.
+/// The CTOT last issued to plan `number`.
 fn told_of<A: Allocator + Copy>(core: &Core<A>, number: u32) -> Option<Told>
     requires { 0 < number }
-    ensures { result ≡ option_map_or (λ r. r.told) (slice_get (rows_at core.now) (number - 1)) None }
+    ensures { result ≡ option_map_or (λ r. r.told)
+        (slice_get (rows_at core.now) (number - 1)) None }
 {
     match core.row(number) {
         Some(row) => row.told,
@@ -59,7 +60,7 @@ fn told_of<A: Allocator + Copy>(core: &Core<A>, number: u32) -> Option<Told>
     }
 }
 
-/// The flight of the plan of this number.
+/// The flight of plan `number`, counted from 1. `None` if there is no such plan.
 pub(crate) fn flight_at<A: Allocator + Copy>(
     core: &Core<A>,
     spot: &Spot,

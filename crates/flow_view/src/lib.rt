@@ -1,13 +1,21 @@
-//! What a desk shows of itself: the rows of its slot lists, the regulations that were shut among them, and what is
-//! counted of flights.
+//! What a desk shows of its regulations and flights, beyond the rows of its plans.
 //!
-//! - *Rows* (`slot_row`, `flight`, `table`): the held slots of a slot list with their flights.
-//! - *Openings* (`opening`, `past`): the regulations of a journal from OPEN to SHUT. The journal is entered once again,
-//!   and a SHUT shows what it closes. `desk_at` is the desk at an earlier time.
-//! - *Delays* (`delay`, `totals`): of slot lists, and of flights by their most penalising regulations.
-//! - *Counts* (`count`, `load`): how many flights enter a place, regulated or not, and demand against slots.
-//! - *Sweeps* (`what_if`): what a regulation would do at other rates.
-//! - *Charts* (`scale`, `rounds`): where times and counts are in them.
+//! Everything is computed from a `Core` when it is asked for: flow_view keeps no state beside the
+//! desk, so a view can't differ from it. Each value has a definition in `specs/`, a function of the
+//! desk's history, and each function returns just that.
+//!
+//! - *Rows* (`slot_row`, `flight`, `table`): the held slots of a slot list with their flights, and
+//!   the empty slots between them.
+//! - *Openings* (`opening`, `past`): the regulations of a journal from OPEN to SHUT. The journal is
+//!   entered a second time in a fresh desk; just before an accepted SHUT that desk shows the rows
+//!   that the regulation had. `desk_at` is the desk at an earlier time, by the same way.
+//! - *Delays* (`delay`, `totals`): of slot lists, and of flights, each once, by its most penalising
+//!   regulation. `laws` says that this choice is that of the desk's own advice.
+//! - *Counts* (`count`, `load`, `windows`): how many flights are planned to enter an aerodrome or
+//!   route point, regulated or not, and demand against slots in steps of a period.
+//! - *Sweeps* (`what_if`): what a regulation would do at other rates. The desk files each order and
+//!   undoes it.
+//! - *Charts* (`scale`, `rounds`): where times and counts are drawn, in tenths of a pixel.
 #![tactic(auto)]
 
 mod count;

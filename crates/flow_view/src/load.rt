@@ -1,4 +1,4 @@
-//! Demand and slots by steps of time.
+//! Demand against slots, in steps of a regulation's period.
 ghost use Rattle.std.specs.Prelude.{◌≡◌, ◌≤◌, ◌<◌, ◌+◌, ◌-◌, ◌*◌, IfOk, false, count_by, min};
 ghost use Rattle.std.specs.Option.{option_map_or};
 ghost use Rattle.flow_slots.specs.Period.{first_slot};
@@ -11,28 +11,28 @@ use flow_slots::Shape;
 use fpl_text::Minute;
 use std::alloc::{AllocError, Allocator};
 
-/// Demand and slots of a step.
+/// Demand and slots of one step of time.
 #[derive(Clone, Copy)]
 pub struct Load {
     pub from: Minute,
-    /// The first moment after the step.
+    /// The first minute after the step.
     pub to: Minute,
-    /// How many flights are planned to enter in the step.
+    /// The number of flights that are planned to enter in the step.
     pub demand: u64,
-    /// How many slots the rates give in it.
+    /// The number of slots that the rates give in the step.
     pub slots: u32,
-    /// How many flights hold a slot in it.
+    /// The number of flights that hold a slot in the step.
     pub held: u64,
 }
 
-/// Whether a moment lies from one to before another.
+/// Whether a time is from `from` to before `to`.
 pub(crate) fn is_from_to(from: Minute, to: Minute, moment: Minute) -> bool
     ensures { result ≡ is_from_to from to moment }
 {
     from <= moment && moment < to
 }
 
-/// Whether the flight of a row is planned to enter then.
+/// Whether the flight of a row is planned to enter from `from` to before `to`.
 fn enters(row: &SlotRow, from: Minute, to: Minute) -> bool
     ensures { result ≡ option_map_or (is_from_to from to) (entry_of row.now) false }
 {
@@ -42,9 +42,10 @@ fn enters(row: &SlotRow, from: Minute, to: Minute) -> bool
     }
 }
 
-/// How many flights are planned to enter from one moment to before another.
+/// The number of flights that are planned to enter from `from` to before `to`.
 fn demand_in(rows: &[SlotRow], from: Minute, to: Minute) -> u64
-    ensures { result ≡ count_by (λ r. option_map_or (is_from_to from to) (entry_of r) false) rows.now }
+    ensures { result ≡ count_by
+        (λ r. option_map_or (is_from_to from to) (entry_of r) false) rows.now }
 {
     let mut count = 0;
     for row in rows {
@@ -53,7 +54,7 @@ fn demand_in(rows: &[SlotRow], from: Minute, to: Minute) -> u64
     count
 }
 
-/// How many flights hold a slot from one moment to before another.
+/// The number of flights that hold a slot from `from` to before `to`.
 fn held_in(rows: &[SlotRow], from: Minute, to: Minute) -> u64
     ensures { result ≡ count_by (λ r. is_from_to from to r.time) rows.now }
 {
@@ -64,7 +65,7 @@ fn held_in(rows: &[SlotRow], from: Minute, to: Minute) -> u64
     count
 }
 
-/// How many flights hold a slot after the period.
+/// The number of flights that hold a slot after the period.
 pub fn held_later(shape: &Shape, rows: &[SlotRow]) -> u64
     ensures { result ≡ held_later shape.now rows.now }
 {
@@ -76,7 +77,7 @@ pub fn held_later(shape: &Shape, rows: &[SlotRow]) -> u64
     count
 }
 
-/// The number of the first slot not before a moment of the period or its end.
+/// The number of the first slot that isn't before a time of the period.
 fn first_slot(shape: &Shape, moment: Minute) -> u32
     requires start { shape.now.start ≤ moment }
     requires end { moment ≤ shape.now.end }
@@ -89,7 +90,7 @@ fn first_slot(shape: &Shape, moment: Minute) -> u32
     }
 }
 
-/// Demand and slots from one moment of the period to before another.
+/// Demand and slots from one time of the period to before another.
 fn load_in(shape: &Shape, rows: &[SlotRow], from: Minute, to: Minute) -> Load
     requires start { shape.now.start ≤ from }
     requires rises { from ≤ to }
@@ -106,7 +107,7 @@ fn load_in(shape: &Shape, rows: &[SlotRow], from: Minute, to: Minute) -> Load
     }
 }
 
-/// Demand and slots in the step of so many minutes at this place, from 0.
+/// Demand and slots in step `index`, from 0, of `step` minutes.
 fn load_at(shape: &Shape, rows: &[SlotRow], step: u32, index: u32) -> Load
     requires some { 0 < step }
     requires within { step * index < shape.now.end - shape.now.start }
@@ -125,7 +126,8 @@ fn load_at(shape: &Shape, rows: &[SlotRow], step: u32, index: u32) -> Load
     )
 }
 
-/// Demand and slots in each step of so many minutes from the start of the period. The last step ends with it.
+/// Demand and slots in each step of `step` minutes from the start of the period. The last step ends
+/// with the period. Returns `Err` if allocation fails.
 pub fn loads_of<A: Allocator + Copy>(
     alloc: A,
     shape: &Shape,

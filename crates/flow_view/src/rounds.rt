@@ -1,27 +1,27 @@
-//! Shares of a length, and round numbers.
+//! Parts of a length, and round numbers for the axes of charts.
 ghost use Rattle.std.specs.Prelude.{◌≡◌, ◌≤◌, ◌<◌, ◌*◌, IfSome};
 ghost use Rattle.flow_view.specs.Scale.{share, first_reaching, count_between, minutes_between};
 ghost use Rattle.flow_slots.specs.declared.shape.TheConstants.{LONGEST_PERIOD};
 
-/// How many lines lie above the lowest one of a panel at most.
+/// The greatest number of lines above the lowest one of a panel.
 const MOST_LINES: u32 = 5;
 
 /// The greatest count that is shown.
 pub const MOST_FLIGHTS: u32 = 50_000;
 
-/// How many flights lie between two lines.
+/// The numbers of flights that may be between two lines.
 const ROUND_COUNTS: [u32; 13] = [1, 2, 5, 10, 20, 50, 100, 200, 500, 1000, 2000, 5000, 10_000];
 
-/// How far labels lie apart at least, in tenths of a pixel.
+/// The least distance between two labels, in tenths of a pixel.
 const LABEL_WIDTH: u32 = 560;
 
-/// How wide a panel of a chart is, in tenths of a pixel.
+/// The width of a panel of a chart, in tenths of a pixel.
 pub const PANEL_WIDTH: u32 = 7120;
 
-/// How many minutes lie between two labels. Each divides the day.
+/// The numbers of minutes that may be between two labels. Each divides the day.
 const ROUND_TIMES: [u32; 11] = [1, 2, 5, 10, 15, 20, 30, 60, 120, 180, 240];
 
-/// So much of a length as a part is of a whole, rounded down, and all of it where the part is greater.
+/// The share of a length that a part is of a whole, rounded down; all of it if the part is greater.
 pub fn share(length: u32, part: u32, whole: u32) -> u32
     requires { 0 < whole }
     ensures value { result ≡ share length part whole }
@@ -31,7 +31,7 @@ pub fn share(length: u32, part: u32, whole: u32) -> u32
     (product / u64::from(whole)) as u32
 }
 
-/// The first number of a list of which so many reach what is wanted.
+/// The first of these numbers that `times` times reaches `wanted`.
 fn first_reaching(numbers: &[u32], times: u32, wanted: u32) -> Option<u32>
     ensures first { result ≡ first_reaching times wanted numbers.now }
     ensures reaches { IfSome result (λ n. wanted ≤ times * n) }
@@ -43,7 +43,8 @@ fn first_reaching(numbers: &[u32], times: u32, wanted: u32) -> Option<u32>
         .find(|number| wanted <= times * u64::from(*number))
 }
 
-/// How many flights lie between two lines of a panel: the least round number of which few lines reach a count.
+/// The number of flights between two lines of a panel: the least round number with at most 5 lines
+/// up to a count.
 #[tactic(auto, unfolding(crate::specs::Scale::count_between))]
 pub fn count_between(greatest: u32) -> u32
     requires { greatest ≤ MOST_FLIGHTS }
@@ -55,8 +56,8 @@ pub fn count_between(greatest: u32) -> u32
     first_reaching(&ROUND_COUNTS, MOST_LINES, greatest).unwrap_or(10_000)
 }
 
-/// How many minutes lie between two labels: the least round number that takes the width of a label in a panel of so
-/// many minutes.
+/// The number of minutes between two labels: the least round number that is as wide as a label in a
+/// panel of `minutes` minutes.
 #[tactic(auto, unfolding(crate::specs::Scale::minutes_between))]
 pub fn minutes_between(minutes: u32) -> u32
     requires { minutes ≤ LONGEST_PERIOD }

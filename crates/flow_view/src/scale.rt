@@ -1,4 +1,4 @@
-//! Where moments and counts of flights stand in a chart.
+//! Where times and counts of flights are drawn in a chart.
 ghost use Rattle.std.specs.Prelude.{◌≡◌, ◌≤◌, ◌<◌, ◌+◌, ◌-◌, ◌*◌, min, max};
 ghost use Rattle.std.specs.Int.{div_ceil};
 ghost use Rattle.flow_view.specs.Scale.{share, count_between, minutes_between, bar_of, label_of};
@@ -9,20 +9,20 @@ use crate::rounds::{MOST_FLIGHTS, PANEL_WIDTH, count_between, minutes_between, s
 use flow_slots::LONGEST_PERIOD;
 use fpl_text::Minute;
 
-/// How high a panel of a chart is, in tenths of a pixel.
+/// The height of a panel of a chart, in tenths of a pixel.
 pub const PANEL_HEIGHT: u32 = 1600;
 
-/// How a panel of a chart is measured: from its left edge to the right the minutes of a period, from its lower edge
-/// upwards counts of flights, with a line each so many flights.
+/// The scale of a panel of a chart: from its left edge to the right the minutes of a period, from
+/// its lower edge upwards counts of flights, with a line for each `between` flights.
 #[derive(Clone, Copy)]
 pub struct Scale {
     /// The start of the period.
     pub start: Minute,
-    /// How many minutes it has.
+    /// The minutes of the period.
     pub minutes: u32,
-    /// How many flights lie between two lines.
+    /// The number of flights between two lines.
     pub between: u32,
-    /// How many lines lie above the lowest one.
+    /// The number of lines above the lowest one.
     pub lines: u32,
     ghost wide: { 0 < minutes },
     ghost day: { minutes ≤ LONGEST_PERIOD },
@@ -33,8 +33,8 @@ pub struct Scale {
 }
 
 impl Scale {
-    /// The scale of a period and of counts up to this one. A period of more than a day is shown for a day, and a count
-    /// of more than 50,000 as 50,000.
+    /// The scale of a period and of counts up to `greatest`. A period of more than a day is shown
+    /// for a day, and a count of more than 50,000 as 50,000.
     pub fn new(start: Minute, end: Minute, greatest: u32) -> Scale
         ensures start { result.start ≡ start }
         ensures minutes { result.minutes ≡ min (max (end - start) 1) LONGEST_PERIOD }
@@ -60,8 +60,8 @@ impl Scale {
         self.between * self.lines
     }
 
-    /// How far to the right a moment stands, in tenths of a pixel. Moments before the period stand at its left edge,
-    /// those after it at the right one.
+    /// The distance of a time from the left edge, in tenths of a pixel. A time before the period is
+    /// at the left edge, one after it at the right edge.
     pub fn across(&self, moment: Minute) -> u32
         ensures value { result ≡ share PANEL_WIDTH (moment - self.now.start) self.now.minutes }
         ensures within { result ≤ PANEL_WIDTH }
@@ -70,7 +70,7 @@ impl Scale {
         share(PANEL_WIDTH, minutes, self.minutes)
     }
 
-    /// How far above the lower edge a count of flights stands, in tenths of a pixel.
+    /// The height of a count of flights above the lower edge, in tenths of a pixel.
     pub fn up(&self, count: u32) -> u32
         ensures value { result ≡ share PANEL_HEIGHT count (self.now.between * self.now.lines) }
         ensures within { result ≤ PANEL_HEIGHT }
@@ -78,7 +78,8 @@ impl Scale {
         share(PANEL_HEIGHT, count, self.top())
     }
 
-    /// How far to the right the bar of a step begins and ends: it leaves a twelfth of the step free at either side.
+    /// The left and right edges of the bar of a step, from the left edge of the panel in tenths of
+    /// a pixel. A twelfth of the step is left free on either side.
     pub fn bar(&self, from: Minute, to: Minute) -> (u32, u32)
         ensures value { result ≡ bar_of self.now.start self.now.minutes from to }
         ensures begins { share PANEL_WIDTH (from - self.now.start) self.now.minutes ≤ result.0 }
@@ -91,7 +92,7 @@ impl Scale {
         (left + gap, right.saturating_sub(gap))
     }
 
-    /// How many minutes lie between two labels.
+    /// The number of minutes between two labels.
     pub fn minutes_between(&self) -> u32
         ensures value { result ≡ minutes_between self.now.minutes }
         ensures apart { LABEL_WIDTH * self.now.minutes ≤ PANEL_WIDTH * result }
@@ -101,8 +102,8 @@ impl Scale {
         minutes_between(self.minutes)
     }
 
-    /// The moment of a label, by its place from 0: the whole multiples of the minutes between two labels. None where it
-    /// lies after the period.
+    /// The time of label `place`, counted from 0: the multiples of the minutes between two labels.
+    /// `None` after the period.
     pub fn label(&self, place: u32) -> Option<Minute>
         requires { place ≤ 10_000 }
         ensures { result ≡ label_of self.now.start self.now.minutes place }

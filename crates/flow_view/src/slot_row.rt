@@ -18,24 +18,25 @@ use std::alloc::{AllocError, Allocator};
 pub struct SlotRow {
     /// The number of the slot, from 0.
     pub slot: u32,
-    /// The moment of the slot.
+    /// The time of the slot.
     pub time: Minute,
     /// The number of the flight's plan, from 1.
     pub plan: u32,
-    /// Whether the flight keeps the slot.
+    /// Whether the slot is frozen.
     pub frozen: bool,
-    /// None where there is no plan of that number.
+    /// The flight as it enters the regulated point. `None` if there is no plan of that number.
     pub flight: Option<Flight>,
 }
 
-/// The row of a slot, where it is held.
+/// The row of a slot, if a flight holds it.
 fn row_at<A: Allocator + Copy>(
     core: &Core<A>,
     spot: &Spot,
     list: &SlotList<A>,
     slot: u32,
 ) -> Option<SlotRow>
-    ensures { result ≡ option_map (λ f. row_of core.now.setup.taxi (state_of core.now).traffic spot.now list.now.lineup
+    ensures { result ≡ option_map
+        (λ f. row_of core.now.setup.taxi (state_of core.now).traffic spot.now list.now.lineup
         (record { flight = f; slot = slot })) (held_flight list.now.lineup slot) }
 {
     let Some(plan) = list.holder(slot) else {
@@ -50,7 +51,8 @@ fn row_at<A: Allocator + Copy>(
     })
 }
 
-/// The rows of a slot list of a regulation at that place, in the order of its slots.
+/// The rows of a slot list of a regulation at `spot`, in the order of its slots. Returns `Err` if
+/// allocation fails.
 pub(crate) fn rows_of<A: Allocator + Copy>(
     alloc: A,
     core: &Core<A>,

@@ -1,6 +1,7 @@
 //! The table of a slot list.
 ghost use Rattle.std.specs.Prelude.{◌≡◌, IfOk};
-ghost use Rattle.flow_view.specs.Table.{holding_of, told_in, ctot_of, cause_of, empty_between, line_of, lines};
+ghost use Rattle.flow_view.specs.Table.{holding_of, told_in, ctot_of, cause_of};
+ghost use Rattle.flow_view.specs.Table.{empty_between, line_of, lines};
 
 use crate::slot_row::SlotRow;
 use flow_core::Told;
@@ -11,11 +12,11 @@ use std::alloc::{AllocError, Allocator};
 /// How a flight holds its slot.
 #[derive(Clone, Copy, PartialEq, Eq)]
 pub enum Holding {
-    /// It may still move.
+    /// Its slot is provisional, and may still move.
     Waiting,
-    /// It keeps the slot.
+    /// Its slot is frozen.
     Frozen,
-    /// It has departed, and keeps the slot.
+    /// It has departed, and its slot is frozen.
     Departed,
 }
 
@@ -24,9 +25,10 @@ pub enum Holding {
 pub struct Line {
     /// The held slot with its flight.
     pub row: SlotRow,
-    /// How many empty slots are between it and the held one before it, or before it if it is the first.
+    /// The number of empty slots between it and the held one before it, or before it if it is the
+    /// first.
     pub empty: u32,
-    /// The minutes from the planned entry to the slot. 0 where there is no such entry.
+    /// The minutes from the planned entry to the slot; 0 if there is no such entry.
     pub delay: u32,
     /// How the flight holds the slot.
     pub holding: Holding,
@@ -54,7 +56,7 @@ impl SlotRow {
         }
     }
 
-    /// The take-off time last issued to the flight, with the regulation that causes it.
+    /// The CTOT last issued to the flight, with the regulation that causes it.
     pub fn told(&self) -> Option<Told>
         ensures { result ≡ told_in self.now }
     {
@@ -62,7 +64,7 @@ impl SlotRow {
         flight.told
     }
 
-    /// The take-off time last issued to the flight.
+    /// The CTOT last issued to the flight.
     fn ctot(&self) -> Option<Minute>
         ensures { result ≡ ctot_of self.now }
     {
@@ -83,7 +85,8 @@ impl SlotRow {
     }
 }
 
-/// How many empty slots are between a held slot and the held one before it, or before it if it is the first.
+/// The number of empty slots between a held slot and the held one before it, or before it if it is
+/// the first.
 fn empty_between(before: Option<u32>, slot: u32) -> u32
     ensures { result ≡ empty_between before slot }
 {
@@ -93,7 +96,7 @@ fn empty_between(before: Option<u32>, slot: u32) -> u32
     }
 }
 
-/// The line of a row after the held slot before it.
+/// The line of a row, given the slot of the row before it.
 fn line_of(before: Option<u32>, row: SlotRow) -> Line
     ensures { result ≡ line_of (before, row) }
 {
@@ -107,7 +110,7 @@ fn line_of(before: Option<u32>, row: SlotRow) -> Line
     }
 }
 
-/// The lines of the rows of a slot list, one for each, in order.
+/// The lines of the rows of a slot list, one for each, in order. Returns `Err` if allocation fails.
 pub fn lines_with<A: Allocator + Copy>(
     alloc: A,
     rows: &[SlotRow],

@@ -10,11 +10,11 @@ use fpl_text::Minute;
 /// Sums and counts of the rows of a slot list.
 #[derive(Clone, Copy)]
 pub struct Totals {
-    /// How many flights hold a slot.
+    /// The number of flights that hold a slot.
     pub flights: u64,
-    /// How many of them keep it, departed ones among them.
+    /// The number of them with a frozen slot, departed ones included.
     pub frozen: u64,
-    /// How many have a slot after their planned entry.
+    /// The number of them with a slot after their planned entry.
     pub delayed: u64,
     /// The sum of the delays, in minutes.
     pub total: u64,
@@ -33,7 +33,7 @@ impl SlotRow {
         }
     }
 
-    /// The minutes from the planned entry to the slot.
+    /// The minutes from the planned entry to the slot; 0 if there is no such entry.
     pub fn delay(&self) -> u32
         ensures value { result ≡ delay_of self.now }
         ensures bound { result ≤ GREATEST_MINUTE }
@@ -70,7 +70,7 @@ pub fn totals_of(rows: &[SlotRow]) -> Totals
     totals
 }
 
-/// The mean of a sum of delays over so many flights, in tenths of a minute, rounded. 0 over none.
+/// The mean delay of `flights` flights, in tenths of a minute, rounded; 0 for no flights.
 pub fn mean_tenths(total: u64, flights: u64) -> u64
     ensures { result ≡ mean_tenths total flights }
 {

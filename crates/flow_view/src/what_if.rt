@@ -1,8 +1,10 @@
 //! What a regulation would do at other rates.
-ghost use Rattle.std.specs.Prelude.{◌≡◌, ◌≤◌, ◌++◌, Some, true, codes, IfOk, IfErr, OnOk, OnErr, map, length};
+ghost use Rattle.std.specs.Prelude.{◌≡◌, ◌≤◌, ◌++◌, Some, true, codes};
+ghost use Rattle.std.specs.Prelude.{IfOk, IfErr, OnOk, OnErr, map, length};
 ghost use Rattle.std.specs.List.{AllByRecursion};
 ghost use Rattle.flow_view.specs.Openings.{is_open};
-ghost use Rattle.flow_view.specs.Sweeps.{order_at, with_filing, verdict_of, last_rows, swept, CanFile, Opens, IsToldOf, IsToldBy, IsEndedBy};
+ghost use Rattle.flow_view.specs.Sweeps.{order_at, with_filing, verdict_of, last_rows, swept};
+ghost use Rattle.flow_view.specs.Sweeps.{CanFile, Opens, IsToldOf, IsToldBy, IsEndedBy};
 ghost use Rattle.flow_view.specs.Totals.{totals_of};
 ghost use Rattle.flow_slots.specs.Period.{most_slots};
 ghost use Rattle.flow_view.specs.declared.what_if.SweepFault.TheVariants.{OutOfMemory};
@@ -23,7 +25,7 @@ pub struct Swept {
     pub totals: Totals,
 }
 
-/// Why there is no sweep.
+/// Why a sweep ends without a result.
 #[derive(Clone, Copy, Debug, PartialEq, Eq)]
 pub enum SweepFault {
     /// The desk refuses the order.
@@ -43,7 +45,8 @@ impl From<AllocError> for SweepFault {
     }
 }
 
-/// Whether an order with these digits of a rate can be filed: it is short enough, and the journal has room.
+/// Checks that an order with these digits of a rate can be filed: it is short enough, and the
+/// journal isn't full.
 fn check_room<A: Allocator + Copy>(
     core: &Core<A>,
     order: &[u8],
@@ -51,7 +54,8 @@ fn check_room<A: Allocator + Copy>(
 ) -> Result<(), SweepFault>
     requires { length digits.now ≤ 40 }
     ensures room { OnOk result (CanFile core.now (order.now ++ codes " " ++ digits.now)) }
-    ensures refused { IfErr result (λ e. IsToldBy core.now (order.now ++ codes " " ++ digits.now) e) }
+    ensures refused { IfErr result
+        (λ e. IsToldBy core.now (order.now ++ codes " " ++ digits.now) e) }
 {
     if order.len() >= MAX_BYTES - digits.len() {
         return Err(SweepFault::TooLong);
@@ -76,7 +80,8 @@ fn text_of<A: Allocator + Copy>(
     Ok(text)
 }
 
-/// Files a text at a desk as feeder 0, and returns the verdict. A refused one is filed too.
+/// Files a text at a desk as feeder 0, and returns the verdict. A text that the desk refuses is an
+/// entry too.
 fn file<A: Allocator + Copy>(
     alloc: A,
     core: &mut Core<A>,
@@ -109,7 +114,8 @@ fn last_rows<A: Allocator + Copy>(alloc: A, core: &Core<A>) -> Result<Vec<SlotRo
     }
 }
 
-/// The totals of the regulation that was opened last, if that was by the filing of this verdict.
+/// The totals of the regulation that was opened last, if the filing with this verdict opened one,
+/// else why not.
 fn totals_at<A: Allocator + Copy>(
     alloc: A,
     core: &Core<A>,
@@ -132,7 +138,8 @@ fn totals_at<A: Allocator + Copy>(
     }
 }
 
-/// The totals at a rate. The desk is as it was, but that nothing can be taken back.
+/// The totals at a rate. The desk is unchanged afterwards, but no filing of it can be undone any
+/// more.
 fn swept_at<A: Allocator + Copy>(
     alloc: A,
     core: &mut Core<A>,
@@ -158,13 +165,14 @@ fn swept_at<A: Allocator + Copy>(
     }
 }
 
-/// What a regulation would do at each of these rates. The order is that of an OPEN up to its rate, as
-/// `OPEN WHATIF ARR EDDF 2409011000 2409011300`, with the name of a regulation that isn't open. At each rate it is
-/// filed, the totals are taken of the slot list that is then made afresh, and it is taken back: the desk is as it was,
-/// but that nothing can be taken back. An order that the desk refuses ends the sweep with that refusal, and one that is
-/// no OPEN with BadOrder. What ends it at a rate is
-/// TooLong exactly if the order with that rate has more than 2,000 bytes, JournalFull exactly if it hasn't and the
-/// journal is full, and OutOfMemory only if neither holds.
+/// What a regulation would do at each of these rates. `order` is an OPEN up to its rate, as `OPEN
+/// WHATIF ARR EDDF 2409011000 2409011300`, with the name of a regulation that isn't open. At each
+/// rate the order is filed, the totals of the new slot list are taken, and the filing is undone:
+/// the desk is unchanged afterwards, but no filing of it can be undone any more. An order that the
+/// desk refuses ends the sweep with that refusal, and one that is no OPEN with `BadOrder`. The
+/// sweep ends at a rate with `TooLong` exactly if the order with that rate has more than 2,000
+/// bytes, with `JournalFull` exactly if it hasn't and the journal is full, and with `OutOfMemory`
+/// only if neither holds.
 pub fn sweep<A: Allocator + Copy>(
     alloc: A,
     core: &mut Core<A>,
@@ -174,7 +182,8 @@ pub fn sweep<A: Allocator + Copy>(
     ensures setup { core.new.setup ≡ core.old.setup }
     ensures filed { core.new.filed ≡ core.old.filed }
     ensures swept { IfOk result (λ lines. lines.items ≡ map (swept core.old order.now) rates.now) }
-    ensures opened { OnOk result (AllByRecursion (λ rate. Opens core.old (order_at order.now rate)) rates.now) }
+    ensures opened { OnOk result
+        (AllByRecursion (λ rate. Opens core.old (order_at order.now rate)) rates.now) }
     ensures refused { IfErr result (λ e. IsEndedBy core.old order.now rates.now e) }
 {
     let mut lines = Vec::new(alloc);

@@ -5,9 +5,9 @@ ghost use Rattle.flow_slots.specs.declared.shape.TheConstants.{LONGEST_PERIOD};
 use flow_slots::LONGEST_PERIOD;
 use fpl_text::Minute;
 
-/// Windows of time: each has `step` minutes, the first begins with the period, each further one `slide` minutes after the
-/// one before it, and the last is the last that begins before the period ends. They overlap if the slide is shorter than
-/// the step.
+/// Windows of time: each has `step` minutes, the first begins with the period, each further one
+/// `slide` minutes after the one before it, and the last is the last that begins before the period
+/// ends. They overlap if the slide is shorter than the step.
 #[derive(Clone, Copy)]
 pub struct Windows {
     pub from: Minute,
@@ -23,10 +23,12 @@ pub struct Windows {
 impl Windows {
     ghost use Rattle.flow_view.specs.Windows.{IsWindows};
 
-    /// The windows of a period. `None` if it has more than 1,440 minutes, or the step or the slide isn't 1 to 1,440 minutes.
+    /// The windows of a period. `None` if it has more than 1,440 minutes, or the step or the slide
+    /// isn't 1 to 1,440 minutes.
     pub fn new(from: Minute, to: Minute, step: u32, slide: u32) -> Option<Windows>
         ensures limits { IsSome result ↔ IsWindows from to step slide }
-        ensures value { IfSome result (λ w. (w.from ≡ from) × (w.to ≡ to) × (w.step ≡ step) × (w.slide ≡ slide)) }
+        ensures value { IfSome result
+            (λ w. (w.from ≡ from) × (w.to ≡ to) × (w.step ≡ step) × (w.slide ≡ slide)) }
     {
         if to.minutes().saturating_sub(from.minutes()) > LONGEST_PERIOD {
             return None;

@@ -1,4 +1,4 @@
--- Where an item begins, by what stands at the front of its first word.
+-- Whether a word begins an item, by the letters and digits with which it begins.
 use Rattle.std.proofs.Common.{◌≡◌, ℕ, not, suc, ◌<◌, ◌≤◌, Bool, true, false, ◌&&◌, eqb, ltb, leb, List, [], ◌∷◌, length, take, get_or, sym, refl, ap, ◌∙◌, arith, ⊎_elim}
 use Rattle.std.specs.List.{list_all, prefix_len}
 use Rattle.std.proofs.lemmas.Bool.{and_parts, cases_Bool, cond-true, cond-false, eq-eqb, eqb-true, false_from_ne_true, false≢true, le-ltb, ltb-true}
@@ -24,7 +24,7 @@ pub stroke-other : is_letter_or_digit 47 ≡ false
 unfolding is_letter is_digit
 stroke-other = refl
 
--- the stroke stands behind the letters and digits
+-- the stroke follows the letters and digits
 pub stroke-behind : (word : List ℕ) (n : ℕ) → n ≡ prefix_len is_letter_or_digit word → n < length word → get_or word n 0 ≡ 47 → before_stroke word ≡ n
 stroke-behind word n same h at_stroke =
     position_or_len_is (λ b. eqb b 47) word n 0 (omega arith)
@@ -72,7 +72,7 @@ no-item word none =
     (λ l. absurd (omega arith)) in
     rw (whole, le-ltb (length word) (length word) (omega arith)) refl
 
--- words without a stroke are passed over
+-- words without a stroke are skipped
 pub items-from : (words : List (List ℕ)) → items_of words ≡ items_of (words_from_byte 47 words)
 items-from [] = refl
 items-from (word ∷ words) =

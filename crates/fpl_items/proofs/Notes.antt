@@ -1,4 +1,4 @@
--- Notes of estimates, one after the other.
+-- Recording estimates, one after the other.
 use Rattle.std.proofs.Common.{◌≡◌, ℕ, ◌+◌, ◌-◌, ◌<◌, ◌≤◌, arith, ◌&&◌, nat_le, Bool, true, false, if◌then◌else◌, List, [], ◌∷◌, ◌++◌, length, take, drop, get_or, refl, Option, Some, None, sym, ap, ◌∙◌}
 use Rattle.std.specs.Prelude.{codes, replicate, slice_index}
 use Rattle.std.proofs.lemmas.Bool.{false≢true, false_from_ne_true, le-leb, lt-leb, leb-true, and_parts}
@@ -25,7 +25,7 @@ pub if-both : (b c : Bool) → b ≡ true → (b && c) ≡ c
 if-both true c e = refl
 if-both false c e = absurd (false≢true e)
 
--- a place written over twelve zeros, and its length over the last, make its name
+-- a name written over twelve zeros, and its length over the last, are its stored form
 pub name-kept : (place : List ℕ) → length place ≤ 11 → set (place ++ drop (length place) (0 ∷ 0 ∷ 0 ∷ 0 ∷ 0 ∷ 0 ∷ 0 ∷ 0 ∷ 0 ∷ 0 ∷ 0 ∷ 0 ∷ [])) 11 (length place) ≡ name_of place
 unfolding name_of
 name-kept place short =
@@ -38,7 +38,7 @@ name-kept place short =
     ∙ set-append_right place (zeros ++ 0 ∷ []) n 11 n refl short
     ∙ ap (λ zs. place ++ zs) (ap (λ i. set (zeros ++ 0 ∷ []) i n) (sym (length-replicate (11 - n) 0)) ∙ set-append_seam zeros 0 [] n)
 
--- four letters, seven zeros and a four are the name of a place of four letters
+-- four letters, seven zeros and a four are the stored form of a name of four letters
 pub name_of_four : (place : List ℕ) → length place ≡ 4
     → slice_index place 0 ∷ slice_index place 1 ∷ slice_index place 2 ∷ slice_index place 3 ∷ 0 ∷ 0 ∷ 0 ∷ 0 ∷ 0 ∷ 0 ∷ 0 ∷ 4 ∷ [] ≡ name_of place
 unfolding name_of
@@ -49,7 +49,7 @@ name_of_four (a ∷ b ∷ c ∷ []) four = absurd (omega arith)
 name_of_four (a ∷ b ∷ c ∷ d ∷ []) four = refl
 name_of_four (a ∷ b ∷ c ∷ d ∷ e ∷ place) four = absurd (omega arith)
 
--- the last byte of a name is the length of its place
+-- the last byte of a stored form is the length of its name
 name-last : (place : List ℕ) → length place ≤ 11 → get_or (name_of place) 11 0 ≡ length place
 unfolding name_of
 name-last place short =
@@ -59,18 +59,18 @@ name-last place short =
     ∙ get_or-append_right zeros (length place ∷ []) (11 - length place) 0 (omega (arith, length-replicate {A = ℕ} (11 - length place) 0))
     ∙ ap (λ n. get_or (length place ∷ []) n 0) none
 
--- and its front is the place
+-- and its prefix of that length is the name
 name-front : (place : List ℕ) → take (length place) (name_of place) ≡ place
 unfolding name_of
 name-front place = take-append_seam place _
 
--- two places of one name are the same
+-- two names of one stored form are the same
 same-place : (place other : List ℕ) → length place ≤ 11 → length other ≤ 11 → name_of place ≡ name_of other → place ≡ other
 same-place place other short less same =
     let long : length place ≡ length other = sym (name-last place short) ∙ ap (λ name. get_or name 11 0) same ∙ name-last other less in
     sym (name-front place) ∙ ap (take (length place)) same ∙ ap (λ n. take n (name_of other)) long ∙ name-front other
 
--- a note is for the place that it is of, and for no other
+-- an estimate is for the point that it is of, and for no other
 pub for-place : (name place : List ℕ) (note : Estimate) → length place ≤ 11 → note.name ≡ name_of place → is_for name note ≡ is_text name place
 unfolding is_for
 for-place name place note short kept =
@@ -84,7 +84,7 @@ for-place name place note short kept =
     if-both (nat_le (length name) 11) (is_text (name_of name) note.name) (le-leb (length name) 11 (omega (arith, short, ap length same)))
     ∙ (bytes_decides note.name (name_of name)).1 (kept ∙ ap name_of same))
 
--- no note is for a longer one
+-- no estimate is for a longer name
 pub none-for-long : (place : List ℕ) (notes : List Estimate) → 11 < length place → first_for place notes ≡ None
 unfolding is_for
 none-for-long place [] long = refl
@@ -99,12 +99,12 @@ if-or : (b : Bool) (minutes : ℕ) (x y v w : Option ℕ) → option_or x v ≡ 
 if-or true minutes x y v w e = refl
 if-or false minutes x y v w e = e
 
--- one note more says what one word more says
+-- one estimate more says what one word more says
 pub one-more : (notes : List Estimate) (note : Estimate) (word : List ℕ) → length (take (length word - 4) word) ≤ 11 → note.name ≡ name_of (take (length word - 4) word) → elapsed_time (drop (length word - 4) word) ≡ Some note.minutes → AddsWord notes (notes ++ note ∷ []) word
 one-more [] note word short kept time = λ place words. note-is-word _ _ _ _ _ (for-place place (take (length word - 4) word) note short kept) time
 one-more (n ∷ ns) note word short kept time = λ place words. if-or (is_for place n) n.minutes _ _ _ _ (one-more ns note word short kept time place words)
 
--- where no note is for a place, one more is not either
+-- if no estimate is for a point, one more is not either
 none-more : (place : List ℕ) (notes : List Estimate) (note : Estimate) → is_for place note ≡ false → first_for place notes ≡ None → first_for place (notes ++ note ∷ []) ≡ None
 none-more place [] note other none = rw other refl
 none-more place (n ∷ ns) note other none = none-after (is_for place n) n.minutes _ _ (none-more place ns note other) none
@@ -113,7 +113,7 @@ none-more place (n ∷ ns) note other none = none-after (is_for place n) n.minut
     none-after true minutes x y step h = h
     none-after false minutes x y step h = step h
 
--- the place of one note more, with the places from before
+-- the point of one estimate more, with the points from before
 pub place-noted : (own : List ℕ) (places more : ℕ) (before after : List Estimate) (note : Estimate) → length own ≤ 11 → note.name ≡ name_of own → after ≡ before ++ note ∷ [] → may_have more own ≡ true
     → ((other : List ℕ) → may_have places other ≡ true → may_have more other ≡ true) → HasPlacesOf places before → HasPlacesOf more after
 place-noted own places more before after note short named pushed added kept had place without =
@@ -134,6 +134,6 @@ or-none (Some x) = refl
 pub item-noted : (before after : List Estimate) (item : Item) → is_text (codes "EET") item.name ≡ true → AddsWords before after item.words → AddsItem before after item
 item-noted before after item is adds = λ place items. rw (adds place, is) (or-or (first_for place before) (estimate_for place item.words) (elapsed_to place items))
 
--- another item says nothing of the way
+-- another item gives no estimate
 pub other-noted : (notes : List Estimate) (item : Item) → is_text (codes "EET") item.name ≡ false → AddsItem notes notes item
 other-noted notes item other = λ place items. rw other refl

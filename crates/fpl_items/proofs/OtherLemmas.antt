@@ -54,7 +54,7 @@ nothing-there = refl
 pub zero-items : (field : List ℕ) → is_text (codes "0") field ≡ true → items_of (words_of field) ≡ []
 zero-items field is = rw ((bytes_decides field (codes "0")).0 is) nothing-there
 
--- what follows of a call that went well, and of one that found a fault
+-- what follows of a call that succeeded, and of one that found a fault
 pub ok-then : {X : Type 0} (P Q : Type 0) (r : Result X ItemFault) → (P → Q) → IfOk r (λ _. P) → IfOk r (λ _. Q)
 ok-then P Q (Ok x) follows p = follows p
 ok-then P Q (Err fault) follows p = tt
@@ -63,7 +63,7 @@ pub fault-then : {X : Type 0} (P Q : Type 0) (r : Result X ItemFault) → (P →
 fault-then P Q (Ok x) follows p = tt
 fault-then P Q (Err fault) follows p = λ other. follows (p other)
 
--- the front of a text meets a test where as many of its first bytes do
+-- the prefix of a text meets a test if as many of its first bytes do
 pub front_all : (p : ℕ → Bool) (xs : List ℕ) (n : ℕ) → n ≤ length xs → nat_le n (prefix_len p xs) ≡ list_all p (take n xs)
 front_all p xs zero h = le-leb 0 _ (omega arith)
 front_all p [] (suc n) h = absurd (omega arith)
@@ -75,14 +75,14 @@ front_all p (x ∷ xs) (suc n) h = ⊎_elim
     one_more : (m : ℕ) → 1 + m ≡ suc m
     one_more m = omega arith
 
--- a word of 5 to 15 bytes of which these many letters and digits stand at the front
+-- a word of 5 to 15 bytes that begins with this number of letters and digits
 pub estimate-measured : (word : List ℕ) (n : ℕ) → n ≡ prefix_len is_letter_or_digit word → 5 ≤ length word → length word ≤ 15
     → is_estimate word ≡ (nat_le (length word - 4) n && is_some (elapsed_time (drop (length word - 4) word)))
 unfolding is_estimate
 estimate-measured word n same least most =
     rw (le-leb 5 (length word) least, le-leb (length word) 15 most, same, front_all is_letter_or_digit word (length word - 4) (omega arith)) refl
 
--- the words before the ones that are left were noted
+-- the words before the ones that are left were recorded
 pub record NotedSoFar (before notes : List Estimate) (left all : List (List ℕ)) : Type 0 where
   pub rest : list_all is_estimate left ≡ list_all is_estimate all
   pub added : (place : List ℕ) → option_or (first_for place notes) (estimate_for place left) ≡ option_or (first_for place before) (estimate_for place all)

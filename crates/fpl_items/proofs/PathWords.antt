@@ -41,7 +41,7 @@ split-all : (text : List ℕ) → list_all (list_all is_route_byte) (slice_split
 split-all [] = refl
 split-all (x ∷ xs) = split-step x xs (x == 32) (split-all xs) ∙ ap (λ (q : Bool). q && list_all is_path_byte xs) (sym (path-byte x))
 
--- a text has the bytes of a path just where all its words have those of a route
+-- a text has the bytes of a path just if all its words have those of a route
 pub path-words : (text : List ℕ) → list_all is_path_byte text ≡ list_all (list_all is_route_byte) (words_of text)
 unfolding words_of
 path-words [] = refl

@@ -1,4 +1,4 @@
--- A word has a kind where its bytes are those of a route, and only there.
+-- A word has a kind if and only if its bytes are those of a route.
 use Rattle.std.proofs.Common.{◌≡◌, ℕ, zero, suc, ◌+◌, ◌<◌, Bool, true, false, ◌&&◌, ◌||◌, eqb, List, [], ◌∷◌, length, take, drop, get_or, codes, sym, refl, ap, ◌∙◌, arith, ⊎_elim}
 use Rattle.std.specs.Prelude.{Option, Some, None, is_some, is_ok, if◌then◌else◌}
 use Rattle.std.specs.List.{list_all, prefix_len}
@@ -56,7 +56,7 @@ cut zero word a b = b
 cut (suc n) [] a b = refl
 cut (suc n) (x ∷ word) a b = let parts = and_parts _ _ a in and_from _ _ parts.0 (cut n word parts.1 b)
 
--- a byte and what stands behind it
+-- a byte and what follows it
 byte : (n : ℕ) (word : List ℕ) → n < length word → is_route_byte (get_or word n 0) ≡ true → routed (drop (n + 1) word) → routed (drop n word)
 byte n word l good rest = rw (drop_more word n 0 l) (and_from _ _ good rest)
 
@@ -133,7 +133,7 @@ speed_and_level-routed text h =
     let parts = and_parts _ _ h in
     cut (speed_len text) text (speed-routed _ parts.0) (level-routed _ parts.1)
 
--- a text up to its first stroke, the stroke, and what stands behind it
+-- a text up to its first stroke, the stroke, and what follows it
 at-stroke : (text : List ℕ) → before_stroke text < length text → routed (take (before_stroke text) text) → routed (drop (before_stroke text + 1) text) → routed text
 unfolding is_route_byte is_letter is_digit
 at-stroke text inside front behind =
@@ -198,7 +198,7 @@ some-kind false false false false false false true h last k = refl
 some-kind false false false false false false false true last k = refl
 some-kind false false false false false false false false last k = rw k refl
 
--- a word has a kind where all its bytes are those of a route, and only there
+-- a word has a kind if and only if all its bytes are those of a route
 pub word-kind : (word : List ℕ) → is_some (kind_of word) ≡ list_all is_route_byte word
 unfolding kind_of is_route_byte is_letter is_digit
 word-kind word = ⊎_elim (λ h. found h ∙ sym h) (λ h. lost h ∙ sym h) (cases_Bool (list_all is_route_byte word))
@@ -227,7 +227,7 @@ word-kind word = ⊎_elim (λ h. found h ∙ sym h) (λ h. lost h ∙ sym h) (ca
           h,
         ) refl
 
--- elements are there where each word has the bytes of a route
+-- there are elements if each word has the bytes of a route
 pub words-kinds : (from : ℕ) (words : List (List ℕ)) → is_some (elements_of from words) ≡ list_all (list_all is_route_byte) words
 words-kinds from [] = refl
 words-kinds from (word ∷ words) =
@@ -258,7 +258,7 @@ field-routed field first words some =
     told false None = refl
     told false (Some elements) = refl
 
--- where the first word is a speed and a level, all words are those of a route just where the field is one
+-- if the first word is a speed and a level, all words are those of a route just if the field is one
 pub field-path : (field first : List ℕ) (words : List (List ℕ)) → words_of field ≡ first ∷ words → is_speed_and_level first ≡ true → list_all (list_all is_route_byte) (words_of field) ≡ is_route field
 field-path field first words are said =
     ap (λ (q : List (List ℕ)). list_all (list_all is_route_byte) q) are

@@ -24,7 +24,7 @@ abbrev Tells : List ℕ → List (List ℕ) → ℕ → Option (List Element) �
 Tells field words from None = Unit {0}
 Tells field words from (Some elements) = Told field words from elements
 
--- a word stands where what is before it ends
+-- a word begins after what precedes it
 span : (field front word rest : List ℕ) (from : ℕ) → length front ≡ from → field ≡ front ++ (word ++ rest) → slice_range field from (from + length word) ≡ word
 span field front word rest from long is =
     let width : from + length word - from ≡ length word = omega arith in

@@ -15,7 +15,7 @@ cut-found word h = record {
   spelled = sym (take-append-drop (speed_len word) word);
 }
 
--- a speed has as many bytes as its first one says
+-- a speed has the length that its first byte gives
 speed-long : (speed : List ℕ) → is_speed speed ≡ true → length speed ≡ speed_len speed
 unfolding is_speed is_letter_and_digits
 speed-long speed h = grind arith

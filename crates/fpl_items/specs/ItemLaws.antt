@@ -4,13 +4,13 @@ use Rattle.std.specs.List.{list_all}
 use Rattle.fpl_text.specs.Bytes.{is_letter, is_letter_or_digit}
 use Rattle.fpl_items.specs.Items.{Item, begins_item}
 
--- a word, if it has a byte
+-- a word, unless it is empty
 abbrev pub word_if_any : List ℕ → List (List ℕ)
 word_if_any [] = []
 word_if_any (b ∷ word) = (b ∷ word) ∷ []
 
--- The first of these words is the item's name, a stroke, and the item's first word, if that stands there; the others are its
--- further words, of which none begins an item.
+-- The first of these words is the item's name, a stroke, and the item's first word, if it follows;
+-- the others are its further words, of which none begins an item.
 pub record SpellsItem (item : Item) (words : List (List ℕ)) : Type 0 where
   pub own : List ℕ
   pub others : List (List ℕ)

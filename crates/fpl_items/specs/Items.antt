@@ -1,6 +1,7 @@
--- Field 18: items, each an indicator and the words behind it, of which DOF (date of flight), EET (estimated elapsed times) and
--- STS (reason for special handling) have an effect (ICAO Doc 4444, appendix 3, field type 18). A flight with STS/ATFMX is exempt
--- from slot allocation (EUROCONTROL ATFCM Users Manual).
+-- Field 18: items, each an indicator and the words after it, of which DOF (date of flight), EET
+-- (estimated elapsed times) and STS (reason for special handling) have an effect (ICAO Doc 4444,
+-- appendix 3, field type 18). A flight with STS/ATFMX is exempt from slot allocation (EUROCONTROL
+-- ATFCM Users Manual).
 use Rattle.std.specs.Prelude.{◌≡◌, ℕ, ◌+◌, ◌-◌, Bool, false, not, ◌==◌, ◌&&◌, ◌||◌, nat_le, nat_lt, if◌then◌else◌, List, [], ◌∷◌, ◌++◌, length, take, drop, slice_index, slice_index_or, Option, Some, None, is_some, Result, Ok, Err, codes}
 use Rattle.std.specs.Borrow.{Bor}
 use Rattle.std.specs.Option.{option_or}
@@ -13,23 +14,24 @@ use Rattle.fpl_text.specs.Moments.{day_of}
 use Rattle.fpl_text.specs.Words.{words_of}
 use Rattle.fpl_items.specs.Kinds.{before_stroke, is_text}
 
--- an item without where it lies in memory
+-- an item by its bytes
 pub record Item : Type 0 where
   pub name : List ℕ
   pub words : List (List ℕ)
 
--- a word begins an item where a name of 2 to 9 letters or digits, a letter first, stands before a stroke (own)
+-- a word begins an item if it has a name of 2 to 9 letters or digits, a letter first, before a
+-- stroke (own)
 unfoldable pub begins_item : List ℕ → Bool
 begins_item word =
     nat_lt (before_stroke word) (length word) && nat_le 2 (before_stroke word) && nat_le (before_stroke word) 9
     && is_letter (slice_index word 0) && list_all is_letter_or_digit (take (before_stroke word) word)
 
--- what stands after the stroke is the item's first word, if anything does
+-- the text after the stroke is the item's first word, unless it is empty
 abbrev pub own_words : List ℕ → List (List ℕ)
 own_words word =
     if length word == before_stroke word + 1 then [] else drop (before_stroke word + 1) word ∷ []
 
--- a word of its own, or none
+-- one word, or none
 abbrev pub own_list : Option (Bor (List ℕ)) → List (List ℕ)
 own_list None = []
 own_list (Some word) = word.now ∷ []
@@ -39,7 +41,7 @@ abbrev pub words_before : List (List ℕ) → List (List ℕ)
 words_before [] = []
 words_before (word ∷ words) = if begins_item word then [] else word ∷ words_before words
 
--- the items that words are, each up to the next
+-- the items of words, each up to the next
 abbrev pub items_of : List (List ℕ) → List Item
 items_of [] = []
 items_of (word ∷ words) =
@@ -47,7 +49,7 @@ items_of (word ∷ words) =
     then record { name = take (before_stroke word) word; words = own_words word ++ words_before words } ∷ items_of words
     else items_of words
 
--- a place of 1 to 11 letters or digits, and an elapsed time
+-- a point of 1 to 11 letters or digits, and an elapsed time
 unfoldable pub is_estimate : List ℕ → Bool
 is_estimate word =
     nat_le 5 (length word) && nat_le (length word) 15
@@ -66,7 +68,7 @@ is_day words = (length words == 1) && is_some (day_of_words words)
 abbrev pub is_dof : Item → Bool
 is_dof item = is_text (codes "DOF") item.name
 
--- the fault of an item, where a DOF stood before or not
+-- the fault of an item; `dof` if there was a DOF before
 unfoldable pub item_fault : Bool → Item → Option ItemFault
 item_fault dof item =
     if is_dof item
@@ -82,7 +84,8 @@ abbrev pub unless_fault : Option ItemFault → List Item → Result (List Item) 
 unless_fault None items = Ok items
 unless_fault (Some fault) items = Err fault
 
--- the first fault of field 18, which is 0 or begins with an item; a second DOF is a fault by this project's own rule
+-- the first fault of field 18, which is 0 or begins with an item; a second DOF is a fault by this
+-- project's own rule
 unfoldable pub field_fault : List ℕ → Option ItemFault
 field_fault field =
     if is_text (codes "0") field then None
@@ -97,12 +100,12 @@ items_or_fault field = unless_fault (field_fault field) (items_of (words_of fiel
 abbrev pub exempts : Item → Bool
 exempts item = is_text (codes "STS") item.name && list_any (is_text (codes "ATFMX")) item.words
 
--- the flight is exempt where an item exempts it
+-- the flight is exempt if an item exempts it
 abbrev pub is_exempt : List Item → Bool
 is_exempt [] = false
 is_exempt (item ∷ items) = exempts item || is_exempt items
 
--- the elapsed time of the first of these estimates that is for a place
+-- the elapsed time of the first of these estimates that is for a point
 abbrev pub estimate_for : List ℕ → List (List ℕ) → Option ℕ
 estimate_for place [] = None
 estimate_for place (word ∷ words) =
@@ -125,7 +128,8 @@ pub record Say (items : List Item) (day : Option ℕ) (exempt : Bool) : Type 0 w
   pub day_is : day ≡ day_of_items items
   pub exempt_is : exempt ≡ is_exempt items
 
--- one item more after a day, where there was one, and an exemption or none: what both then are, and what follows of that
+-- one more item after a day, if there was one, and an exemption or none: what both then are, and
+-- what follows of that
 pub record SaysAfter (day : Option ℕ) (exempt : Bool) (item : Item) (new_day : Option ℕ) (new_exempt : Bool) : Type 0 where
   pub faultless : item_fault (is_some day) item ≡ None
   pub dof : is_some new_day ≡ (is_some day || is_dof item)

@@ -1,5 +1,5 @@
--- The kinds of the words of a route: standard routes and points, changes of speed or level, changes of rules, cruise climbs
--- (ICAO Doc 4444, appendix 3, field type 15, (c)).
+-- The kinds of the words of a route: standard routes and points, changes of speed or level, changes
+-- of rules, cruise climbs (ICAO Doc 4444, appendix 3, field type 15, (c)).
 use Rattle.std.specs.Prelude.{ℕ, ◌+◌, Bool, not, ◌==◌, ◌&&◌, ◌||◌, nat_le, nat_lt, nat_eq, if◌then◌else◌, List, length, take, drop, slice_index, Option, Some, None, codes}
 use Rattle.std.specs.List.{list_all, prefix_len, position_or_len}
 use Rattle.std.specs.Cmp.Lexicographic.{pointwise}
@@ -12,15 +12,15 @@ use Rattle.fpl_items.specs.Speeds.{is_speed, is_height, is_speed_and_level, spee
 abbrev pub is_text : List ℕ → List ℕ → Bool
 is_text text word = pointwise nat_eq word text
 
--- 2 to 5 letters, and then nothing or the 6 digits of a bearing and a distance; letters alone are this project's profile, and a
--- coded name with a digit counts as a designator
+-- 2 to 5 letters, and optionally the 6 digits of a bearing and a distance; letters alone are this
+-- project's profile, and a coded name with a digit counts as a designator
 unfoldable pub is_name : List ℕ → Bool
 is_name word =
     let letters = prefix_len is_letter word in
     nat_le 2 letters && nat_le letters 5 && list_all is_digit (drop letters word)
     && ((length word == letters) || (length word == letters + 6))
 
--- a latitude and a longitude: so many digits, N or S, so many digits, E or W
+-- a latitude and a longitude: `north` digits, N or S, `east` digits, E or W
 unfoldable pub is_coordinate : ℕ → ℕ → List ℕ → Bool
 is_coordinate north east word =
     (length word == north + east + 2) && list_all is_digit (take north word)
@@ -31,7 +31,7 @@ is_coordinate north east word =
 unfoldable pub is_point : List ℕ → Bool
 is_point word = is_name word || is_coordinate 2 3 word || is_coordinate 4 5 word
 
--- how many bytes stand before the first stroke
+-- the number of bytes before the first stroke
 abbrev pub before_stroke : List ℕ → ℕ
 before_stroke word = position_or_len (λ b. b == 47) word
 
@@ -53,7 +53,7 @@ is_climb_range text =
 unfoldable pub is_climb_speed : List ℕ → Bool
 is_climb_speed text = is_speed (take (speed_len text) text) && is_climb_range (drop (speed_len text) text)
 
--- a point, a stroke, a speed and what it climbs through
+-- a point, a stroke, a speed and the levels between which it climbs
 unfoldable pub is_climb_from : List ℕ → Bool
 is_climb_from text =
     nat_lt (before_stroke text) (length text) && is_point (take (before_stroke text) text)
@@ -72,8 +72,8 @@ unfoldable pub is_climb : List ℕ → Bool
 is_climb word =
     nat_le 2 (length word) && (slice_index word 0 == 67) && (slice_index word 1 == 47) && is_climb_from (drop 2 word)
 
--- the first kind that fits a word; none where it has another byte. OAT and GAT (operational and general air traffic), and words of
--- no form, are this project's own
+-- the first kind that fits a word; none if it has another byte. OAT and GAT (operational and
+-- general air traffic), and words of no form, are this project's own
 unfoldable pub kind_of : List ℕ → Option Kind
 kind_of word =
     if is_text (codes "DCT") word then Some Dct

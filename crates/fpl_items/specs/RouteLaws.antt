@@ -1,10 +1,12 @@
--- What the elements of a route are, by the words of its field (ICAO Doc 4444, appendix 3, field type 15).
+-- What the elements of a route are, by the words of its field (ICAO Doc 4444, appendix 3, field
+-- type 15).
 use Rattle.std.specs.Prelude.{◌≡◌, ℕ, ◌+◌, ◌≤◌, true, List, [], ◌∷◌, ◌++◌, Some, slice_range}
 use Rattle.fpl_items.specs.declared.route.Element.{Element}
 use Rattle.fpl_items.specs.Kinds.{kind_of}
 use Rattle.fpl_items.specs.Speeds.{is_speed, is_level}
 
--- Each element is one of the words, in order: its span is where the word stands in the field, and it has the first kind that fits.
+-- Each element is one of the words, in order: its span is that of the word in the field, and it has
+-- the first kind that fits.
 abbrev pub AreElements : List ℕ → List (List ℕ) → List Element → Type 0
 AreElements field [] [] = Unit {0}
 AreElements field [] (element ∷ elements) = ⊥

@@ -1,4 +1,5 @@
--- Field 15: a speed and a level, and the elements of the route after them (ICAO Doc 4444, appendix 3, field type 15).
+-- Field 15: a speed and a level, and then the elements of the route (ICAO Doc 4444, appendix 3,
+-- field type 15).
 use Rattle.std.specs.Prelude.{◌≡◌, ℕ, ◌+◌, if◌then◌else◌, List, [], ◌∷◌, length, take, drop, Option, Some, None, Bool, is_ok, Result, Ok, Err}
 use Rattle.std.specs.Option.{option_map, option_and_then, ok_or}
 use Rattle.fpl_items.specs.declared.fault.ItemFault.{ItemFault}
@@ -14,7 +15,7 @@ pub record Path : Type 0 where
   pub level : List ℕ
   pub elements : List Element
 
--- the elements that these words are, of which the first stands at `from`
+-- the elements of these words, of which the first is at offset `from`
 abbrev pub elements_of : ℕ → List (List ℕ) → Option (List Element)
 elements_of from [] = Some []
 elements_of from (word ∷ words) =
@@ -40,13 +41,13 @@ path_or_fault field = ok_or (path_of_words (words_of field)) (BadField 15)
 abbrev pub is_route : List ℕ → Bool
 is_route field = is_ok (path_or_fault field)
 
--- What a call gave, seen by `view`, is what its definition says, unless memory ran out.
+-- The result of a call, seen by `view`, is what its definition gives, unless allocation fails.
 abbrev pub Gives : {X Y : Type 0} → (X → Y) → Result X ItemFault → Result Y ItemFault → Type 0
 Gives view (Ok x) expected = expected ≡ Ok (view x)
 Gives view (Err OutOfMemory) expected = Unit {0}
 Gives view (Err fault) expected = expected ≡ Err fault
 
--- how many bytes words have, with a space after each
+-- the length of words, with a space after each
 abbrev pub total_len : List (List ℕ) → ℕ
 total_len [] = 0
 total_len (word ∷ words) = length word + 1 + total_len words

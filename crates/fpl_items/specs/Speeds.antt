@@ -4,7 +4,7 @@ use Rattle.std.specs.List.{list_all}
 use Rattle.std.specs.Cmp.Lexicographic.{pointwise}
 use Rattle.fpl_text.specs.Bytes.{is_digit}
 
--- a letter, and then so many digits
+-- a letter, and then `digits` digits
 unfoldable pub is_letter_and_digits : ℕ → ℕ → List ℕ → Bool
 is_letter_and_digits letter digits text =
     (length text == digits + 1) && (slice_index text 0 == letter) && list_all is_digit (drop 1 text)
@@ -23,7 +23,7 @@ is_height text =
 unfoldable pub is_level : List ℕ → Bool
 is_level text = is_height text || pointwise nat_eq text (codes "VFR")
 
--- how many bytes a speed has that begins with this letter
+-- the length of a speed that begins with this letter
 abbrev pub speed_len : List ℕ → ℕ
 speed_len text = if slice_index text 0 == 77 then 4 else 5
 

@@ -1,21 +1,22 @@
--- What field 18 says of a flight, as it is kept without the field's text (ICAO Doc 4444, appendix 3, field type 18).
+-- What field 18 says of a flight, kept without the field's text (ICAO Doc 4444, appendix 3, field
+-- type 18).
 use Rattle.std.specs.Prelude.{ℕ, Bool, List, Option, Some, None}
 use Rattle.fpl_items.specs.declared.estimate.Estimate.{Estimate}
 use Rattle.fpl_items.specs.Items.{Item, Say}
 use Rattle.fpl_items.specs.Estimates.{AreEstimatesOf}
 
--- the notes of the estimates, the day, and whether the flight is exempt
+-- the estimates, the day, and whether the flight is exempt
 pub record Told : Type 0 where
   pub estimates : List Estimate
   pub day : Option ℕ
   pub exempt : Bool
 
--- what is told is what these items say
+-- this is what these items say
 pub record TellsOf (items : List Item) (told : Told) : Type 0 where
   pub says : Say items told.day told.exempt
   pub estimates : AreEstimatesOf items told.estimates
 
--- where there are items, something is told, and it is what they say
+-- if there are items, this is what they say, and else there is nothing
 abbrev pub TellsOfAny : Option (List Item) → Option Told → Type 0
 TellsOfAny None None = Unit {0}
 TellsOfAny (Some items) (Some told) = TellsOf items told

@@ -1,22 +1,22 @@
-//! One estimate of an EET item, as it is noted.
+//! One estimate of an EET item, as it is recorded.
 ghost use Rattle.std.specs.Prelude.{◌≡◌, ◌<◌, ◌≤◌, length};
 ghost use Rattle.fpl_items.specs.Places.{name_of};
 ghost use Rattle.fpl_text.specs.declared.time.TheConstants.{ELAPSED_LIMIT};
 
 use crate::places::name_of;
 
-/// The elapsed time to a place of the way. The place stands in the note itself, which is told without a look at the
-/// field.
+/// The estimated elapsed time to a route point. The name of the point is stored in the value
+/// itself, so it is compared without reading the field.
 #[derive(Clone, Copy, Debug)]
 pub struct Estimate {
-    /// The place: its bytes, zeros up to the eleventh, and how many bytes it has.
+    /// The name of the point: its bytes, zeros up to the eleventh, and its length.
     name: [u8; 12],
-    /// From take-off to the place, in minutes.
+    /// From take-off to the point, in minutes.
     minutes: u16,
     ghost bound: { minutes < ELAPSED_LIMIT },
 }
 
-/// A note of no place, for room that isn't used.
+/// An estimate without a point, for unused elements of an array.
 impl Default for Estimate {
     ghost use Rattle.std.specs.Prelude.{◌≡◌};
 
@@ -33,7 +33,7 @@ impl Default for Estimate {
 impl Estimate {
     ghost use Rattle.fpl_items.specs.Estimates.{is_for};
 
-    /// An estimate for a place.
+    /// An estimate for the point `place`.
     pub(crate) fn new(place: &[u8], minutes: u32) -> Estimate
         requires place { length place.now ≤ 11 }
         requires minutes { minutes < ELAPSED_LIMIT }
@@ -45,7 +45,7 @@ impl Estimate {
         }
     }
 
-    /// The minutes from take-off to the place.
+    /// The minutes from take-off to the point.
     pub(crate) fn minutes(&self) -> u32
         ensures value { result ≡ self.now.minutes }
         ensures bound { result < ELAPSED_LIMIT }
@@ -53,7 +53,8 @@ impl Estimate {
         u32::from(self.minutes)
     }
 
-    /// Whether the estimate is for a place, which has this name in notes. Most that aren't differ in the fourth letter.
+    /// Whether the estimate is for the point `place`, of which `name` is the stored form. Names
+    /// that differ mostly do in the fourth letter, so that is compared first.
     #[inline]
     #[tactic(auto, unfolding(crate::specs::Estimates::is_for))]
     pub(crate) fn is_for(&self, place: &[u8], name: &[u8; 12]) -> bool

@@ -1,5 +1,6 @@
-//! The estimates of field 18, noted once, as it is read.
-ghost use Rattle.std.specs.Prelude.{◌≡◌, ◌≤◌, ◌<◌, ◌∷◌, ◌++◌, [], true, List, ℕ, length, IfOk, IfSome, IsSome, OnOk};
+//! The estimates of field 18, collected once, as the field is read.
+ghost use Rattle.std.specs.Prelude.{◌≡◌, ◌≤◌, ◌<◌, ◌∷◌, ◌++◌, [], true};
+ghost use Rattle.std.specs.Prelude.{List, ℕ, length, IfOk, IfSome, IsSome, OnOk};
 ghost use Rattle.std.specs.Prelude.{OnErr};
 ghost use Rattle.fpl_items.specs.Places.{may_have, name_of};
 ghost use Rattle.fpl_items.specs.Estimates.{first_for};
@@ -12,10 +13,11 @@ use crate::places::{may_have, name_of, with_place};
 use std::alloc::{AllocError, Allocator, Global};
 use std::marker::Model;
 
-/// What EET items say, in order. The first eight estimates take no memory of their own. Contracts see the estimates.
+/// The estimates of the EET items, in order. The first eight take no allocation. Contracts see the
+/// list of them.
 #[derive(Drop)]
 pub struct Estimates<A: Allocator + Copy = Global> {
-    /// The places of the notes, so that few other places are looked for.
+    /// A bit set of the points, by which most other points are excluded without a search.
     places: u64,
     notes: NoteList<A>,
 }
@@ -33,7 +35,6 @@ impl<A: Allocator + Copy> Model for Estimates<A> {
 }
 
 impl<A: Allocator + Copy> Estimates<A> {
-    /// No estimates.
     pub(crate) fn new(alloc: A) -> Self
         ensures { result ≡ [] }
     {
@@ -43,7 +44,8 @@ impl<A: Allocator + Copy> Estimates<A> {
         }
     }
 
-    /// The same estimates, in memory of their own, and no more than they take.
+    /// A copy in an allocation of its own, with no spare capacity. Returns `Err` if allocation
+    /// fails.
     pub fn kept<B: Allocator + Copy>(&self, alloc: B) -> Result<KeptEstimates<B>, AllocError>
         ensures { IfOk result (λ e. e ≡ self.now) }
     {
@@ -51,7 +53,8 @@ impl<A: Allocator + Copy> Estimates<A> {
         KeptEstimates::of(alloc, self.places, few, more)
     }
 
-    /// Appends the note of a place. Past the eighth it takes memory. After an `Err` all is as it was.
+    /// Appends the estimate for a point. After the eighth it allocates; an `Err` leaves the list
+    /// unchanged.
     #[inline(always)]
     pub(crate) fn push(&mut self, place: &[u8], note: Estimate) -> Result<(), AllocError>
         requires place { length place.now ≤ 11 }
@@ -65,7 +68,7 @@ impl<A: Allocator + Copy> Estimates<A> {
         Ok(())
     }
 
-    /// The elapsed time, in minutes, of the first estimate for a place.
+    /// The elapsed time, in minutes, of the first estimate for the point `place`.
     #[inline]
     pub fn elapsed(&self, place: &[u8]) -> Option<u32>
         ensures value { result ≡ first_for place.now self.now }
@@ -88,7 +91,7 @@ impl<A: Allocator + Copy> Estimates<A> {
     }
 }
 
-/// The minutes of the first of these notes that is for a place.
+/// The minutes of the first of these estimates for the point `place`.
 #[inline(never)]
 pub(crate) fn first_for(notes: &[Estimate], place: &[u8]) -> Option<u32>
     requires { length place.now ≤ 11 }

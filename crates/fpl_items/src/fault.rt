@@ -1,4 +1,4 @@
-//! Why fields 15 and 18 are not read.
+//! Why a field 15 or 18 is refused.
 
 ghost use Rattle.fpl_items.specs.declared.fault.ItemFault.TheVariants.{OutOfMemory};
 ghost use Rattle.std.specs.Prelude.{◌≡◌};
@@ -6,7 +6,7 @@ ghost use Rattle.std.specs.Prelude.{◌≡◌};
 use std::alloc::AllocFailed;
 use thiserror::Error;
 
-/// Why a field 15 or 18 is not read.
+/// Why a field 15 or 18 is refused.
 #[derive(Clone, Copy, Debug, PartialEq, Eq, Error)]
 pub enum ItemFault {
     #[error("field {0} does not have its form")]

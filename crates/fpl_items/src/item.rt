@@ -1,6 +1,7 @@
 //! The items of field 18.
 
-ghost use Rattle.std.specs.Prelude.{◌≡◌, ◌≤◌, ◌==◌, ◌&&◌, ◌∷◌, ◌++◌, [], nat_le, nat_lt, List, ℕ, true, IsTrue, length};
+ghost use Rattle.std.specs.Prelude.{◌≡◌, ◌≤◌, ◌==◌, ◌&&◌, ◌∷◌, ◌++◌, []};
+ghost use Rattle.std.specs.Prelude.{nat_le, nat_lt, List, ℕ, true, IsTrue, length};
 ghost use Rattle.std.specs.Prelude.{take, slice_index, MatchOption};
 ghost use Rattle.std.specs.Iterator.{YieldsFirst, YieldsFirstRef, item_count};
 ghost use Rattle.std.specs.List.{prefix_len};
@@ -12,26 +13,30 @@ ghost use Rattle.fpl_items.specs.Items.{begins_item, own_words, own_list, words_
 use fpl_text::{Measured, Words, is_letter};
 use std::marker::Model;
 
-/// Whether a stroke stands at a place of a word, and what is before it is as long as a name and begins with a letter.
+/// Whether a stroke is at this offset of a word, after a name of 2 to 9 bytes that begins with a
+/// letter.
 #[inline]
 fn has_name(stroke: usize, word: &[u8]) -> bool
-    ensures { result ≡ (nat_lt stroke (length word.now) && (slice_index word.now stroke == 47) && nat_le 2 stroke
+    ensures { result ≡ (nat_lt stroke (length word.now)
+        && (slice_index word.now stroke == 47) && nat_le 2 stroke
         && nat_le stroke 9 && is_letter (slice_index word.now 0)) }
 {
     stroke < word.len() && word[stroke] == b'/' && stroke >= 2 && stroke <= 9 && is_letter(word[0])
 }
 
-/// Whether a word begins an item: whether the letters and digits at its front are a name with a stroke behind it.
+/// Whether a word begins an item: a name of letters and digits, and a stroke after it.
 #[inline]
 pub(crate) fn begins_item(measured: &Measured<'_>) -> bool
-    requires { measured.now.letters_or_digits ≡ prefix_len is_letter_or_digit measured.now.word.now }
+    requires { measured.now.letters_or_digits
+        ≡ prefix_len is_letter_or_digit measured.now.word.now }
     ensures value { result ≡ begins_item measured.now.word.now }
-    ensures stroke { result ≡ true → measured.now.letters_or_digits ≡ before_stroke measured.now.word.now }
+    ensures stroke { result ≡ true
+        → measured.now.letters_or_digits ≡ before_stroke measured.now.word.now }
 {
     has_name(measured.letters_or_digits, measured.word)
 }
 
-/// The words of an item, which end before the next item.
+/// Iterates over the words of an item, which end before the next item.
 #[derive(Drop)]
 pub struct ItemWords<'a> {
     pub(crate) own: Option<&'a [u8]>,
@@ -87,11 +92,12 @@ impl<'a> Model for Item<'a> {
       words = own_words i.first.now ++ words_before i.following;
     } };
 
-    ghost invariant = { λ i. IsTrue (begins_item i.first.now) × (i.stroke ≡ before_stroke i.first.now) };
+    ghost invariant = { λ i. IsTrue (begins_item i.first.now)
+        × (i.stroke ≡ before_stroke i.first.now) };
 }
 
 impl<'a> Item<'a> {
-    /// What stands before the stroke.
+    /// The name, which precedes the stroke.
     pub fn name(&self) -> &'a [u8]
         ensures { result.now ≡ self.now.name }
     {
@@ -111,7 +117,7 @@ impl<'a> Item<'a> {
     }
 }
 
-/// Passes over the words before the next that has a stroke, which begin no item.
+/// Skips the words before the next that has a stroke, since they begin no item.
 #[inline]
 fn skip_to_stroke(words: &mut Words<'_>)
     ensures items { items_of words.old ≡ items_of words.new }
@@ -120,15 +126,15 @@ fn skip_to_stroke(words: &mut Words<'_>)
     words.skip_to(b'/');
 }
 
-/// Takes the next item off the words, and passes over those before it. Most items follow on the first word of the one
-/// before them, so a stroke is searched for only where the next word begins no item.
+/// Takes the next item, after skipping the words before it. Most items follow directly on the item
+/// before, so a stroke is searched for only if the next word begins no item.
 #[inline]
 fn next_item<'a>(words: &mut Words<'a>) -> Option<Item<'a>>
     ensures { MatchOption result ((items_of words.old ≡ []) × (words.new ≡ []))
         (λ item. items_of words.old ≡ item ∷ items_of words.new) }
 {
-    // The words that are left stay in registers: an item that took them from where they were just written would wait
-    // for that.
+    // The copy of the iterator stays in registers: an item that read it back from memory just
+    // written would wait for that.
     let mut left = words.duplicate();
     'words: while let Some(measured) = left.next_measured() {
         if begins_item(&measured) {
@@ -145,7 +151,7 @@ fn next_item<'a>(words: &mut Words<'a>) -> Option<Item<'a>>
     None
 }
 
-/// Goes over the items that words are.
+/// Iterates over the items of a list of words.
 #[derive(Drop)]
 pub struct Items<'a> {
     words: Words<'a>,
@@ -161,7 +167,7 @@ impl<'a> Model for Items<'a> {
 }
 
 impl<'a> Items<'a> {
-    /// The items of a field.
+    /// The items of a field 18.
     pub fn new(field: &'a [u8]) -> Items<'a>
         ensures { result ≡ items_of (words_of field.now) }
     {

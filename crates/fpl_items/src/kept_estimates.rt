@@ -1,4 +1,4 @@
-//! The estimates of field 18, as they are kept.
+//! The estimates of field 18, as a plan keeps them.
 ghost use Rattle.std.specs.Prelude.{◌≡◌, ◌≤◌, ◌<◌, ◌++◌, true, List, ℕ, IfOk, IfSome, IsSome};
 ghost use Rattle.fpl_items.specs.Places.{may_have};
 ghost use Rattle.fpl_items.specs.Estimates.{first_for, HasPlacesOf};
@@ -10,11 +10,11 @@ use crate::places::may_have;
 use std::alloc::{AllocError, Allocator, Global};
 use std::marker::Model;
 
-/// What EET items say, in order, in memory that has room for them and no more: plans are many, and some have no
-/// estimates. Contracts see the estimates.
+/// The estimates of the EET items, in order, in an allocation without spare capacity: there are
+/// many plans, and some have no estimates. Contracts see the list of them.
 #[derive(Drop)]
 pub struct KeptEstimates<A: Allocator + Copy = Global> {
-    /// The places of the notes, so that few other places are looked for.
+    /// A bit set of the points, by which most other points are excluded without a search.
     places: u64,
     notes: Vec<Estimate, A>,
 }
@@ -32,7 +32,8 @@ impl<A: Allocator + Copy> Model for KeptEstimates<A> {
 }
 
 impl<A: Allocator + Copy> KeptEstimates<A> {
-    /// These notes, and others after them. The set has the place of each.
+    /// These estimates, in two parts. `places` has the bit of each of their points. Returns `Err`
+    /// if allocation fails.
     pub(crate) fn of(
         alloc: A,
         places: u64,
@@ -48,7 +49,7 @@ impl<A: Allocator + Copy> KeptEstimates<A> {
         Ok(KeptEstimates { places, notes: all })
     }
 
-    /// The same estimates.
+    /// A copy. Returns `Err` if allocation fails.
     pub fn copied<B: Allocator + Copy>(&self, alloc: B) -> Result<KeptEstimates<B>, AllocError>
         ensures { IfOk result (λ e. e ≡ self.now) }
     {
@@ -59,7 +60,7 @@ impl<A: Allocator + Copy> KeptEstimates<A> {
         })
     }
 
-    /// The elapsed time, in minutes, of the first estimate for a place.
+    /// The elapsed time, in minutes, of the first estimate for the point `place`.
     #[inline]
     pub fn elapsed(&self, place: &[u8]) -> Option<u32>
         ensures value { result ≡ first_for place.now self.now }
@@ -74,23 +75,25 @@ impl<A: Allocator + Copy> KeptEstimates<A> {
         first_for(&self.notes, place)
     }
 
-    /// A set that has the places of the estimates.
+    /// A bit set of the points of the estimates, to be asked by [`may_have`](crate::may_have).
     #[inline]
     pub fn places(&self) -> u64
-        ensures { (place : List ℕ) → IsSome (first_for place self.now) → may_have result place ≡ true }
+        ensures { (place : List ℕ) → IsSome (first_for place self.now)
+            → may_have result place ≡ true }
     {
         self.places
     }
 
-    /// The minutes of the longest of the estimates.
+    /// The minutes of the longest of the estimates, or 0.
     pub fn longest(&self) -> u32
-        ensures { (place : List ℕ) → IfSome (first_for place self.now) (λ minutes. minutes ≤ result) }
+        ensures { (place : List ℕ)
+            → IfSome (first_for place self.now) (λ minutes. minutes ≤ result) }
     {
         longest_of(&self.notes)
     }
 }
 
-/// The minutes of the longest of these notes.
+/// The minutes of the longest of these estimates, or 0.
 fn longest_of(notes: &[Estimate]) -> u32
     ensures { (place : List ℕ) → IfSome (first_for place notes.now) (λ minutes. minutes ≤ result) }
 {

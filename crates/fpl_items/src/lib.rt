@@ -1,10 +1,11 @@
 //! Fields 15 and 18 of a flight plan: the route and other information.
 //!
-//! A route is a speed and a level, and then words, of which each has the first kind that fits (`route`, `speed`). An
-//! element says its kind and where it stands in the field. Field 18 is a list of items, each a name with its words
-//! (`item`, `other`): DOF names the day, EET gives the times to places on the way, STS can exempt from slots, and all
-//! others are kept without effect. Both readers are exact: they answer what the definition gives, or its first fault
-//! from the left.
+//! A route is a speed and a level, and then words, each of which has the first kind that fits
+//! (`route`, `speed`). An element gives its kind and its offsets in the field. Field 18 is a list
+//! of items, each a name with its words (`item`, `other`): DOF gives the day, EET the elapsed times
+//! to route points, and STS can exempt the flight from slot allocation; all others are kept without
+//! effect. Both readers are exact: they return what the definition gives, or its first fault from
+//! the left.
 #![tactic(auto)]
 
 mod estimate;

@@ -1,4 +1,4 @@
-//! The notes of a field, the first of them in place.
+//! A list of estimates, the first of them inline.
 ghost use Rattle.std.specs.Prelude.{◌≡◌, ◌≤◌, [], ◌∷◌, ◌++◌, length, IfOk, OnOk, OnErr};
 
 use crate::estimate::Estimate;
@@ -6,13 +6,14 @@ use arrayvec::ArrayVec;
 use std::alloc::{AllocError, Allocator, Global};
 use std::marker::Model;
 
-/// How many notes stand in place, which is enough for most fields.
+/// How many estimates are stored inline, which is enough for most fields.
 const FEW_NOTES: usize = 8;
 
-/// For how many notes behind these memory is taken at once.
+/// The capacity of the first allocation for those after them.
 const MORE_NOTES: usize = 56;
 
-/// Notes in order: the first eight in place, the others, if any, in memory of their own. Contracts see the notes.
+/// Estimates in order: the first eight inline, the others, if any, in an allocation of their own.
+/// Contracts see one list.
 #[derive(Drop)]
 pub(crate) struct NoteList<A: Allocator + Copy = Global> {
     few: ArrayVec<Estimate, FEW_NOTES>,
@@ -31,7 +32,6 @@ impl<A: Allocator + Copy> Model for NoteList<A> {
 }
 
 impl<A: Allocator + Copy> NoteList<A> {
-    /// No notes.
     pub(crate) fn new(alloc: A) -> Self
         ensures { result ≡ [] }
     {
@@ -41,7 +41,7 @@ impl<A: Allocator + Copy> NoteList<A> {
         }
     }
 
-    /// Appends a note. Past the eighth it takes memory. After an `Err` the notes are as they were.
+    /// Appends an estimate. After the eighth it allocates; an `Err` leaves the list unchanged.
     #[inline(always)]
     pub(crate) fn push(&mut self, note: Estimate) -> Result<(), AllocError>
         ensures ok { OnOk result (self.new ≡ self.old ++ note ∷ []) }
@@ -59,7 +59,7 @@ impl<A: Allocator + Copy> NoteList<A> {
         Ok(())
     }
 
-    /// The notes in place, and those after them.
+    /// The estimates that are inline, and those after them.
     #[inline]
     pub(crate) fn parts(&self) -> (&[Estimate], &[Estimate])
         ensures { result.0.now ++ result.1.now ≡ self.now }

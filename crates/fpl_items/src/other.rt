@@ -1,17 +1,22 @@
 //! Field 18: other information.
 
-ghost use Rattle.std.specs.Prelude.{◌≡◌, ◌≢◌, ◌≤◌, ◌<◌, ◌+◌, ◌-◌, true, false, is_some, slice_index_or, length, drop};
+ghost use Rattle.std.specs.Prelude.{◌≡◌, ◌≢◌, ◌≤◌, ◌<◌, ◌+◌, ◌-◌};
+ghost use Rattle.std.specs.Prelude.{true, false, is_some, slice_index_or, length, drop};
 ghost use Rattle.std.specs.Prelude.{[], None, Some, IfSome, IfOk, IfErr, List, MatchOption, pos};
 ghost use Rattle.jiff_core.specs.Date.{epoch_day};
 ghost use Rattle.std.specs.List.{list_all, list_any, prefix_len};
 ghost use Rattle.fpl_text.specs.Bytes.{is_letter_or_digit};
 ghost use Rattle.fpl_text.specs.Times.{elapsed_time};
-ghost use Rattle.fpl_items.specs.Estimates.{AddsWord, AddsWords, AddsItem, AreEstimatesOf, PastTheEighth};
-ghost use Rattle.fpl_items.specs.Estimates.{noted_of_item, noted_of_items, noted_of_field, first_for};
+ghost use Rattle.fpl_items.specs.Estimates.{AddsWord, AddsWords, AddsItem};
+ghost use Rattle.fpl_items.specs.Estimates.{AreEstimatesOf, PastTheEighth};
+ghost use Rattle.fpl_items.specs.Estimates.{noted_of_item, noted_of_items};
+ghost use Rattle.fpl_items.specs.Estimates.{noted_of_field, first_for};
 ghost use Rattle.fpl_items.specs.Kinds.{is_text};
 ghost use Rattle.fpl_text.specs.Words.{words_of};
-ghost use Rattle.fpl_items.specs.Items.{begins_item, words_before, is_estimate, is_day, item_fault, first_fault};
-ghost use Rattle.fpl_items.specs.Items.{items_of, field_fault, items_or_fault, elapsed_to, is_exempt, day_of_words};
+ghost use Rattle.fpl_items.specs.Items.{begins_item, words_before, is_estimate};
+ghost use Rattle.fpl_items.specs.Items.{is_day, item_fault, first_fault};
+ghost use Rattle.fpl_items.specs.Items.{items_of, field_fault, items_or_fault};
+ghost use Rattle.fpl_items.specs.Items.{elapsed_to, is_exempt, day_of_words};
 ghost use Rattle.fpl_items.specs.Items.{Item as Entry, day_of_items, Say, SaysAfter};
 ghost use Rattle.fpl_items.specs.Routes.{Gives};
 ghost use Rattle.fpl_items.specs.Told.{TellsOf};
@@ -27,27 +32,31 @@ use jiff::civil::Date;
 use std::alloc::{Allocator, Global};
 use std::marker::Model;
 
-/// Notes the estimate that a word is, a place and an elapsed time, where the elapsed time is one.
+/// Records the estimate that a word of 5 to 15 bytes is, a point and an elapsed time, if its last
+/// four bytes are one. The caller checks the point.
 fn note_split<A: Allocator + Copy>(
     estimates: &mut Estimates<A>,
     word: &[u8],
 ) -> Result<(), ItemFault>
     requires least { 5 ≤ length word.now }
     requires most { length word.now ≤ 15 }
-    ensures time { IfOk result (λ _. is_some (elapsed_time (drop (length word.now - 4) word.now)) ≡ true) }
+    ensures time { IfOk result
+        (λ _. is_some (elapsed_time (drop (length word.now - 4) word.now)) ≡ true) }
     ensures noted { IfOk result (λ _. AddsWord estimates.old estimates.new word.now) }
     ensures count { IfOk result (λ _. length estimates.new ≡ length estimates.old + 1) }
-    ensures fault { IfErr result (λ fault. fault ≢ ItemFault.OutOfMemory → fault ≡ ItemFault.BadField 18) }
+    ensures fault { IfErr result
+        (λ fault. fault ≢ ItemFault.OutOfMemory → fault ≡ ItemFault.BadField 18) }
     ensures no_time { IfErr result (λ fault. fault ≢ ItemFault.OutOfMemory
         → is_some (elapsed_time (drop (length word.now - 4) word.now)) ≡ false) }
     ensures memory { IfErr result (λ fault. fault ≡ ItemFault.OutOfMemory
-        → (is_some (elapsed_time (drop (length word.now - 4) word.now)) ≡ true) × (8 ≤ length estimates.old)) }
+        → (is_some (elapsed_time (drop (length word.now - 4) word.now)) ≡ true)
+        × (8 ≤ length estimates.old)) }
 {
     let (place, time) = word.split_at(word.len() - 4);
     let Some(minutes) = read_elapsed(time) else {
         return Err(ItemFault::BadField(18));
     };
-    // Most places have four letters, whose notes stay in registers up to their place in the list.
+    // Most points have four letters; their estimates stay in registers until they are in the list.
     if place.len() == 4 {
         let Ok(()) = estimates.push(place, Estimate::new(place, minutes)) else {
             return Err(ItemFault::OutOfMemory);
@@ -60,7 +69,7 @@ fn note_split<A: Allocator + Copy>(
     Ok(())
 }
 
-/// Notes the estimate that a word is, if it is one.
+/// Records the estimate that a word is; any other word is refused.
 #[tactic(auto, unfolding(crate::specs::Items::is_estimate))]
 fn note_word<A: Allocator + Copy>(
     estimates: &mut Estimates<A>,
@@ -69,8 +78,10 @@ fn note_word<A: Allocator + Copy>(
     ensures is { IfOk result (λ _. is_estimate word.now ≡ true) }
     ensures noted { IfOk result (λ _. AddsWord estimates.old estimates.new word.now) }
     ensures count { IfOk result (λ _. length estimates.new ≡ length estimates.old + 1) }
-    ensures fault { IfErr result (λ fault. fault ≢ ItemFault.OutOfMemory → fault ≡ ItemFault.BadField 18) }
-    ensures none { IfErr result (λ fault. fault ≢ ItemFault.OutOfMemory → is_estimate word.now ≡ false) }
+    ensures fault { IfErr result
+        (λ fault. fault ≢ ItemFault.OutOfMemory → fault ≡ ItemFault.BadField 18) }
+    ensures none { IfErr result
+        (λ fault. fault ≢ ItemFault.OutOfMemory → is_estimate word.now ≡ false) }
     ensures memory { IfErr result (λ fault. fault ≡ ItemFault.OutOfMemory
         → (is_estimate word.now ≡ true) × (8 ≤ length estimates.old)) }
 {
@@ -83,19 +94,22 @@ fn note_word<A: Allocator + Copy>(
     note_split(estimates, word)
 }
 
-/// Notes the estimate that a measured word is, if it is one.
+/// Records the estimate that a measured word is; any other word is refused.
 #[inline]
 #[tactic(auto, unfolding(crate::specs::Items::is_estimate))]
 fn note_measured<A: Allocator + Copy>(
     estimates: &mut Estimates<A>,
     measured: &Measured<'_>,
 ) -> Result<(), ItemFault>
-    requires { measured.now.letters_or_digits ≡ prefix_len is_letter_or_digit measured.now.word.now }
+    requires { measured.now.letters_or_digits
+        ≡ prefix_len is_letter_or_digit measured.now.word.now }
     ensures is { IfOk result (λ _. is_estimate measured.now.word.now ≡ true) }
     ensures noted { IfOk result (λ _. AddsWord estimates.old estimates.new measured.now.word.now) }
     ensures count { IfOk result (λ _. length estimates.new ≡ length estimates.old + 1) }
-    ensures fault { IfErr result (λ fault. fault ≢ ItemFault.OutOfMemory → fault ≡ ItemFault.BadField 18) }
-    ensures none { IfErr result (λ fault. fault ≢ ItemFault.OutOfMemory → is_estimate measured.now.word.now ≡ false) }
+    ensures fault { IfErr result
+        (λ fault. fault ≢ ItemFault.OutOfMemory → fault ≡ ItemFault.BadField 18) }
+    ensures none { IfErr result
+        (λ fault. fault ≢ ItemFault.OutOfMemory → is_estimate measured.now.word.now ≡ false) }
     ensures memory { IfErr result (λ fault. fault ≡ ItemFault.OutOfMemory
         → (is_estimate measured.now.word.now ≡ true) × (8 ≤ length estimates.old)) }
 {
@@ -112,16 +126,18 @@ fn note_measured<A: Allocator + Copy>(
     note_split(estimates, word)
 }
 
-/// Notes the words before the first item, up to one that is no place with an elapsed time.
+/// Records the words before the next item, up to one that is no point with an elapsed time.
 fn note_before_item<A: Allocator + Copy>(
     estimates: &mut Estimates<A>,
     mut words: Words<'_>,
 ) -> Result<(), ItemFault>
     ensures are { IfOk result (λ _. list_all is_estimate (words_before words.entry) ≡ true) }
-    ensures noted { IfOk result (λ _. AddsWords estimates.old estimates.new (words_before words.entry)) }
+    ensures noted { IfOk result
+        (λ _. AddsWords estimates.old estimates.new (words_before words.entry)) }
     ensures count { IfOk result (λ _. length estimates.new
         ≡ length estimates.old + prefix_len is_estimate (words_before words.entry)) }
-    ensures fault { IfErr result (λ fault. fault ≢ ItemFault.OutOfMemory → fault ≡ ItemFault.BadField 18) }
+    ensures fault { IfErr result
+        (λ fault. fault ≢ ItemFault.OutOfMemory → fault ≡ ItemFault.BadField 18) }
     ensures other { IfErr result (λ fault. fault ≢ ItemFault.OutOfMemory
         → list_all is_estimate (words_before words.entry) ≡ false) }
     ensures memory { IfErr result (λ fault. fault ≡ ItemFault.OutOfMemory
@@ -136,7 +152,7 @@ fn note_before_item<A: Allocator + Copy>(
     Ok(())
 }
 
-/// Notes the words of an EET item, up to one that is no place with an elapsed time.
+/// Records the words of an EET item, up to one that is no point with an elapsed time.
 fn note_words<A: Allocator + Copy>(
     estimates: &mut Estimates<A>,
     words: ItemWords<'_>,
@@ -145,8 +161,10 @@ fn note_words<A: Allocator + Copy>(
     ensures noted { IfOk result (λ _. AddsWords estimates.old estimates.new words.entry) }
     ensures count { IfOk result (λ _. length estimates.new
         ≡ length estimates.old + prefix_len is_estimate words.entry) }
-    ensures fault { IfErr result (λ fault. fault ≢ ItemFault.OutOfMemory → fault ≡ ItemFault.BadField 18) }
-    ensures other { IfErr result (λ fault. fault ≢ ItemFault.OutOfMemory → list_all is_estimate words.entry ≡ false) }
+    ensures fault { IfErr result
+        (λ fault. fault ≢ ItemFault.OutOfMemory → fault ≡ ItemFault.BadField 18) }
+    ensures other { IfErr result
+        (λ fault. fault ≢ ItemFault.OutOfMemory → list_all is_estimate words.entry ≡ false) }
     ensures memory { IfErr result (λ fault. fault ≡ ItemFault.OutOfMemory
         → PastTheEighth estimates.old (prefix_len is_estimate words.entry)) }
 {
@@ -187,7 +205,7 @@ fn is_name(name: &[u8], known: &[u8; 3]) -> bool
     name[0] == known[0] && name[1] == known[1] && name[2] == known[2]
 }
 
-/// What items say of a flight: its day, where a DOF stood, and whether it is exempt.
+/// What items say of a flight: its day, if there was a DOF, and whether it is exempt.
 #[derive(Clone, Copy)]
 struct Effects {
     day: Option<Day>,
@@ -195,16 +213,18 @@ struct Effects {
 }
 
 impl Effects {
-    /// What they say with an item more, whose estimates are noted, or its fault.
+    /// The effects with one more item, whose estimates are recorded, or the fault of that item.
     #[tactic(auto, unfolding(crate::specs::Items::item_fault))]
     fn with<A: Allocator + Copy>(
         self,
         estimates: &mut Estimates<A>,
         item: &Item<'_>,
     ) -> Result<Effects, ItemFault>
-        ensures says { IfOk result (λ next. SaysAfter self.day self.exempt item.now next.day next.exempt) }
+        ensures says { IfOk result
+            (λ next. SaysAfter self.day self.exempt item.now next.day next.exempt) }
         ensures noted { IfOk result (λ _. AddsItem estimates.old estimates.new item.now) }
-        ensures count { IfOk result (λ _. length estimates.new ≡ length estimates.old + noted_of_item item.now) }
+        ensures count { IfOk result
+            (λ _. length estimates.new ≡ length estimates.old + noted_of_item item.now) }
         ensures fault { IfErr result (λ fault. fault ≢ ItemFault.OutOfMemory
             → item_fault (is_some self.day) item.now ≡ Some fault) }
         ensures memory { IfErr result (λ fault. fault ≡ ItemFault.OutOfMemory
@@ -235,7 +255,7 @@ impl Effects {
     }
 }
 
-/// What items say, whose estimates are noted, or their first fault from the left.
+/// Reads items and records their estimates. Stops at the first fault from the left.
 fn read_items<A: Allocator + Copy>(
     estimates: &mut Estimates<A>,
     items: Items<'_>,
@@ -244,8 +264,10 @@ fn read_items<A: Allocator + Copy>(
     ensures faultless { IfOk result (λ _. first_fault false items.entry ≡ None) }
     ensures says { IfOk result (λ all. Say items.entry all.day all.exempt) }
     ensures noted { IfOk result (λ _. AreEstimatesOf items.entry estimates.new) }
-    ensures fault { IfErr result (λ fault. fault ≢ ItemFault.OutOfMemory → first_fault false items.entry ≡ Some fault) }
-    ensures memory { IfErr result (λ fault. fault ≡ ItemFault.OutOfMemory → 8 < noted_of_items false items.entry) }
+    ensures fault { IfErr result
+        (λ fault. fault ≢ ItemFault.OutOfMemory → first_fault false items.entry ≡ Some fault) }
+    ensures memory { IfErr result
+        (λ fault. fault ≡ ItemFault.OutOfMemory → 8 < noted_of_items false items.entry) }
 {
     let mut effects = Effects {
         day: None,
@@ -257,11 +279,11 @@ fn read_items<A: Allocator + Copy>(
     Ok(effects)
 }
 
-/// What field 18 says (ICAO Doc 4444, appendix 3, field type 18): other information, without its text. Contracts relate
-/// it to the items of the text.
+/// What field 18 says (ICAO Doc 4444, appendix 3, field type 18), kept without its text. Contracts
+/// relate it to the items of the text.
 #[derive(Drop)]
 pub struct Other18<A: Allocator + Copy = Global> {
-    /// What the EET items say.
+    /// The estimates of the EET items.
     estimates: Estimates<A>,
     day: Option<Day>,
     exempt: bool,
@@ -290,7 +312,7 @@ fn begins_with_item(field: &[u8]) -> bool
     }
 }
 
-/// What the items of a field say, whose estimates are noted, or its first fault.
+/// Reads a field that isn't 0, and records the estimates of its items, or returns its first fault.
 #[tactic(auto, unfolding(crate::specs::Items::field_fault))]
 fn read_field<A: Allocator + Copy>(
     estimates: &mut Estimates<A>,
@@ -299,9 +321,12 @@ fn read_field<A: Allocator + Copy>(
     requires { estimates.old ≡ [] }
     ensures faultless { IfOk result (λ _. field_fault field.now ≡ None) }
     ensures says { IfOk result (λ all. Say (items_of (words_of field.now)) all.day all.exempt) }
-    ensures noted { IfOk result (λ _. AreEstimatesOf (items_of (words_of field.now)) estimates.new) }
-    ensures fault { IfErr result (λ fault. fault ≢ ItemFault.OutOfMemory → field_fault field.now ≡ Some fault) }
-    ensures memory { IfErr result (λ fault. fault ≡ ItemFault.OutOfMemory → 8 < noted_of_field field.now) }
+    ensures noted { IfOk result
+        (λ _. AreEstimatesOf (items_of (words_of field.now)) estimates.new) }
+    ensures fault { IfErr result
+        (λ fault. fault ≢ ItemFault.OutOfMemory → field_fault field.now ≡ Some fault) }
+    ensures memory { IfErr result
+        (λ fault. fault ≡ ItemFault.OutOfMemory → 8 < noted_of_field field.now) }
 {
     if field == b"0".as_slice() {
         return Ok(Effects {
@@ -316,14 +341,17 @@ fn read_field<A: Allocator + Copy>(
 }
 
 impl<A: Allocator + Copy> Other18<A> {
-    /// Reads field 18: `0`, or one or more items. The first fault counts, from the left: BadField for a field that does
-    /// not begin with an item, and for an EET item with a word that is no place with an elapsed time; BadDate for a DOF
-    /// item that is not exactly one date; DuplicateItem for a second DOF. Takes memory for estimates past the eighth
-    /// alone, and before it looks at what follows.
+    /// Reads field 18: `0`, or one or more items. Refuses the first fault from the left:
+    /// `BadField(18)` for a field that doesn't begin with an item, and for an EET item with a word
+    /// that is no point with an elapsed time; `BadDate` for a DOF item that is not exactly one
+    /// date; `DuplicateItem` for a second DOF. Allocates only for estimates after the eighth;
+    /// `OutOfMemory` may come before a fault in what follows.
     pub fn read(alloc: A, field: &[u8]) -> Result<Self, ItemFault>
-        ensures value { Gives (λ other. items_of (words_of field.now)) result (items_or_fault field.now) }
+        ensures value { Gives (λ other. items_of (words_of field.now)) result
+            (items_or_fault field.now) }
         ensures tells { IfOk result (TellsOf (items_of (words_of field.now))) }
-        ensures memory { IfErr result (λ fault. fault ≡ ItemFault.OutOfMemory → 8 < noted_of_field field.now) }
+        ensures memory { IfErr result
+            (λ fault. fault ≡ ItemFault.OutOfMemory → 8 < noted_of_field field.now) }
     {
         let mut estimates = Estimates::new(alloc);
         let effects = match read_field(&mut estimates, field) {
@@ -337,17 +365,19 @@ impl<A: Allocator + Copy> Other18<A> {
         })
     }
 
-    /// The day that a DOF item gives.
+    /// The day of flight of the first DOF item.
     pub fn day(&self) -> Option<Day>
         ensures value { result ≡ self.now.day }
-        ensures items { (items : List Entry) → TellsOf items self.now → result ≡ day_of_items items }
+        ensures items { (items : List Entry) → TellsOf items self.now
+            → result ≡ day_of_items items }
     {
         self.day
     }
 
-    /// The date of that day.
+    /// The day of flight as a date.
     pub fn date(&self) -> Option<Date>
-        ensures { MatchOption result (self.now.day ≡ None) (λ date. IfSome self.now.day (λ day. epoch_day date ≡ pos day)
+        ensures { MatchOption result (self.now.day ≡ None)
+            (λ date. IfSome self.now.day (λ day. epoch_day date ≡ pos day)
             × (is_some self.now.day ≡ true)) }
     {
         match self.day {
@@ -356,7 +386,8 @@ impl<A: Allocator + Copy> Other18<A> {
         }
     }
 
-    /// The items, in order, over the text from which this was read, which isn't kept here.
+    /// The items, in order. `field` must be the text from which this was read, which isn't kept
+    /// here.
     pub fn items<'a>(&self, field: &'a [u8]) -> Items<'a>
         requires { TellsOf (items_of (words_of field.now)) self.now }
         ensures { result ≡ items_of (words_of field.now) }
@@ -364,24 +395,27 @@ impl<A: Allocator + Copy> Other18<A> {
         Items::new(field)
     }
 
-    /// The estimates of the EET items, which are told without a look at these.
+    /// The estimates of the EET items.
     pub fn estimates(&self) -> &Estimates<A>
         ensures value { result.now ≡ self.now.estimates }
-        ensures items { (items : List Entry) → TellsOf items self.now → AreEstimatesOf items result.now }
+        ensures items { (items : List Entry) → TellsOf items self.now
+            → AreEstimatesOf items result.now }
     {
         &self.estimates
     }
 
-    /// The elapsed time, in minutes, of the first estimate for a place.
+    /// The elapsed time, in minutes, of the first estimate for the point `place`.
     pub fn elapsed(&self, place: &[u8]) -> Option<u32>
         ensures value { result ≡ first_for place.now self.now.estimates }
-        ensures items { (items : List Entry) → TellsOf items self.now → result ≡ elapsed_to place.now items }
+        ensures items { (items : List Entry) → TellsOf items self.now
+            → result ≡ elapsed_to place.now items }
         ensures bound { IfSome result (λ minutes. minutes < ELAPSED_LIMIT) }
     {
         self.estimates.elapsed(place)
     }
 
-    /// Whether an STS item exempts the flight.
+    /// Whether an STS item exempts the flight from slot allocation: STS/ATFMX (EUROCONTROL ATFCM
+    /// Users Manual).
     pub fn exempt(&self) -> bool
         ensures value { result ≡ self.now.exempt }
         ensures items { (items : List Entry) → TellsOf items self.now → result ≡ is_exempt items }

@@ -1,11 +1,11 @@
-//! Which places there may be estimates for.
+//! Bit sets of route points.
 //!
-//! Each place has one of 64 bits. A set of places is kept by the bits of those in it: where the bit of a place isn't
-//! set, the place isn't in the set.
+//! Each point has one of 64 bits, which some share. If the bit of a point isn't set, the point
+//! isn't in the set.
 ghost use Rattle.std.specs.Prelude.{◌≡◌, ◌<◌, ◌≤◌, true, List, ℕ, length};
 ghost use Rattle.fpl_items.specs.Places.{bit_of, may_have, name_of};
 
-/// The bit of a place, below 64.
+/// The bit of a point, below 64.
 #[inline]
 #[tactic(auto, unfolding(crate::specs::Places::bit_of))]
 pub fn bit_of(place: &[u8]) -> u32
@@ -21,7 +21,7 @@ pub fn bit_of(place: &[u8]) -> u32
     (7 * second + 2 * third + fourth) % 64
 }
 
-/// Whether a place may be in a set: whether its bit is set.
+/// Whether a point may be in a set: whether its bit is set.
 #[inline]
 pub fn may_have(places: u64, place: &[u8]) -> bool
     ensures { result ≡ may_have places place.now }
@@ -29,7 +29,7 @@ pub fn may_have(places: u64, place: &[u8]) -> bool
     (places >> bit_of(place)) % 2 == 1
 }
 
-/// The set with a place more.
+/// The set with one more point.
 pub(crate) fn with_place(places: u64, place: &[u8]) -> u64
     ensures added { may_have result place.now ≡ true }
     ensures kept { (other : List ℕ) → may_have places other ≡ true → may_have result other ≡ true }
@@ -37,7 +37,8 @@ pub(crate) fn with_place(places: u64, place: &[u8]) -> u64
     places | 1 << bit_of(place)
 }
 
-/// A place as notes have it. Most places have four letters, whose name needs no memory to be put together.
+/// The stored form of a name: 12 bytes. Most points have four letters, for which it is put together
+/// in registers.
 #[inline]
 #[tactic(auto, using(crate::proofs::Notes::name_of_four))]
 pub(crate) fn name_of(place: &[u8]) -> [u8; 12]
@@ -52,7 +53,7 @@ pub(crate) fn name_of(place: &[u8]) -> [u8; 12]
     name_by_bytes(place)
 }
 
-/// The same of any place.
+/// The stored form of any name, byte by byte.
 #[inline(never)]
 fn name_by_bytes(place: &[u8]) -> [u8; 12]
     requires { length place.now ≤ 11 }

@@ -1,13 +1,17 @@
 //! Field 15: the route.
 
-ghost use Rattle.std.specs.Prelude.{◌≡◌, ◌≤◌, ◌<◌, ◌+◌, ◌==◌, [], true, None, Some, length, slice_index_or, vec_capacity, MatchOption, IfErr};
+ghost use Rattle.std.specs.Prelude.{◌≡◌, ◌≤◌, ◌<◌, ◌+◌, ◌==◌};
+ghost use Rattle.std.specs.Prelude.{[], true, None, Some, length};
+ghost use Rattle.std.specs.Prelude.{slice_index_or, vec_capacity, MatchOption, IfErr};
 ghost use Rattle.std.specs.List.{count_by, list_all, prefix_len};
 ghost use Rattle.fpl_text.specs.Words.{words_of};
 ghost use Rattle.fpl_items.specs.Speeds.{is_speed_and_level};
 ghost use Rattle.fpl_text.specs.Bytes.{is_letter, is_letter_or_digit};
 ghost use Rattle.fpl_items.specs.Routes.{path_or_fault, is_route, elements_of, total_len, Gives};
-ghost use Rattle.fpl_items.specs.Kinds.{is_name, is_coordinate, is_point, is_change, is_climb_range, is_climb_speed};
-ghost use Rattle.fpl_items.specs.Kinds.{is_climb_from, is_climb, is_designator, is_route_byte, kind_of, before_stroke};
+ghost use Rattle.fpl_items.specs.Kinds.{is_name, is_coordinate, is_point};
+ghost use Rattle.fpl_items.specs.Kinds.{is_change, is_climb_range, is_climb_speed};
+ghost use Rattle.fpl_items.specs.Kinds.{is_climb_from, is_climb, is_designator};
+ghost use Rattle.fpl_items.specs.Kinds.{is_route_byte, kind_of, before_stroke};
 ghost use Rattle.fpl_items.specs.Kinds.{height_len};
 
 use crate::fault::ItemFault;
@@ -40,7 +44,8 @@ pub enum Kind {
     Other,
 }
 
-/// A word of a route, and where it stands in the field: from the byte at `from` to before the one at `to`.
+/// A word of a route, and its offsets in the field: from the byte at `from` to before the one at
+/// `to`.
 #[derive(Clone, Copy, Debug, PartialEq, Eq)]
 pub struct Element {
     pub kind: Kind,
@@ -48,7 +53,8 @@ pub struct Element {
     pub to: usize,
 }
 
-/// Field 15: a speed and a level, and the elements of the route after them (ICAO Doc 4444, appendix 3, field type 15).
+/// Field 15: a speed and a level, and then the elements of the route (ICAO Doc 4444, appendix 3,
+/// field type 15).
 #[derive(Drop)]
 pub struct Route<A: Allocator + Copy = Global> {
     speed: Text<5>,
@@ -64,7 +70,7 @@ impl<A: Allocator + Copy> Model for Route<A> {
     ghost view = { λ r. record { speed = r.speed; level = r.level; elements = r.elements.items } };
 }
 
-/// A name of 2 to 5 letters, and then a bearing and a distance or nothing.
+/// Whether a word is a name of 2 to 5 letters, optionally with a bearing and a distance.
 #[tactic(auto, unfolding(crate::specs::Kinds::is_name))]
 fn is_name(word: &[u8]) -> bool
     ensures { result ≡ is_name word.now }
@@ -96,7 +102,7 @@ fn is_point(word: &[u8]) -> bool
     is_name(word) || is_coordinate(2, 3, word) || is_coordinate(4, 5, word)
 }
 
-/// How many bytes stand before the first stroke.
+/// The number of bytes before the first stroke.
 pub(crate) fn before_stroke(word: &[u8]) -> usize
     ensures value { result ≡ before_stroke word.now }
     ensures bound { result ≤ length word.now }
@@ -121,7 +127,7 @@ fn height_len(text: &[u8]) -> usize
     }
 }
 
-/// A level, and a second one or PLUS.
+/// Whether a text is a level, joined with a second one or PLUS.
 #[tactic(auto, unfolding(crate::specs::Kinds::is_climb_range))]
 fn is_climb_range(text: &[u8]) -> bool
     ensures { result ≡ is_climb_range text.now }
@@ -212,7 +218,8 @@ fn kind_of_letters(word: &[u8]) -> Kind
     }
 }
 
-/// The first kind that fits a word of up to 6 letters and digits, not all of them letters: too short for a point.
+/// The first kind that fits a word of up to 6 letters and digits that has a digit: it is too short
+/// for a point.
 #[inline]
 fn kind_with_digit(word: &[u8]) -> Kind
     requires digit { prefix_len is_letter word.now < length word.now }
@@ -227,7 +234,7 @@ fn kind_with_digit(word: &[u8]) -> Kind
     }
 }
 
-/// The first kind that fits a word that is not of letters alone.
+/// The first kind that fits a word that isn't of letters alone.
 fn kind_with_other(word: &[u8]) -> Option<Kind>
     requires { prefix_len is_letter word.now < length word.now }
     ensures { result ≡ kind_of word.now }
@@ -251,7 +258,8 @@ fn kind_with_other(word: &[u8]) -> Option<Kind>
 #[inline]
 fn kind_of(measured: &Measured<'_>) -> Option<Kind>
     requires letters { measured.now.letters ≡ prefix_len is_letter measured.now.word.now }
-    requires letters_or_digits { measured.now.letters_or_digits ≡ prefix_len is_letter_or_digit measured.now.word.now }
+    requires letters_or_digits { measured.now.letters_or_digits
+        ≡ prefix_len is_letter_or_digit measured.now.word.now }
     ensures { result ≡ kind_of measured.now.word.now }
 {
     let len = measured.word.len();
@@ -264,8 +272,8 @@ fn kind_of(measured: &Measured<'_>) -> Option<Kind>
     kind_with_other(measured.word)
 }
 
-/// The elements that words are, of which the first stands at `start`, in an empty list that has room for them. None
-/// where a word has no kind. Takes no memory.
+/// The elements of these words, of which the first is at offset `start`, in this empty buffer,
+/// whose capacity is enough for them. `None` if a word has no kind. Allocates nothing.
 fn elements_in<A: Allocator + Copy>(
     room: Vec<Element, A>,
     start: usize,
@@ -288,8 +296,8 @@ fn elements_in<A: Allocator + Copy>(
     Some(elements)
 }
 
-/// Whether field 15 can be read: a speed and a level, and words of letters, digits and strokes, since a word of these
-/// has a kind. Its elements are told by `Route::read`, which takes memory for them.
+/// Whether field 15 can be read, without its elements: a speed and a level, and then words of
+/// letters, digits and strokes, each of which has a kind.
 pub fn is_route(field: &[u8]) -> bool
     ensures { result ≡ is_route field.now }
 {
@@ -301,8 +309,9 @@ pub fn is_route(field: &[u8]) -> bool
 }
 
 impl<A: Allocator + Copy> Route<A> {
-    /// Reads field 15. It takes memory for as many elements as the field has spaces, if the field has any and its first
-    /// word is a speed and a level, and only then can allocation fail.
+    /// Reads field 15; any text of another form is `BadField(15)`. Allocates one element for each
+    /// space of the field, if it has any and its first word is a speed and a level; only then can
+    /// it return `OutOfMemory`.
     #[tactic(auto, unfolding(crate::specs::Routes::path_or_fault))]
     pub fn read(alloc: A, field: &[u8]) -> Result<Self, ItemFault>
         ensures value { Gives (λ route. route) result (path_or_fault field.now) }
@@ -337,14 +346,14 @@ impl<A: Allocator + Copy> Route<A> {
         self.elements.as_slice()
     }
 
-    /// The speed.
+    /// The cruising speed, as it was filed.
     pub fn speed(&self) -> &[u8]
         ensures { result.now ≡ self.now.speed }
     {
         self.speed.as_bytes()
     }
 
-    /// The level.
+    /// The level, as it was filed.
     pub fn level(&self) -> &[u8]
         ensures { result.now ≡ self.now.level }
     {

@@ -1,12 +1,14 @@
 //! Speeds and levels.
 
-ghost use Rattle.std.specs.Prelude.{◌≡◌, ◌<◌, ◌≤◌, ◌+◌, IsTrue, Some, None, if◌then◌else◌, take, drop, length};
-ghost use Rattle.fpl_items.specs.Speeds.{is_letter_and_digits, is_speed, is_height, is_level, is_speed_and_level};
+ghost use Rattle.std.specs.Prelude.{◌≡◌, ◌<◌, ◌≤◌, ◌+◌, IsTrue, Some};
+ghost use Rattle.std.specs.Prelude.{None, if◌then◌else◌, take, drop, length};
+ghost use Rattle.fpl_items.specs.Speeds.{is_letter_and_digits, is_speed, is_height};
+ghost use Rattle.fpl_items.specs.Speeds.{is_level, is_speed_and_level};
 ghost use Rattle.fpl_items.specs.Speeds.{speed_len};
 
 use fpl_text::{Text, all_digits};
 
-/// A letter, and then so many digits.
+/// Whether a text is this letter and `digits` digits.
 #[tactic(auto, unfolding(crate::specs::Speeds::is_letter_and_digits))]
 fn is_letter_and_digits(letter: u8, digits: usize, text: &[u8]) -> bool
     requires { digits < 10 }
@@ -26,7 +28,7 @@ pub(crate) fn is_speed(text: &[u8]) -> bool
         || is_letter_and_digits(b'M', 3, text)
 }
 
-/// A level that is not VFR.
+/// Whether a text is a level other than VFR.
 #[tactic(auto, unfolding(crate::specs::Speeds::is_height))]
 pub(crate) fn is_height(text: &[u8]) -> bool
     ensures value { result ≡ is_height text.now }
@@ -46,7 +48,7 @@ pub(crate) fn is_level(text: &[u8]) -> bool
     is_height(text) || text == b"VFR".as_slice()
 }
 
-/// How many bytes a speed has that begins as a text does.
+/// The length of a speed that begins with the same letter.
 pub(crate) fn speed_len(text: &[u8]) -> usize
     ensures { result ≡ speed_len text.now }
 {
@@ -61,11 +63,12 @@ pub(crate) fn is_speed_and_level(text: &[u8]) -> bool
     is_speed(&text[..cut]) && is_level(&text[cut..])
 }
 
-/// A speed and a level, of a word in which they are joined.
+/// Cuts a word into its speed and level; `None` for any other word.
 #[tactic(auto, unfolding(crate::specs::Speeds::is_speed_and_level))]
 pub(crate) fn speed_and_level(word: &[u8]) -> Option<(Text<5>, Text<5>)>
     ensures { result ≡ (if is_speed_and_level word.now
-        then Some (take (speed_len word.now) word.now, drop (speed_len word.now) word.now) else None) }
+        then Some (take (speed_len word.now) word.now, drop (speed_len word.now) word.now)
+        else None) }
 {
     let (speed, level) = word.split_at(speed_len(word).min(word.len()));
     if is_speed(speed) && is_level(level) {

@@ -31,7 +31,7 @@ other_border : (b : ℕ) → is_border b ≡ true → eqb b 45 ≡ false → not
 unfolding is_border is_bracket
 other_border b h k = grind arith
 
--- what a search for the first border of a text tells
+-- what a search for the first border of a text shows
 pub record FirstBorder (text : List ℕ) (end : ℕ) : Type 0 where
   pub hyphen : end < length text → eqb (get_or text end 0) 45 ≡ true → parts text ≡ take end text ∷ parts (drop (end + 1) text)
   pub clean : end < length text → eqb (get_or text end 0) 45 ≡ true → is_clean text ≡ is_clean (drop (end + 1) text)
@@ -76,11 +76,11 @@ first_border (b ∷ text) =
       all_clean = λ h. ap (λ c. c && is_clean text) (no_bracket b k) ∙ rest.all_clean (omega arith);
     }
 
--- the parts that are left where so many bytes of a text have been passed, with the border behind them
+-- the parts that are left after so much of a text has been read, with the border that follows them
 abbrev pub left_of : List ℕ → ℕ → List (List ℕ)
 left_of inside from = cond (leb from (length inside)) (parts (drop from inside)) []
 
--- so many parts of a text have been found, and the next one begins at `from`
+-- the parts of a text that have been found, and the next one begins at `from`
 pub record Cuts (inside : List ℕ) (from count : ℕ) (borders : List ℕ) : Type 0 where
   pub left : drop count (parts inside) ≡ left_of inside from
   pub total : length (parts inside) ≡ count + length (left_of inside from)
@@ -102,7 +102,7 @@ cuts-start inside =
       bound = (omega arith, omega arith);
     }
 
--- a list that is left begins with the element at its place
+-- a list that is left begins with the element at its index
 next_of : {X : Type 0} (xs : List X) (n : ℕ) (x : X) (rest : List X) → drop n xs ≡ x ∷ rest → (slice_get xs n ≡ Some x) × (drop (n + 1) xs ≡ rest)
 next_of xs n x rest h =
     let long : n < length xs = omega (arith, length-drop n xs, ap length h) in
@@ -111,7 +111,7 @@ next_of xs n x rest h =
     let tail : rest ≡ drop (n + 1) xs = cc in
     (slice_get-get_or xs n x long ∙ ap Some (sym head), sym tail)
 
--- what noting a border keeps
+-- what recording a border keeps
 record Noted (inside : List ℕ) (count after : ℕ) (borders : List ℕ) : Type 0 where
   noted : AreBorders inside borders
   last : length borders ≡ count + 1 → get_or borders count 0 ≡ after
@@ -143,7 +143,7 @@ noted-with false inside borders count from after long before stands = record {
   some = (before.some.0, omega (arith, before.some));
 }
 
--- the next part, whose border is noted or not
+-- the next part, whose border is recorded or not
 cuts-part : (inside : List ℕ) (from count end : ℕ) (borders : List ℕ) → Cuts inside from count borders → end ≤ length inside → from ≤ end → left_of inside from ≡ slice_range inside from end ∷ left_of inside (end + 1) → is_clean (drop from inside) ≡ is_clean (drop (end + 1) inside) → Cuts inside (end + 1) (count + 1) (with_border borders (count + 1) (end + 1))
 cuts-part inside from count end borders cuts h low left clean =
     let next = next_of (parts inside) count (slice_range inside from end) (left_of inside (end + 1)) (cuts.left ∙ left) in
@@ -171,7 +171,7 @@ get_or-range bytes from end k l = get_or-take (end - from) (drop from bytes) k 0
 length-range : (bytes : List ℕ) (from end : ℕ) → end ≤ length bytes → length (slice_range bytes from end) ≡ end - from
 length-range bytes from end l = omega (arith, length-take (end - from) (drop from bytes), length-drop from bytes)
 
--- the place of the first border, or the end
+-- the offset of the first border, or the end
 pub border-at : (bytes : List ℕ) (from end border : ℕ) → from ≤ border → border ≤ end → end ≤ length bytes → ((k : ℕ) → from ≤ k → k < border → is_border (get_or bytes k 0) ≡ false)
     → (border < end → is_border (get_or bytes border 0) ≡ true) → border ≡ from + position_or_len is_border (slice_range bytes from end)
 border-at bytes from end border low high inside none some =
@@ -182,7 +182,7 @@ border-at bytes from end border low high inside none some =
     (λ l. ap is_border (get_or-range bytes from end (border - from) (omega (arith, l, long))) ∙ rw place (some (omega (arith, l, long)))) in
     omega (arith, first)
 
--- what stands between the brackets, and the parts that are left of it
+-- the text between the brackets, and the parts of it that are left
 pub length-inside : (bytes : List ℕ) (end : ℕ) → end ≤ length bytes → length (slice_range bytes 1 end) ≡ end - 1
 length-inside bytes end l = length-range bytes 1 end l
 

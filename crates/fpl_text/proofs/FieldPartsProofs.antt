@@ -1,4 +1,4 @@
--- Fields 3, 7 and 9 have their forms exactly where they are their parts, one after the other.
+-- Fields 3, 7 and 9 have their forms exactly if they are their parts, one after the other.
 use Rattle.std.proofs.Common.{◌≡◌, ◌↔◌, ℕ, zero, suc, ◌+◌, ◌-◌, ◌<◌, ◌≤◌, ◌*◌, Bool, true, false, cond, ◌&&◌, eqb, leb, List, [], ◌∷◌, ◌++◌, length, take, drop, get_or, sym, refl, ap, subst, ◌∙◌, arith, append_assoc, length-append}
 use Rattle.std.specs.Prelude.{Option, Some, None, codes}
 use Rattle.std.specs.Option.{option_map, option_and_then}
@@ -20,7 +20,7 @@ use Rattle.fpl_text.specs.Bytes.{is_letter, is_digit, is_letter_or_digit}
 use Rattle.fpl_text.specs.Places.{is_octal, octal_number, transponder_of, ident_of}
 use Rattle.fpl_text.specs.FieldParts.{SpellsCode, IsIdent, SpellsCount, IsCraft, IsMessageNumber, SpellsNumber, title_text, IsHeading}
 
--- a run at the front: its bytes, and where it ends
+-- a run at the beginning: its bytes, and its end
 pub run-all : (p : ℕ → Bool) (xs : List ℕ) → list_all p (take (prefix_len p xs) xs) ≡ true
 run-all p [] = refl
 run-all p (x ∷ xs) = cases (run-all p xs) (p x) refl where
@@ -454,7 +454,7 @@ number_in-only text (Some number) s =
     ∙ cond-false (eqb (length number) 0) (Some None) (cond (is_number number) (Some (Some number)) None) (ne_eqb (length number) 0 long)
     ∙ cond-true (is_number number) (Some (Some number)) None (message_number-only number s.1)
 
--- the title at the front
+-- the title at the beginning
 begins : (needle text : List ℕ) → starts_with eqb text needle ≡ true → text ≡ needle ++ drop (length needle) text
 begins [] text h = refl
 begins (x ∷ needle) [] h = absurd (cc)
@@ -504,7 +504,7 @@ title-rest Chg rest = refl
 title-rest Cnl rest = refl
 title-rest Dep rest = refl
 
--- the numbers behind it
+-- the numbers after it
 record Numbers (text : List ℕ) (title : Title) (heading : Heading) : Type 0 where
   title_is : heading.title ≡ title
   number_text : List ℕ

@@ -81,7 +81,7 @@ unlike : (p : Bool) → cond p 0 255 ≡ flag (not p)
 unlike true = refl
 unlike false = refl
 
--- flags where the comparison with a splat fails
+-- flags if the comparison with a splat fails
 pub flags-other : (t : ℕ → ℕ → Bool) (v : List ℕ) (x : ℕ) → length v ≡ 16
     → HasFlags (sel_l (zip2 t v (replicate 16 x)) (replicate 16 0) (replicate 16 255)) (λ k. not (t (get_or v k 0) x))
 flags-other t v x long =
@@ -140,7 +140,7 @@ unset_flag : (p : Bool) → (128 ≤ flag p → ⊥) → p ≡ false
 unset_flag true h = absurd (h (omega arith))
 unset_flag false h = refl
 
--- how many bits of a mask are set from a place on
+-- how many consecutive bits of a mask are set from an index on
 pub record IsFrontFrom (v : List ℕ) (place n : ℕ) : Type 0 where
   pub bound : place + n ≤ 16
   pub set : (p : ℕ → Bool) → HasFlags v p → (k : ℕ) → k < n → p (place + k) ≡ true
@@ -175,7 +175,7 @@ flag_is : (p : Bool) (x : ℕ) → (x ≡ 1) ↔ (128 ≤ flag p) → x < 2 → 
 flag_is true x h l = let one : x ≡ 1 = h.1 (omega arith) in rw one refl
 flag_is false x h l = ⊎_elim (λ z. let none : x ≡ 0 = omega arith in rw none refl) (λ o. let past = h.0 (omega arith) in absurd (omega arith)) (cases_lt x 1)
 
--- a bit of a mask tells what the lane's flag tells
+-- a bit of a mask is that of the lane's flag
 pub mask-bit : (v : List ℕ) (m : ℕ) (p : ℕ → Bool) → IsMask v m → HasFlags v p → (k : ℕ) → k < 16 → eqb (bit_at m k) 1 ≡ p k
 mask-bit v m p inm flags k l = flag_is (p k) (bit_at m k) (rw (flags.each k l) at (inm.bits k)) (bit_at-lt m k)
 
@@ -198,7 +198,7 @@ kept_or false q r s t (inr (inl h)) = rw h refl
 kept_or false true r s t (inr (inr h)) = refl
 kept_or false false r s t (inr (inr h)) = rw (h.0, h.1.0, h.1.1) refl
 
--- the bits of a vector's lanes, each one place higher
+-- the bits of a vector's lanes, shifted up by one
 pub record IsBehind (before : Bool) (m b : ℕ) : Type 0 where
   pub first : bit_at b 0 ≡ cond before 1 0
   pub others : (k : ℕ) → bit_at b (k + 1) ≡ bit_at m k
@@ -307,11 +307,11 @@ pub borders_are : (x : ℕ) → eqb x 45 || eqb x 40 || eqb x 41 ≡ is_border x
 unfolding is_border
 borders_are x = refl
 
--- flags of 16 bytes of a text, by their places there
+-- flags of 16 bytes of a text, by their offsets there
 pub flags-at : (test : ℕ → Bool) (text v flags : List ℕ) (at_place : ℕ) → HasLanes v (λ k. get_or text (at_place + k) 0) → HasFlags flags (λ k. test (get_or v k 0)) → HasFlags flags (λ k. test (get_or text (at_place + k) 0))
 flags-at test text v flags at_place held told = lanes-same _ _ _ (λ k l. ap (λ b. flag (test b)) (held.each k l)) told
 
--- how many of 8 lanes stand before the first space
+-- how many of 8 lanes precede the first space
 pub record IsBeforeSpace (v : List ℕ) (n : ℕ) : Type 0 where
   pub bound : n ≤ 8
   pub none : (k : ℕ) → k < n → eqb (get_or v k 0) 32 ≡ false

@@ -1,4 +1,4 @@
--- The first border that a look at 16 bytes has from a place on.
+-- The first border that a vector of 16 bytes has from a lane on.
 use Rattle.std.proofs.Common.{◌≡◌, ℕ, zero, suc, ◌+◌, ◌-◌, ◌*◌, ◌/◌, ◌%◌, ◌^◌, ◌<◌, ◌≤◌, List, true, false, eqb, get_or, refl, sym, ap, ◌∙◌, arith, ⊎_elim}
 use Rattle.std.specs.Int.{bit_at, trailing_zeros, w64}
 use Rattle.std.proofs.Math.Nat.{mod-lt, div-add-mod, div-le_self}
@@ -30,7 +30,7 @@ look-none text place bits from look low none k h l =
     no_border text place bits look k (omega arith) l
     (sym (shifted bits (from - place) (k - place) (omega arith)) ∙ ap (λ v. bit_at v (k - place - (from - place))) none ∙ bit_at-zero (k - place - (from - place)))
 
--- the first border from a place on
+-- the first border from a lane on
 pub record IsFirst (text : List ℕ) (place from border : ℕ) : Type 0 where
   pub within : border < place + 16
   pub none : (k : ℕ) → from ≤ k → k < border → is_border (get_or text k 0) ≡ false

@@ -1,4 +1,4 @@
--- What is read as a moment lies in the years 2000 to 2098.
+-- What is read as a time is in the years 2000 to 2098.
 use Rattle.std.proofs.Common.{◌≡◌, ℕ, ◌+◌, ◌*◌, ◌<◌, ◌≤◌, refl, arith, pos, unsigned_abs, Bool, true, false, cond, take, drop, ◌&&◌, leb, ltb, eqb, List, length, length-drop, length-take}
 use Rattle.std.specs.Prelude.{Option, Some, None}
 use Rattle.std.specs.Option.{option_map}
@@ -68,7 +68,7 @@ time-within text time h =
         let parts = and_parts b (ltb minute 60) found.0 in
         omega (arith, below parts.0, ltb-true minute 60 parts.1, found.1)
 
--- a moment lies in the years 2000 to 2098
+-- a time is in the years 2000 to 2098
 pub moment-within : (text : List ℕ) (minute : ℕ) → moment_of text ≡ Some minute → (15_778_080 ≤ minute) × (minute < 67_848_480)
 unfolding moment_of
 moment-within text minute h =
@@ -88,7 +88,7 @@ moment-within text minute h =
         let time = times read.1.0 read.1.1 in
         (omega (arith, day, read.1.2), omega (arith, day, time, read.1.2))
 
--- a moment is ten digits
+-- a time is ten digits
 pub moment-length : (text : List ℕ) (minute : ℕ) → moment_of text ≡ Some minute → length text ≡ 10
 unfolding moment_of is_date hhmm_below
 moment-length text minute h =

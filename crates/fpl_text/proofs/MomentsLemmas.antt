@@ -24,7 +24,7 @@ end_count = day_count-early (pos 2100) 12099 1 1 refl (omega arith) (omega arith
 first_of_1999 : IsCivilDate (pos 1999) 1 1
 first_of_1999 = omega (arith, signed_arith)
 
--- a date of these years lies at most 47,481 days after 1970-01-01
+-- a date of these years is at most 47,481 days after 1970-01-01
 pub epoch_day_of_century : (d : Date) → IsBetween (pos 2000) (pos 2099) d.year → IsBetween (pos 0) (pos 47_481) (epoch_day d)
 epoch_day_of_century d h =
     let low = day_count-lt_year (pos 1999) 1 1 d.year d.month d.day first_of_1999 d.day_in.0 (omega (arith, signed_arith)) in
@@ -75,7 +75,7 @@ unfolding is_date
 is_date-other_bytes text other =
     and_left (eqb (length text) 6 && list_all is_digit text) (is_civil_date (two_digits text 0) (two_digits text 2) (two_digits text 4)) (and_right (eqb (length text) 6) (list_all is_digit text) other)
 
--- what is no moment, and which moment it is
+-- what is no time, and which time a text is
 pub moment-no_date : (text : List ℕ) → is_date (take 6 text) ≡ false → moment_of text ≡ None
 unfolding moment_of
 moment-no_date text h = rw h
@@ -103,7 +103,7 @@ day_number-parts date text is =
     let day : date.day ≡ month_day_of text = let e = is.2 in cc in
     rw (is.0, month, day)
 
--- a moment has one day, and so six digits
+-- a time has one day, and so six digits
 pub yymmdd_one : (minute : ℕ) (a b : List ℕ) → IsYymmdd minute a → IsYymmdd minute b → a ≡ b
 yymmdd_one minute a b one other =
     let same = epoch_day_injective one.0 other.0 (one.1 ∙ sym other.1) in

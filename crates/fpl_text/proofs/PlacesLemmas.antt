@@ -13,7 +13,7 @@ unfolding alternates_of
 alternates_full places left rest words word h e full =
     cond-false _ _ _ (and_left (leb (length words) 2) (list_all is_place words) (lt-leb (length words) 2 (omega (arith, sym (ap length h), ap length e, length-append places left))))
 
--- a word that is no place
+-- a word that is no aerodrome
 pub alternates_bad : (places left rest words : List (List ℕ)) (word : List ℕ) → places ++ left ≡ words → left ≡ word ∷ rest → is_place word ≡ false → alternates_of words ≡ None
 unfolding alternates_of
 alternates_bad places left rest words word h e bad =

@@ -1,4 +1,4 @@
--- The digits of a moment are read as that moment.
+-- The digits of a time are read as that time.
 use Rattle.std.proofs.Common.{◌≡◌, ℕ, zero, suc, ◌+◌, ◌-◌, ◌*◌, ◌/◌, ◌%◌, ◌<◌, ◌≤◌, true, List, ◌++◌, take, refl, sym, ap, ◌∙◌, arith, ⊎_elim, pos, unsigned_abs}
 use Rattle.std.specs.Prelude.{Some}
 use Rattle.std.specs.List.{list_all}
@@ -15,7 +15,7 @@ use Rattle.fpl_text.specs.Moments.{digit_pair, day_digits, hhmm_of, is_date, mom
 use Rattle.fpl_text.proofs.DaysLemmas.{year_at_here, year_at_later, month_at_here, month_at_later, abs_difference}
 use Rattle.fpl_text.proofs.MomentsLemmas.{civil_yes, is_date-digits, moment-some}
 
--- the year in which a day lies
+-- the year of a day
 record YearFound (years year day : ℕ) (found : ℕ × ℕ) : Type 0 where
   below : found.1 < days_in_year (pos found.0)
   count : day_count (pos found.0) 1 1 + found.1 ≡ day_count (pos year) 1 1 + day
@@ -49,7 +49,7 @@ year_at-found (suc years) year day h =
           high = omega (arith, rest.high);
         }
 
--- the month in which a day of a year lies
+-- the month of a day of a year
 record MonthFound (year month day : ℕ) (found : ℕ × ℕ) : Type 0 where
   below : found.1 < days_in_month (pos year) found.0
   count : days_of_months (pos year) (found.0 - 1) + found.1 ≡ days_of_months (pos year) (month - 1) + day
@@ -205,7 +205,7 @@ at-date number time date found low high small =
     moment-some text time read.0 (le-leb _ 2098 early) (time-read (time / 60) (time % 60) hour minute ∙ ap Some parts)
     ∙ ap (λ n. Some (1440 * n + time)) days
 
--- what is written for a moment is read as that moment
+-- what is written for a time is read as that time
 pub moment-read_back : (minute : ℕ) → 15_778_080 ≤ minute → minute < 67_848_480 → moment_of (day_digits (minute / 1440) ++ hhmm_of (minute % 1440)) ≡ Some minute
 moment-read_back minute low high =
     let whole : 1440 * (minute / 1440) + minute % 1440 ≡ minute = omega arith in

@@ -9,7 +9,7 @@ use Rattle.fpl_text.specs.Squeezing.{first_byte, squeezed, space_between}
 use Rattle.fpl_text.specs.SqueezingLaws.{unblanked, is_inner, HasLoneSpaces, IsSqueezed, KeepsPair}
 use Rattle.fpl_text.proofs.SqueezingLemmas.{appended-blank, appended-other, appended-all}
 
--- what may stand between two bytes
+-- what may be kept between two bytes
 between-parts : (blank : Bool) (before b : ℕ) → (P : List ℕ → Type 0) → P [] → (blank ≡ true → is_border before ≡ false → is_border b ≡ false → P (32 ∷ [])) → P (space_between blank before b)
 unfolding space_between
 between-parts blank before b P none space = by blank (is_border before) (is_border b) space where
@@ -36,7 +36,7 @@ unblanked-blank b text h = ap (λ t. cond (not t) (b ∷ unblanked text) (unblan
 unblanked-append : (xs ys : List ℕ) → unblanked (xs ++ ys) ≡ unblanked xs ++ unblanked ys
 unblanked-append xs ys = filter-append (λ b. not (is_blank b)) xs ys
 
--- a byte behind what may stand before it
+-- a byte after what may precede it
 unblanked-behind : (blank : Bool) (before b : ℕ) (text : List ℕ) → is_blank b ≡ false → unblanked (space_between blank before b ++ (b ∷ text)) ≡ b ∷ unblanked text
 unblanked-behind blank before b text h =
     unblanked-append (space_between blank before b) (b ∷ text)
@@ -58,7 +58,7 @@ kept-appended blank before (b ∷ text) =
 pub bytes-kept : (text : List ℕ) → unblanked (squeezed text) ≡ unblanked text
 bytes-kept text = ap unblanked (sym (appended-all text)) ∙ kept-appended false 45 text
 
--- what stands before a byte of the text depends on the bytes before it alone
+-- what precedes a byte of the text depends on the bytes before it alone
 record Split (blank : Bool) (before : ℕ) (front : List ℕ) (x : ℕ) : Type 0 where
   left : List ℕ
   whole : (more : List ℕ) → appended blank before (front ++ (x ∷ more)) ≡ left ++ (x ∷ appended false x more)
@@ -129,7 +129,7 @@ words-apart front gap rest x y h l p q =
       after = kept-appended false y rest;
     }
 
--- and where none stood, none comes
+-- and if there was none, none is added
 pub bytes-joined : (front rest : List ℕ) (x y : ℕ) → is_blank x ≡ false → is_blank y ≡ false → KeepsPair (squeezed (front ++ (x ∷ (y ∷ rest)))) front rest [] x y
 bytes-joined front rest x y h k =
     let r = split false 45 front x h in
@@ -143,7 +143,7 @@ bytes-joined front rest x y h k =
       after = kept-appended false y rest;
     }
 
--- spaces stand alone
+-- spaces are single
 inner-from : (b : ℕ) → is_blank b ≡ false → is_border b ≡ false → is_inner b ≡ true
 inner-from b h k = rw (h, k) refl
 

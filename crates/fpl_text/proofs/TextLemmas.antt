@@ -1,4 +1,4 @@
--- A list of few elements, and the same blank one behind them.
+-- A list of few elements, followed by the same blank one.
 use Rattle.std.proofs.Common.{◌≡◌, ℕ, zero, suc, ◌-◌, List, [], ◌∷◌, ◌++◌, length, drop, replicate, refl, ap, ◌∙◌, arith}
 
 as-many : {A : Type 0} (x : A) (n m : ℕ) → n ≡ m → replicate n x ≡ replicate m x

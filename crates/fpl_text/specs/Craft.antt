@@ -1,5 +1,5 @@
--- Fields 8, 9 and 10: rules and type of flight; number and type of aircraft and wake turbulence category; equipment
--- (ICAO Doc 4444, appendix 3, field types 8, 9 and 10).
+-- Fields 8, 9 and 10: rules and type of flight; number and type of aircraft and wake turbulence
+-- category; equipment (ICAO Doc 4444, appendix 3, field types 8, 9 and 10).
 use Rattle.std.specs.Prelude.{◌≡◌, ℕ, ◌+◌, ◌-◌, ◌*◌, Bool, ◌==◌, ◌&&◌, nat_le, nat_lt, if◌then◌else◌, List, length, take, drop, slice_index, Option, Some, None, Result, Ok, Err, true, false}
 use Rattle.std.specs.Option.{option_map, option_and_then}
 use Rattle.std.specs.List.{list_all, prefix_len}
@@ -32,13 +32,13 @@ flight_kind_of b =
     else (if b == 77 then Some kinds.Military
     else (if b == 88 then Some kinds.Other else None))))
 
--- nothing, or the type of flight
+-- no type of flight, or one
 unfoldable pub flight_kind_in : List ℕ → Option (Option FlightKind)
 flight_kind_in text =
     if length text == 0 then Some None
     else (if length text == 1 then option_map (λ kind. Some kind) (flight_kind_of (slice_index text 0)) else None)
 
--- the rules, and then the type of flight or nothing
+-- the rules, and then optionally the type of flight
 unfoldable pub rules_of : List ℕ → Option Rules
 rules_of text =
     option_and_then
@@ -53,19 +53,19 @@ wake_of b =
     else (if b == 72 then Some wakes.Heavy
     else (if b == 74 then Some wakes.Super else None)))
 
--- the number that so many digits at the front are: nothing, or 1 or 2 digits
+-- the number that the first `digits` bytes spell: none, or one of 1 or 2 digits
 unfoldable pub craft_number : ℕ → List ℕ → Option (Option ℕ)
 craft_number digits text =
     if digits == 0 then Some None
     else (if digits == 1 then Some (Some (slice_index text 0 - 48))
     else (if digits == 2 then Some (Some (10 * (slice_index text 0 - 48) + (slice_index text 1 - 48))) else None))
 
--- a type of 2 to 4 letters or digits that begins with a letter, a stroke, and a wake category
+-- a type of 2 to 4 letters or digits that begins with a letter
 unfoldable pub is_craft_kind : List ℕ → Bool
 is_craft_kind text =
     nat_le 2 (length text) && nat_le (length text) 4 && is_letter (slice_index text 0) && list_all is_letter_or_digit text
 
--- a number or nothing, and then the type and the wake category on either side of a stroke
+-- optionally a number, then the type and the wake turbulence category on either side of a stroke
 unfoldable pub craft_of : List ℕ → Option Craft
 craft_of text =
     let digits = prefix_len is_digit text in
@@ -84,7 +84,7 @@ is_equipment text =
     nat_le 1 before && nat_lt (before + 1) (length text) && (slice_index text before == 47)
     && list_all is_letter_or_digit (drop (before + 1) text)
 
--- field 10 is read, as the text that it is, exactly where it has its form, unless memory ran out
+-- field 10 is read as the text that it is exactly if it has its form, unless allocation fails
 abbrev pub ReadsEquipment : List ℕ → Result (List ℕ) FieldFault → Type 0
 ReadsEquipment text (Ok equipment) = (is_equipment text ≡ true) × (equipment ≡ text)
 ReadsEquipment text (Err (BadField field)) = (is_equipment text ≡ false) × (field ≡ 10)

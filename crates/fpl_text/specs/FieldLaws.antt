@@ -1,10 +1,10 @@
--- What the fields of a message text are, without the way in which they are found (ICAO Doc 4444, appendix 3, structure
--- and punctuation).
+-- What the fields of a message text are, without the way in which they are found (ICAO Doc 4444,
+-- appendix 3, structure and punctuation).
 use Rattle.std.specs.Prelude.{◌≡◌, ℕ, ◌<◌, true, false, not, ◌==◌, List, [], ◌∷◌, ◌++◌, length, All}
 use Rattle.std.specs.List.{list_all, join_with_byte, AllByRecursion}
 use Rattle.fpl_text.specs.Fields.{is_bracket}
 
--- At least one text, none with a hyphen, whose join by hyphens stands in the one pair of brackets.
+-- At least one text, none with a hyphen, whose join by hyphens is in the one pair of brackets.
 pub record AreFields (text : List ℕ) (fields : List (List ℕ)) : Type 0 where
   pub some : 0 < length fields
   pub no_hyphen : AllByRecursion (All (λ b. (b == 45) ≡ false)) fields

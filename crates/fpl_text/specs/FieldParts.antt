@@ -1,5 +1,5 @@
--- Fields 3, 7 and 9 by the parts that they are, one after the other, without the way in which these are found (ICAO Doc 4444,
--- appendix 3, field types 3, 7 and 9).
+-- Fields 3, 7 and 9 by their parts, one after the other, without the way in which these are found
+-- (ICAO Doc 4444, appendix 3, field types 3, 7 and 9).
 use Rattle.std.specs.Prelude.{◌≡◌, ℕ, ◌+◌, ◌-◌, ◌*◌, ◌≤◌, true, List, [], ◌∷◌, ◌++◌, length, Option, Some, None, codes}
 use Rattle.std.specs.List.{list_all}
 use Rattle.fpl_text.specs.declared.fields.Title.{Title}
@@ -18,18 +18,18 @@ AreOneOrTwo (a ∷ []) n = (is_digit a ≡ true) × (n ≡ a - 48)
 AreOneOrTwo (a ∷ b ∷ []) n = (is_digit a ≡ true) × (is_digit b ≡ true) × (n ≡ 10 * (a - 48) + (b - 48))
 AreOneOrTwo (a ∷ b ∷ c ∷ digits) n = ⊥
 
--- nothing where there is no number, else its one or two digits
+-- no digits if there is no number, else its one or two digits
 abbrev pub SpellsCount : Option ℕ → List ℕ → Type 0
 SpellsCount None digits = digits ≡ []
 SpellsCount (Some n) digits = AreOneOrTwo digits n
 
--- nothing where there is no transponder code, else a stroke, an A and its four octal digits
+-- no text if there is no transponder code, else a stroke, an A and its four octal digits
 abbrev pub SpellsCode : Option ℕ → List ℕ → Type 0
 SpellsCode None text = text ≡ []
 SpellsCode (Some n) text =
     (digits : List ℕ) × (text ≡ 47 ∷ 65 ∷ digits) × (length digits ≡ 4) × (list_all is_octal digits ≡ true) × (n ≡ octal_number digits)
 
--- field 7: a name of 1 to 7 letters or digits, and a transponder code or nothing
+-- field 7: a name of 1 to 7 letters or digits, and optionally a transponder code
 pub record IsIdent (text : List ℕ) (ident : Ident) : Type 0 where
   pub code_text : List ℕ
   pub name : list_all is_letter_or_digit ident.name ≡ true
@@ -38,7 +38,8 @@ pub record IsIdent (text : List ℕ) (ident : Ident) : Type 0 where
   pub code : SpellsCode ident.code code_text
   pub spelled : text ≡ ident.name ++ code_text
 
--- field 9: how many aircraft, where there is more than one, their type, a stroke, and the letter of a wake category
+-- field 9: the number of aircraft if it is given, their type, a stroke, and the letter of a wake
+-- turbulence category
 pub record IsCraft (text : List ℕ) (craft : Craft) : Type 0 where
   pub digits : List ℕ
   pub letter : ℕ
@@ -62,7 +63,7 @@ pub record IsMessageNumber (text : List ℕ) : Type 0 where
   pub three : length digits ≡ 3
   pub spelled : text ≡ sender ++ (47 ∷ (receiver ++ digits))
 
--- nothing, or a message number
+-- no message number, or one
 abbrev pub SpellsNumber : Option (List ℕ) → List ℕ → Type 0
 SpellsNumber None text = text ≡ []
 SpellsNumber (Some number) text = (text ≡ number) × IsMessageNumber number
@@ -74,7 +75,8 @@ title_text Chg = codes "CHG"
 title_text Cnl = codes "CNL"
 title_text Dep = codes "DEP"
 
--- field 3: a title, a message number or nothing, and behind a number the one to which it refers or nothing
+-- field 3: a title, optionally a message number, and after a number optionally the one to which it
+-- refers
 pub record IsHeading (text : List ℕ) (heading : Heading) : Type 0 where
   pub number_text : List ℕ
   pub reference_text : List ℕ

@@ -1,5 +1,6 @@
--- The fields of a message, which stand between hyphens in one pair of brackets, and how many each kind of message has (ICAO
--- Doc 4444, appendix 3, structure and punctuation, and the fields of FPL, DLA, CHG, CNL and DEP).
+-- The fields of a message, separated by hyphens in one pair of brackets, and how many each kind of
+-- message has (ICAO Doc 4444, appendix 3, structure and punctuation, and the fields of FPL, DLA,
+-- CHG, CNL and DEP).
 use Rattle.std.specs.Prelude.{ℕ, ◌-◌, Bool, not, ◌==◌, ◌&&◌, ◌||◌, nat_le, nat_lt, nat_eq, if◌then◌else◌, List, [], length, slice_index, slice_index_or, slice_range, Option, Some, None, Result, Ok, Err, codes}
 use Rattle.std.specs.List.{list_all, slice_split, starts_with}
 use Rattle.fpl_text.specs.declared.fault.TextFault.{TextFault}
@@ -12,7 +13,7 @@ use Rattle.fpl_text.specs.Squeezing.{squeezed_or_fault}
 unfoldable pub is_bracket : ℕ → Bool
 is_bracket b = (b == 40) || (b == 41)
 
--- what stands between the first and the last byte
+-- what is between the first and the last byte
 abbrev pub inside : List ℕ → List ℕ
 inside text = slice_range text 1 (length text - 1)
 
@@ -25,7 +26,7 @@ stands_in_brackets text =
 unfoldable pub is_bracketed : List ℕ → Bool
 is_bracketed text = stands_in_brackets text && list_all (λ b. not (is_bracket b)) (inside text)
 
--- what stands between the brackets, cut at its hyphens
+-- what is between the brackets, cut at its hyphens
 unfoldable pub fields_of : List ℕ → List (List ℕ)
 fields_of text = slice_split (λ b. b == 45) (inside text)
 

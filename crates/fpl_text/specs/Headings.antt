@@ -1,4 +1,5 @@
--- Field 3: the title of a message, and a number and a reference that are kept (ICAO Doc 4444, appendix 3, field type 3).
+-- Field 3: the title of a message, and a number and a reference that are kept (ICAO Doc 4444,
+-- appendix 3, field type 3).
 use Rattle.std.specs.Prelude.{ℕ, ◌+◌, Bool, ◌==◌, ◌&&◌, nat_le, if◌then◌else◌, List, length, take, drop, slice_index, Option, Some, None}
 use Rattle.std.specs.Option.{option_map, option_and_then}
 use Rattle.std.specs.List.{list_all, prefix_len}
@@ -11,11 +12,11 @@ use Rattle.fpl_text.specs.Fields.{title_of}
 abbrev pub sender_len : List ℕ → ℕ
 sender_len text = prefix_len is_letter text
 
--- the letters of the receiving unit, which stand behind a stroke
+-- the letters of the receiving unit, which follow a stroke
 abbrev pub receiver_len : List ℕ → ℕ
 receiver_len text = prefix_len is_letter (drop (sender_len text + 1) text)
 
--- how many bytes a message number at the front has
+-- the length of the message number with which a text begins
 abbrev pub number_len : List ℕ → ℕ
 number_len text = sender_len text + receiver_len text + 4
 
@@ -26,12 +27,12 @@ is_number text =
     && (length text == number_len text) && (slice_index text (sender_len text) == 47)
     && list_all is_digit (drop (sender_len text + 1 + receiver_len text) text)
 
--- nothing, or a message number
+-- no message number, or one
 unfoldable pub number_in : List ℕ → Option (Option (List ℕ))
 number_in text =
     if length text == 0 then Some None else (if is_number text then Some (Some text) else None)
 
--- behind a title nothing, a number, or a number and that of another message, to which it refers
+-- after a title nothing, a number, or a number and that of another message, to which it refers
 unfoldable pub heading_with : Title → List ℕ → Option Heading
 heading_with title text =
     option_and_then

@@ -15,16 +15,16 @@ pub record HasFront (v : List ℕ) (count : ℕ) (f : ℕ → ℕ) : Type 0 wher
 abbrev pub flag : Bool → ℕ
 flag set = if set then 255 else 0
 
--- v has 16 lanes, and lane k tells whether p k
+-- v has 16 lanes, and lane k is the flag of p k
 abbrev pub HasFlags : List ℕ → (ℕ → Bool) → Type 0
 HasFlags v p = HasLanes v (λ k. flag (p k))
 
--- what p tells of the place before k, and of no place the first
+-- what p says of the index before k; `first` for index 0
 abbrev pub behind : Bool → (ℕ → Bool) → ℕ → Bool
 behind first p zero = first
 behind first p (suc k) = p k
 
--- a plain byte, a border, or a blank between two plain bytes; `border` tells of the byte before all
+-- a plain byte, a border, or a blank between two plain bytes; `border` is for the byte before all
 abbrev pub is_kept : Bool → (ℕ → Bool) → (ℕ → Bool) → (ℕ → Bool) → ℕ → Bool
 is_kept border plain is_border is_blank k =
     plain k || (is_border k || (is_blank k && (plain (k + 1) && behind (not border) plain k)))

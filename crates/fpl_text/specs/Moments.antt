@@ -1,5 +1,6 @@
--- Dates and moments. A moment is a number of whole minutes from 1970-01-01 00:00 UTC, a day a number of days from that one.
--- A date is yymmdd (ICAO Doc 4444, appendix 3, field type 18, DOF), and a year yy is 20yy.
+-- Dates and times. A time with its date is a number of whole minutes since 1970-01-01 00:00 UTC, a
+-- day a number of days since then. A date is yymmdd (ICAO Doc 4444, appendix 3, field type 18,
+-- DOF), and a year yy is 20yy.
 use Rattle.std.specs.Prelude.{◌≡◌, ℕ, ◌+◌, ◌*◌, ◌/◌, ◌%◌, [], ◌∷◌, ◌++◌, Bool, true, false, ◌==◌, ◌&&◌, nat_le, if◌then◌else◌, List, length, drop, take, Option, Some, None, MatchOption, pos, unsigned_abs}
 use Rattle.std.specs.Option.{option_map}
 use Rattle.std.specs.List.{list_all}
@@ -11,11 +12,11 @@ use Rattle.fpl_text.specs.Bytes.{is_digit}
 use Rattle.fpl_text.specs.Times.{two_digits, time_of_day}
 use Rattle.fpl_text.specs.declared.minute.TheConstants.{GREATEST_MINUTE, YEAR_2099}
 
--- the minutes to that time of a day, which is not before 1970
+-- the minutes from 1970 to this time of a date
 abbrev pub minute_of : Date → ℕ → ℕ → ℕ
 minute_of date hour minute = 1440 * unsigned_abs (epoch_day date) + 60 * hour + minute
 
--- the year, the month and the day of a yymmdd, where a year yy is 20yy
+-- the year, the month and the day of a yymmdd, in which a year yy is 20yy
 abbrev pub year_of : List ℕ → ℕ
 year_of text = 2000 + two_digits text 0
 
@@ -25,7 +26,7 @@ month_of text = two_digits text 2
 abbrev pub month_day_of : List ℕ → ℕ
 month_day_of text = two_digits text 4
 
--- the calendar has that day of a month of the year 20yy
+-- the calendar has this day of a month of the year 20yy
 unfoldable pub is_civil_date : ℕ → ℕ → ℕ → Bool
 is_civil_date yy month day =
     nat_le 1 month && nat_le month 12 && nat_le 1 day && nat_le day (days_in_month (pos (2000 + yy)) month)
@@ -35,7 +36,7 @@ unfoldable pub is_date : List ℕ → Bool
 is_date text =
     (length text == 6) && list_all is_digit text && is_civil_date (two_digits text 0) (month_of text) (month_day_of text)
 
--- a date is read exactly where the text is one
+-- a date is read exactly if the text is one
 abbrev pub ReadsDate : List ℕ → Option Date → Type 0
 ReadsDate text read =
     MatchOption read (is_date text ≡ false)
@@ -45,7 +46,7 @@ ReadsDate text read =
 abbrev pub day_number_of : List ℕ → ℕ
 day_number_of text = unsigned_abs (days_from_civil (pos (year_of text)) (month_of text) (month_day_of text))
 
--- the day that six digits are, where the calendar has it
+-- the day that six digits are, if the calendar has it
 unfoldable pub day_of : List ℕ → Option ℕ
 day_of text = if is_date text then Some (day_number_of text) else None
 
@@ -56,11 +57,11 @@ moment_of text =
     then option_map (λ minutes. 1440 * day_number_of (take 6 text) + minutes) (time_of_day (drop 6 text))
     else None
 
--- a number of minutes, where it is one that a moment may have
+-- a number of minutes, if it is at most the greatest time
 unfoldable pub moment_within : ℕ → Option ℕ
 moment_within minutes = if nat_le minutes GREATEST_MINUTE then Some minutes else None
 
--- the number of the day of the greatest moment, and that of the day after the year 2099
+-- the number of the day of the greatest time, and that of the day after the year 2099
 abbrev pub last_day : ℕ
 last_day = GREATEST_MINUTE / 1440
 
@@ -71,11 +72,11 @@ end_of_2099 = YEAR_2099 / 1440 + 365
 abbrev pub digit_pair : ℕ → List ℕ
 digit_pair n = (48 + n / 10) ∷ (48 + n % 10) ∷ []
 
--- the six digits of a date, of whose year the last two count
+-- the six digits of a date, of which the year gives its last two
 abbrev pub yymmdd_of : Date → List ℕ
 yymmdd_of date = digit_pair (unsigned_abs date.year % 100) ++ digit_pair date.month ++ digit_pair date.day
 
--- the six digits of the day of a moment
+-- the six digits of the day of a time
 abbrev pub IsYymmdd : ℕ → List ℕ → Type 0
 IsYymmdd minute text = (date : Date) × (epoch_day date ≡ pos (minute / 1440)) × (text ≡ yymmdd_of date)
 

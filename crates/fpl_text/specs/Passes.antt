@@ -6,7 +6,7 @@ use Rattle.fpl_text.specs.Lanes.{behind, is_kept}
 use Rattle.fpl_text.specs.Squeezing.{squeezed, space_between, blanks}
 use Rattle.fpl_text.specs.declared.pass.Pass.{Pass}
 
--- what a pass appends for the text that is left, behind the byte `before`, and behind blanks or not
+-- what a pass appends for the rest of a text, after the byte `before`, and after blanks or not
 unfoldable pub appended : Bool → ℕ → List ℕ → List ℕ
 appended blank before [] = []
 appended blank before (b ∷ text) =
@@ -15,7 +15,7 @@ appended blank before (b ∷ text) =
 abbrev pub is_bad : ℕ → Bool
 is_bad b = not (is_accepted b)
 
--- a border, or a byte that is none: beside one no space stands, beside the other it does
+-- a border, or a byte that is none: no space is kept beside the one, and one is beside the other
 abbrev pub border_or_other : Bool → ℕ
 border_or_other border = if border then 45 else 32
 
@@ -23,12 +23,12 @@ border_or_other border = if border then 45 else 32
 abbrev pub gap : List ℕ
 gap = replicate 16 0
 
--- the bytes of a text from `place` on stand in `bytes` from `at_place` on, with zeros behind them
+-- the bytes of a text from `place` on are in `bytes` from `at_place` on, followed by zeros
 abbrev pub StandsAt : List ℕ → ℕ → List ℕ → ℕ → Type 0
 StandsAt text place bytes at_place = (k : ℕ) → slice_index bytes (at_place + k) ≡ slice_index text (place + k)
 
--- A pass has passed the first bytes of a text, all accepted, and the bytes that it has kept are the first of `out`. The bytes
--- that are left stand there behind these and a gap, and a gap behind them.
+-- A pass has read the first bytes of a text, all accepted, and the bytes that it has kept are the
+-- first of `out`. The bytes that are left follow these and a padding, and are followed by another.
 pub record IsPass (text out : List ℕ) (pass : Pass) : Type 0 where
   pub whole : take pass.made out ++ appended pass.blank (border_or_other pass.border) (drop pass.place text) ≡ squeezed text
   pub accepted : position_from is_bad pass.place (drop pass.place text) ≡ position_from is_bad 0 text
@@ -37,13 +37,14 @@ pub record IsPass (text out : List ℕ) (pass : Pass) : Type 0 where
   pub long : length out ≡ length text + 32
   pub left : StandsAt text pass.place out (pass.place + 16)
 
--- a byte that is kept as it is, or a blank that is kept as a space, in a text from `place` on; `border` tells of the byte before
+-- a byte that is kept as it is, or a blank that is kept as a space, in a text from `place` on;
+-- `border` is for the byte before
 unfoldable pub is_easy : List ℕ → ℕ → Bool → ℕ → Bool
 is_easy text place border k =
     is_kept border
     (λ j. is_plain (slice_index text (place + j))) (λ j. is_border (slice_index text (place + j))) (λ j. is_blank (slice_index text (place + j))) k
 
--- whether the last of so many bytes from `place` on is a border
+-- whether the last of `count` bytes from `place` on is a border
 abbrev pub border_behind : List ℕ → ℕ → Bool → ℕ → Bool
 border_behind text place border count = behind border (λ j. is_border (slice_index text (place + j))) count
 

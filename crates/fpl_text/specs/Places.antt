@@ -1,5 +1,6 @@
--- Fields 7, 13 and 16: aircraft identification and code; departure aerodrome and time; destination, total estimated elapsed
--- time and alternates (ICAO Doc 4444, appendix 3, field types 7, 13 and 16).
+-- Fields 7, 13 and 16: aircraft identification and code; departure aerodrome and time; destination,
+-- total estimated elapsed time and alternates (ICAO Doc 4444, appendix 3, field types 7, 13 and
+-- 16).
 use Rattle.std.specs.Prelude.{ℕ, ◌+◌, ◌-◌, ◌*◌, Bool, ◌==◌, ◌&&◌, nat_le, if◌then◌else◌, List, [], ◌∷◌, length, take, drop, slice_index, Option, Some, None}
 use Rattle.std.specs.Option.{option_map, option_and_then}
 use Rattle.std.specs.List.{list_all, prefix_len}
@@ -19,14 +20,14 @@ octal_number digits =
     512 * (slice_index digits 0 - 48) + 64 * (slice_index digits 1 - 48)
     + 8 * (slice_index digits 2 - 48) + (slice_index digits 3 - 48)
 
--- nothing, or /A and the four digits 0 to 7 of an SSR code, which are read as an octal number
+-- no transponder code, or /A and its four digits 0 to 7, which are read as an octal number
 unfoldable pub transponder_of : List ℕ → Option (Option ℕ)
 transponder_of text =
     if length text == 0 then Some None
     else (if (length text == 6) && (slice_index text 0 == 47) && (slice_index text 1 == 65) && list_all is_octal (drop 2 text)
     then Some (Some (octal_number (drop 2 text))) else None)
 
--- 1 to 7 letters or digits, and then a transponder code or nothing
+-- 1 to 7 letters or digits, and optionally a transponder code
 unfoldable pub ident_of : List ℕ → Option Ident
 ident_of text =
     let name_len = prefix_len is_letter_or_digit text in
@@ -34,18 +35,18 @@ ident_of text =
     then option_map (λ code. record { name = take name_len text; code = code }) (transponder_of (drop name_len text))
     else None
 
--- four letters
+-- a location indicator: four letters
 unfoldable pub is_place : List ℕ → Bool
 is_place text = (length text == 4) && list_all is_letter text
 
--- four letters and a time of day
+-- a departure aerodrome and a time of day
 unfoldable pub departure_of : List ℕ → Option Departure
 departure_of text =
     if is_place (take 4 text)
     then option_map (λ time. record { place = take 4 text; time = time }) (time_of_day (drop 4 text))
     else None
 
--- four letters, and then nothing or an elapsed time
+-- a destination, and optionally an elapsed time
 unfoldable pub arrival_of : List ℕ → Option (List ℕ × Option ℕ)
 arrival_of text =
     if is_place (take 4 text)
@@ -58,13 +59,13 @@ unfoldable pub alternates_of : List (List ℕ) → Option (List (List ℕ))
 alternates_of words =
     if nat_le (length words) 2 && list_all is_place words then Some words else None
 
--- place and elapsed time, and then the alternates
+-- the destination with its elapsed time, and then the alternates
 abbrev pub destination_of_words : List (List ℕ) → Option Destination
 destination_of_words [] = None
 destination_of_words (word ∷ words) =
     option_and_then (λ arrival. option_map (λ alternates. record { place = arrival.0; elapsed = arrival.1; alternates = alternates }) (alternates_of words)) (arrival_of word)
 
--- four letters, then nothing or an elapsed time, and then at most two words of four letters; that the time may be missing is
--- for the messages other than FPL
+-- a destination, optionally an elapsed time, and at most two alternates; messages other than FPL
+-- may leave out the time
 unfoldable pub destination_of : List ℕ → Option Destination
 destination_of text = destination_of_words (words_of text)

@@ -12,19 +12,19 @@ unblanked text = filter (λ b. not (is_blank b)) text
 abbrev pub is_inner : ℕ → Bool
 is_inner b = not (is_blank b) && not (is_border b)
 
--- behind the byte `before` each blank is one space alone, between two bytes of words
+-- after the byte `before`, each blank is a single space between two bytes of words
 abbrev pub HasLoneSpaces : ℕ → List ℕ → Type 0
 HasLoneSpaces before [] = Unit {0}
 HasLoneSpaces before (b ∷ text) =
     (is_blank b ≡ true → (b ≡ 32) × (is_inner before ≡ true) × (is_inner (first_byte text) ≡ true)) × HasLoneSpaces b text
 
--- no blanks but spaces, no two of them one after the other, and none at the ends or beside a hyphen or a bracket: the ends
--- count as hyphens
+-- no blanks but spaces, no two of them adjacent, and none at the ends or beside a hyphen or a
+-- bracket: the ends count as hyphens
 abbrev pub IsSqueezed : List ℕ → Type 0
 IsSqueezed text = HasLoneSpaces 45 text
 
--- in a text, `x` and `y` stand with just `between` between them, and on each side the bytes that are no blanks of `front`
--- and of `rest`
+-- in a text, `x` and `y` have just `between` between them, and on each side are the bytes of
+-- `front` and of `rest` that are no blanks
 pub record KeepsPair (text front rest between : List ℕ) (x y : ℕ) : Type 0 where
   pub left : List ℕ
   pub right : List ℕ

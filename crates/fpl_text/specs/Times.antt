@@ -3,11 +3,11 @@ use Rattle.std.specs.Prelude.{ℕ, ◌+◌, ◌-◌, ◌*◌, ◌==◌, ◌&&◌
 use Rattle.std.specs.List.{list_all}
 use Rattle.fpl_text.specs.Bytes.{is_digit}
 
--- the number of the two digits from that place on
+-- the number of the two digits at an offset
 unfoldable pub two_digits : List ℕ → ℕ → ℕ
 two_digits text place = 10 * (slice_index text place - 48) + (slice_index text (place + 1) - 48)
 
--- the minutes of an hhmm whose hours lie below a limit
+-- the minutes of an hhmm with hours below a limit
 unfoldable pub hhmm_below : ℕ → List ℕ → Option ℕ
 hhmm_below hours text =
     if (length text == 4) && list_all is_digit text && nat_lt (two_digits text 0) hours && nat_lt (two_digits text 2) 60

@@ -1,22 +1,22 @@
--- The words of a squeezed text, which stand between its spaces.
+-- The words of a squeezed text, which its spaces separate.
 use Rattle.std.specs.Prelude.{◌≡◌, ◌≤◌, ◌<◌, ◌+◌, ℕ, Bool, not, ◌==◌, nat_le, if◌then◌else◌, List, [], ◌∷◌, length, slice_index, drop}
 use Rattle.std.specs.List.{slice_split, list_all}
 
--- what stands between the spaces of a text; an empty text has no word
+-- what spaces separate in a text; an empty text has no word
 unfoldable pub words_of : List ℕ → List (List ℕ)
 words_of text = if length text == 0 then [] else slice_split (λ b. b == 32) text
 
--- the words from a place on, of which there is none behind the end of the text
+-- the words from an offset on; none beyond the end of the text
 abbrev pub words_from : List ℕ → ℕ → List (List ℕ)
 words_from text from = if nat_le from (length text) then slice_split (λ b. b == 32) (drop from text) else []
 
--- the lanes from a place on hold a word and the space behind it, or the word up to the last lane
+-- the lanes from `place` on hold a word and the space after it, or the word up to the last lane
 pub record HoldWord (lanes : List ℕ) (place : ℕ) (word : List ℕ) : Type 0 where
   pub inside : place + length word ≤ 16
   pub same : (k : ℕ) → k < length word → slice_index lanes (place + k) ≡ slice_index word k
   pub space : place + length word < 16 → slice_index lanes (place + length word) ≡ 32
 
--- a text has no such byte
+-- a text doesn't have this byte
 abbrev pub lacks : ℕ → List ℕ → Bool
 lacks byte text = list_all (λ b. not (b == byte)) text
 

@@ -1,6 +1,7 @@
-//! Where the fields of a message stand.
+//! Finds where the fields of a message begin and end.
 
-ghost use Rattle.std.specs.Prelude.{◌≡◌, ◌<◌, ◌≤◌, ◌+◌, length, false, not, slice_get, slice_range, Some, MatchOption};
+ghost use Rattle.std.specs.Prelude.{◌≡◌, ◌<◌, ◌≤◌, ◌+◌, length, false};
+ghost use Rattle.std.specs.Prelude.{not, slice_get, slice_range, Some, MatchOption};
 ghost use Rattle.std.specs.Prelude.{option_copied, ◌==◌};
 ghost use Rattle.std.specs.List.{list_all, position_or_len};
 ghost use Rattle.fpl_text.specs.Bytes.{is_border};
@@ -10,26 +11,27 @@ ghost use Rattle.fpl_text.specs.Borders.{parts, IsCut, IsLook, with_border};
 use crate::lanes::{border_bits, load};
 use arrayvec::ArrayVec;
 
-/// The places of the first borders of a message's fields, counted from the opening bracket, which is the first of them;
-/// behind it come the hyphens and the closing bracket. No message that is accepted has more than 12 fields.
+/// The offsets of the first borders of a message's fields, counted from the opening bracket, which
+/// is the first border; the hyphens and the closing bracket follow. An accepted message has at most
+/// 12 fields.
 #[derive(Drop)]
 pub(crate) struct Borders {
     pub(crate) places: ArrayVec<u16, 13>,
-    /// How many fields there are, those without noted borders counted.
+    /// The number of fields, those beyond the recorded borders included.
     pub(crate) count: usize,
 }
 
-/// The borders among 16 bytes.
+/// The borders among 16 bytes of a text.
 #[derive(Clone, Copy)]
 struct Look {
-    /// Where the first of the bytes stands.
+    /// The offset of the first of the 16 bytes.
     at: usize,
-    /// A bit for each border: bit k for one that stands k bytes behind the first.
+    /// Bit k is set if the byte at offset `at + k` is a border.
     bits: u64,
 }
 
 impl Look {
-    /// The borders among the 16 bytes from a place on.
+    /// Loads the 16 bytes at `at` and finds the borders among them.
     #[inline]
     fn new(bytes: &[u8], at: usize) -> Self
         requires { at + 16 ≤ length bytes.now }
@@ -41,8 +43,9 @@ impl Look {
     }
 }
 
-/// Where the first border from a place on stands, before `end`, behind which 16 more bytes stand; and the last look
-/// that was taken. The look before the search, `look`, has the byte at `from` or ends just before it.
+/// Returns the offset of the first border at or after `from`, or `end` if there is none before it,
+/// and the last vector that was loaded. At least 16 more bytes follow `end`. `look`, the vector of
+/// the search before, has the byte at `from` or ends just before it.
 #[inline]
 fn next_border(bytes: &[u8], look: Look, from: usize, end: usize) -> (usize, Look)
     requires room { end + 16 ≤ length bytes.now }
@@ -71,7 +74,8 @@ fn next_border(bytes: &[u8], look: Look, from: usize, end: usize) -> (usize, Loo
     (border.min(end), seen)
 }
 
-/// Notes a border behind which there are so many, where all those are noted and there is room for its place.
+/// Records the offset of border `count` if all those before it are recorded, and if the list has
+/// capacity and the offset fits in 16 bits.
 fn note(places: &mut ArrayVec<u16, 13>, count: usize, place: usize)
     ensures { places.new.items ≡ with_border places.old.items count place }
 {
@@ -80,19 +84,20 @@ fn note(places: &mut ArrayVec<u16, 13>, count: usize, place: usize)
     }
 }
 
-/// Cuts what stands between two brackets at its hyphens, where it has no further bracket: the bytes from 1 to `end`,
-/// behind which 16 more stand.
+/// Cuts the bytes from 1 to `end`, which are between two brackets, at their hyphens. `None` if
+/// there is a further bracket. At least 16 more bytes follow `end`.
 pub(crate) fn borders_of(bytes: &[u8], end: usize) -> Option<Borders>
     requires room { end + 16 ≤ length bytes.now }
     requires some { 1 ≤ end }
-    ensures { MatchOption result (list_all (λ b. not (is_bracket b)) (slice_range bytes.now 1 end) ≡ false)
+    ensures { MatchOption result (list_all (λ b. not (is_bracket b)) (slice_range bytes.now 1 end)
+        ≡ false)
         (λ borders. IsCut (slice_range bytes.now 1 end) borders.places.items borders.count) }
 {
     let mut places = ArrayVec::new();
     places.push(0);
     let mut count = 0;
     let mut look = Look::new(bytes, 0);
-    // Counted from the opening bracket, which is the first byte.
+    // Offset 0 is that of the opening bracket.
     let mut from = 1;
     while from <= end {
         let (border, seen) = next_border(bytes, look, from, end);
@@ -107,7 +112,7 @@ pub(crate) fn borders_of(bytes: &[u8], end: usize) -> Option<Borders>
     Some(Borders { places, count })
 }
 
-/// The part at that place, found by a scan from the first one on.
+/// Finds a part by a scan from the first one on.
 fn scanned_part(text: &[u8], place: usize) -> Option<&[u8]>
     ensures { option_copied result ≡ slice_get (parts text.now) place }
 {
@@ -115,8 +120,8 @@ fn scanned_part(text: &[u8], place: usize) -> Option<&[u8]>
 }
 
 impl Borders {
-    /// The part at that place of what has these borders. Only one beyond the noted borders has to be looked for, which
-    /// no message has that is accepted.
+    /// Returns part `place`, counted from 0, of a text cut at these borders. Only a part after the
+    /// recorded borders needs a scan, and no accepted message has one.
     pub(crate) fn part<'a>(&self, inside: &'a [u8], place: usize) -> &'a [u8]
         requires cut { IsCut inside.now self.now.places.items self.now.count }
         requires place { place < self.now.count }

@@ -1,8 +1,10 @@
-//! The kinds of bytes of a message (ICAO Doc 4444, appendix 3, and the characters that Annex 10 allows in it).
+//! The kinds of bytes of a message (ICAO Doc 4444, appendix 3, and the characters that Annex 10
+//! allows in it).
 
 ghost use Rattle.std.specs.Prelude.{◌≡◌, ◌≤◌, length};
 ghost use Rattle.std.specs.List.{list_all, prefix_len};
-ghost use Rattle.fpl_text.specs.Bytes.{is_letter, is_digit, is_letter_or_digit, is_blank, is_border, is_other_mark};
+ghost use Rattle.fpl_text.specs.Bytes.{is_letter, is_digit, is_letter_or_digit};
+ghost use Rattle.fpl_text.specs.Bytes.{is_blank, is_border, is_other_mark};
 ghost use Rattle.fpl_text.specs.Bytes.{is_plain};
 
 /// A letter, A to Z.
@@ -36,7 +38,7 @@ pub(crate) fn is_blank(byte: u8) -> bool
     matches!(byte, b' ' | b'\r' | b'\n')
 }
 
-/// A hyphen or a bracket, beside which no space stands.
+/// A hyphen or a bracket: no space is kept beside it.
 #[tactic(auto, unfolding(crate::specs::Bytes::is_border))]
 pub(crate) fn is_border(byte: u8) -> bool
     ensures { result ≡ is_border byte }
@@ -44,7 +46,7 @@ pub(crate) fn is_border(byte: u8) -> bool
     matches!(byte, b'-' | b'(' | b')')
 }
 
-/// A mark that is no border.
+/// An accepted mark other than a hyphen and the brackets.
 #[tactic(auto, unfolding(crate::specs::Bytes::is_other_mark))]
 pub(crate) fn is_other_mark(byte: u8) -> bool
     ensures { result ≡ is_other_mark byte }
@@ -60,28 +62,28 @@ pub(crate) fn is_plain(byte: u8) -> bool
     is_letter_or_digit(byte) || is_other_mark(byte)
 }
 
-/// Whether a text has digits alone.
+/// Whether all bytes are digits.
 pub fn all_digits(text: &[u8]) -> bool
     ensures { result ≡ list_all is_digit text.now }
 {
     text.iter().all(|byte| is_digit(*byte))
 }
 
-/// Whether a text has letters and digits alone.
+/// Whether all bytes are letters or digits.
 pub fn all_letters_or_digits(text: &[u8]) -> bool
     ensures { result ≡ list_all is_letter_or_digit text.now }
 {
     text.iter().all(|byte| is_letter_or_digit(*byte))
 }
 
-/// Whether a text has letters alone.
+/// Whether all bytes are letters.
 pub fn all_letters(text: &[u8]) -> bool
     ensures { result ≡ list_all is_letter text.now }
 {
     text.iter().all(|byte| is_letter(*byte))
 }
 
-/// How many letters stand at the front of a text.
+/// The number of letters with which a text begins.
 pub fn leading_letters(text: &[u8]) -> usize
     ensures value { result ≡ prefix_len is_letter text.now }
     ensures bound { result ≤ length text.now }
@@ -89,7 +91,7 @@ pub fn leading_letters(text: &[u8]) -> usize
     text.iter().take_while(|byte| is_letter(**byte)).count()
 }
 
-/// How many letters and digits stand at the front of a text.
+/// The number of letters and digits with which a text begins.
 pub(crate) fn leading_letters_or_digits(text: &[u8]) -> usize
     ensures value { result ≡ prefix_len is_letter_or_digit text.now }
     ensures bound { result ≤ length text.now }

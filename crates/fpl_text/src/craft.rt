@@ -4,7 +4,8 @@ ghost use Rattle.std.specs.Prelude.{◌≡◌, ◌≤◌, ◌<◌, ◌+◌, ◌-
 ghost use Rattle.std.specs.List.{prefix_len};
 ghost use Rattle.std.specs.Option.{ok_or};
 ghost use Rattle.fpl_text.specs.Bytes.{is_digit};
-ghost use Rattle.fpl_text.specs.Craft.{flight_rules_of, flight_kind_of, flight_kind_in, rules_of, wake_of};
+ghost use Rattle.fpl_text.specs.Craft.{flight_rules_of, flight_kind_of, flight_kind_in};
+ghost use Rattle.fpl_text.specs.Craft.{rules_of, wake_of};
 ghost use Rattle.fpl_text.specs.Craft.{craft_number, is_craft_kind, craft_of};
 
 use crate::byte::{all_letters_or_digits, is_digit, is_letter};
@@ -40,7 +41,8 @@ pub enum FlightKind {
     Other,
 }
 
-/// Field 8: flight rules, and the type of flight where it is given (ICAO Doc 4444, appendix 3, field type 8).
+/// Field 8: flight rules, and the type of flight if it is given (ICAO Doc 4444, appendix 3, field
+/// type 8).
 #[derive(Clone, Copy, Debug, PartialEq, Eq)]
 pub struct Rules {
     pub rules: FlightRules,
@@ -60,8 +62,8 @@ pub enum Wake {
     Super,
 }
 
-/// Field 9: number and type of aircraft, and wake turbulence category (ICAO Doc 4444, appendix 3, field type 9). The
-/// number stands where it is given, from 0 to 99.
+/// Field 9: number and type of aircraft, and wake turbulence category (ICAO Doc 4444, appendix 3,
+/// field type 9). The number, if given, is from 0 to 99.
 #[derive(Debug, Drop, PartialEq, Eq)]
 pub struct Craft {
     pub number: Option<u8>,
@@ -96,7 +98,7 @@ fn flight_kind_of(byte: u8) -> Option<FlightKind>
     }
 }
 
-/// Nothing, or the type of a flight.
+/// Reads a type of flight that may be missing.
 #[tactic(auto, unfolding(crate::specs::Craft::flight_kind_in))]
 fn flight_kind_in(text: &[u8]) -> Option<Option<FlightKind>>
     ensures { result ≡ flight_kind_in text.now }
@@ -124,7 +126,8 @@ fn rules_of(text: &[u8]) -> Option<Rules>
 }
 
 impl Rules {
-    /// Reads field 8: I, V, Y or Z, and then nothing or one of S, N, G, M and X.
+    /// Reads field 8: I, V, Y or Z, then optionally S, N, G, M or X. Any other text is
+    /// `BadField(8)`.
     pub fn read(field: &[u8]) -> Result<Rules, FieldFault>
         ensures { result ≡ ok_or (rules_of field.now) (FieldFault.BadField 8) }
     {
@@ -152,7 +155,7 @@ fn digit_count(text: &[u8]) -> usize
     text.iter().take_while(|byte| is_digit(**byte)).count()
 }
 
-/// How many digits stand at the front.
+/// The number of digits with which a text begins.
 fn leading_digits(text: &[u8]) -> usize
     ensures value { result ≡ prefix_len is_digit text.now }
     ensures bound { result ≤ length text.now }
@@ -161,7 +164,8 @@ fn leading_digits(text: &[u8]) -> usize
     digit_count(text)
 }
 
-/// The number of 1 or 2 digits at the front, or nothing.
+/// The number of aircraft, which the first `digits` bytes spell: none, or 1 or 2 digits. `None` for
+/// more.
 #[tactic(auto, unfolding(crate::specs::Craft::craft_number, crate::specs::Bytes::is_digit))]
 fn craft_number(digits: usize, text: &[u8]) -> Option<Option<u8>>
     requires bound { digits ≤ length text.now }
@@ -176,7 +180,7 @@ fn craft_number(digits: usize, text: &[u8]) -> Option<Option<u8>>
     }
 }
 
-/// A type of 2 to 4 letters or digits.
+/// Whether a text is a type designator: 2 to 4 letters or digits, of which the first is a letter.
 #[tactic(auto, unfolding(crate::specs::Craft::is_craft_kind))]
 fn is_craft_kind(text: &[u8]) -> bool
     ensures { result ≡ is_craft_kind text.now }
@@ -207,8 +211,8 @@ fn craft_of(text: &[u8]) -> Option<Craft>
 }
 
 impl Craft {
-    /// Reads field 9: nothing or 1 or 2 digits, a type of 2 to 4 letters or digits that begins with a letter, a stroke,
-    /// and one of L, M, H and J.
+    /// Reads field 9: optionally 1 or 2 digits, then a type of 2 to 4 letters or digits that begins
+    /// with a letter, a stroke, and L, M, H or J. Any other text is `BadField(9)`.
     pub fn read(field: &[u8]) -> Result<Craft, FieldFault>
         ensures { result ≡ ok_or (craft_of field.now) (FieldFault.BadField 9) }
     {

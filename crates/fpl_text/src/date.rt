@@ -1,4 +1,4 @@
-//! Dates of six digits.
+//! Dates of six digits, yymmdd.
 
 ghost use Rattle.std.specs.Prelude.{◌≡◌, ◌<◌, ◌+◌, true, false, pos, MatchOption, IfSome};
 ghost use Rattle.jiff_core.specs.Calendar.{IsBetween};
@@ -9,14 +9,15 @@ use crate::byte::all_digits;
 use crate::time::two_digits;
 use jiff::civil::Date;
 
-/// That day of a year 20yy, where the calendar has it.
+/// The date of a year 20yy, or `None` if the calendar has no such day.
 fn civil_date(yy: u8, month: u8, day: u8) -> Option<Date>
     requires year { yy < 100 }
     requires month { month < 100 }
     requires day { day < 100 }
     ensures century { IfSome result (λ date. IsBetween (pos 2000) (pos 2099) date.year) }
     ensures value { MatchOption result (is_civil_date yy month day ≡ false)
-        (λ date. (is_civil_date yy month day ≡ true) × IsYmd (pos (2000 + yy)) (pos month) (pos day) date) }
+        (λ date. (is_civil_date yy month day ≡ true)
+        × IsYmd (pos (2000 + yy)) (pos month) (pos day) date) }
 {
     match Date::new(2000 + yy as i16, month as i8, day as i8) {
         Ok(date) => Some(date),

@@ -10,7 +10,7 @@ use jiff::civil::Date;
 use jiff_core::civil;
 use std::marker::Model;
 
-/// A day of the calendar, seen as its number: the days from 1970-01-01 to it, at most 69,444.
+/// A day of the calendar, seen as its number: days since 1970-01-01, at most 69,444.
 #[derive(Clone, Copy, Debug, PartialEq, Eq, PartialOrd, Ord, Hash)]
 pub struct Day {
     number: u32,
@@ -26,7 +26,7 @@ impl Model for Day {
     ghost inverse = { λ number. record { number = number } };
 }
 
-/// How many days a date of the years 2000 to 2099 lies after 1970-01-01.
+/// The number of days from 1970-01-01 to a date of the years 2000 to 2099.
 fn day_number(date: Date) -> u32
     requires { IsBetween (pos 2000) (pos 2099) date.year }
     ensures value { result ≡ unsigned_abs (epoch_day date) }
@@ -36,7 +36,7 @@ fn day_number(date: Date) -> u32
 }
 
 impl Day {
-    /// Reads yymmdd, a date of the years 2000 to 2099.
+    /// Reads yymmdd, a date of the years 2000 to 2099 (DOF of field type 18).
     #[tactic(auto, unfolding(crate::specs::Moments::day_of))]
     pub fn read(text: &[u8]) -> Option<Day>
         ensures { result ≡ day_of text.now }
@@ -56,7 +56,7 @@ impl Day {
         }
     }
 
-    /// The day with that number, of which [`Minute::day`](crate::Minute::day) makes use.
+    /// The day of that number, for [`Minute::day`](crate::Minute::day).
     pub(crate) fn numbered(number: u32) -> Day
         requires { number ≤ last_day }
         ensures { result ≡ number }
@@ -64,7 +64,7 @@ impl Day {
         Day { number }
     }
 
-    /// How many days it lies after 1970-01-01.
+    /// Days since 1970-01-01.
     pub fn number(self) -> u32
         ensures value { result ≡ self }
         ensures bound { result ≤ last_day }
@@ -72,7 +72,7 @@ impl Day {
         self.number
     }
 
-    /// The date.
+    /// The day as a date of the calendar.
     pub fn date(self) -> Date
         ensures value { epoch_day result ≡ pos self }
         ensures bound { self ≤ last_day }

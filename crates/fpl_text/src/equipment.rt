@@ -8,8 +8,8 @@ use crate::fault::FieldFault;
 use std::alloc::{Allocator, Global};
 use std::marker::Model;
 
-/// Field 10: equipment and capabilities (ICAO Doc 4444, appendix 3, field type 10), kept as its text and not
-/// interpreted.
+/// Field 10: equipment and capabilities (ICAO Doc 4444, appendix 3, field type 10), kept as text
+/// and not interpreted.
 #[derive(Drop)]
 pub struct Equipment<A: Allocator + Copy = Global> {
     text: Vec<u8, A>,
@@ -34,8 +34,8 @@ pub fn is_equipment(text: &[u8]) -> bool
 }
 
 impl<A: Allocator + Copy> Equipment<A> {
-    /// Reads field 10: letters or digits on either side of a stroke. OutOfMemory comes only where the field has its
-    /// form.
+    /// Reads field 10: letters or digits on either side of a stroke. Any other text is
+    /// `BadField(10)`; `OutOfMemory` is returned only for a text of this form.
     pub fn read(alloc: A, field: &[u8]) -> Result<Self, FieldFault>
         ensures { ReadsEquipment field.now result }
     {
@@ -48,7 +48,7 @@ impl<A: Allocator + Copy> Equipment<A> {
         }
     }
 
-    /// The text.
+    /// The text as it was filed, squeezed.
     pub fn as_bytes(&self) -> &[u8]
         ensures { result.now ≡ self.now }
     {

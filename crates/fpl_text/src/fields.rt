@@ -1,12 +1,15 @@
 //! The fields of a message.
 
-ghost use Rattle.std.specs.Prelude.{[], ◌≡◌, ◌<◌, List, ℕ, IsTrue, Some, length, slice_get, slice_index_or};
+ghost use Rattle.std.specs.Prelude.{[], ◌≡◌, ◌<◌, List, ℕ};
+ghost use Rattle.std.specs.Prelude.{IsTrue, Some, length, slice_get, slice_index_or};
 ghost use Rattle.std.specs.Prelude.{MatchOption, IfOk, IfErr, Err, true, false};
 ghost use Rattle.fpl_text.specs.Words.{words_of};
 ghost use Rattle.fpl_text.specs.Squeezing.{Gives};
 ghost use Rattle.fpl_text.specs.Borders.{parts, IsCut, IsMessage};
-ghost use Rattle.fpl_text.specs.Fields.{stands_in_brackets, is_bracketed, inside, fields_of, first_field, title_of};
-ghost use Rattle.fpl_text.specs.Fields.{begins_amendment, has_its_fields, fields_or_fault, split_or_fault};
+ghost use Rattle.fpl_text.specs.Fields.{stands_in_brackets, is_bracketed, inside};
+ghost use Rattle.fpl_text.specs.Fields.{fields_of, first_field, title_of};
+ghost use Rattle.fpl_text.specs.Fields.{begins_amendment, has_its_fields};
+ghost use Rattle.fpl_text.specs.Fields.{fields_or_fault, split_or_fault};
 
 use crate::borders::{Borders, borders_of};
 use crate::byte::is_digit;
@@ -47,7 +50,8 @@ impl<A: Allocator + Copy> Model for Fields<A> {
     ghost invariant = { λ f. IsMessage f.text f.borders.places.items f.borders.count f.title };
 }
 
-/// What stands between the first byte and the last one, where they are an opening and a closing bracket.
+/// What is between an opening bracket at the beginning and a closing one at the end. `None` if
+/// either is missing.
 #[tactic(auto, unfolding(crate::specs::Fields::stands_in_brackets))]
 fn between_brackets(text: &[u8]) -> Option<&[u8]>
     ensures value { MatchOption result (stands_in_brackets text.now ≡ false)
@@ -59,7 +63,7 @@ fn between_brackets(text: &[u8]) -> Option<&[u8]>
     }
 }
 
-/// The title with which a first field begins.
+/// The title with which the first field begins.
 #[tactic(auto, unfolding(crate::specs::Fields::title_of))]
 pub(crate) fn title_of(field: &[u8]) -> Option<Title>
     ensures { result ≡ title_of field.now }
@@ -79,7 +83,7 @@ pub(crate) fn title_of(field: &[u8]) -> Option<Title>
     }
 }
 
-/// Whether a field begins as an amended field does, with a number and a stroke.
+/// Whether a field begins as an amended field of a CHG does, with a field type number and a stroke.
 #[tactic(auto, unfolding(crate::specs::Fields::begins_amendment))]
 pub fn begins_amendment(field: &[u8]) -> bool
     ensures { result ≡ begins_amendment field.now }
@@ -91,7 +95,7 @@ pub fn begins_amendment(field: &[u8]) -> bool
     }
 }
 
-/// Whether a message of this title may have these fields, of which there are `count`.
+/// Whether a message of this title may have these fields.
 fn has_its_fields(title: Title, inside: &[u8], borders: &Borders) -> bool
     requires { IsCut inside.now borders.now.places.items borders.now.count }
     ensures { result ≡ has_its_fields title (parts inside.now) }
@@ -104,11 +108,12 @@ fn has_its_fields(title: Title, inside: &[u8], borders: &Borders) -> bool
     }
 }
 
-/// Where the fields of a message stand, which has one pair of brackets round it.
+/// Finds the borders of the fields of a text in one pair of brackets; `None` for any other text.
 #[tactic(auto, unfolding(crate::specs::Fields::is_bracketed))]
 fn borders_in_brackets<A: Allocator + Copy>(text: &Squeezed<A>) -> Option<Borders>
     ensures { MatchOption result (is_bracketed text.now ≡ false)
-        (λ borders. (is_bracketed text.now ≡ true) × IsCut (inside text.now) borders.places.items borders.count) }
+        (λ borders. (is_bracketed text.now ≡ true)
+        × IsCut (inside text.now) borders.places.items borders.count) }
 {
     let Some(inside) = between_brackets(text.as_bytes()) else {
         return None;
@@ -116,7 +121,7 @@ fn borders_in_brackets<A: Allocator + Copy>(text: &Squeezed<A>) -> Option<Border
     borders_of(text.with_room(), inside.len() + 1)
 }
 
-/// What stands between the brackets of a text.
+/// What is between the brackets of a text.
 #[tactic(auto, unfolding(crate::specs::Fields::is_bracketed, crate::specs::Fields::stands_in_brackets))]
 fn inside(text: &[u8]) -> &[u8]
     requires { is_bracketed text.now ≡ true }
@@ -125,10 +130,11 @@ fn inside(text: &[u8]) -> &[u8]
     &text[1..text.len() - 1]
 }
 
-/// The title of a message, and where its fields stand, or why it is none.
+/// Finds the title and the borders of a message, or its first fault.
 #[tactic(auto, unfolding(crate::specs::Fields::fields_or_fault, crate::specs::Fields::fields_of))]
 fn title_and_borders<A: Allocator + Copy>(text: &Squeezed<A>) -> Result<(Borders, Title), TextFault>
-    ensures ok { IfOk result (λ found. IsMessage text.now found.0.places.items found.0.count found.1) }
+    ensures ok { IfOk result
+        (λ found. IsMessage text.now found.0.places.items found.0.count found.1) }
     ensures err { IfErr result (λ fault. fields_or_fault text.now ≡ Err fault) }
 {
     let Some(borders) = borders_in_brackets(text) else {
@@ -145,7 +151,7 @@ fn title_and_borders<A: Allocator + Copy>(text: &Squeezed<A>) -> Result<(Borders
 }
 
 impl<A: Allocator + Copy> Fields<A> {
-    /// The title of the message, whose form allows these fields.
+    /// The title of the message. The message has a number of fields that this title allows.
     pub fn title(&self) -> Title
         ensures title { title_of (first_field self.now) ≡ Some result }
         ensures counted { IsTrue (has_its_fields result self.now) }
@@ -153,7 +159,7 @@ impl<A: Allocator + Copy> Fields<A> {
         self.title
     }
 
-    /// How many fields there are.
+    /// The number of fields.
     #[tactic(auto, unfolding(crate::specs::Fields::fields_of))]
     pub fn count(&self) -> usize
         ensures { result ≡ length self.now }
@@ -161,7 +167,7 @@ impl<A: Allocator + Copy> Fields<A> {
         self.borders.count
     }
 
-    /// The field at that place, counted from 0.
+    /// Field `i`, counted from 0.
     #[tactic(auto, unfolding(crate::specs::Fields::fields_of))]
     pub fn field(&self, i: usize) -> &[u8]
         requires { i < length self.now }
@@ -170,14 +176,14 @@ impl<A: Allocator + Copy> Fields<A> {
         self.borders.part(inside(self.text.as_bytes()), i)
     }
 
-    /// The room of the text, for another one.
+    /// Discards the text and returns its empty buffer, for the next text.
     pub fn into_room(self) -> Vec<u8, A>
         ensures { result.items ≡ [] }
     {
         self.text.into_room()
     }
 
-    /// The words of the field at that place.
+    /// The words of field `i`, counted from 0.
     pub fn words(&self, i: usize) -> Words<'_>
         requires { i < length self.now }
         ensures { result ≡ words_of (slice_index_or self.now i []) }
@@ -187,8 +193,9 @@ impl<A: Allocator + Copy> Fields<A> {
 }
 
 impl<A: Allocator + Copy> Squeezed<A> {
-    /// Cuts the text at its hyphens into the fields of a message, or says why it is none: no pair of brackets round it,
-    /// an unknown title, a number of fields that the title does not have. Takes no memory.
+    /// Cuts the text at its hyphens into the fields of a message. Refuses, in this order, a text
+    /// that isn't in one pair of brackets, an unknown title, and a number of fields that the title
+    /// doesn't have. Allocates nothing.
     #[tactic(auto, unfolding(crate::specs::Fields::fields_of, crate::specs::Fields::fields_or_fault))]
     pub fn into_fields(self) -> Result<Fields<A>, TextFault>
         ensures { result ≡ fields_or_fault self }
@@ -202,8 +209,9 @@ impl<A: Allocator + Copy> Squeezed<A> {
     }
 }
 
-/// The fields of a message text, or its first fault: nothing but blanks, a byte that is not accepted, no pair of
-/// brackets round it, an unknown title, a number of fields that the title does not have.
+/// Squeezes a message text and cuts it into fields, or returns its first fault: `Empty` for blanks
+/// alone, `BadByte`, `NoBracket`, `UnknownTitle`, `FieldCount`. Returns `OutOfMemory` if allocation
+/// fails.
 #[tactic(auto, unfolding(crate::specs::Fields::split_or_fault))]
 pub fn split<A: Allocator + Copy>(alloc: A, text: &[u8]) -> Result<Fields<A>, TextFault>
     ensures { Gives result (split_or_fault text.now) }

@@ -1,18 +1,19 @@
-//! Field 3: the title of a message.
+//! Field 3: message type, number and reference.
 
 ghost use Rattle.std.specs.Prelude.{◌≡◌, ◌≤◌, ◌+◌, IsTrue, length};
 ghost use Rattle.std.specs.List.{prefix_len};
 ghost use Rattle.std.specs.Option.{ok_or};
 ghost use Rattle.fpl_text.specs.Bytes.{is_letter};
-ghost use Rattle.fpl_text.specs.Headings.{receiver_len, number_len, is_number, number_in, heading_with, heading_of};
+ghost use Rattle.fpl_text.specs.Headings.{receiver_len, number_len, is_number};
+ghost use Rattle.fpl_text.specs.Headings.{number_in, heading_with, heading_of};
 
 use crate::byte::{all_digits, leading_letters};
 use crate::fault::FieldFault;
 use crate::fields::{Title, title_of};
 use crate::text::Text;
 
-/// Field 3: the title, the number of the message, and the number of the message to which it refers. The numbers are
-/// kept and have no effect (ICAO Doc 4444, appendix 3, field type 3).
+/// Field 3: the title, the number of the message, and that of the message to which it refers (ICAO
+/// Doc 4444, appendix 3, field type 3). The numbers are kept and have no effect.
 #[derive(Debug, Drop, PartialEq, Eq)]
 pub struct Heading {
     pub title: Title,
@@ -20,7 +21,7 @@ pub struct Heading {
     pub reference: Option<Text<12>>,
 }
 
-/// How many letters stand behind the stroke.
+/// The number of letters of the receiving unit, which follow the stroke.
 fn receiver_len(sender_len: usize, text: &[u8]) -> usize
     requires sender { sender_len ≡ prefix_len is_letter text.now }
     requires bound { sender_len ≤ length text.now }
@@ -34,7 +35,7 @@ fn receiver_len(sender_len: usize, text: &[u8]) -> usize
     }
 }
 
-/// How many bytes a message number at the front has.
+/// The length of the message number with which a text begins.
 fn number_len(text: &[u8]) -> usize
     ensures { result ≡ number_len text.now }
 {
@@ -61,7 +62,7 @@ fn is_number(text: &[u8]) -> bool
         && all_digits(&text[sender + 1 + receiver..])
 }
 
-/// Nothing, or a message number.
+/// Reads a message number that may be missing.
 #[tactic(auto, unfolding(crate::specs::Headings::number_in))]
 fn number_in(text: &[u8]) -> Option<Option<Text<12>>>
     ensures { result ≡ number_in text.now }
@@ -75,7 +76,8 @@ fn number_in(text: &[u8]) -> Option<Option<Text<12>>>
     Some(Some(Text::new(text)))
 }
 
-/// The heading of a message with that title, behind which stands the text. Most have nothing there.
+/// Reads what follows the title of a heading. Most messages have no number, so that case comes
+/// first.
 #[inline(always)]
 #[tactic(auto, unfolding(crate::specs::Headings::heading_with, crate::specs::Headings::number_in))]
 fn heading_with(title: Title, text: &[u8]) -> Option<Heading>
@@ -91,7 +93,7 @@ fn heading_with(title: Title, text: &[u8]) -> Option<Heading>
     numbered_heading(title, text)
 }
 
-/// The heading of a message with that title, behind which stand one or two numbers.
+/// Reads the one or two message numbers that follow a title.
 #[tactic(auto, unfolding(crate::specs::Headings::heading_with))]
 fn numbered_heading(title: Title, text: &[u8]) -> Option<Heading>
     ensures { result ≡ heading_with title text.now }
@@ -116,8 +118,9 @@ fn heading_of(text: &[u8]) -> Option<Heading>
 }
 
 impl Heading {
-    /// Reads field 3: a title of three letters, and then nothing, a number, or a number and a reference. Both are 1 to
-    /// 4 letters, a stroke, 1 to 4 letters, and 3 digits.
+    /// Reads field 3: a title of three letters, and then nothing, a number, or a number and a
+    /// reference. Each number is 1 to 4 letters, a stroke, 1 to 4 letters and 3 digits. Any other
+    /// text is `BadField(3)`.
     #[inline(always)]
     pub fn read(field: &[u8]) -> Result<Heading, FieldFault>
         ensures { result ≡ ok_or (heading_of field.now) (FieldFault.BadField 3) }

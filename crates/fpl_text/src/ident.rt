@@ -1,4 +1,4 @@
-//! Field 7: an aircraft identification.
+//! Field 7: aircraft identification.
 
 ghost use Rattle.std.specs.Prelude.{◌≡◌, ◌<◌, ◌-◌, true};
 ghost use Rattle.fpl_text.specs.Places.{is_octal, transponder_of, ident_of};
@@ -8,8 +8,9 @@ use crate::byte::leading_letters_or_digits;
 use crate::fault::FieldFault;
 use crate::text::Text;
 
-/// Field 7: an aircraft identification, and the SSR code of its transponder where it is given (ICAO Doc 4444, appendix
-/// 3, field type 7). The code's four digits 0 to 7 are an octal number. It is no part of a plan's key.
+/// Field 7: aircraft identification, and the SSR code if it is given (ICAO Doc 4444, appendix 3,
+/// field type 7). The code, four digits 0 to 7, is kept as the octal number that they are; it is no
+/// part of a plan's key.
 #[derive(Debug, Drop, PartialEq, Eq)]
 pub struct Ident {
     pub name: Text<7>,
@@ -32,7 +33,7 @@ fn octal_digit(byte: u8) -> u16
     (byte - b'0') as u16
 }
 
-/// Nothing, or a transponder code behind a stroke and an A.
+/// Reads an SSR code that may be missing: a stroke, an A and four octal digits.
 #[tactic(auto, unfolding(crate::specs::Places::transponder_of))]
 fn transponder_of(text: &[u8]) -> Option<Option<u16>>
     ensures { result ≡ transponder_of text.now }
@@ -53,7 +54,8 @@ fn transponder_of(text: &[u8]) -> Option<Option<u16>>
 }
 
 impl Ident {
-    /// Reads field 7: 1 to 7 letters or digits, and then nothing or `/A` and four digits 0 to 7.
+    /// Reads field 7: 1 to 7 letters or digits, then optionally `/A` and four digits 0 to 7. Any
+    /// other text is `BadField(7)`.
     #[inline]
     #[tactic(auto, unfolding(crate::specs::Places::ident_of))]
     pub fn read(field: &[u8]) -> Result<Ident, FieldFault>

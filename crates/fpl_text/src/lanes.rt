@@ -1,14 +1,16 @@
-//! Sixteen bytes at once.
+//! Vectors of sixteen bytes. Callers speak of kinds of bytes; only this module speaks of bits.
 
-ghost use Rattle.std.specs.Prelude.{◌≡◌, ◌≤◌, ◌<◌, ◌+◌, ◌↔◌, ◌==◌, ◌&&◌, ◌||◌, if◌then◌else◌, nat_le, not, ℕ, Bool};
+ghost use Rattle.std.specs.Prelude.{◌≡◌, ◌≤◌, ◌<◌, ◌+◌, ◌↔◌, ◌==◌, ◌&&◌};
+ghost use Rattle.std.specs.Prelude.{◌||◌, if◌then◌else◌, nat_le, not, ℕ, Bool};
 ghost use Rattle.std.specs.Prelude.{true, false, length, slice_index, take, drop, count_by};
 ghost use Rattle.std.specs.Int.{bit_at};
-ghost use Rattle.fpl_text.specs.Bytes.{is_border, is_common, is_letter, is_letter_or_digit, is_path_byte};
+ghost use Rattle.fpl_text.specs.Bytes.{is_border, is_common, is_letter};
+ghost use Rattle.fpl_text.specs.Bytes.{is_letter_or_digit, is_path_byte};
 ghost use Rattle.fpl_text.specs.Lanes.{HasLanes, HasFlags, behind, is_kept};
 
 use std::simd::prelude::*;
 
-/// The bytes from a place on.
+/// Loads the 16 bytes at `at`.
 #[inline(always)]
 pub(crate) fn load(text: &[u8], at: usize) -> u8x16
     requires { at + 16 ≤ length text.now }
@@ -18,7 +20,7 @@ pub(crate) fn load(text: &[u8], at: usize) -> u8x16
     u8x16::from_slice(&text[at..])
 }
 
-/// Which lanes hold this byte.
+/// Flags the lanes that hold this byte.
 #[inline(always)]
 fn equal_to(v: u8x16, byte: u8) -> u8x16
     ensures { HasFlags result (λ k. slice_index v k == byte) }
@@ -27,7 +29,7 @@ fn equal_to(v: u8x16, byte: u8) -> u8x16
         .select(u8x16::splat(255), u8x16::splat(0))
 }
 
-/// Which lanes hold this byte or a greater one.
+/// Flags the lanes that hold this byte or a greater one.
 #[inline(always)]
 fn at_least(v: u8x16, low: u8) -> u8x16
     ensures { HasFlags result (λ k. nat_le low (slice_index v k)) }
@@ -37,7 +39,7 @@ fn at_least(v: u8x16, low: u8) -> u8x16
         .select(u8x16::splat(255), u8x16::splat(0))
 }
 
-/// Which lanes hold this byte or a lower one.
+/// Flags the lanes that hold this byte or a lower one.
 #[inline(always)]
 fn at_most(v: u8x16, high: u8) -> u8x16
     ensures { HasFlags result (λ k. nat_le (slice_index v k) high) }
@@ -46,7 +48,7 @@ fn at_most(v: u8x16, high: u8) -> u8x16
         .select(u8x16::splat(255), u8x16::splat(0))
 }
 
-/// Where both are set.
+/// Flags the lanes that both vectors flag.
 #[inline(always)]
 fn both(a: u8x16, b: u8x16) -> u8x16
     ensures { (p q : ℕ → Bool) → HasFlags a p → HasFlags b q → HasFlags result (λ k. p k && q k) }
@@ -54,7 +56,7 @@ fn both(a: u8x16, b: u8x16) -> u8x16
     a & b
 }
 
-/// Where one of them is set.
+/// Flags the lanes that one of the vectors flags.
 #[inline(always)]
 fn either(a: u8x16, b: u8x16) -> u8x16
     ensures { (p q : ℕ → Bool) → HasFlags a p → HasFlags b q → HasFlags result (λ k. p k || q k) }
@@ -62,7 +64,7 @@ fn either(a: u8x16, b: u8x16) -> u8x16
     a | b
 }
 
-/// Which lanes hold a byte of this range.
+/// Flags the lanes that hold a byte from `low` to `high`.
 #[inline(always)]
 fn between(v: u8x16, low: u8, high: u8) -> u8x16
     ensures { HasFlags result (λ k. nat_le low (slice_index v k) && nat_le (slice_index v k) high) }
@@ -70,15 +72,16 @@ fn between(v: u8x16, low: u8, high: u8) -> u8x16
     both(at_least(v, low), at_most(v, high))
 }
 
-/// Which flags are set, or stand at lanes that hold this byte.
+/// Adds to the flags the lanes that hold this byte.
 #[inline(always)]
 fn or_equal_to(flags: u8x16, v: u8x16, byte: u8) -> u8x16
-    ensures { (p : ℕ → Bool) → HasFlags flags p → HasFlags result (λ k. p k || (slice_index v k == byte)) }
+    ensures { (p : ℕ → Bool) → HasFlags flags p
+        → HasFlags result (λ k. p k || (slice_index v k == byte)) }
 {
     either(flags, equal_to(v, byte))
 }
 
-/// Which lanes hold a border.
+/// Flags the borders.
 #[inline(always)]
 pub(crate) fn border_lanes(v: u8x16) -> u8x16
     ensures { HasFlags result (λ k. is_border (slice_index v k)) }
@@ -86,7 +89,7 @@ pub(crate) fn border_lanes(v: u8x16) -> u8x16
     or_equal_to(or_equal_to(equal_to(v, b'-'), v, b'('), v, b')')
 }
 
-/// Which lanes hold a letter.
+/// Flags the letters.
 #[inline(always)]
 pub(crate) fn letter_lanes(v: u8x16) -> u8x16
     ensures { HasFlags result (λ k. is_letter (slice_index v k)) }
@@ -94,7 +97,7 @@ pub(crate) fn letter_lanes(v: u8x16) -> u8x16
     between(v, b'A', b'Z')
 }
 
-/// Which lanes hold a letter or a digit, of which `letters` are the letters.
+/// Flags the letters and digits, given the flags of the letters.
 #[inline(always)]
 pub(crate) fn letter_or_digit_lanes(letters: u8x16, v: u8x16) -> u8x16
     requires { HasFlags letters (λ k. is_letter (slice_index v k)) }
@@ -103,7 +106,7 @@ pub(crate) fn letter_or_digit_lanes(letters: u8x16, v: u8x16) -> u8x16
     either(letters, between(v, b'0', b'9'))
 }
 
-/// Which lanes hold a byte of a path.
+/// Flags the bytes that a path may have.
 #[inline(always)]
 pub(crate) fn path_lanes(v: u8x16) -> u8x16
     ensures { HasFlags result (λ k. is_path_byte (slice_index v k)) }
@@ -112,7 +115,7 @@ pub(crate) fn path_lanes(v: u8x16) -> u8x16
     or_equal_to(or_equal_to(letters_or_digits, v, b'/'), v, b' ')
 }
 
-/// Which lanes hold another byte than this.
+/// Flags the lanes that hold any other byte.
 #[inline(always)]
 pub(crate) fn other_lanes(v: u8x16, byte: u8) -> u8x16
     ensures { HasFlags result (λ k. not (slice_index v k == byte)) }
@@ -121,7 +124,7 @@ pub(crate) fn other_lanes(v: u8x16, byte: u8) -> u8x16
         .select(u8x16::splat(0), u8x16::splat(255))
 }
 
-/// Which lanes hold a common byte.
+/// Flags the common bytes.
 #[inline(always)]
 pub(crate) fn common_lanes(v: u8x16) -> u8x16
     ensures { HasFlags result (λ k. is_common (slice_index v k)) }
@@ -129,7 +132,7 @@ pub(crate) fn common_lanes(v: u8x16) -> u8x16
     either(between(v, b'A', b'Z'), between(v, b'.', b':'))
 }
 
-/// Which lanes hold a space or a line feed.
+/// Flags the spaces and line feeds.
 #[inline(always)]
 pub(crate) fn space_or_feed_lanes(v: u8x16) -> u8x16
     ensures { HasFlags result (λ k. (slice_index v k == 32) || (slice_index v k == 10)) }
@@ -137,7 +140,7 @@ pub(crate) fn space_or_feed_lanes(v: u8x16) -> u8x16
     or_equal_to(equal_to(v, b' '), v, b'\n')
 }
 
-/// The bytes, with spaces for line feeds.
+/// Replaces line feeds by spaces.
 #[inline(always)]
 pub(crate) fn feeds_as_spaces(v: u8x16) -> u8x16
     ensures { HasLanes result (λ k. if slice_index v k == 10 then 32 else slice_index v k) }
@@ -145,18 +148,19 @@ pub(crate) fn feeds_as_spaces(v: u8x16) -> u8x16
     v.simd_eq(u8x16::splat(b'\n')).select(u8x16::splat(b' '), v)
 }
 
-/// How many of the lanes from a place on are set.
+/// The number of consecutive lanes from `place` on that are flagged.
 #[inline(always)]
 pub(crate) fn set_lanes_from(flags: u8x16, place: usize) -> usize
     requires { place ≤ 16 }
     ensures bound { place + result ≤ 16 }
     ensures set { (p : ℕ → Bool) → HasFlags flags p → (k : ℕ) → k < result → p (place + k) ≡ true }
-    ensures stops { (p : ℕ → Bool) → HasFlags flags p → place + result < 16 → p (place + result) ≡ false }
+    ensures stops { (p : ℕ → Bool) → HasFlags flags p → place + result < 16
+        → p (place + result) ≡ false }
 {
     (top_bits(flags) >> place).trailing_ones() as usize
 }
 
-/// The lanes that hold a border: bit k for lane k.
+/// Returns the borders as bits: bit k for lane k.
 #[inline(always)]
 pub(crate) fn border_bits(v: u8x16) -> u64
     ensures each { (k : ℕ) → k < 16 → (bit_at result k == 1) ≡ is_border (slice_index v k) }
@@ -165,13 +169,15 @@ pub(crate) fn border_bits(v: u8x16) -> u64
     top_bits(border_lanes(v))
 }
 
-/// How many of the first 15 lanes are kept by a pass, of which `plain` are plain bytes, behind a border or not; and
-/// whether the last of them is a border, or the byte before them all where none is kept. The last lane only tells
-/// whether a plain byte stands behind a blank in the one before it.
+/// Counts the first lanes, at most 15, that a pass keeps: plain bytes, borders, and a blank between
+/// two plain bytes. `border` says whether the byte before the vector is a border; the second result
+/// says so of the last lane that is kept, or repeats `border` if none is. Lane 15 only shows
+/// whether a plain byte follows a blank in lane 14.
 #[inline(always)]
 pub(crate) fn kept_front(plain: u8x16, borders: u8x16, blanks: u8x16, border: bool) -> (usize, bool)
     ensures bound { result.0 ≤ 15 }
-    ensures each { (p q r : ℕ → Bool) → HasFlags plain p → HasFlags borders q → HasFlags blanks r → (k : ℕ)
+    ensures each { (p q r : ℕ → Bool) → HasFlags plain p → HasFlags borders q → HasFlags blanks r
+        → (k : ℕ)
         → k < result.0 → is_kept border p q r k ≡ true }
     ensures last { (q : ℕ → Bool) → HasFlags borders q → result.1 ≡ behind border q result.0 }
 {
@@ -182,7 +188,7 @@ pub(crate) fn kept_front(plain: u8x16, borders: u8x16, blanks: u8x16, border: bo
     (count, bit_is_set(bits_behind(border, borders), count))
 }
 
-/// The bits of 16 lanes, each one place higher, with another one below them.
+/// Shifts the bits of 16 lanes up by one, with `first` as the lowest bit.
 #[inline(always)]
 fn bits_behind(first: bool, bits: u64) -> u64
     requires { bits < 65536 }
@@ -192,7 +198,7 @@ fn bits_behind(first: bool, bits: u64) -> u64
     2 * bits + u64::from(first)
 }
 
-/// Whether a bit is set.
+/// Whether bit `place` is set.
 #[inline(always)]
 fn bit_is_set(bits: u64, place: usize) -> bool
     requires { place < 64 }
@@ -201,7 +207,7 @@ fn bit_is_set(bits: u64, place: usize) -> bool
     (bits >> place) & 1 == 1
 }
 
-/// How many of the 8 bytes from a place on stand before the first space.
+/// The number of bytes before the first space among the 8 bytes at `at`, or 8.
 #[inline(always)]
 pub(crate) fn before_space(text: &[u8], at: usize) -> usize
     requires { at + 8 ≤ length text.now }
@@ -214,7 +220,7 @@ pub(crate) fn before_space(text: &[u8], at: usize) -> usize
     (spaces | 256).trailing_zeros() as usize
 }
 
-/// How many lanes hold this byte.
+/// The number of lanes that hold this byte.
 #[inline(always)]
 pub(crate) fn count_in(v: u8x16, byte: u8) -> usize
     ensures value { result ≡ count_by (λ b. b == byte) v }
@@ -223,7 +229,7 @@ pub(crate) fn count_in(v: u8x16, byte: u8) -> usize
     v.simd_eq(u8x16::splat(byte)).to_bitmask().count_ones() as usize
 }
 
-/// Bit k is the top bit of lane k.
+/// Collects the top bit of each lane: bit k for lane k.
 #[inline(always)]
 fn top_bits(v: u8x16) -> u64
     ensures bits { (k : ℕ) → (bit_at result k ≡ 1) ↔ (128 ≤ slice_index v k) }

@@ -1,18 +1,21 @@
-//! Texts of ICAO messages: squeezing, splitting into fields, the small fields, and moments in minutes.
+//! Texts of ICAO messages: squeezing, splitting into fields, the small fields, and times in
+//! minutes.
 //!
-//! A message may be broken into lines and spaced as its writer likes, so its text is squeezed first: each run of
-//! blanks becomes one space, and none stays at its ends or beside a hyphen or a bracket. Then it is cut at its
-//! hyphens (`split`), and each field is read by its own form. The forms are definitions in `specs/`, functions from
-//! texts to values, and each reader is exact: it answers what its definition gives, and refuses where that gives
-//! nothing.
+//! A message may be broken into lines and spaced as its writer likes, so its text is squeezed
+//! first: each run of blanks becomes one space, and none stays at the ends or beside a hyphen or a
+//! bracket. Then the text is cut at its hyphens (`split`), and each field is read by its own form.
+//! The forms are definitions in `specs/`, functions from texts to values, and each reader is exact:
+//! it returns what its definition gives, and refuses a text for which that gives nothing.
 //!
-//! - *One pass* (`squeezed`, `pass`, `lanes`): sixteen bytes are looked at at once. `lanes` says what each lane of a
-//!   vector holds, so that whoever calls it speaks of kinds of bytes and of no bit of a vector.
-//! - *Fields* (`fields`, `borders`, `words`): a field is a place in the squeezed text, between two borders, and isn't
-//!   copied.
-//! - *Forms*: `heading` (field 3), `ident` (7), `craft` (8 and 9), `equipment` (10), `place` (13 and 16).
-//! - *Moments* (`minute`, `day`, `date`, `time`): whole minutes from 1970-01-01 00:00 UTC.
-//! - *Names* (`text`): short texts that lie in the value itself and take no memory.
+//! - *One pass* (`squeezed`, `pass`, `lanes`): the pass reads sixteen bytes at a time. `lanes` says
+//!   what each lane of a vector holds, so its callers speak of kinds of bytes and of no bit of a
+//!   vector.
+//! - *Fields* (`fields`, `borders`, `words`): a field is a slice of the squeezed text between two
+//!   borders, and isn't copied.
+//! - *Forms*: `heading` (field 3), `ident` (7), `craft` (8 and 9), `equipment` (10), `place` (13
+//!   and 16).
+//! - *Times* (`minute`, `day`, `date`, `time`): whole minutes since 1970-01-01 00:00 UTC.
+//! - *Names* (`text`): short texts of bounded length, stored inline and without allocation.
 #![tactic(auto)]
 
 mod borders;

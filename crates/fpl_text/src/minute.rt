@@ -1,9 +1,10 @@
-//! Moments in minutes.
+//! Times with their date, in minutes.
 
 ghost use Rattle.std.specs.Prelude.{◌≡◌, ◌<◌, ◌≤◌, ◌+◌, ◌-◌, ◌*◌, ◌%◌, ◌/◌, ℕ, pos, unsigned_abs};
 ghost use Rattle.jiff_core.specs.Calendar.{IsBetween};
 ghost use Rattle.jiff_core.specs.Date.{epoch_day};
-ghost use Rattle.fpl_text.specs.Moments.{minute_of, moment_of, moment_within, digit_pair, yymmdd_of, hhmm_of};
+ghost use Rattle.fpl_text.specs.Moments.{minute_of, moment_of, moment_within};
+ghost use Rattle.fpl_text.specs.Moments.{digit_pair, yymmdd_of, hhmm_of};
 ghost use Rattle.fpl_text.specs.Moments.{day_digits, IsYymmdd};
 ghost use Rattle.fpl_text.specs.declared.minute.TheConstants.{GREATEST_MINUTE};
 
@@ -14,14 +15,14 @@ use crate::time::TimeOfDay;
 use jiff::civil::Date;
 use std::marker::Model;
 
-/// The greatest moment, in minutes from 1970-01-01 00:00 UTC.
+/// The greatest time, in minutes since 1970-01-01 00:00 UTC.
 pub const GREATEST_MINUTE: u32 = 100_000_000;
-/// 2000-01-01 00:00 UTC, the first moment that ten digits name.
+/// 2000-01-01 00:00 UTC, the first time that ten digits yymmddhhmm name.
 pub const YEAR_2000: u32 = 15_778_080;
-/// 2099-01-01 00:00 UTC, the first moment after those that ten digits name.
+/// 2099-01-01 00:00 UTC, the first time after those that ten digits name.
 pub const YEAR_2099: u32 = 67_848_480;
 
-/// A moment, in whole minutes from 1970-01-01 00:00 UTC, at most 100,000,000.
+/// A time with its date, in whole minutes since 1970-01-01 00:00 UTC, at most 100,000,000.
 #[derive(Clone, Copy, Debug, PartialEq, Eq, PartialOrd, Ord, Hash)]
 pub struct Minute {
     minutes: u32,
@@ -45,7 +46,7 @@ fn digit_pair(n: u8) -> [u8; 2]
     [b'0' + n / 10, b'0' + n % 10]
 }
 
-/// The six digits of a date.
+/// The six digits yymmdd of a date.
 fn date_digits(date: Date) -> Text<6>
     ensures { result ≡ yymmdd_of date }
 {
@@ -57,7 +58,7 @@ fn date_digits(date: Date) -> Text<6>
 }
 
 impl Minute {
-    /// That time of a day of the years 2000 to 2099.
+    /// The time `hour`:`minute` of a date of the years 2000 to 2099.
     pub fn of(date: Date, hour: u8, minute: u8) -> Minute
         requires year { IsBetween (pos 2000) (pos 2099) date.year }
         requires hour { hour < 24 }
@@ -69,7 +70,7 @@ impl Minute {
         }
     }
 
-    /// That time of a day, which is no later than the last moment that there is.
+    /// The time `time` on `day`, if that is at most the greatest time.
     pub fn on(day: Day, time: TimeOfDay) -> Minute
         requires { 1440 * day + time ≤ GREATEST_MINUTE }
         ensures { result ≡ 1440 * day + time }
@@ -79,7 +80,7 @@ impl Minute {
         }
     }
 
-    /// That many minutes from 1970-01-01 00:00 UTC, where they are at most 100,000,000.
+    /// The time `minutes` after 1970-01-01 00:00 UTC, or `None` beyond 100,000,000.
     #[tactic(auto, unfolding(crate::specs::Moments::moment_within))]
     pub fn new(minutes: u32) -> Option<Minute>
         ensures { result ≡ moment_within minutes }
@@ -91,7 +92,7 @@ impl Minute {
         }
     }
 
-    /// The moment so many minutes later, where it is at most the minute 100,000,000.
+    /// The time `minutes` later, or `None` beyond 100,000,000.
     #[tactic(auto, unfolding(crate::specs::Moments::moment_within))]
     pub fn plus(self, minutes: u32) -> Option<Minute>
         ensures { result ≡ moment_within (self + minutes) }
@@ -105,7 +106,7 @@ impl Minute {
         }
     }
 
-    /// The moment that lies so many minutes after 1970-01-01 00:00 UTC.
+    /// The time `minutes` after 1970-01-01 00:00 UTC.
     pub fn from_minutes(minutes: u32) -> Minute
         requires { minutes ≤ GREATEST_MINUTE }
         ensures { result ≡ minutes }
@@ -113,7 +114,7 @@ impl Minute {
         Minute { minutes }
     }
 
-    /// How many minutes it lies after 1970-01-01 00:00 UTC.
+    /// Minutes since 1970-01-01 00:00 UTC.
     pub fn minutes(self) -> u32
         ensures value { result ≡ self }
         ensures bound { result ≤ GREATEST_MINUTE }
@@ -121,7 +122,7 @@ impl Minute {
         self.minutes
     }
 
-    /// The day on which it lies.
+    /// The day of this time.
     pub fn day(self) -> Day
         ensures { result ≡ self / 1440 }
     {
@@ -135,7 +136,7 @@ impl Minute {
         TimeOfDay::from_minutes((self.minutes % 1440) as u16)
     }
 
-    /// Six digits: the last two of the year, the month and the day.
+    /// Six digits yymmdd: the last two of the year, the month and the day.
     pub fn yymmdd(self) -> Text<6>
         ensures day { IsYymmdd self result }
         ensures digits { result ≡ day_digits (self / 1440) }
@@ -143,7 +144,7 @@ impl Minute {
         date_digits(self.day().date())
     }
 
-    /// Four digits: the hour and the minute.
+    /// Four digits hhmm: the hour and the minute.
     pub fn hhmm(self) -> Text<4>
         ensures { result ≡ hhmm_of (self % 1440) }
     {
@@ -154,7 +155,7 @@ impl Minute {
     }
 }
 
-/// That time of day of a date of the years 2000 to 2099.
+/// The time `time` on a date of the years 2000 to 2099.
 fn minute_at(date: Date, time: TimeOfDay) -> Minute
     requires { IsBetween (pos 2000) (pos 2099) date.year }
     ensures { result ≡ 1440 * unsigned_abs (epoch_day date) + time }
@@ -162,7 +163,7 @@ fn minute_at(date: Date, time: TimeOfDay) -> Minute
     Minute::on(Day::of(date), time)
 }
 
-/// Reads yymmddhhmm, a moment of the years 2000 to 2098.
+/// Reads yymmddhhmm, a time of the years 2000 to 2098. `None` for any other text.
 pub fn read_moment(text: &[u8]) -> Option<Minute>
     ensures { result ≡ moment_of text.now }
 {

@@ -2,10 +2,10 @@
 
 use crate::minute::Minute;
 
-/// The further sub-periods of a regulation at most.
+/// The greatest number of further sub-periods of a regulation.
 pub const MOST_PARTS: usize = 7;
 
-/// A sub-period of a regulation: from that moment on, that many flights an hour.
+/// A sub-period of a regulation: from `from` on, `rate` flights an hour may enter.
 #[derive(Clone, Copy, Debug, PartialEq, Eq)]
 pub struct Part {
     pub from: Minute,

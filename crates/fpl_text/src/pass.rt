@@ -1,6 +1,7 @@
-//! One pass over a text squeezes it.
+//! Squeezes a text in one pass.
 
-ghost use Rattle.std.specs.Prelude.{◌≡◌, ◌<◌, ◌≤◌, ◌+◌, ◌&&◌, ◌++◌, ◌∷◌, [], if◌then◌else◌, not, ℕ, List, true, false};
+ghost use Rattle.std.specs.Prelude.{◌≡◌, ◌<◌, ◌≤◌, ◌+◌, ◌&&◌, ◌++◌, ◌∷◌};
+ghost use Rattle.std.specs.Prelude.{[], if◌then◌else◌, not, ℕ, List, true, false};
 ghost use Rattle.std.specs.Prelude.{length, take, slice_index, IfOk, IfErr, MatchOption, Ok, Err};
 ghost use Rattle.fpl_text.specs.Squeezing.{squeezed_or_fault, blanks};
 ghost use Rattle.fpl_text.specs.Lanes.{HasFront};
@@ -13,24 +14,25 @@ use crate::lanes::{
 };
 use std::simd::prelude::*;
 
-/// How far a text is squeezed.
+/// The state of a pass over a text.
 #[derive(Clone, Copy)]
 pub(crate) struct Pass {
-    /// How many bytes of the text were passed.
+    /// The number of bytes of the text that were read.
     pub(crate) place: usize,
-    /// How many bytes were kept.
+    /// The number of bytes that were kept.
     pub(crate) made: usize,
-    /// Whether blanks stand behind the last one that was kept.
+    /// Whether blanks follow the last byte that was kept.
     pub(crate) blank: bool,
-    /// Whether that one is a border, as the beginning of a text is.
+    /// Whether that byte is a border, as the beginning of a text counts as one.
     pub(crate) border: bool,
 }
 
-/// Keeps a byte, behind a space or not. Gives how many bytes were kept then.
+/// Appends a byte to those that were kept, after a space if `space`. Returns their number then.
 #[inline(always)]
 fn put_byte(out: &mut [u8], made: usize, space: bool, byte: u8) -> usize
     requires { made + blanks space < length out.old }
-    ensures kept { take result out.new ≡ take made out.old ++ ((if space then 32 ∷ [] else []) ++ byte ∷ []) }
+    ensures kept { take result out.new ≡ take made out.old
+        ++ ((if space then 32 ∷ [] else []) ++ byte ∷ []) }
     ensures made { result ≡ made + blanks space + 1 }
     ensures rest { (k : ℕ) → result ≤ k → slice_index out.new k ≡ slice_index out.old k }
 {
@@ -43,7 +45,7 @@ fn put_byte(out: &mut [u8], made: usize, space: bool, byte: u8) -> usize
     at + 1
 }
 
-/// Whether a space stands before the next byte that is kept, where that is no border.
+/// Whether a space precedes the next byte that is kept, if that is no border.
 #[inline(always)]
 fn takes_space(pass: Pass) -> bool
     ensures { result ≡ pass.blank && not pass.border }
@@ -51,7 +53,7 @@ fn takes_space(pass: Pass) -> bool
     pass.blank && !pass.border
 }
 
-/// Passes the next byte. None is for one that is not accepted.
+/// Reads the next byte of the text. `None` if it is no accepted character.
 #[inline(always)]
 fn pass_byte(text: &[u8], out: &mut [u8], pass: Pass) -> Option<Pass>
     requires pass { IsPass text.now out.old pass }
@@ -90,8 +92,8 @@ fn pass_byte(text: &[u8], out: &mut [u8], pass: Pass) -> Option<Pass>
     })
 }
 
-/// Passes bytes one by one, up to one that is no blank, or to the end. The error is the place of one that is not
-/// accepted.
+/// Reads bytes one by one, at least one, up to the next that is no blank, or to the end. Returns
+/// the offset of a byte that isn't accepted as the error.
 fn pass_bytes(text: &[u8], out: &mut [u8], from: Pass) -> Result<Pass, usize>
     requires { IsPass text.now out.old from }
     ensures pass { IfOk result (λ to. IsPass text.now out.new to) }
@@ -113,29 +115,31 @@ fn pass_bytes(text: &[u8], out: &mut [u8], from: Pass) -> Result<Pass, usize>
     Ok(pass)
 }
 
-/// What a look at 16 bytes tells of the first 15.
+/// What one vector of 16 bytes shows of the first 15.
 #[derive(Clone, Copy)]
 struct Front {
     /// The bytes, with spaces for line feeds.
     lanes: u8x16,
-    /// How many of the first of them are easy.
+    /// How many of the first bytes are easy: kept as they are, or as one space.
     count: usize,
-    /// Whether the last of those is a border.
+    /// Whether the last easy byte is a border.
     border: bool,
 }
 
-/// Looks at the 16 bytes from a place on, behind a border or not: mostly all of them are common bytes, borders, and
-/// spaces or line feeds between two common bytes, which are easy; such a line feed is kept as a space. The last of them
-/// only shows what stands behind the one before, and is looked at again with the next 16.
+/// Loads the 16 bytes at `at` and counts the easy ones at the front. Mostly all are: common bytes,
+/// borders, and a space or line feed between two common bytes, which is kept as a space. Byte 15
+/// only shows what follows byte 14, and is loaded again with the next vector.
 #[inline(always)]
 fn easy_front(bytes: &[u8], at: usize, border: bool) -> Front
     requires { at + 16 ≤ length bytes.now }
     ensures bound { result.count ≤ 15 }
-    ensures easy { (text : List ℕ) (place : ℕ) → StandsAt text place bytes.now at → (k : ℕ) → k < result.count
+    ensures easy { (text : List ℕ) (place : ℕ) → StandsAt text place bytes.now at → (k : ℕ)
+        → k < result.count
         → is_easy text place border k ≡ true }
     ensures border { (text : List ℕ) (place : ℕ) → StandsAt text place bytes.now at
         → result.border ≡ border_behind text place border result.count }
-    ensures lanes { HasFront result.lanes result.count (λ k. as_space (slice_index bytes.now (at + k))) }
+    ensures lanes { HasFront result.lanes result.count
+        (λ k. as_space (slice_index bytes.now (at + k))) }
 {
     let lanes = load(bytes, at);
     let (count, border) = kept_front(
@@ -151,9 +155,9 @@ fn easy_front(bytes: &[u8], at: usize, border: bool) -> Front
     }
 }
 
-/// Looks at the 16 bytes of a text from a place on, behind a border or not. The text stands in `out` too, behind 16
-/// bytes more, where zeros follow it. Where 16 bytes are left, they are looked at in the text itself, since the
-/// processor waits for bytes that were stored in `out` just before.
+/// Loads the 16 bytes of the text at `place`. `out` has the text too, after 16 more bytes and with
+/// zeros following it. While 16 bytes are left they are loaded from the text itself, since a load
+/// from `out` would wait for the store just before.
 #[inline(always)]
 fn front_at(text: &[u8], out: &[u8], place: usize, border: bool) -> Front
     requires within { place ≤ length text.now }
@@ -162,7 +166,8 @@ fn front_at(text: &[u8], out: &[u8], place: usize, border: bool) -> Front
     ensures bound { result.count ≤ 15 }
     ensures easy { (k : ℕ) → k < result.count → is_easy text.now place border k ≡ true }
     ensures border { result.border ≡ border_behind text.now place border result.count }
-    ensures lanes { HasFront result.lanes result.count (λ k. as_space (slice_index out.now (place + 16 + k))) }
+    ensures lanes { HasFront result.lanes result.count
+        (λ k. as_space (slice_index out.now (place + 16 + k))) }
 {
     if text.len() - place >= 16 {
         easy_front(text, place, border)
@@ -171,7 +176,8 @@ fn front_at(text: &[u8], out: &[u8], place: usize, border: bool) -> Front
     }
 }
 
-/// Passes easy bytes, 15 at a time. What is written behind those that are easy is written over later.
+/// Keeps easy bytes, 15 at a time. Bytes that are written after the last easy one are overwritten
+/// later.
 fn pass_easy(text: &[u8], out: &mut [u8], from: Pass) -> Pass
     requires pass { IsPass text.now out.old from }
     requires inside { from.place < length text.now → from.blank ≡ false }
@@ -188,19 +194,20 @@ fn pass_easy(text: &[u8], out: &mut [u8], from: Pass) -> Pass
             pass.made += front.count;
             return pass;
         }
-        // Where all are easy the processor need not wait for the count before it goes on.
+        // If all are easy the processor need not wait for the count.
         pass.place += 15;
         pass.made += 15;
     }
     pass
 }
 
-/// Squeezes a text, which stands in `out` between two gaps, into the front of `out`. Gives how many bytes it has then,
-/// or the place of the first byte that is not accepted.
+/// Squeezes a text to the beginning of `out`, which has it between two paddings of 16 zeros.
+/// Returns the length of the squeezed text, or the offset of the first byte that isn't accepted.
 pub(crate) fn squeeze(text: &[u8], out: &mut [u8]) -> Result<usize, usize>
     requires { out.old ≡ gap ++ (text.now ++ gap) }
     ensures empty { IfOk result (λ made. made ≡ 0 → squeezed_or_fault text.now ≡ Err Empty) }
-    ensures some { IfOk result (λ made. 0 < made → squeezed_or_fault text.now ≡ Ok (take made out.new)) }
+    ensures some { IfOk result (λ made. 0 < made
+        → squeezed_or_fault text.now ≡ Ok (take made out.new)) }
     ensures bound { IfOk result (λ made. made ≤ length text.now) }
     ensures long { length out.new ≡ length text.now + 32 }
     ensures bad { IfErr result (λ place. squeezed_or_fault text.now ≡ Err (BadByte place)) }

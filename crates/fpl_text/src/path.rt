@@ -1,4 +1,4 @@
-//! The bytes of a path.
+//! The bytes of a path, the route of field 15 without its speed and level.
 ghost use Rattle.std.specs.Prelude.{◌≡◌};
 ghost use Rattle.std.specs.List.{list_all};
 ghost use Rattle.fpl_text.specs.Bytes.{is_path_byte};
@@ -14,14 +14,14 @@ fn is_path_byte(byte: u8) -> bool
     is_letter_or_digit(byte) || byte == b'/' || byte == b' '
 }
 
-/// Whether a text has the bytes of a path alone.
+/// Whether all bytes are letters, digits, strokes and spaces, one by one.
 fn all_of_path(text: &[u8]) -> bool
     ensures { result ≡ list_all is_path_byte text.now }
 {
     text.iter().all(|byte| is_path_byte(*byte))
 }
 
-/// Whether a text has the bytes of a path alone: letters, digits, strokes and spaces. Sixteen bytes take one look.
+/// Whether all bytes of a text are letters, digits, strokes and spaces. Reads 16 bytes at a time.
 pub fn is_path(text: &[u8]) -> bool
     ensures { result ≡ list_all is_path_byte text.now }
 {

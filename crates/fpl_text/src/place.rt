@@ -1,11 +1,13 @@
-//! Fields 13 and 16: a departure, a destination.
+//! Fields 13 and 16: departure and destination.
 
-ghost use Rattle.std.specs.Prelude.{◌≡◌, ◌≤◌, ◌<◌, ◌++◌, ◌∷◌, [], List, ℕ, true, false, length, IfOk, IfSome};
+ghost use Rattle.std.specs.Prelude.{◌≡◌, ◌≤◌, ◌<◌, ◌++◌, ◌∷◌, [], List};
+ghost use Rattle.std.specs.Prelude.{ℕ, true, false, length, IfOk, IfSome};
 ghost use Rattle.std.specs.Prelude.{nat_eq};
 ghost use Rattle.std.specs.Cmp.{partial_equiv_from_equiv};
 ghost use Rattle.std.specs.Cmp.Lexicographic.{pointwise, lists_per, lists_equiv, nat_list_eq_equiv};
 ghost use Rattle.std.specs.Option.{ok_or};
-ghost use Rattle.fpl_text.specs.Places.{is_place, arrival_of, alternates_of, departure_of, destination_of};
+ghost use Rattle.fpl_text.specs.Places.{is_place, arrival_of, alternates_of};
+ghost use Rattle.fpl_text.specs.Places.{departure_of, destination_of};
 ghost use Rattle.fpl_text.specs.declared.time.TheConstants.{ELAPSED_LIMIT};
 
 use crate::byte::all_letters;
@@ -15,8 +17,8 @@ use crate::time::{TimeOfDay, read_elapsed};
 use crate::words::Words;
 use std::marker::Model;
 
-/// Field 13: a departure aerodrome and a time (ICAO Doc 4444, appendix 3, field type 13): of off-block, or in a DEP of
-/// take-off. AFIL and ZZZZ stand for departures too.
+/// Field 13: departure aerodrome and time (ICAO Doc 4444, appendix 3, field type 13). The time is
+/// that of off-block, or in a DEP of take-off. AFIL and ZZZZ are read as aerodromes too.
 #[derive(Debug, Drop, PartialEq, Eq)]
 pub struct Departure {
     pub place: Text<4>,
@@ -26,14 +28,15 @@ pub struct Departure {
 /// The alternate aerodromes of a destination, at most two, seen as the list of their names.
 #[derive(Clone, Copy, Debug)]
 pub struct Alternates {
-    /// The names, and empty ones behind them.
+    /// The names, followed by empty ones.
     places: [Text<4>; 2],
-    /// How many there are, in 16 bits, so that a copy takes two moves that don't overlap.
+    /// The number of names, in 16 bits, so that a copy takes two moves that don't overlap.
     count: u16,
 }
 
 impl Model for Alternates {
-    ghost use Rattle.std.specs.Prelude.{◌≡◌, ◌≤◌, ◌-◌, ◌++◌, List, [], ℕ, length, take, drop, replicate};
+    ghost use Rattle.std.specs.Prelude.{◌≡◌, ◌≤◌, ◌-◌, ◌++◌, List, []};
+    ghost use Rattle.std.specs.Prelude.{ℕ, length, take, drop, replicate};
     ghost use Rattle.std.proofs.Common.{arith, take-append-drop, length-take-le, sym, ap, ◌∙◌};
 
     ghost Value = { List (List ℕ) };
@@ -43,7 +46,8 @@ impl Model for Alternates {
     ghost invariant = { λ a. (a.count ≤ 2) × (length a.places ≡ 2)
         × (drop a.count a.places ≡ replicate (2 - a.count) []) };
 
-    ghost inverse = { λ places. record { places = places ++ replicate (2 - length places) []; count = length places } };
+    ghost inverse = { λ places.
+        record { places = places ++ replicate (2 - length places) []; count = length places } };
 
     ghost inverse_ok = { λ a h i. record {
       places = (ap (λ n. take a.count a.places ++ replicate (2 - n) [])
@@ -69,7 +73,6 @@ impl Eq for Alternates {
 }
 
 impl Alternates {
-    /// No alternates.
     fn none() -> Alternates
         ensures { result ≡ [] }
     {
@@ -95,7 +98,6 @@ impl Alternates {
         self.count == 2
     }
 
-    /// Appends a name.
     fn push(&mut self, place: Text<4>)
         requires { length self.old < 2 }
         ensures { self.new ≡ self.old ++ place ∷ [] }
@@ -105,8 +107,9 @@ impl Alternates {
     }
 }
 
-/// Field 16: a destination, the total estimated elapsed time in minutes where it is given, and alternates (ICAO Doc
-/// 4444, appendix 3, field type 16). A flight plan has to give the time; other messages may leave it out.
+/// Field 16: destination, total estimated elapsed time in minutes if it is given, and alternates
+/// (ICAO Doc 4444, appendix 3, field type 16). An FPL has to give the time; other messages may
+/// leave it out.
 #[derive(Debug, Drop, PartialEq, Eq)]
 pub struct Destination {
     pub place: Text<4>,
@@ -114,7 +117,7 @@ pub struct Destination {
     pub alternates: Alternates,
 }
 
-/// Whether a text is four letters.
+/// Whether a text is a location indicator of four letters.
 #[tactic(auto, unfolding(crate::specs::Places::is_place))]
 fn is_place(text: &[u8]) -> bool
     ensures { result ≡ is_place text.now }
@@ -123,7 +126,7 @@ fn is_place(text: &[u8]) -> bool
 }
 
 impl Departure {
-    /// Reads field 13: four letters, and a time of day hhmm.
+    /// Reads field 13: four letters, and a time of day hhmm. Any other text is `BadField(13)`.
     #[tactic(auto, unfolding(crate::specs::Places::departure_of, crate::specs::Places::is_place))]
     pub fn read(field: &[u8]) -> Result<Departure, FieldFault>
         ensures { result ≡ ok_or (departure_of field.now) (FieldFault.BadField 13) }
@@ -141,12 +144,13 @@ impl Departure {
     }
 }
 
-/// Four letters, and then nothing or an elapsed time.
+/// Reads a destination, and its total elapsed time if it is given.
 #[inline(always)]
 #[tactic(auto, unfolding(crate::specs::Places::arrival_of, crate::specs::Places::is_place))]
 fn arrival_of(word: &[u8]) -> Option<(Text<4>, Option<u32>)>
     ensures value { result ≡ arrival_of word.now }
-    ensures bound { IfSome result (λ arrival. IfSome arrival.1 (λ minutes. minutes < ELAPSED_LIMIT)) }
+    ensures bound { IfSome result (λ arrival.
+        IfSome arrival.1 (λ minutes. minutes < ELAPSED_LIMIT)) }
 {
     if word.len() < 4 || !is_place(&word[..4]) {
         return None;
@@ -159,7 +163,7 @@ fn arrival_of(word: &[u8]) -> Option<(Text<4>, Option<u32>)>
     Some((place, Some(minutes)))
 }
 
-/// At most two places, in order.
+/// Reads at most two alternates, in order.
 #[tactic(auto, unfolding(crate::specs::Places::is_place))]
 fn alternates_of(words: Words<'_>) -> Option<Alternates>
     ensures { result ≡ alternates_of words.entry }
@@ -177,12 +181,13 @@ fn alternates_of(words: Words<'_>) -> Option<Alternates>
     Some(alternates)
 }
 
-/// The parts of field 16.
+/// Reads the parts of field 16.
 #[inline(always)]
 #[tactic(auto, unfolding(crate::specs::Places::destination_of))]
 fn destination_of(field: &[u8]) -> Option<Destination>
     ensures value { result ≡ destination_of field.now }
-    ensures bound { IfSome result (λ destination. IfSome destination.elapsed (λ minutes. minutes < ELAPSED_LIMIT)) }
+    ensures bound { IfSome result (λ destination.
+        IfSome destination.elapsed (λ minutes. minutes < ELAPSED_LIMIT)) }
 {
     let mut words = Words::new(field);
     let (place, elapsed) = arrival_of(words.next()?)?;
@@ -195,12 +200,13 @@ fn destination_of(field: &[u8]) -> Option<Destination>
 }
 
 impl Destination {
-    /// Reads field 16: four letters, then nothing or an elapsed time hhmm, which is at most 5,999 minutes, and then at
-    /// most two words of four letters.
+    /// Reads field 16: four letters, optionally an elapsed time hhmm of at most 5,999 minutes, and
+    /// then at most two words of four letters. Any other text is `BadField(16)`.
     #[inline(always)]
     pub fn read(field: &[u8]) -> Result<Destination, FieldFault>
         ensures value { result ≡ ok_or (destination_of field.now) (FieldFault.BadField 16) }
-        ensures bound { IfOk result (λ destination. IfSome destination.elapsed (λ minutes. minutes < ELAPSED_LIMIT)) }
+        ensures bound { IfOk result (λ destination.
+            IfSome destination.elapsed (λ minutes. minutes < ELAPSED_LIMIT)) }
     {
         destination_of(field).ok_or(FieldFault::BadField(16))
     }

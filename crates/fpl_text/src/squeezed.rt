@@ -9,12 +9,13 @@ use crate::pass::squeeze;
 use std::alloc::{AllocError, Allocator, Global};
 use std::marker::Model;
 
-/// A text whose runs of blanks are one space each, with none at the ends or beside a hyphen or a bracket.
+/// A text in which each run of blanks is one space, with none at the ends or beside a hyphen or a
+/// bracket.
 #[derive(Drop)]
 pub struct Squeezed<A: Allocator + Copy = Global> {
-    /// The text, with 16 more bytes behind it at least, so that each of its bytes can be looked at with 15 others.
+    /// The text and at least 16 more bytes, so that a vector can be loaded at each of its bytes.
     bytes: Vec<u8, A>,
-    /// How many bytes the text has.
+    /// The length of the text.
     len: usize,
 }
 
@@ -28,7 +29,8 @@ impl<A: Allocator + Copy> Model for Squeezed<A> {
     ghost invariant = { λ s. s.len + 16 ≤ length s.bytes.items };
 }
 
-/// A text between two gaps of 16 zeros, in this room. It grows where it is too small.
+/// Copies a text into this buffer between two paddings of 16 zeros. Grows the buffer if it is too
+/// small; returns `Err` if that allocation fails.
 fn between_gaps<A: Allocator + Copy>(
     room: Vec<u8, A>,
     text: &[u8],
@@ -45,19 +47,21 @@ fn between_gaps<A: Allocator + Copy>(
 }
 
 impl<A: Allocator + Copy> Squeezed<A> {
-    /// Squeezes a text in one pass over its bytes. A text of blanks alone is Empty; else the first byte that is not
-    /// accepted is BadByte.
+    /// Squeezes a text in one pass over its bytes. A text of blanks alone is `Empty`; else the
+    /// first byte that isn't accepted is `BadByte`. Returns `OutOfMemory` if allocation fails.
     pub fn read(alloc: A, text: &[u8]) -> Result<Self, TextFault>
         ensures { Gives result (squeezed_or_fault text.now) }
     {
         Squeezed::read_in(Vec::new(alloc), text)
     }
 
-    /// Squeezes a text as `read` does, in room that another text had. Where the text is refused, the room is given up.
+    /// Squeezes a text as `read` does, into the buffer of another text. The buffer is freed if the
+    /// text is refused.
     pub fn read_in(room: Vec<u8, A>, text: &[u8]) -> Result<Self, TextFault>
         ensures { Gives result (squeezed_or_fault text.now) }
     {
-        // A squeezed text is no longer than the text, so it is written over a copy: this is the one growth.
+        // A squeezed text is no longer than the text, so it is written over a copy: this is the one
+        // allocation.
         let Ok(mut bytes) = between_gaps(room, text) else {
             return Err(TextFault::OutOfMemory);
         };
@@ -73,14 +77,14 @@ impl<A: Allocator + Copy> Squeezed<A> {
 }
 
 impl<A: Allocator + Copy> Squeezed<A> {
-    /// The bytes, which are not copied.
+    /// The squeezed text.
     pub fn as_bytes(&self) -> &[u8]
         ensures { result.now ≡ self.now }
     {
         &self.bytes[..self.len]
     }
 
-    /// The bytes, with at least 16 more behind them.
+    /// The squeezed text and at least 16 more bytes.
     pub(crate) fn with_room(&self) -> &[u8]
         ensures text { take (length self.now) result.now ≡ self.now }
         ensures room { length self.now + 16 ≤ length result.now }
@@ -88,7 +92,7 @@ impl<A: Allocator + Copy> Squeezed<A> {
         self.bytes.as_slice()
     }
 
-    /// The room of the text, for another one.
+    /// Discards the text and returns its empty buffer, for the next text.
     pub fn into_room(self) -> Vec<u8, A>
         ensures { result.items ≡ [] }
     {

@@ -1,4 +1,4 @@
-//! Bounded texts.
+//! Short texts of bounded length.
 
 ghost use Rattle.std.specs.Prelude.{◌≡◌, ◌≤◌, [], List, ℕ, length, nat_eq};
 ghost use Rattle.std.specs.Cmp.{on_equiv, on_per, partial_equiv_from_equiv};
@@ -11,30 +11,34 @@ ghost use Rattle.std.proofs.Common.{rules};
 use std::hash::{Hash, Hasher};
 use std::marker::Model;
 
-/// A text of at most `N` bytes, `N` at most 255, which lies in the value itself.
+/// A text of at most `N` bytes, `N` at most 255, stored inline and without allocation.
 #[derive(Clone, Copy, Debug)]
 pub struct Text<const N: usize> {
-    /// The text, and zeroes behind it.
+    /// The text, followed by zeros.
     bytes: [u8; N],
     len: u8,
 }
 
 impl<const N: usize> Model for Text<N> {
-    ghost use Rattle.std.specs.Prelude.{◌≡◌, ◌≤◌, ◌-◌, ◌++◌, List, ℕ, length, take, drop, replicate};
+    ghost use Rattle.std.specs.Prelude.{◌≡◌, ◌≤◌, ◌-◌, ◌++◌, List};
+    ghost use Rattle.std.specs.Prelude.{ℕ, length, take, drop, replicate};
     ghost use Rattle.std.proofs.Common.{arith, take-append-drop, length-take-le, sym, ap, ◌∙◌};
 
     ghost Value = { List ℕ };
 
     ghost view = { λ t. take t.len t.bytes };
 
-    ghost invariant = { λ t. (t.len ≤ N) × (length t.bytes ≡ N) × (drop t.len t.bytes ≡ replicate (N - t.len) 0) };
+    ghost invariant = { λ t. (t.len ≤ N) × (length t.bytes ≡ N)
+        × (drop t.len t.bytes ≡ replicate (N - t.len) 0) };
 
-    ghost inverse = { λ bytes. record { bytes = bytes ++ replicate (N - length bytes) 0; len = length bytes } };
+    ghost inverse = { λ bytes.
+        record { bytes = bytes ++ replicate (N - length bytes) 0; len = length bytes } };
 
     ghost inverse_ok = { λ t h i. record {
       bytes = (ap (λ n. take t.len t.bytes ++ replicate (N - n) 0)
           (length-take-le t.len t.bytes (omega (arith, h.0, h.1)))
-          ∙ ap (λ (rest : List ℕ). take t.len t.bytes ++ rest) (sym h.2) ∙ take-append-drop t.len t.bytes) i;
+          ∙ ap (λ (rest : List ℕ). take t.len t.bytes ++ rest)
+          (sym h.2) ∙ take-append-drop t.len t.bytes) i;
       len = length-take-le t.len t.bytes (omega (arith, h.0, h.1)) i;
     } };
 }
@@ -75,7 +79,7 @@ impl<const N: usize> Default for Text<N> {
 }
 
 impl<const N: usize> Text<N> {
-    /// The text of these bytes.
+    /// The text of these bytes, at most `N`.
     pub fn new(bytes: &[u8]) -> Self
         requires fits { length bytes.now ≤ N }
         requires short { N ≤ 255 }
@@ -89,7 +93,8 @@ impl<const N: usize> Text<N> {
         }
     }
 
-    /// Whether this is the same text. Equal texts are equal in all their bytes, so no length bounds the look.
+    /// Whether both texts are equal. Compares all `N` bytes, since the bytes after equal texts are
+    /// equal zeros, so that the comparison has a fixed length.
     #[inline]
     pub fn is(&self, other: &Self) -> bool
         ensures { result ≡ bytes_eq self.now other.now }

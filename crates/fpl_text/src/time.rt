@@ -1,4 +1,4 @@
-//! Times of four digits.
+//! Times of four digits, hhmm.
 
 ghost use Rattle.std.specs.Prelude.{◌≡◌, ◌<◌, ◌≤◌, ◌+◌, ◌*◌, ◌/◌, ◌%◌, ℕ, true, ◌-◌, IfSome};
 ghost use Rattle.fpl_text.specs.Bytes.{is_digit};
@@ -7,7 +7,7 @@ ghost use Rattle.fpl_text.specs.Times.{two_digits, hhmm_below, time_of_day, elap
 use crate::byte::all_digits;
 use std::marker::Model;
 
-/// No elapsed time comes to so many minutes: four digits say at most 99 hours and 59 minutes.
+/// Every elapsed time is less than this: four digits are at most 99 hours and 59 minutes.
 pub const ELAPSED_LIMIT: u32 = 6000;
 
 /// A time of day, seen as its minutes after midnight.
@@ -27,7 +27,7 @@ impl Model for TimeOfDay {
 }
 
 impl TimeOfDay {
-    /// Reads hhmm, of hours 00 to 23 and minutes 00 to 59.
+    /// Reads hhmm, of hours 00 to 23 and minutes 00 to 59. `None` for any other text.
     pub fn read(text: &[u8]) -> Option<TimeOfDay>
         ensures { result ≡ time_of_day text.now }
     {
@@ -35,7 +35,7 @@ impl TimeOfDay {
         Some(TimeOfDay { minutes })
     }
 
-    /// That many minutes after midnight.
+    /// The time of day `minutes` after midnight.
     pub(crate) fn from_minutes(minutes: u16) -> TimeOfDay
         requires { minutes < 1440 }
         ensures { result ≡ minutes }
@@ -43,7 +43,7 @@ impl TimeOfDay {
         TimeOfDay { minutes }
     }
 
-    /// How many minutes it lies after midnight.
+    /// Minutes after midnight.
     pub fn minutes(self) -> u16
         ensures value { result ≡ self }
         ensures bound { result < 1440 }
@@ -68,7 +68,7 @@ impl TimeOfDay {
     }
 }
 
-/// The number of the two digits from that place on.
+/// The number of two digits.
 #[tactic(auto, unfolding(crate::specs::Times::two_digits, crate::specs::Bytes::is_digit))]
 pub(crate) fn two_digits(first: u8, second: u8) -> u8
     requires first { is_digit first ≡ true }
@@ -79,7 +79,7 @@ pub(crate) fn two_digits(first: u8, second: u8) -> u8
     10 * (first - b'0') + (second - b'0')
 }
 
-/// The minutes of an hhmm whose hours lie below `hours`.
+/// Reads hhmm in minutes, with hours below `hours` and minutes below 60.
 #[tactic(auto, unfolding(crate::specs::Times::hhmm_below, crate::specs::Times::two_digits))]
 pub(crate) fn hhmm_below(hours: u8, text: &[u8]) -> Option<u16>
     requires { hours ≤ 100 }
@@ -98,7 +98,8 @@ pub(crate) fn hhmm_below(hours: u8, text: &[u8]) -> Option<u16>
     }
 }
 
-/// Reads an elapsed time hhmm, of hours 00 to 99 and minutes 00 to 59, in minutes.
+/// Reads an elapsed time hhmm, of hours 00 to 99 and minutes 00 to 59, in minutes. `None` for any
+/// other text.
 pub fn read_elapsed(text: &[u8]) -> Option<u32>
     ensures value { result ≡ elapsed_time text.now }
     ensures bound { IfSome result (λ minutes. minutes < ELAPSED_LIMIT) }

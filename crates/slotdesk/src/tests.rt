@@ -11,7 +11,7 @@ use std::thread::Threads;
 
 const FPL: &[u8] = b"(FPL-AAA1-IS-A320/M-SDFG/LB1-LIML0800-N0450F350 DCT-EDDF0150-0)";
 
-/// A reader of some bytes that fails at its end, if it is to.
+/// A reader of some bytes that fails at its end if `fails`.
 #[derive(Drop)]
 struct Source<'a> {
     rest: &'a [u8],
@@ -31,7 +31,7 @@ impl Read for Source<'_> {
     }
 }
 
-/// A writer that takes so many bytes, and then fails.
+/// A writer that takes `room` bytes, and then fails.
 #[derive(Drop)]
 struct Sink {
     taken: Vec<u8>,

@@ -1,24 +1,24 @@
-//! The names that are most like a word.
+//! Finds the names that are most like a word.
 use std::alloc::{AllocError, Global};
 use std::io::Write;
 use strsim::osa_distance;
 
-/// How many names are told.
+/// How many names are written at most.
 const MOST: usize = 3;
 
 /// How many characters of a word are compared. No name has more than 16.
 const COMPARED: usize = 16;
 
-/// A name, and how many edits make it of the word.
+/// A name, and the number of edits between the word and it.
 #[derive(Drop)]
 struct Near {
     edits: usize,
     name: String,
 }
 
-/// The names that the fewest edits make of a word: at most three, in that order, of equal ones the first. An edit leaves
-/// out, adds or changes a character, or turns two round. Small letters are taken as capital ones, and of a long word its
-/// beginning is compared.
+/// The names with the fewest edits between the word and them: at most three, in that order, of
+/// equal ones the first. An edit leaves out, adds or changes a character, or exchanges two
+/// neighbours. Small letters count as capital ones, and of a long word its beginning is compared.
 #[derive(Drop)]
 pub struct Nearest {
     alloc: Global,
@@ -27,7 +27,7 @@ pub struct Nearest {
 }
 
 impl Nearest {
-    /// Those of no names yet.
+    /// Starts with no names.
     pub fn new(alloc: Global, word: &str) -> Result<Self, AllocError> {
         let mut compared = String::new(alloc);
         for letter in word.chars().take(COMPARED) {
@@ -45,7 +45,7 @@ impl Nearest {
         self.names.iter().any(|near| near.name.as_str() == name)
     }
 
-    /// Takes a further name among them, if it is nearer.
+    /// Considers a further name, and keeps it if it is one of the nearest.
     pub fn look_at(&mut self, name: &str) -> Result<(), AllocError> {
         if self.has(name) {
             return Ok(());

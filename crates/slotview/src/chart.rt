@@ -1,4 +1,4 @@
-//! Demand and slots of a regulation by steps of time, as a picture.
+//! The picture of a regulation: demand and slots by steps of time.
 use crate::chart_text::{joined, rates_of, shut_text, title_of};
 use crate::count::{counts_in, flights_of, later_by};
 use crate::fault::{Fault, unwritten};
@@ -13,10 +13,11 @@ use fpl_text::Minute;
 use std::alloc::{AllocError, Global};
 use std::io::Write;
 
-/// How many minutes are drawn before and after a period at least, where there is room.
+/// The least number of minutes drawn before and after a period, unless the picture would be too
+/// wide.
 const MARGIN: u32 = 60;
 
-/// How many minutes a picture has at most.
+/// The greatest number of minutes in a picture.
 const MOST_MINUTES: u32 = 1440;
 
 /// What the bars of a panel count.
@@ -48,7 +49,7 @@ impl Counted {
         }
     }
 
-    /// The color of what is before and after the period.
+    /// The color of the bars before and after the period.
     fn pale_color(self) -> &'static str {
         match self {
             Counted::Demand => "#F5D899",
@@ -56,7 +57,7 @@ impl Counted {
         }
     }
 
-    /// How far below the upper edge of the picture the panel begins, in pixels.
+    /// The distance of the panel's upper edge from that of the picture, in pixels.
     fn top(self) -> u32 {
         match self {
             Counted::Demand => 156,
@@ -73,7 +74,7 @@ impl Counted {
     }
 }
 
-/// What is drawn: the steps of the period, and before and after it, of so many minutes each.
+/// What is drawn: the steps of the period, and those before and after it, of `step` minutes each.
 #[derive(Drop)]
 struct Drawn {
     step: u32,
@@ -82,7 +83,7 @@ struct Drawn {
     after: Vec<Load>,
 }
 
-/// How many minutes are drawn before and after a period: whole steps, and those of all slots that are held.
+/// The minutes drawn before and after a period: whole steps that include all held slots.
 fn margins_of(shape: &Shape, rows: &[SlotRow], step: u32) -> (u32, u32) {
     let (start, end) = shape.period();
     let minutes = end.minutes().saturating_sub(start.minutes());
@@ -102,14 +103,14 @@ fn margins_of(shape: &Shape, rows: &[SlotRow], step: u32) -> (u32, u32) {
     (before, least.max(held).min(rest.saturating_mul(step)))
 }
 
-/// How many flights hold a slot from one moment to before another.
+/// The number of flights that hold a slot from `from` to before `to`.
 fn held_in(rows: &[SlotRow], from: Minute, to: Minute) -> u64 {
     rows.iter()
         .filter(|row| from <= row.time && row.time < to)
         .count() as u64
 }
 
-/// The steps of a period outside the regulation: all flights that enter the place, and the slots that are held.
+/// The steps outside the period: all flights that enter the point, and the slots that are held.
 fn loads_outside(
     alloc: Global,
     core: &Core,
@@ -130,7 +131,7 @@ fn loads_outside(
     Ok(loads)
 }
 
-/// What is drawn of a regulation.
+/// Counts what is drawn of a regulation.
 fn drawn_of(alloc: Global, core: &Core, opening: &Opening, step: u32) -> Result<Drawn, AllocError> {
     let shape = opening.shape();
     let (start, end) = shape.period();
@@ -147,7 +148,7 @@ fn drawn_of(alloc: Global, core: &Core, opening: &Opening, step: u32) -> Result<
     })
 }
 
-/// The rates with the moments from which they hold, and the end.
+/// The rates with the times from which they apply, and the end of the period.
 fn rates_in(alloc: Global, shape: &Shape) -> Result<Vec<(Minute, u32)>, AllocError> {
     let (start, _) = shape.period();
     let mut rates = Vec::new(alloc);
@@ -158,13 +159,13 @@ fn rates_in(alloc: Global, shape: &Shape) -> Result<Vec<(Minute, u32)>, AllocErr
     Ok(rates)
 }
 
-/// The slots that a rate gives in a step, rounded up.
+/// The number of slots that a rate gives in a step, rounded up.
 fn slots_at(rate: u32, step: u32) -> u32 {
     let slots = u64::from(rate) * u64::from(step);
     u32::try_from(slots.div_ceil(60)).unwrap_or(u32::MAX)
 }
 
-/// How far below the upper edge of a panel a rate is, in flights a step.
+/// The distance of a rate, in flights a step, below the upper edge of a panel.
 fn rate_down(panel: &Panel, rate: u32, step: u32) -> Pixels {
     let slots = u64::from(rate) * u64::from(step);
     let most = u64::from(panel.scale.top()) * 60;
@@ -203,7 +204,7 @@ fn put_path<W: Write>(writer: &mut W, path: &str) -> Result<(), Fault> {
     .map_err(unwritten)
 }
 
-/// Writes the bars of steps in the period, with what is said of each.
+/// Writes the bars of the steps in the period, each with its title.
 fn put_within<W: Write>(
     writer: &mut W,
     panel: &Panel,
@@ -229,7 +230,7 @@ fn put_within<W: Write>(
     Ok(())
 }
 
-/// Writes the bars of steps outside the period.
+/// Writes the bars of the steps outside the period.
 fn put_outside<W: Write>(
     writer: &mut W,
     panel: &Panel,
@@ -287,7 +288,7 @@ fn put_panel<W: Write>(
     writer.write_all(b"</g>\n").map_err(unwritten)
 }
 
-/// Writes the rates, of which the further ones have a line of their own.
+/// Writes the rates; those of further sub-periods are in a line of their own.
 fn put_rates<W: Write>(writer: &mut W, rates: &str, more: &str) -> Result<(), Fault> {
     write!(writer, "<text x=\"20\" y=\"50\">{rates}</text>\n").map_err(unwritten)?;
     if more.is_empty() {
@@ -296,7 +297,7 @@ fn put_rates<W: Write>(writer: &mut W, rates: &str, more: &str) -> Result<(), Fa
     write!(writer, "<text x=\"20\" y=\"68\">{more}</text>\n").map_err(unwritten)
 }
 
-/// Writes what the colours stand for.
+/// Writes the legend of the colours.
 fn put_legend<W: Write>(writer: &mut W) -> Result<(), Fault> {
     let demand = Counted::Demand;
     let held = Counted::Held;
@@ -319,7 +320,7 @@ fn put_legend<W: Write>(writer: &mut W) -> Result<(), Fault> {
         .map_err(unwritten)
 }
 
-/// Writes which entry shut a regulation, below the title at the right.
+/// Writes the number of the entry that shut a regulation, below the title at the right.
 fn put_shut<W: Write>(writer: &mut W, shut: &str) -> Result<(), Fault> {
     if shut.is_empty() {
         return Ok(());
@@ -331,7 +332,7 @@ fn put_shut<W: Write>(writer: &mut W, shut: &str) -> Result<(), Fault> {
     .map_err(unwritten)
 }
 
-/// Writes the names of a picture, and what its colours stand for.
+/// Writes the title of a picture, and its legend.
 fn put_head<W: Write>(alloc: Global, writer: &mut W, opening: &Opening) -> Result<(), Fault> {
     let title = title_of(alloc, opening)?;
     let shut = shut_text(alloc, opening)?;
@@ -355,7 +356,7 @@ fn put_head<W: Write>(alloc: Global, writer: &mut W, opening: &Opening) -> Resul
     put_legend(writer)
 }
 
-/// The greatest count that is drawn, the slots of the rates among them.
+/// The greatest count that is drawn, the slots of the rates included.
 fn greatest_in(alloc: Global, drawn: &Drawn, shape: &Shape) -> Result<u32, AllocError> {
     let most = greatest_of(drawn.before.as_slice())
         .max(greatest_of(drawn.within.as_slice()))
@@ -367,7 +368,7 @@ fn greatest_in(alloc: Global, drawn: &Drawn, shape: &Shape) -> Result<u32, Alloc
     Ok(greatest)
 }
 
-/// Writes demand and slots of a regulation in steps of so many minutes as an SVG document.
+/// Writes demand and slots of a regulation, in steps of `step` minutes, as an SVG document.
 pub fn put_chart<W: Write>(
     alloc: Global,
     writer: &mut W,

@@ -7,7 +7,8 @@ use flow_view::Opening;
 use fpl_text::{Minute, Part};
 use std::alloc::{AllocError, Global};
 
-/// The name of a regulation, its place and its period. One that was shut has the entry that opened it with its name.
+/// The name of a regulation, its point and its period. If it was shut, the name has the entry that
+/// opened it.
 pub fn title_of(alloc: Global, opening: &Opening) -> Result<String, AllocError> {
     let (kind, place) = words_of(opening.spot());
     let name = id_of(opening);
@@ -22,7 +23,7 @@ pub fn title_of(alloc: Global, opening: &Opening) -> Result<String, AllocError> 
     }
 }
 
-/// Which entry shut a regulation. Empty if it is open.
+/// The number of the entry that shut a regulation, as text. Empty if it is open.
 pub fn shut_text(alloc: Global, opening: &Opening) -> Result<String, AllocError> {
     match opening.shut_by() {
         Some(entry) => format!(in alloc; "shut by entry {entry}"),
@@ -66,7 +67,7 @@ pub fn period_text(alloc: Global, start: Minute, end: Minute) -> Result<String, 
     Ok(text)
 }
 
-/// How many sub-periods stand in the first line of rates.
+/// The number of sub-periods in the first line of rates.
 const IN_FIRST_LINE: usize = 4;
 
 /// The hourly rates of the sub-periods, in two lines.

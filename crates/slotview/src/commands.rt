@@ -190,7 +190,7 @@ fn page_command<'a>(alloc: Global) -> Result<Command<'a>, AllocError> {
         .arg(file_argument(alloc))
 }
 
-/// With the commands that show plans and regulations.
+/// Adds the commands that show plans and regulations.
 fn with_views<'a>(alloc: Global, command: Command<'a>) -> Result<Command<'a>, AllocError> {
     command
         .subcommand(list_command(alloc)?)?
@@ -198,7 +198,7 @@ fn with_views<'a>(alloc: Global, command: Command<'a>) -> Result<Command<'a>, Al
         .subcommand(load_command(alloc)?)
 }
 
-/// With the commands that show places, refusals and all of a day.
+/// Adds the commands that show points, refusals and all of a day.
 fn with_further_views<'a>(alloc: Global, command: Command<'a>) -> Result<Command<'a>, AllocError> {
     command
         .subcommand(count_command(alloc)?)?

@@ -1,4 +1,4 @@
-//! How many flights enter a place, regulated or not, by steps of time.
+//! Counts of the flights that enter a point, regulated or not, by steps of time.
 use crate::fault::Fault;
 use crate::options::Asked;
 use crate::sheet::{Cell, Column, Sheet, Side};
@@ -19,7 +19,7 @@ static COLUMNS: [Column; 7] = [
     Column("entered", 7, Side::Right),
 ];
 
-/// Those of a table of text, the last of which has bars.
+/// The columns in the text format, of which the last has bars.
 static IN_TEXT: [Column; 8] = [
     Column("from", 10, Side::Time),
     Column("to", 6, Side::Time),
@@ -31,13 +31,13 @@ static IN_TEXT: [Column; 8] = [
     Column("all", 22, Side::Left),
 ];
 
-/// How many signs a bar has at most.
+/// The greatest length of a bar, in characters.
 const LONGEST: u64 = 22;
 
-/// How many minutes are counted at most.
+/// The longest period that is counted, in minutes.
 const DAY: u32 = 1440;
 
-/// How many flights a count has in all.
+/// The number of flights of a count.
 pub fn flights_of(count: &Count) -> u64 {
     count
         .subject
@@ -55,12 +55,13 @@ pub fn most_of(counts: &[Count]) -> u64 {
     most
 }
 
-/// The moment so many minutes later, or the last one that there is.
+/// The time `minutes` later, or the greatest time.
 pub fn later_by(moment: Minute, minutes: u32) -> Minute {
     moment.plus(minutes).unwrap_or(moment)
 }
 
-/// The period that is counted: without a beginning it begins with the desk's day, and without an end it has a day.
+/// The period that is counted. If no beginning is given, it begins with the desk's day; if no end
+/// is given, it is one day long.
 pub fn period_of(core: &Core, asked: &Asked) -> (Minute, Minute) {
     let from = match asked.from {
         Some(from) => from,
@@ -72,7 +73,7 @@ pub fn period_of(core: &Core, asked: &Asked) -> (Minute, Minute) {
     (from, asked.to.unwrap_or(later_by(from, DAY)))
 }
 
-/// The counts of a place in a period, or none where it is no period of counts.
+/// The counts of a point in a period; none if it isn't a period of counts.
 pub fn counts_in(
     alloc: Global,
     core: &Core,
@@ -86,7 +87,7 @@ pub fn counts_in(
     }
 }
 
-/// A bar of a sign for each so many flights, begun ones too.
+/// A bar of one character for each `each` flights, rounded up.
 fn bar_of(alloc: Global, flights: u64, each: u64) -> Result<Vec<u8>, AllocError> {
     let mut bar = Vec::new(alloc);
     for _ in 0..flights.div_ceil(each.max(1)).min(LONGEST) {
@@ -121,7 +122,7 @@ fn put_count<W: Write + Drop>(
     }
 }
 
-/// Writes how many flights enter a place.
+/// Writes how many flights enter a point.
 pub fn put_counts<W: Write + Drop>(
     alloc: Global,
     sheet: &mut Sheet<'_, W>,

@@ -1,4 +1,4 @@
-//! How many flights enter a place by steps of time, as a picture.
+//! The picture of how many flights enter a point, by steps of time.
 use crate::chart_text::period_text;
 use crate::count::{counts_in, flights_of, later_by, most_of, period_of};
 use crate::fault::{Fault, unwritten};
@@ -12,10 +12,11 @@ use fpl_text::Minute;
 use std::alloc::Global;
 use std::io::Write;
 
-/// How a flight that enters a place stands: its name, its color, where its key is, and what the key says.
+/// A kind of flights that enter a point: its name, its color, the position of its legend, and the
+/// text of that.
 struct Kind(&'static str, &'static str, (u32, u32), &'static str);
 
-/// Those of a count, from the lowest part of a bar upwards.
+/// The kinds of flights in a count, from the lowest part of a bar upwards.
 static KINDS: [Kind; 4] = [
     Kind(
         "subject",
@@ -33,7 +34,7 @@ static KINDS: [Kind; 4] = [
     ),
 ];
 
-/// How many flights a count has of each kind.
+/// The number of flights of each kind in a count.
 fn parts_of(count: &Count) -> [u64; 4] {
     [count.subject, count.exempt, count.departed, count.entered]
 }
@@ -66,7 +67,7 @@ fn put_count<W: Write>(
     Ok(())
 }
 
-/// Begins the picture of the counts of a place, with what the colours stand for.
+/// Begins the picture of the counts of a point, with its legend.
 fn put_head<W: Write>(
     alloc: Global,
     writer: &mut W,
@@ -96,7 +97,7 @@ fn put_head<W: Write>(
     .map_err(unwritten)
 }
 
-/// Writes the counts of a place as an SVG document.
+/// Writes the counts of a point as an SVG document.
 pub fn put_count_chart<W: Write>(
     alloc: Global,
     writer: &mut W,

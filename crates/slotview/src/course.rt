@@ -1,4 +1,4 @@
-//! What was filed about a flight, with its times.
+//! The course of a flight: what was filed about it, with its times.
 use flow_core::{Core, Entry, Kind, Said, Verdict, Window};
 use fpl_message::{Filing, Message, Order, Reading};
 use fpl_text::{Minute, Text, TimeOfDay};
@@ -30,7 +30,7 @@ impl fmt::Display for OfDay {
     }
 }
 
-/// How a departure is to the take-off time that was told.
+/// How a take-off time compares with the CTOT last issued.
 #[derive(Clone, Copy)]
 pub enum Timing {
     Early,
@@ -39,7 +39,7 @@ pub enum Timing {
 }
 
 impl Timing {
-    /// That of a window. None where no take-off time was told.
+    /// The timing of a slot tolerance window. `None` if no CTOT was issued.
     fn of(window: Window) -> Option<Timing> {
         match window {
             Window::None => None,
@@ -49,7 +49,7 @@ impl Timing {
         }
     }
 
-    /// Its name, as answers have it.
+    /// Its name, as in the desk's answers.
     pub fn name(self) -> &'static str {
         match self {
             Timing::Early => "Early",
@@ -59,7 +59,7 @@ impl Timing {
     }
 }
 
-/// What an event is.
+/// The kind of an event.
 #[derive(Clone, Copy)]
 pub enum What {
     Fpl,
@@ -88,7 +88,7 @@ impl What {
     }
 }
 
-/// What an accepted message is, and the plan that it is about.
+/// The kind of an accepted message, and the plan that it is about.
 fn about(verdict: Verdict) -> Option<(What, u32)> {
     match verdict {
         Verdict::Accepted { kind, plan } => match kind {
@@ -106,7 +106,7 @@ fn about(verdict: Verdict) -> Option<(What, u32)> {
 /// An accepted message about a flight, or a notice to it.
 #[derive(Clone, Copy)]
 pub struct Event {
-    /// The place of its flight among those that were asked for.
+    /// The index of the flight among those that were asked for.
     pub place: usize,
     /// The number of the entry.
     pub entry: u32,
@@ -119,31 +119,32 @@ pub struct Event {
     pub off_block: Option<Minute>,
     /// The time of day of a departure.
     pub actual: Option<OfDay>,
-    /// How a departure is to the take-off time that was told.
+    /// How the take-off time compares with the CTOT last issued.
     pub timing: Option<Timing>,
-    /// The take-off time that a notice tells, and the regulation that causes it.
+    /// The CTOT that a notice issues, and the regulation that causes it.
     pub ctot: Option<Minute>,
     pub cause: Option<Text<8>>,
 }
 
-/// The entries of a journal, passed in their order: the desk's time, and the off-block times of plans.
+/// Reads the entries of a journal in order, and keeps the desk's time and the off-block times of
+/// plans.
 #[derive(Drop)]
 pub struct Course<'a> {
     alloc: Global,
     core: &'a Core,
-    /// The desk's time after the entry that was passed last.
+    /// The desk's time after the entry that was read last.
     time: Minute,
     off_blocks: HashMap<u32, Minute>,
 }
 
-/// The first moment at a time of day that is not before another.
+/// The first time at this time of day that isn't before `moment`.
 fn first_from(moment: Minute, time: TimeOfDay) -> Option<Minute> {
     let later = u32::from(time.minutes()) + 1440 - moment.minutes() % 1440;
     moment.plus(later % 1440)
 }
 
 impl<'a> Course<'a> {
-    /// Before the first entry.
+    /// Starts before the first entry.
     pub fn new(alloc: Global, core: &'a Core) -> Self {
         Course {
             alloc,
@@ -153,12 +154,12 @@ impl<'a> Course<'a> {
         }
     }
 
-    /// The desk's time after the entry that was passed last.
+    /// The desk's time after the entry that was read last.
     pub fn time(&self) -> Minute {
         self.time
     }
 
-    /// What an entry says.
+    /// The filing of an entry.
     fn filing_of(&self, entry: &Entry<'_>) -> Result<Filing, AllocError> {
         let Ok(filing) = Filing::read_as(self.alloc, entry.edition(), entry.text()) else {
             return Err(AllocError);
@@ -166,7 +167,7 @@ impl<'a> Course<'a> {
         Ok(filing)
     }
 
-    /// Passes an entry, which may set the desk's time.
+    /// Reads an entry, which may set the desk's time.
     pub fn pass(&mut self, entry: &Entry<'_>) -> Result<(), AllocError> {
         let Verdict::Accepted {
             kind: Kind::Time,
@@ -195,8 +196,8 @@ impl<'a> Course<'a> {
         first_from(*held, time)
     }
 
-    /// The off-block time that an accepted message about this plan gives, and the time of day of a departure. All earlier
-    /// ones about it were asked for.
+    /// The off-block time that an accepted message about this plan gives, and the time of day of a
+    /// departure. The caller has asked for those of all earlier messages about it.
     fn times_of(
         &mut self,
         filing: &Filing,
@@ -223,7 +224,7 @@ impl<'a> Course<'a> {
         }
     }
 
-    /// What an entry filed about one of these flights.
+    /// The event of a message about one of these flights, if an entry filed one.
     fn message_in(
         &mut self,
         entry: &Entry<'_>,
@@ -256,7 +257,7 @@ impl<'a> Course<'a> {
         }))
     }
 
-    /// The place of the flight of a plan among these flights.
+    /// The index of the flight of a plan among these flights.
     fn place_of(&self, number: u32, places: &HashMap<Text<7>, usize>) -> Option<usize> {
         let plan = self.core.plan(number)?;
         places.get(&plan.key().ident).copied()
@@ -291,8 +292,8 @@ impl<'a> Course<'a> {
     }
 }
 
-/// All that was filed and said about these flights, of which each has its place: those of one flight together and in the
-/// order of the journal, the flights in the order of their places.
+/// All messages about these flights and notices to them: those of one flight together and in the
+/// order of the journal, the flights in the order of their indices.
 pub fn courses_of(
     alloc: Global,
     core: &Core,

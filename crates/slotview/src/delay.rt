@@ -44,7 +44,7 @@ pub struct Delays {
     pub totals: DelayTotals,
 }
 
-/// The delays of the flights in these regulations.
+/// Computes the delays of the flights in these regulations.
 pub fn delays_in(alloc: Global, core: &Core, openings: &[Opening]) -> Result<Delays, AllocError> {
     let mut flights = delays_of(alloc, core.setup().max_plans(), openings)?;
     let totals = delay_totals(flights.as_slice());
@@ -57,7 +57,7 @@ pub fn mean_of(total: u64, flights: u64) -> u32 {
     u32::try_from(mean_tenths(total, flights)).unwrap_or(u32::MAX)
 }
 
-/// How many flights have which delay in minutes, by the names of the classes.
+/// The number of flights by delay, with the names of the classes.
 pub fn classes_of(spread: &Spread) -> [(&'static str, u64); 6] {
     [
         ("0", spread.none),

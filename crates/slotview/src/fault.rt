@@ -1,4 +1,4 @@
-//! How a run can end before all was shown.
+//! The ways in which a run can end before all was shown.
 ghost use Rattle.std.specs.Prelude.{◌≤◌};
 
 use command_line::WordFault;
@@ -18,13 +18,13 @@ pub const NOT_RUN: u8 = 2;
 pub enum Fault {
     Read,
     Write,
-    /// Nobody reads what is written any more.
+    /// The reader of the output has gone.
     ReaderGone,
-    /// The input shows at this byte, from 0, that no journal is there.
+    /// The input can't be a journal or a store: it shows so at this byte, counted from 0.
     BadJournal { at: u64 },
-    /// Something that isn't there was asked for, which has been told.
+    /// What was asked for isn't there; a line has said so.
     NotThere,
-    /// The desk refuses what was asked for, which has been told.
+    /// The desk refuses what was asked for; a line has said so.
     NotDone,
     OutOfMemory,
 }
@@ -54,7 +54,7 @@ impl<T: Drop> From<AllocFailed<T>> for Fault {
     }
 }
 
-/// A write that failed. A reader that has gone is no failure: it has seen what it wanted.
+/// The fault of a failed write. A reader that has gone is no failure: it has seen what it wanted.
 pub fn unwritten(error: io::Error) -> Fault {
     if error.kind() == ErrorKind::BrokenPipe {
         Fault::ReaderGone
@@ -78,7 +78,8 @@ pub fn tell<E: Write>(fault: Fault, errors: &mut E) -> u8
     fault.status()
 }
 
-/// Ends a run for which there was no memory before its words were read: writes the line, and returns the status.
+/// Ends a run in which allocation failed before its words were read: writes the line, and returns
+/// the status.
 pub fn tell_no_memory<E: Write>(errors: &mut E) -> u8
     ensures { result ≤ 2 }
 {

@@ -1,4 +1,4 @@
-//! The word or the item at which a filing was refused.
+//! Finds the word or the item at which a filing was refused.
 use flow_traffic::MAX_REGULATIONS;
 use fpl_items::{Item, Items, Other18};
 use fpl_message::Refusal;
@@ -8,11 +8,11 @@ use fpl_text::{
 };
 use std::alloc::{AllocError, Global};
 
-/// How many fields of a message that isn't an FPL come before field 18.
+/// The number of fields before field 18 in a message other than FPL.
 const BEFORE_18: usize = 4;
 
-/// The word or the item of a text at which it was refused by a desk of at most so many plans, or the limit that it
-/// would pass. There are no bytes if the text has none.
+/// The word or the item of a text at which a desk of at most `max_plans` plans refused it, or the
+/// limit that it would exceed. Empty if the text has neither.
 pub fn word_at_fault(
     alloc: Global,
     text: &[u8],
@@ -49,7 +49,7 @@ fn is_outside(byte: u8) -> bool {
     is_blank(byte) || is_bracket(byte) || byte == b'-'
 }
 
-/// The bytes round a place, up to blanks, brackets and hyphens.
+/// The bytes around an offset, up to blanks, brackets and hyphens.
 fn word_around(text: &[u8], place: usize) -> &[u8] {
     let mut start = 0usize;
     let mut end = text.len();
@@ -70,7 +70,8 @@ fn is_bracket(byte: u8) -> bool {
     matches!(byte, b'(' | b')')
 }
 
-/// The first bracket within a message, or that the last one is missing, with its offset in the text.
+/// The first bracket within a message, or that the last one is missing, with its offset in the
+/// text.
 fn bracket_at_fault(alloc: Global, text: &[u8]) -> Result<Vec<u8>, AllocError> {
     let mut opened = false;
     let mut within = None;
@@ -93,7 +94,7 @@ fn bracket_at_fault(alloc: Global, text: &[u8]) -> Result<Vec<u8>, AllocError> {
     }
 }
 
-/// How many fields a text has.
+/// The number of fields of a text, as digits.
 fn field_count(alloc: Global, text: &[u8]) -> Result<Vec<u8>, AllocError> {
     let mut count = 1u32;
     for byte in text {
@@ -104,7 +105,7 @@ fn field_count(alloc: Global, text: &[u8]) -> Result<Vec<u8>, AllocError> {
     Ok(format!(in alloc; "{count} fields")?.into_bytes())
 }
 
-/// The bytes of a squeezed text. There are none where it can't be squeezed.
+/// The bytes of a squeezed text. Empty if it can't be squeezed.
 fn squeezed_of(alloc: Global, text: &[u8]) -> Result<Vec<u8>, AllocError> {
     match Squeezed::read(alloc, text) {
         Ok(squeezed) => Vec::from_slice(alloc, squeezed.as_bytes()),
@@ -123,7 +124,7 @@ fn title_word(alloc: Global, text: &[u8]) -> Result<Vec<u8>, AllocError> {
     Vec::from_slice(alloc, bytes.get(1..end).unwrap_or(b""))
 }
 
-/// So many words of an order from one on, with a space between them.
+/// Words of an order from one on, with a space between them.
 fn order_words(
     alloc: Global,
     text: &[u8],
@@ -145,7 +146,7 @@ fn order_words(
     Ok(joined)
 }
 
-/// The word of a message that has its fields.
+/// The word at which a message with the fields of its title was refused.
 fn message_word(alloc: Global, text: &[u8], refusal: Refusal) -> Result<Vec<u8>, AllocError> {
     let Ok(fields) = split(alloc, text) else {
         return Ok(Vec::new(alloc));
@@ -171,8 +172,8 @@ fn message_word(alloc: Global, text: &[u8], refusal: Refusal) -> Result<Vec<u8>,
     }
 }
 
-/// What a CHG would change of a plan's key: the departure, by its amended field 13, or else the day, by the DOF of its
-/// amended field 18.
+/// What a CHG would change of a plan's key: the departure, by its amended field 13, or else the
+/// day, by the DOF of its amended field 18.
 fn key_item(alloc: Global, fields: &Fields<Global>) -> Result<Vec<u8>, AllocError> {
     let own = place_of(fields.title(), 13).map_or(b"".as_slice(), |place| field_at(fields, place));
     if let Some(field) = amendment(fields, 13) {
@@ -205,7 +206,7 @@ fn amended_field18(fields: &Fields<Global>) -> &[u8] {
     }
 }
 
-/// The field at a place, from 0. Empty where there is none.
+/// The field at an index, from 0. Empty if there is none.
 fn field_at(fields: &Fields<Global>, place: usize) -> &[u8] {
     if place < fields.count() {
         fields.field(place)
@@ -214,7 +215,7 @@ fn field_at(fields: &Fields<Global>, place: usize) -> &[u8] {
     }
 }
 
-/// The place of the field of a number in a message of this title, but for amended fields.
+/// The index of a field by its type number in a message of this title, amended fields excepted.
 fn place_of(title: Title, number: u8) -> Option<usize> {
     let numbers: &[u8] = match title {
         Title::Fpl => &[3, 7, 8, 9, 10, 13, 15, 16, 18],
@@ -223,7 +224,7 @@ fn place_of(title: Title, number: u8) -> Option<usize> {
     numbers.iter().position(|other| *other == number)
 }
 
-/// The number and the text of an amended field.
+/// The type number and the text of an amended field.
 fn amended_of(field: &[u8]) -> Option<(u8, &[u8])> {
     if !begins_amendment(field) {
         return None;
@@ -235,7 +236,7 @@ fn amended_of(field: &[u8]) -> Option<(u8, &[u8])> {
     Some((number, field.get(after..)?))
 }
 
-/// The amended field of this number, whole.
+/// The amended field of this type number, whole.
 fn amendment(fields: &Fields<Global>, number: u8) -> Option<&[u8]> {
     for place in BEFORE_18..fields.count() {
         let field = field_at(fields, place);
@@ -247,7 +248,7 @@ fn amendment(fields: &Fields<Global>, number: u8) -> Option<&[u8]> {
     None
 }
 
-/// The first amended field of a number that an earlier one has.
+/// The first amended field whose type number an earlier one has.
 fn second_amendment(fields: &Fields<Global>) -> Option<&[u8]> {
     let mut seen = [false; 256];
     for place in BEFORE_18..fields.count() {
@@ -274,7 +275,7 @@ fn no_amendment(fields: &Fields<Global>) -> &[u8] {
     b""
 }
 
-/// Whether a field that each message has isn't in its form.
+/// Whether a field that each message has doesn't have its form.
 fn is_bad(number: u8, field: &[u8]) -> bool {
     match number {
         3 => Heading::read(field).is_err(),
@@ -285,7 +286,7 @@ fn is_bad(number: u8, field: &[u8]) -> bool {
     }
 }
 
-/// The field of this number that isn't in its form: the message's own, or an amended one.
+/// The field of this type number that doesn't have its form: the message's own, or an amended one.
 fn bad_field(fields: &Fields<Global>, number: u8) -> &[u8] {
     if let Some(place) = place_of(fields.title(), number) {
         let field = field_at(fields, place);
@@ -296,7 +297,7 @@ fn bad_field(fields: &Fields<Global>, number: u8) -> &[u8] {
     amendment(fields, number).unwrap_or(b"")
 }
 
-/// The field 13 that gives an off-block time: that of an amendment, if there is one.
+/// The field 13 that gives an off-block time: the amended one, if there is one.
 fn field13(fields: &Fields<Global>) -> &[u8] {
     if let Some(field) = amendment(fields, 13) {
         return field;
@@ -307,7 +308,7 @@ fn field13(fields: &Fields<Global>) -> &[u8] {
     }
 }
 
-/// Field 18: that of the message where it is at fault, or an amended one.
+/// Field 18: that of the message if it is at fault, or an amended one.
 fn field18(alloc: Global, fields: &Fields<Global>) -> &[u8] {
     let own = match place_of(fields.title(), 18) {
         Some(place) => field_at(fields, place),
@@ -327,7 +328,7 @@ fn field18(alloc: Global, fields: &Fields<Global>) -> &[u8] {
     }
 }
 
-/// An item as it is in its field.
+/// An item as it is written in its field.
 fn item_text(alloc: Global, item: &Item<'_>) -> Result<Vec<u8>, AllocError> {
     let mut text = Vec::from_slice(alloc, item.name())?;
     text.push(b'/')?;

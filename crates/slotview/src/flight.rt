@@ -1,4 +1,4 @@
-//! A flight: its plans, its slots, and what was filed and said about it.
+//! A flight: its plans, its slots, and what was filed about it.
 use crate::course::{Event, courses_of};
 use crate::fault::Fault;
 use crate::list::holding_name;
@@ -37,7 +37,7 @@ static SLOTS: [Column; 10] = [
     Column("shut", 7, Side::Right),
 ];
 
-/// Those of a table of text, in 80 characters: openings of one name differ in their SHUT.
+/// The columns in the text format, 80 characters wide: openings of one name differ in their SHUT.
 static SLOTS_IN_TEXT: [Column; 9] = [
     Column("plan", 5, Side::Right),
     Column("regul", 8, Side::Left),
@@ -84,7 +84,7 @@ fn plans_of(alloc: Global, core: &Core, ident: &str) -> Result<Vec<u32>, AllocEr
     Ok(numbers)
 }
 
-/// The take-off time that was told.
+/// The CTOT last issued.
 fn ctot_of(told: &Option<Told>) -> Option<Minute> {
     match told {
         Some(told) => Some(told.ctot),
@@ -92,7 +92,7 @@ fn ctot_of(told: &Option<Told>) -> Option<Minute> {
     }
 }
 
-/// The regulation that causes the take-off time that was told.
+/// The regulation that causes the CTOT last issued.
 fn cause_of(told: &Option<Told>) -> Cell {
     match told {
         Some(told) => Cell::text(told.regulation.as_bytes()),
@@ -129,12 +129,13 @@ fn slot_in(opening: &Opening, number: u32) -> Option<&SlotRow> {
     opening.rows().iter().find(|row| row.plan == number)
 }
 
-/// Where a plan's flight without a slot enters an open regulation.
+/// The entry of a plan's flight into an open regulation that gives it no slot.
 fn entry_without_slot(core: &Core, opening: &Opening, number: u32) -> Option<Minute> {
     if opening.shut_by().is_some() {
         return None;
     }
-    core.plan(number)?.entry_at(core.setup().taxi(), opening.spot())
+    core.plan(number)?
+        .entry_at(core.setup().taxi(), opening.spot())
 }
 
 /// The cells of a slot: its number, its time, the delay and how it is held.
@@ -150,7 +151,8 @@ fn slot_cells(slot: Option<&SlotRow>) -> [Cell; 4] {
     }
 }
 
-/// The entries that opened and shut a regulation. A table of text has a column for the second alone, which comes first.
+/// The entries that opened and shut a regulation. The text format has a column for the second
+/// alone, which comes first.
 fn entry_cells(opening: &Opening, is_text: bool) -> [Cell; 2] {
     let opened = Cell::number(opening.opened_by());
     let shut = Cell::number_or_blank(opening.shut_by());
@@ -161,7 +163,7 @@ fn entry_cells(opening: &Opening, is_text: bool) -> [Cell; 2] {
     }
 }
 
-/// Writes where a plan's flight enters a regulation, and its slot there.
+/// Writes the entry of a plan's flight into a regulation, and its slot there.
 fn put_row<W: Write + Drop>(
     alloc: Global,
     sheet: &mut Sheet<'_, W>,
@@ -187,7 +189,8 @@ fn put_row<W: Write + Drop>(
     ])
 }
 
-/// Writes the slot that a plan's flight has in a regulation, or had before its SHUT, or where it enters an open one.
+/// Writes the slot that a plan's flight has in a regulation, or had before its SHUT, or its entry
+/// into an open one.
 fn put_slot<W: Write + Drop>(
     alloc: Global,
     sheet: &mut Sheet<'_, W>,
@@ -256,7 +259,7 @@ fn put_event<W: Write + Drop>(
     ])
 }
 
-/// Writes all that was filed and said about a flight, with the entries and the desk's times.
+/// Writes all messages about a flight and notices to it, with the entries and the desk's times.
 fn put_said<W: Write + Drop>(
     alloc: Global,
     sheet: &mut Sheet<'_, W>,
@@ -271,7 +274,8 @@ fn put_said<W: Write + Drop>(
     Ok(())
 }
 
-/// Writes the plans of the flight of this identification. Whether there is one.
+/// Writes the plans, the slots and the course of the flight of this identification. Returns whether
+/// there is one.
 pub fn put_flight<W: Write + Drop>(
     alloc: Global,
     sheet: &mut Sheet<'_, W>,

@@ -6,7 +6,8 @@ use fpl_text::Minute;
 use std::fmt;
 use std::io::Write;
 
-/// How the page is drawn: light or dark as its reader has it, narrow on a phone, and unfolded in print.
+/// The style of the page: light or dark as its reader prefers, narrow on a phone, and unfolded in
+/// print.
 const STYLE: &str = "\
 :root{color-scheme:light dark;--paper:#fff;--ink:#222;--faint:#ddd;--link:#0050a0}
 @media (prefers-color-scheme:dark){:root{--paper:#16181c;--ink:#e6e6e6;\
@@ -38,7 +39,7 @@ body{max-width:none;font-size:9pt}nav{display:none}.wide{overflow:visible}\
 details::details-content{content-visibility:visible;block-size:auto}}
 ";
 
-/// What a picture stands in, which scrolls if it is narrower.
+/// Begins the box of a picture, which scrolls if it is narrower.
 pub const PICTURE_BOX: &str =
     "<div class=\"wide\" role=\"region\" aria-label=\"Picture\" tabindex=\"0\">\n";
 
@@ -67,7 +68,7 @@ pub fn end_page<W: Write>(writer: &mut W) -> Result<(), Fault> {
 /// The heading of a column, and whether its cells are numbers.
 pub struct Head(pub &'static str, pub bool);
 
-/// What a table is named by: its id among the tables of the page, and its caption.
+/// The id of a table among those of the page, and its caption.
 pub struct Caption<'a>(pub &'a str, pub &'a str);
 
 /// Begins a table. Its caption is above the box in which a wide table scrolls.
@@ -96,7 +97,7 @@ pub fn end_table<W: Write>(writer: &mut W) -> Result<(), Fault> {
     put(writer, "</table></div>\n")
 }
 
-/// What may be a moment: its time, after the day of the month where it isn't this day.
+/// A time, if there is one: its hour and minute, after the day of the month if that is another day.
 #[derive(Clone, Copy)]
 pub struct When {
     pub moment: Option<Minute>,
@@ -116,7 +117,7 @@ impl fmt::Display for When {
     }
 }
 
-/// What may be a time of day.
+/// A time of day, if there is one.
 #[derive(Clone, Copy)]
 pub struct Actual(pub Option<OfDay>);
 
@@ -129,7 +130,7 @@ impl fmt::Display for Actual {
     }
 }
 
-/// What may be a number.
+/// A number, if there is one.
 #[derive(Clone, Copy)]
 pub struct Number(pub Option<u32>);
 

@@ -1,4 +1,4 @@
-//! Where the journal or the store is read.
+//! Where the journal or the store is read from.
 use crate::fault::Fault;
 use std::fs::{File, Files};
 use std::io;
@@ -20,7 +20,7 @@ impl<R: Read, F: Read> Read for Input<R, F> {
     }
 }
 
-/// Standard input, or the file of this name. Where that can't be opened, a line says so.
+/// Opens the file of this name, or takes standard input. Writes a line if the file can't be opened.
 pub fn open_input<F: Files, R: Read + Drop, E: Write>(
     files: &F,
     name: Option<&str>,

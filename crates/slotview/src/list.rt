@@ -28,7 +28,8 @@ static COLUMNS: [Column; 15] = [
     Column("shut", 7, Side::Right),
 ];
 
-/// Those of a table of text, in 80 signs. The name of the regulation is in a line above its slots.
+/// The columns in the text format, 80 characters wide. The name of the regulation is in a line
+/// above its slots.
 static IN_TEXT: [Column; 12] = [
     Column("slot", 4, Side::Right),
     Column("empty", 5, Side::Right),
@@ -44,7 +45,7 @@ static IN_TEXT: [Column; 12] = [
     Column("cause", 8, Side::Left),
 ];
 
-/// The name of how a flight holds its slot.
+/// The name of the way in which a flight holds its slot.
 pub fn holding_name(holding: Holding) -> &'static [u8] {
     match holding {
         Holding::Waiting => b"waiting",
@@ -53,8 +54,8 @@ pub fn holding_name(holding: Holding) -> &'static [u8] {
     }
 }
 
-/// The cells of the flight of a line: its names, its off-block time and its planned entry. They are blank where there is
-/// none.
+/// The cells of the flight of a line: its names, its off-block time and its planned entry. They are
+/// blank if there is no flight.
 fn flight_cells(line: &Line) -> [Cell; 5] {
     let Some(flight) = &line.row.flight else {
         return [
@@ -100,7 +101,7 @@ fn cells_of(opening: &Opening, line: &Line) -> [Cell; 15] {
     ]
 }
 
-/// Writes a line. In a table of text it has no name of the regulation.
+/// Writes a line. In the text format it doesn't have the name of the regulation.
 fn put_line<W: Write + Drop>(sheet: &mut Sheet<'_, W>, cells: &[Cell; 15]) -> Result<(), Fault>
     ensures { OnOk result (sheet.new.rows ≡ with_more sheet.old.rows 1) }
 {
@@ -118,7 +119,8 @@ fn put_list<W: Write + Drop>(
     sheet: &mut Sheet<'_, W>,
     opening: &Opening,
 ) -> Result<(), Fault>
-    ensures { OnOk result (sheet.new.rows ≡ with_more sheet.old.rows (length (lines opening.now.rows))) }
+    ensures { OnOk result (sheet.new.rows
+        ≡ with_more sheet.old.rows (length (lines opening.now.rows))) }
 {
     let heading = heading_of(alloc, opening)?;
     let (start, _) = opening.shape().period();
@@ -132,13 +134,15 @@ fn put_list<W: Write + Drop>(
     Ok(())
 }
 
-/// Writes the slot lists of these regulations, one after the other as one table: a row for each of their lines.
+/// Writes the slot lists of these regulations, one after the other as one table: a row for each of
+/// their lines.
 pub fn put_lists<W: Write + Drop>(
     alloc: Global,
     sheet: &mut Sheet<'_, W>,
     openings: &[Opening],
 ) -> Result<(), Fault>
-    ensures { OnOk result (sheet.new.rows ≡ with_more 0 (sum_by (λ o. length (lines o.rows)) openings.now)) }
+    ensures { OnOk result (sheet.new.rows
+        ≡ with_more 0 (sum_by (λ o. length (lines o.rows)) openings.now)) }
 {
     if sheet.is_text() {
         sheet.begin("slots", &IN_TEXT)?;

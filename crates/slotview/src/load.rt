@@ -5,7 +5,7 @@ use flow_view::{Load, Opening, held_later, loads_of};
 use std::alloc::{AllocError, Global};
 use std::io::Write;
 
-/// The columns. In a table of text the two last ones have bars.
+/// The columns in the text format, of which the last two have bars.
 static COLUMNS: [Column; 7] = [
     Column("from", 10, Side::Time),
     Column("to", 10, Side::Time),
@@ -24,7 +24,7 @@ static COUNTS: [Column; 5] = [
     Column("held", 5, Side::Right),
 ];
 
-/// How many signs a bar has at most.
+/// The greatest length of a bar, in characters.
 const LONGEST: u64 = 28;
 
 /// The greatest count of the steps.
@@ -39,7 +39,8 @@ pub fn greatest_of(loads: &[Load]) -> u64 {
     greatest
 }
 
-/// A bar of a character for each so many flights, begun ones too, with a stroke after as many as the slots have.
+/// A bar of one character for each `each` flights, rounded up, with a stroke after the number of
+/// slots.
 fn bar_of(alloc: Global, count: u64, slots: u64, each: u64) -> Result<Vec<u8>, AllocError> {
     let mut bar = Vec::new(alloc);
     let filled = count.div_ceil(each.max(1));
@@ -82,7 +83,7 @@ fn put_load<W: Write + Drop>(
     }
 }
 
-/// Says how many have slots after the period, and what the characters of the bars are.
+/// Writes how many flights have slots after the period, and what the characters of the bars mean.
 fn put_key<W: Write + Drop>(
     alloc: Global,
     sheet: &mut Sheet<'_, W>,
@@ -98,7 +99,7 @@ fn put_key<W: Write + Drop>(
     Ok(())
 }
 
-/// Writes demand and slots of a regulation in steps of so many minutes.
+/// Writes demand and slots of a regulation in steps of `step` minutes.
 pub fn put_loads<W: Write + Drop>(
     alloc: Global,
     sheet: &mut Sheet<'_, W>,

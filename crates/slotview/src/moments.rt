@@ -1,8 +1,8 @@
-//! Moments as they are written.
+//! Times as they are written.
 use fpl_text::Minute;
 use std::fmt;
 
-/// The time of day of a moment, with a colon.
+/// The time of day of a time, hh:mm.
 #[derive(Clone, Copy)]
 pub struct Clock(pub Minute);
 
@@ -15,7 +15,7 @@ impl fmt::Display for Clock {
     }
 }
 
-/// The date of a moment: its year, month and day.
+/// The date of a time: its year, month and day.
 #[derive(Clone, Copy)]
 pub struct DateOf(pub Minute);
 
@@ -29,7 +29,7 @@ impl fmt::Display for DateOf {
     }
 }
 
-/// A moment by ISO 8601, in UTC.
+/// A time by ISO 8601, in UTC.
 #[derive(Clone, Copy)]
 pub struct Iso(pub Minute);
 
@@ -41,7 +41,7 @@ impl fmt::Display for Iso {
     }
 }
 
-/// The time of day of a moment in four digits, after the day of the month where the moment lies on another day.
+/// The time of day of a time in four digits, after the day of the month if that is another day.
 #[derive(Clone, Copy)]
 pub struct Short {
     pub moment: Minute,
@@ -62,7 +62,7 @@ impl fmt::Display for Short {
     }
 }
 
-/// A moment in the form of orders: yymmddhhmm.
+/// A time in the form of orders: yymmddhhmm.
 #[derive(Clone, Copy)]
 pub struct Digits(pub Minute);
 

@@ -1,5 +1,5 @@
-//! Regulations by the words that name them: NAME is the one of that name that was opened last, NAME@ENTRY the one that
-//! that entry opened. Small letters are taken as capital ones.
+//! Regulations by the words that name them: NAME is the one of that name that was opened last,
+//! NAME@ENTRY the one that this entry opened. Small letters count as capital ones.
 use crate::alike::Nearest;
 use crate::fault::Fault;
 use flow_core::Core;
@@ -13,7 +13,7 @@ pub fn id_of(opening: &Opening) -> &str {
     str::from_utf8(opening.id().as_bytes()).unwrap_or("")
 }
 
-/// Whether a word names a regulation, but for which opening of its name it means.
+/// Whether a word names a regulation, whichever opening of that name it means.
 fn may_name(word: &str, opening: &Opening) -> bool {
     match word.split_once('@') {
         Some((id, entry)) => {
@@ -24,7 +24,8 @@ fn may_name(word: &str, opening: &Opening) -> bool {
     }
 }
 
-/// The regulation that a word names, alone. Where there is none, a line tells the names that are most like it.
+/// The regulation that a word names, as a slice of one. If there is none, writes the names that are
+/// most like the word.
 pub fn named<'a, E: Write>(
     alloc: Global,
     openings: &'a [Opening],
@@ -67,7 +68,7 @@ fn tell_regulations<E: Write>(
     Ok(())
 }
 
-/// Whether a plan is of the flight of this identification.
+/// Whether a plan is that of the flight of this identification.
 pub fn is_of(plan: &Plan, ident: &str) -> bool {
     plan.key()
         .ident

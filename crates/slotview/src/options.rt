@@ -1,4 +1,4 @@
-//! What the arguments ask for.
+//! Reads what the arguments ask for.
 use crate::commands::command;
 use crate::words::{entry_of, may_be_name, moment_of, rates_of, spot_of};
 use clap::error::ErrorKind;
@@ -8,7 +8,7 @@ use fpl_message::Spot;
 use fpl_text::Minute;
 use std::alloc::{AllocError, Global};
 
-/// What is said where a picture or a page is asked for as a table.
+/// The faults of a picture or a page that is asked for as a table.
 const SVG_WITH_FORMAT: &str = "the argument '--svg' cannot be used with '--format <FORMAT>'";
 
 const SVG_WITH_TABLE: &str = "the argument '--svg' cannot be used with '--table <NAME>'";
@@ -20,7 +20,7 @@ const PAGE_WITH_TABLE: &str = "'page' cannot be used with '--table <NAME>'";
 /// The longest period that is counted, in minutes.
 const LONGEST: u32 = 1440;
 
-/// How a table is written.
+/// The format of tables.
 #[derive(Clone, Copy)]
 pub enum Format {
     Table,
@@ -28,12 +28,12 @@ pub enum Format {
     Json,
 }
 
-/// When a desk is shown.
+/// The time at which a desk is shown.
 #[derive(Clone, Copy)]
 pub enum At {
     /// After the entry of this number.
     Entry(u32),
-    /// When its time was last not after this moment.
+    /// When its time was last at or before this time.
     Moment(Minute),
 }
 
@@ -41,9 +41,9 @@ pub enum At {
 #[derive(Clone, Copy)]
 pub struct Asked {
     pub spot: Spot,
-    /// None is the midnight before the desk's time.
+    /// `None` for the midnight before the desk's time.
     pub from: Option<Minute>,
-    /// None is a day after the beginning.
+    /// `None` for one day after the beginning.
     pub to: Option<Minute>,
     pub step: u32,
     pub slide: u32,
@@ -68,11 +68,11 @@ pub enum Shown<'a> {
     List { id: Option<&'a str> },
     /// The plans of the flight of this identification.
     Flight { ident: &'a str },
-    /// Demand and slots of the regulation of this name, in steps of so many minutes.
+    /// Demand and slots of the regulation of this name, in steps of this number of minutes.
     Load { id: &'a str, step: u32 },
     /// The same as a picture.
     Chart { id: &'a str, step: u32 },
-    /// How many flights enter a place, as a table or as a picture.
+    /// How many flights enter a point, as a table or as a picture.
     Count { asked: Asked, svg: bool },
     /// What a regulation would do at several rates, as a table or as a picture.
     Sweep { what_if: WhatIf<'a>, svg: bool },
@@ -97,7 +97,7 @@ impl Shown<'_> {
         }
     }
 
-    /// Whether it is a picture.
+    /// Whether a picture is asked for.
     fn is_picture(&self) -> bool {
         match self {
             Shown::Chart { .. } => true,
@@ -112,16 +112,16 @@ impl Shown<'_> {
 #[derive(Clone, Copy)]
 pub struct Options<'a> {
     pub shown: Shown<'a>,
-    /// What is read. None is standard input.
+    /// The file that is read. `None` for standard input.
     pub file: Option<&'a str>,
-    /// When the desk is shown. None is after the last entry.
+    /// The time at which the desk is shown. `None` for after the last entry.
     pub at: Option<At>,
     pub format: Format,
     /// The table that alone is written.
     pub table: Option<&'a str>,
 }
 
-/// Why the words ask for nothing that can be shown: the value that can't be.
+/// A value that can't be used, by what it was given for.
 #[derive(Drop)]
 enum Wrong<'a> {
     Place(&'a str),
@@ -136,7 +136,7 @@ enum Wrong<'a> {
 }
 
 impl<'a> Wrong<'a> {
-    /// The value, the argument that has it, and why it can't be.
+    /// The value, its argument, and why it can't be used.
     fn parts(&self) -> Option<(&'a str, &'static str, &'static str)> {
         let no_moment = "it is no moment yymmddhhmm";
         match self {
@@ -187,7 +187,8 @@ fn load_by<'a>(matches: &ArgMatches<'a>) -> Shown<'a> {
     }
 }
 
-/// What `list` asks for, and what is read. One word alone is a file where it can't be the name of a regulation.
+/// What `list` asks for, and the file that is read. A single word is a file if it can't be the name
+/// of a regulation.
 fn list_by<'a>(matches: &ArgMatches<'a>) -> (Shown<'a>, Option<&'a str>) {
     let id = matches.get_str("regulation");
     let file = matches.get_str("file");
@@ -197,7 +198,7 @@ fn list_by<'a>(matches: &ArgMatches<'a>) -> (Shown<'a>, Option<&'a str>) {
     }
 }
 
-/// The moment that an argument gives, if it is there, or the word that is none.
+/// The time that an argument gives, if it is there; the word as the error if it is none.
 fn moment_by<'a>(matches: &ArgMatches<'a>, id: &str) -> Result<Option<Minute>, &'a str> {
     let Some(word) = matches.get_str(id) else {
         return Ok(None);
@@ -265,7 +266,7 @@ fn sweep_by<'a>(matches: &ArgMatches<'a>) -> Result<Shown<'a>, Wrong<'a>> {
     Ok(Shown::Sweep { what_if, svg })
 }
 
-/// What is asked for, and what is read.
+/// What is asked for, and the file that is read.
 fn shown_by<'a>(
     alloc: Global,
     matches: &ArgMatches<'a>,
@@ -295,7 +296,7 @@ fn shown_by<'a>(
     }
 }
 
-/// When the desk is shown.
+/// The time at which the desk is shown.
 fn at_by<'a>(matches: &ArgMatches<'a>) -> Result<Option<At>, Wrong<'a>> {
     let Some(word) = matches.get_str("at") else {
         return Ok(None);
@@ -309,7 +310,7 @@ fn at_by<'a>(matches: &ArgMatches<'a>) -> Result<Option<At>, Wrong<'a>> {
     }
 }
 
-/// Why a table or a format that is asked for isn't there, if it isn't.
+/// The fault of a table or a format that doesn't fit what is shown, if there is one.
 fn unfit(matches: &ArgMatches<'_>, shown: &Shown<'_>) -> Option<&'static str> {
     let formatted = matches.value_source("format") == Some(ValueSource::CommandLine);
     let is_page = matches!(shown, Shown::Page);
@@ -344,7 +345,7 @@ fn no_table(alloc: Global, shown: &Shown<'_>, name: &str) -> Result<String, Allo
     Ok(text)
 }
 
-/// The fault of words that ask for nothing that can be shown.
+/// The error for a value that can't be used.
 fn error_of(
     alloc: Global,
     command: &mut Command<'_>,

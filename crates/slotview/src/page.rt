@@ -1,6 +1,6 @@
-//! A page of a day: one HTML document with the delay of flights, the regulations with their pictures and slot lists, the
-//! counts of their places, and the courses of the regulated flights. It has no scripts and nothing from elsewhere, and it
-//! is well-formed XML, too.
+//! A page of a day: one HTML document with the delay of flights, the regulations with their
+//! pictures and slot lists, the counts of their points, and the courses of the regulated flights.
+//! It has no scripts and loads nothing from elsewhere, and it is well-formed XML, too.
 use crate::delay::delays_in;
 use crate::fault::{Fault, unwritten};
 use crate::html::{begin_page, end_page, put};
@@ -36,7 +36,7 @@ fn put_counts<W: Write>(writer: &mut W, core: &Core, openings: &[Opening]) -> Re
     .map_err(unwritten)
 }
 
-/// More regulations than these have their links folded.
+/// If there are more regulations than this, their links are folded.
 const MOST_UNFOLDED: usize = 12;
 
 /// Writes links to the regulations.

@@ -27,7 +27,7 @@ static DELAYED: [Head; 7] = [
     Head("Cause", false),
 ];
 
-/// How high the longest bar of a histogram is, in tenths of a pixel.
+/// The height of the longest bar of a histogram, in tenths of a pixel.
 const HIGHEST: u64 = 1400;
 
 /// Writes the sums and counts.
@@ -57,7 +57,7 @@ fn put_totals<W: Write>(writer: &mut W, totals: &DelayTotals) -> Result<(), Faul
     end_table(writer)
 }
 
-/// What a histogram says.
+/// The text of a histogram for readers who can't see it.
 fn histogram_text(alloc: Global, totals: &DelayTotals) -> Result<String, AllocError> {
     let mut text = String::from_str(alloc, "Flights by delay in minutes:")?;
     for (index, (minutes, count)) in classes_of(&totals.spread).iter().enumerate() {
@@ -67,7 +67,7 @@ fn histogram_text(alloc: Global, totals: &DelayTotals) -> Result<String, AllocEr
     Ok(text)
 }
 
-/// Draws how many flights have which delay.
+/// Draws the number of flights by delay.
 fn put_histogram<W: Write>(
     alloc: Global,
     writer: &mut W,

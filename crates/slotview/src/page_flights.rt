@@ -31,7 +31,7 @@ struct Regulated {
     regulation: Text<8>,
 }
 
-/// The regulated flights of a desk, and the place of each among them.
+/// The regulated flights of a desk, and the index of each among them.
 #[derive(Drop)]
 struct Flights {
     list: Vec<Regulated>,

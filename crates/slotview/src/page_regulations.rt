@@ -1,4 +1,4 @@
-//! The regulations of a desk and the counts of their places on a page.
+//! The regulations of a desk and the counts of their points on a page.
 use crate::chart::put_chart;
 use crate::chart_text::heading_of;
 use crate::count::{counts_in, flights_of, later_by};
@@ -54,7 +54,7 @@ static COUNTS: [Head; 6] = [
     Head("Entered", true),
 ];
 
-/// How many minutes a step of a picture has: fewer in a short period.
+/// The minutes of a step of a picture: fewer in a short period.
 fn step_of(opening: &Opening) -> u32 {
     let (from, to) = opening.shape().period();
     if to.minutes().saturating_sub(from.minutes()) > 480 {
@@ -183,7 +183,7 @@ fn put_regulation<W: Write>(
     put(writer, "</details>\n</section>\n")
 }
 
-/// Writes the regulations of a desk, those that were shut among them.
+/// Writes the regulations of a desk, including those that were shut.
 pub fn put_regulation_section<W: Write>(
     alloc: Global,
     writer: &mut W,
@@ -214,7 +214,8 @@ pub fn put_regulation_section<W: Write>(
     put(writer, "</section>\n")
 }
 
-/// The counts that are shown of the place of a regulation: whole hours, from one before its period to one after it.
+/// The period of the counts shown for a regulation's point: whole hours, from one before its period
+/// to one after it.
 fn asked_of(opening: &Opening) -> Asked {
     let (start, end) = opening.shape().period();
     let hour = start.minutes() / 60;
@@ -255,7 +256,7 @@ fn put_count<W: Write>(writer: &mut W, count: &Count, day: u32) -> Result<(), Fa
     .map_err(unwritten)
 }
 
-/// Writes the counts of a place by the hour.
+/// Writes the counts of a point by the hour.
 fn put_hours<W: Write>(
     alloc: Global,
     writer: &mut W,
@@ -272,7 +273,7 @@ fn put_hours<W: Write>(
     put(writer, "</tbody>\n")
 }
 
-/// Writes the counts of the place of a regulation, with their picture.
+/// Writes the counts of the point of a regulation, with their picture.
 fn put_place<W: Write>(
     alloc: Global,
     writer: &mut W,
@@ -297,12 +298,12 @@ fn put_place<W: Write>(
     put(writer, "</details>\n")
 }
 
-/// Whether two places are the same.
+/// Whether two points are the same.
 fn is_same(spot: &Spot, other: &Spot) -> bool {
     words_of(spot) == words_of(other)
 }
 
-/// The regulations whose places no earlier one has.
+/// The regulations whose point no earlier one has.
 fn first_of_places<'a>(
     alloc: Global,
     openings: &'a [Opening],
@@ -319,7 +320,7 @@ fn first_of_places<'a>(
     Ok(firsts)
 }
 
-/// Writes the counts of the regulated places.
+/// Writes the counts of the regulated points.
 pub fn put_count_section<W: Write>(
     alloc: Global,
     writer: &mut W,

@@ -20,7 +20,7 @@ static COLUMNS: [Column; 7] = [
     Column("text", 60, Side::Left),
 ];
 
-/// Those of a table of text, in 80 signs.
+/// The columns in the text format, 80 characters wide.
 static IN_TEXT: [Column; 5] = [
     Column("entry", 7, Side::Right),
     Column("time", 10, Side::Time),
@@ -29,12 +29,12 @@ static IN_TEXT: [Column; 5] = [
     Column("text", 23, Side::Left),
 ];
 
-/// How many signs of a word and of a text are in a table of text.
+/// The greatest lengths of a word and of a text in the text format, in characters.
 const WORD_SIGNS: usize = 20;
 
 const TEXT_SIGNS: usize = 23;
 
-/// Bytes as one line of text: blanks are spaces, and what is no character of UTF-8 is escaped.
+/// Bytes as one line of text: blanks become spaces, and what is no character of UTF-8 is escaped.
 fn line_of(alloc: Global, bytes: &[u8]) -> Result<String, AllocError> {
     let readable = readable_form(alloc, bytes)?;
     let mut line = String::new(alloc);
@@ -44,7 +44,7 @@ fn line_of(alloc: Global, bytes: &[u8]) -> Result<String, AllocError> {
     Ok(line)
 }
 
-/// A text of at most so many characters: a longer one is cut, and ends with two dots.
+/// A text of at most `most` characters: a longer one is cut, and ends with two dots.
 fn shortened(alloc: Global, text: &str, most: usize) -> Result<String, AllocError> {
     let mut line = String::new(alloc);
     if text.chars().count() <= most {
@@ -76,7 +76,7 @@ struct Refused<'a> {
     word: Vec<u8>,
 }
 
-/// Writes a refused filing to a table of text.
+/// Writes a refused filing in the text format.
 fn put_in_text<W: Write + Drop>(
     alloc: Global,
     sheet: &mut Sheet<'_, W>,

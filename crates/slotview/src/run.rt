@@ -27,11 +27,12 @@ use std::fs::Files;
 use std::io::{BufRead, BufReader, Read, Write};
 use std::mem::ManuallyDrop;
 
-/// Shows what the arguments ask for, of which the first is the program's name, and returns the exit status: 0 if it was
-/// shown, 1 if a device failed or it isn't there, 2 if nothing could be run.
+/// Shows what the arguments ask for, of which the first is the program's name, and returns the exit
+/// status: 0 if it was shown, 1 if a device failed or it isn't there, 2 if nothing could be run.
 ///
-/// What is read is the file that they name, or `reader`. What is shown goes to `writer`, one line of a fault and the text
-/// of a bad command line to `errors`. The command line is checked before a byte is read.
+/// Reads the file that the arguments name, or `reader`. The view goes to `writer`, the line of a
+/// fault and the text for a bad command line to `errors`. The command line is checked before a byte
+/// is read.
 pub fn run_words<F: Files, R: Read + Drop, W: Write + Drop, E: Write>(
     files: &F,
     alloc: Global,
@@ -69,12 +70,12 @@ fn show<R: Read + Drop, W: Write + Drop, E: Write>(
         Some(at) => show_past(alloc, options, &core, at, writer, errors),
         None => show_desk(alloc, options, &mut core, writer, errors),
     };
-    // The process ends now and gives its memory back whole.
+    // The process ends now, and the system frees its memory whole.
     let _kept = ManuallyDrop::new(core);
     shown
 }
 
-/// Shows what is asked for of the desk as it stood.
+/// Shows what is asked for of the desk as it was at the time that is asked for.
 fn show_past<W: Write + Drop, E: Write>(
     alloc: Global,
     options: &Options<'_>,
@@ -90,7 +91,7 @@ fn show_past<W: Write + Drop, E: Write>(
     show_desk(alloc, options, &mut past, writer, errors)
 }
 
-/// The desk as it stood after so many entries.
+/// The desk as it was after the first `count` entries.
 fn past_of<E: Write>(
     alloc: Global,
     core: &Core,
@@ -105,7 +106,7 @@ fn past_of<E: Write>(
     Ok(core.replay_to(alloc, count)?)
 }
 
-/// The desk of the journal or the store in the input.
+/// Reads the desk of the journal or the store in the input.
 fn read_desk<R: Read + Drop>(alloc: Global, reader: R) -> Result<Core, Fault> {
     let Ok(reader) = BufReader::new(alloc, reader) else {
         return Err(Fault::OutOfMemory);
@@ -126,7 +127,7 @@ fn read_desk<R: Read + Drop>(alloc: Global, reader: R) -> Result<Core, Fault> {
     }
 }
 
-/// The desk of a journal text, or of the text of a store up to its gate.
+/// Reads the desk of a journal text, or of the text of a store up to its gate.
 fn read_held<R: BufRead>(
     alloc: Global,
     held: Held,
@@ -185,7 +186,7 @@ fn show_tables<W: Write + Drop, E: Write>(
     sheet.end()
 }
 
-/// Writes what is asked for of regulations, those that were shut among them.
+/// Writes what is asked for of regulations, including those that were shut.
 fn put_openings<W: Write + Drop, E: Write>(
     alloc: Global,
     sheet: &mut Sheet<'_, W>,
@@ -224,7 +225,7 @@ fn show_chart<W: Write + Drop, E: Write>(
     writer.flush().map_err(unwritten)
 }
 
-/// Draws how many flights enter a place.
+/// Draws how many flights enter a point.
 fn show_count_chart<W: Write + Drop>(
     alloc: Global,
     core: &Core,

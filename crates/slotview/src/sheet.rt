@@ -11,10 +11,10 @@ use serde_json::{Map, Value, put};
 use std::alloc::{AllocError, Global};
 use std::io::Write;
 
-/// The bytes of a text in a cell at most.
+/// The greatest length of a short text in a cell, in bytes.
 const LONGEST: usize = 32;
 
-/// What stands in a cell.
+/// The content of a cell.
 #[derive(Drop)]
 pub enum Cell {
     Blank,
@@ -22,16 +22,17 @@ pub enum Cell {
     Number(u64),
     /// A number of tenths.
     Tenths(u32),
-    /// A moment, in full.
+    /// A time, in full.
     Moment(Minute),
-    /// A moment that a table of text has without its day, where that is the day of the sheet.
+    /// A time that the text format writes without its day if that is the day of the sheet.
     Time(Minute),
     /// A text of any length.
     Long(String),
 }
 
 impl Cell {
-    /// A text, or a blank cell where it is empty. No text is longer than 32 bytes; a longer one would be cut.
+    /// A text, or a blank cell if it is empty. No text is longer than 32 bytes; a longer one would
+    /// be cut.
     pub fn text(text: &[u8]) -> Cell {
         if text.is_empty() {
             return Cell::Blank;
@@ -45,7 +46,7 @@ impl Cell {
         Cell::Number(u64::from(number))
     }
 
-    /// What may be a number.
+    /// A number, or a blank cell.
     pub fn number_or_blank(number: Option<u32>) -> Cell {
         match number {
             Some(number) => Cell::number(number),
@@ -53,7 +54,7 @@ impl Cell {
         }
     }
 
-    /// A text of any length, or a blank cell where it is empty.
+    /// A text of any length, or a blank cell if it is empty.
     pub fn long(text: String) -> Cell {
         if text.is_empty() {
             Cell::Blank
@@ -62,7 +63,7 @@ impl Cell {
         }
     }
 
-    /// What may be a moment.
+    /// A time, or a blank cell.
     pub fn moment_or_blank(moment: Option<Minute>) -> Cell {
         match moment {
             Some(moment) => Cell::Moment(moment),
@@ -70,7 +71,7 @@ impl Cell {
         }
     }
 
-    /// What may be a moment, without the day of the sheet.
+    /// A time without the day of the sheet, or a blank cell.
     pub fn time_or_blank(moment: Option<Minute>) -> Cell {
         match moment {
             Some(moment) => Cell::Time(moment),
@@ -79,32 +80,32 @@ impl Cell {
     }
 }
 
-/// A column: its name, its width in a table of text, and what its cells are.
+/// A column: its name, its width in the text format, and what its cells are.
 pub struct Column(pub &'static str, pub usize, pub Side);
 
-/// What the cells of a column are, and where they are in a table of text.
+/// What the cells of a column are, and how they are aligned in the text format.
 #[derive(Clone, Copy, PartialEq, Eq)]
 pub enum Side {
     Left,
     Right,
-    /// Moments, at the left. In JSON each has a second member, by ISO 8601.
+    /// Times, at the left. In JSON each has a second member, by ISO 8601.
     Time,
 }
 
-/// Where tables are written, one after the other.
+/// Writes tables, one after the other.
 #[derive(Drop)]
 pub struct Sheet<'a, W: Write + Drop> {
     alloc: Global,
     format: Format,
-    /// The name of the table that alone is written.
+    /// The name of the one table that is written. `None` for all.
     only: Option<&'a str>,
     writer: W,
     columns: &'static [Column],
-    /// The number of the day whose times a table of text has without it.
+    /// The number of the day whose times the text format writes without it.
     day: u32,
     /// Whether the last table isn't written.
     left_out: bool,
-    /// How many tables were written, and how many rows the last one has.
+    /// The number of tables that were written, and of rows of the last one.
     tables: u32,
     rows: u64,
 }
@@ -113,7 +114,7 @@ fn memory<T: Drop>(_: T) -> Fault {
     Fault::OutOfMemory
 }
 
-/// Appends so many spaces.
+/// Appends `count` spaces.
 fn pad(line: &mut Vec<u8>, count: usize) -> Result<(), AllocError> {
     for _ in 0..count {
         line.push(b' ')?;
@@ -121,7 +122,7 @@ fn pad(line: &mut Vec<u8>, count: usize) -> Result<(), AllocError> {
     Ok(())
 }
 
-/// The text of a moment in full.
+/// The text of a time in full.
 fn digits_of(alloc: Global, moment: Minute) -> Result<Vec<u8>, AllocError> {
     let digits = Digits(moment);
     Ok(format!(in alloc; "{digits}")?.into_bytes())
@@ -144,7 +145,7 @@ fn text_of(alloc: Global, cell: &Cell) -> Result<Vec<u8>, AllocError> {
     }
 }
 
-/// The value of a moment: the text of its digits, or that of ISO 8601.
+/// The value of a time: the text of its digits, or that of ISO 8601.
 fn moment_value(alloc: Global, moment: Minute, by_iso: bool) -> Result<Value, AllocError> {
     let text = if by_iso {
         let iso = Iso(moment);
@@ -172,7 +173,7 @@ fn value_of(alloc: Global, cell: &Cell) -> Result<Value, AllocError> {
     }
 }
 
-/// The value of a cell of moments by ISO 8601.
+/// The value of a cell of times by ISO 8601.
 fn iso_value(alloc: Global, cell: &Cell) -> Result<Value, AllocError> {
     match cell {
         Cell::Moment(moment) => moment_value(alloc, *moment, true),
@@ -181,7 +182,7 @@ fn iso_value(alloc: Global, cell: &Cell) -> Result<Value, AllocError> {
     }
 }
 
-/// Appends a cell to a line of text, and before it the blanks that it needs there.
+/// Appends a cell to a line of text, padded to the width of its column.
 fn put_aligned(
     line: &mut Vec<u8>,
     gap: usize,
@@ -208,7 +209,7 @@ fn put_aligned(
 }
 
 impl<'a, W: Write + Drop> Sheet<'a, W> {
-    /// Tables in this format, to that writer: all of them, or the one of this name.
+    /// A sheet of tables in this format, written to `writer`: all of them, or the one named `only`.
     pub fn new(alloc: Global, format: Format, only: Option<&'a str>, writer: W) -> Self {
         Sheet {
             alloc,
@@ -223,7 +224,7 @@ impl<'a, W: Write + Drop> Sheet<'a, W> {
         }
     }
 
-    /// Whether a table of this name isn't written.
+    /// Whether a table of this name is left out.
     fn leaves_out(&self, name: &str) -> bool {
         match self.only {
             Some(only) => only != name,
@@ -275,7 +276,7 @@ impl<'a, W: Write + Drop> Sheet<'a, W> {
         self.put_line(cells.as_slice())
     }
 
-    /// Writes a row, unless its table isn't written, and counts it.
+    /// Writes a row, unless its table is left out, and counts it.
     pub fn put(&mut self, cells: &[Cell]) -> Result<(), Fault>
         ensures { OnOk result (self.new.rows ≡ with_more self.old.rows 1) }
     {
@@ -335,7 +336,7 @@ impl<'a, W: Write + Drop> Sheet<'a, W> {
         record.into_inner().map_err(memory)
     }
 
-    /// The text of a cell in a table of text.
+    /// The text of a cell in the text format.
     fn aligned_text(&self, cell: &Cell) -> Result<Vec<u8>, AllocError> {
         match cell {
             Cell::Time(moment) => {
@@ -366,7 +367,7 @@ impl<'a, W: Write + Drop> Sheet<'a, W> {
         matches!(self.format, Format::Table)
     }
 
-    /// Writes a text below or within a table of aligned text.
+    /// Writes a text below or within a table in the text format.
     pub fn note(&mut self, text: &str) -> Result<(), Fault>
         ensures { self.new.rows ≡ self.old.rows }
     {
@@ -379,7 +380,7 @@ impl<'a, W: Write + Drop> Sheet<'a, W> {
         }
     }
 
-    /// From now on a table of text has times of the day of this moment without it.
+    /// Sets the day whose times the text format writes without it, from now on: that of this time.
     pub fn set_day(&mut self, moment: Minute)
         ensures { self.new.rows ≡ self.old.rows }
     {

@@ -35,7 +35,7 @@ static REGULATIONS: [Column; 13] = [
     Column("shut", 7, Side::Right),
 ];
 
-/// A slot list has no more slots.
+/// No slot list has more slots.
 const MOST_ROWS: usize = 30_000;
 
 /// Plans by state.
@@ -46,7 +46,7 @@ pub struct States {
     pub cancelled: u32,
 }
 
-/// How many plans stand in each state.
+/// The number of plans in each state.
 pub fn states_of(core: &Core) -> States {
     let mut states = States {
         filed: 0,
@@ -80,7 +80,7 @@ fn put_desk<W: Write + Drop>(sheet: &mut Sheet<'_, W>, core: &Core) -> Result<()
     ])
 }
 
-/// The words by which an order names a place: its kind and its name.
+/// The words by which an order names a point: its kind and its name.
 pub fn words_of(spot: &Spot) -> (&'static str, &str) {
     match spot {
         Spot::Dep(place) => ("DEP", str::from_utf8(place.as_bytes()).unwrap_or("")),
@@ -89,7 +89,7 @@ pub fn words_of(spot: &Spot) -> (&'static str, &str) {
     }
 }
 
-/// A place as an order names it.
+/// A point as an order names it.
 pub fn place_text(alloc: Global, spot: &Spot) -> Result<String, AllocError> {
     let (kind, name) = words_of(spot);
     format!(in alloc; "{kind} {name}")

@@ -6,7 +6,7 @@ use fpl_text::Minute;
 use std::fmt;
 use std::io::Write;
 
-/// How many labels a time axis has at most.
+/// The greatest number of labels on a time axis.
 const MOST_LABELS: u32 = 20;
 
 /// A length in tenths of a pixel, written in pixels.
@@ -22,7 +22,8 @@ impl fmt::Display for Pixels {
     }
 }
 
-/// The name of a picture among those of a page, its title, what it says further, and how high it is in pixels.
+/// The name of a picture among those of a page, its title, its description, and its height in
+/// pixels.
 #[derive(Clone, Copy)]
 pub struct Frame<'a> {
     pub id: &'a str,
@@ -31,7 +32,7 @@ pub struct Frame<'a> {
     pub height: u32,
 }
 
-/// Begins a picture of 800 pixels in width.
+/// Begins a picture 800 pixels wide.
 pub fn put_frame<W: Write>(writer: &mut W, frame: Frame<'_>) -> Result<(), Fault> {
     let Frame {
         id,
@@ -73,18 +74,18 @@ pub fn put_key<W: Write>(
     .map_err(unwritten)
 }
 
-/// A panel: how it is measured, and where the labels of its time axis are.
+/// A panel: its scale, and the labels of its time axis.
 #[derive(Clone, Copy)]
 pub struct Panel {
     pub scale: Scale,
-    /// The moment of the first label.
+    /// The time of the first label.
     first: Minute,
-    /// How many minutes are between two labels.
+    /// The number of minutes between two labels.
     between: u32,
 }
 
 impl Panel {
-    /// A panel with labels at whole steps from a moment of it on, and before it.
+    /// A panel with labels at whole steps from one of its times on, and before it.
     pub fn new(scale: Scale, from: Minute, step: u32) -> Panel {
         let step = step.max(1);
         let steps = scale.minutes_between().div_ceil(step);
@@ -97,19 +98,19 @@ impl Panel {
         }
     }
 
-    /// The moment of a label, from 0, if the panel has it.
+    /// The time of a label, counted from 0, if the panel has it.
     fn label(&self, place: u32) -> Option<Minute> {
         let moment = self.first.plus(self.between.saturating_mul(place))?;
         let end = self.scale.start.plus(self.scale.minutes)?;
         if moment <= end { Some(moment) } else { None }
     }
 
-    /// How far below the upper edge a count is.
+    /// The distance of a count below the upper edge.
     pub fn down(&self, count: u32) -> Pixels {
         Pixels(PANEL_HEIGHT - self.scale.up(count))
     }
 
-    /// Writes the lines of counts and moments, and the numbers of the counts.
+    /// Writes the lines of counts and times, and the numbers of the counts.
     pub fn put_grid<W: Write>(&self, writer: &mut W) -> Result<(), Fault> {
         let right = Pixels(PANEL_WIDTH);
         for line in 0..self.scale.lines + 1 {
@@ -156,7 +157,7 @@ impl Panel {
             .map_err(unwritten)
     }
 
-    /// Begins a bar from one moment to another that stands on a count.
+    /// Begins a bar from one time to another that begins at the height of a count.
     pub fn put_bar<W: Write>(
         &self,
         writer: &mut W,

@@ -18,7 +18,7 @@ static COLUMNS: [Column; 6] = [
     Column("most", 4, Side::Right),
 ];
 
-/// How many names are tried. No desk has as many open regulations.
+/// The number of names that are tried. No desk has as many open regulations.
 const NAMES: u32 = 100;
 
 /// Whether a regulation of this name is open.
@@ -55,7 +55,7 @@ fn tell_fault<E: Write>(fault: SweepFault, order: &str, errors: &mut E) -> Fault
     Fault::NotDone
 }
 
-/// What a regulation would do at each of its rates. Where its OPEN is refused, a line tells it.
+/// What a regulation would do at each of its rates. Writes a line if its OPEN is refused.
 pub fn sweep_of<E: Write>(
     alloc: Global,
     core: &mut Core,

@@ -1,4 +1,4 @@
-//! The total delay that a regulation would give at several rates, as a picture.
+//! The picture of the total delay that a regulation would give at several rates.
 use crate::fault::{Fault, unwritten};
 use crate::options::WhatIf;
 use crate::svg::{Frame, Pixels, put_frame};
@@ -7,13 +7,13 @@ use flow_view::{PANEL_HEIGHT, PANEL_WIDTH, Swept};
 use std::alloc::{AllocError, Global};
 use std::io::Write;
 
-/// How many lines are above the lowest one at most.
+/// The greatest number of lines above the lowest one.
 const MOST_LINES: u64 = 5;
 
-/// How many rates have a label at most.
+/// The greatest number of rates with a label.
 const MOST_LABELS: usize = 24;
 
-/// How many minutes are between two lines: the least round number of which few lines reach the greatest delay.
+/// The minutes between two lines: the least round number with few lines up to the greatest delay.
 fn between_of(greatest: u64) -> u64 {
     let mut unit = 1u64;
     for _ in 0..18 {
@@ -28,17 +28,17 @@ fn between_of(greatest: u64) -> u64 {
     unit
 }
 
-/// So much of a length as a part is of a whole.
+/// The share of a length that a part is of a whole.
 fn share(length: u32, part: u64, whole: u64) -> u32 {
     let length = u64::from(length);
     let share = length.saturating_mul(part) / whole.max(1);
     u32::try_from(share.min(length)).unwrap_or(0)
 }
 
-/// How the panel is measured.
+/// The scale of the panel.
 #[derive(Clone, Copy)]
 struct Measure {
-    /// How many minutes are between two lines, how many lines there are, and how many rates.
+    /// The minutes between two lines, the number of lines, and that of rates.
     between: u64,
     lines: u64,
     rates: u64,
@@ -58,19 +58,19 @@ impl Measure {
         }
     }
 
-    /// How far below the upper edge a delay is.
+    /// The distance of a delay below the upper edge.
     fn down(&self, total: u64) -> Pixels {
         let top = self.between.saturating_mul(self.lines);
         Pixels(PANEL_HEIGHT.saturating_sub(share(PANEL_HEIGHT, total, top)))
     }
 
-    /// How far to the right a rate is, by its place from 0.
+    /// The distance of a rate from the left edge, by its index from 0.
     fn across(&self, place: u64) -> Pixels {
         let half = place.saturating_mul(2).saturating_add(1);
         Pixels(share(PANEL_WIDTH, half, self.rates.saturating_mul(2)))
     }
 
-    /// How many rates go to a label.
+    /// The number of rates for each label.
     fn each(&self) -> usize {
         (self.rates as usize).div_ceil(MOST_LABELS)
     }

@@ -1,10 +1,10 @@
-//! What single arguments are.
+//! Reads single arguments.
 use flow_plans::MAX_ENTRIES;
 use fpl_message::{Filing, FilingFault, Order, Reading, Spot};
 use fpl_text::{Minute, read_moment};
 use std::alloc::{AllocError, Global};
 
-/// The greatest rate that has the form of a rate.
+/// The greatest number that has the form of a rate.
 const GREATEST_RATE: u32 = 999;
 
 /// The number of an entry, if a word is one.
@@ -15,12 +15,12 @@ pub fn entry_of(word: &str) -> Option<u32> {
     }
 }
 
-/// The moment that a word is: yymmddhhmm.
+/// The time that a word yymmddhhmm is.
 pub fn moment_of(word: &str) -> Option<Minute> {
     read_moment(word.as_bytes())
 }
 
-/// Whether a word may name a regulation: it has letters and digits alone, but for what follows an `@`.
+/// Whether a word may name a regulation: letters and digits alone, apart from what follows an `@`.
 pub fn may_be_name(word: &str) -> bool {
     let id = match word.split_once('@') {
         Some((id, _)) => id,
@@ -62,7 +62,7 @@ pub fn order_of(alloc: Global, id: &str, words: [&str; 4]) -> Result<String, All
     format!(in alloc; "OPEN {id} {words}")
 }
 
-/// The place that an order names by these words, if it may.
+/// The point that an order names by these words, if they have that form.
 pub fn spot_of(alloc: Global, kind: &str, place: &str) -> Result<Option<Spot>, AllocError> {
     let mut text = order_of(alloc, "A", [kind, place, "0001010000", "0001010001"])?;
     text.push_str(" 1")?;

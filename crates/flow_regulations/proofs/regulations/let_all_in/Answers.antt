@@ -13,7 +13,7 @@ use Rattle.flow_regulations.proofs.Openings.{coming-few}
 use Rattle.flow_regulations.proofs.Undue.{undue-opened}
 use Rattle.flow_regulations.proofs.regulations.let_all_in.Goals as goal
 
--- what a vector holds whose items were put in order are the waiting flights
+-- the items of a vector, sorted, are the flights with provisional slots
 in-order : (taxi n : ℕ) (r : Regulation) (plans : List Plan) (noted row read : List Planned) → length plans ≤ 20000 → noted ≡ coming_from 1 taxi r plans → n ≡ length noted → IsPermutation noted row → IsNonDecreasingBy rank row → read ≡ take n (row ++ drop (length row) noted) → read ≡ waiting_from 1 taxi r [] plans
 in-order taxi n r plans noted row read few is all moved up e =
     let same : n ≡ length row = omega (arith, all, length_permutation noted row moved) in

@@ -4,7 +4,7 @@ use Rattle.std.specs.Str.{bytes_eq}
 use Rattle.std.proofs.lemmas.Slice.Eq.{bytes_eq-Decides}
 use Rattle.fpl_text.proofs.text.Text.is.Goals as goal
 
--- both have zeros behind their texts
+-- both texts are followed by zeros
 pub returns-then-self-other : goal.returns-then-self-other
 returns-then-self-other g c =
     let s = c.self.inside in
