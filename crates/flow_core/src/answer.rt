@@ -8,7 +8,7 @@ ghost use Rattle.flow_core.specs.Output.{refusal_text, verdict_text, answer_line
 ghost use Rattle.flow_core.specs.Output.{flight_text, told_text, notice_line};
 ghost use Rattle.flow_core.specs.Output.{too_long_line, journal_full_line};
 
-use crate::line::{Line, put, put_number};
+use crate::line::{Line, put, put_below_100, put_number};
 use crate::receipt::Receipt;
 use arrayvec::ArrayVec;
 use flow_input::{Counted, WriteFault, write_bytes};
@@ -78,7 +78,7 @@ fn put_refusal(line: &mut Line, refusal: Refusal)
     ensures len { array_vec_len line.new ≤ array_vec_len line.old + 70 }
 {
     put(line, b" NO ");
-    put_number(line, u64::from(refusal.number()));
+    put_below_100(line, refusal.number());
     line.push(b' ');
     put(line, refusal.name());
     if let Some(detail) = refusal.detail() {

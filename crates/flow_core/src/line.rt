@@ -31,7 +31,7 @@ fn put_pair(line: &mut Line, number: u32)
 
 /// Appends a number below 100 in decimal digits.
 #[tactic(auto, using(std::proofs::lemmas::Fmt::decimal_digit, itoa::proofs::Decimal::decimal_two))]
-fn put_below_100(line: &mut Line, number: u32)
+pub(crate) fn put_below_100(line: &mut Line, number: u32)
     requires below { number < 100 }
     requires room { array_vec_len line.old + 2 ≤ 192 }
     ensures items { line.new.items ≡ line.old.items ++ decimal number }
