@@ -10,7 +10,7 @@ ghost use Rattle.flow_regulations.specs.Awaiting.{Covers, awaits, BecameDue, Are
 ghost use Rattle.flow_regulations.specs.Listing.{HoldNewlyDue};
 ghost use Rattle.flow_regulations.specs.declared.due.TheConstants.{ISSUE_LEAD};
 
-use crate::due::due_until;
+use crate::due::{due_until, is_due_by};
 use flow_plans::PlanStore;
 use fpl_text::Minute;
 use std::alloc::{AllocError, Allocator, Global};
@@ -175,8 +175,7 @@ fn awaits<A: Allocator + Copy>(plans: &PlanStore<A>, flight: &Awaited, earlier: 
     let Some(moment) = plans.filed_off_block(flight.number) else {
         return false;
     };
-    let off_block = moment.minutes();
-    off_block == flight.off_block && due_until(earlier) < off_block
+    moment.minutes() == flight.off_block && !is_due_by(moment, earlier)
 }
 
 /// Takes out all flights whose off-block moment is at most two hours after `now`, and appends those that have become
