@@ -39,7 +39,6 @@ mod advice;
 mod closed;
 mod due;
 mod due_queue;
-mod entry_asked;
 mod fixed_flights;
 mod held_marks;
 mod in_order;

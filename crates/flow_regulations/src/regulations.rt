@@ -27,7 +27,6 @@ ghost use Rattle.flow_plans.specs.declared.setup.TheConstants.{MAX_PLANS};
 use crate::advice::advice_of;
 use crate::closed::Closed;
 use crate::due::is_due;
-use crate::entry_asked::EntryAsked;
 use crate::fixed_flights::note_fixed;
 use crate::held_marks::HeldMarks;
 use crate::in_order::put_in_order;
@@ -400,11 +399,10 @@ fn look_again_in<A: Allocator + Copy>(
 {
     let concerned = word | near;
     let mut marked = word;
-    let mut asked = EntryAsked::nowhere();
     let mut index = next_marked(concerned, 0);
     while index < regulations.len() {
         let stand = may_stand(marked, index);
-        let stands = regulations[index].look_where(plans, number, now, stand, &mut asked);
+        let stands = regulations[index].look_where(plans, number, now, stand);
         marked = mark_where(marked, index, stands);
         index = next_marked(concerned, index + 1);
     }
