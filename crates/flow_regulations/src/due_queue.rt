@@ -45,8 +45,7 @@ impl<A: Allocator + Copy> Model for DueQueue<A> {
     ghost Value = { Awaiting };
 
     ghost view = { λ q. record {
-      flights = map (λ x. x.0)
-          (heap_items q.heap);
+      flights = map (λ x. x.0) (heap_items q.heap);
       room = heap_capacity q.heap;
     } };
 
