@@ -14,6 +14,7 @@ Looked at are README.md, docs/*.md, tests/README.md, the stories in samples/ and
 - walks: in docs/ARCHITECTURE.md each function in a walk is in the file named before it, that file in the crate named
   before it, and what the diagram names is there;
 - rings: no two modules of a crate import one another;
+- unused: what a library exports has a user, in another crate or in a test;
 - prose: no line has over 100 columns, outside tables and fences, and no page and no comment in src/ or specs/ has a word that
   docs/GLOSSARY.md replaces, as far as a script can tell;
 - lists: docs/GUIDE.md has each refusal with its number, and README.md just the ported crates of crates.txt.
@@ -25,9 +26,9 @@ import sys
 
 sys.dont_write_bytecode = True
 
-from checks import definitions, links, lists, prose, proved, quotations, rings, samples, walks  # noqa: E402
+from checks import definitions, links, lists, prose, proved, quotations, rings, samples, unused, walks  # noqa: E402
 
-CHECKS = (links, quotations, definitions, proved, walks, rings, prose, lists)
+CHECKS = (links, quotations, definitions, proved, walks, rings, unused, prose, lists)
 
 
 def main():

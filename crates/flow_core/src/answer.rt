@@ -1,7 +1,6 @@
 //! The text of answer lines and slot notices.
-ghost use Rattle.std.specs.Prelude.{◌≡◌, ◌≤◌, ◌+◌, ◌++◌, ◌-◌, length, codes, decimal};
+ghost use Rattle.std.specs.Prelude.{◌≡◌, ◌≤◌, ◌+◌, ◌++◌, ◌-◌, length, codes};
 ghost use Rattle.std.specs.List.{flat_map};
-ghost use Rattle.fpl_message.specs.Numbers.{number_of, name_of};
 ghost use Rattle.flow_input.specs.Writes.{Writes};
 ghost use Rattle.arrayvec.specs.ArrayVec.{array_vec_len};
 ghost use Rattle.flow_core.specs.Output.{kind_text, window_text, plan_text};
@@ -72,48 +71,16 @@ fn put_plan(line: &mut Line, plan: u32)
     }
 }
 
-/// The number and the name of a refusal, as one constant for each.
-fn refused_text(refusal: Refusal) -> &'static [u8]
-    ensures text { result.now ≡ codes " NO " ++ decimal (number_of refusal) ++ codes " "
-        ++ name_of refusal }
-    ensures short { length result.now ≤ 28 }
-{
-    match refusal {
-        Refusal::Empty => b" NO 1 Empty",
-        Refusal::BadByte(_) => b" NO 2 BadByte",
-        Refusal::NoBracket => b" NO 3 NoBracket",
-        Refusal::UnknownTitle => b" NO 4 UnknownTitle",
-        Refusal::FieldCount => b" NO 5 FieldCount",
-        Refusal::BadField(_) => b" NO 10 BadField",
-        Refusal::DuplicateItem => b" NO 11 DuplicateItem",
-        Refusal::BadDate => b" NO 12 BadDate",
-        Refusal::UnsupportedAmendment(_) => b" NO 13 UnsupportedAmendment",
-        Refusal::AlreadyHeld => b" NO 20 AlreadyHeld",
-        Refusal::NoPlan => b" NO 21 NoPlan",
-        Refusal::Ambiguous => b" NO 22 Ambiguous",
-        Refusal::AlreadyDeparted => b" NO 23 AlreadyDeparted",
-        Refusal::KeyChange => b" NO 24 KeyChange",
-        Refusal::NotLater => b" NO 25 NotLater",
-        Refusal::DelayTooLong => b" NO 26 DelayTooLong",
-        Refusal::Past => b" NO 27 Past",
-        Refusal::TooEarly => b" NO 28 TooEarly",
-        Refusal::PlansFull => b" NO 29 PlansFull",
-        Refusal::BadOrder => b" NO 30 BadOrder",
-        Refusal::RegulationHeld => b" NO 31 RegulationHeld",
-        Refusal::NoRegulation => b" NO 32 NoRegulation",
-        Refusal::RegulationsFull => b" NO 33 RegulationsFull",
-        Refusal::BadPeriod => b" NO 34 BadPeriod",
-        Refusal::BadRate => b" NO 35 BadRate",
-        Refusal::TimeBack => b" NO 36 TimeBack",
-    }
-}
-
+/// Appends the number of a refusal, its name, and the number of the field or the offset, if any.
 fn put_refusal(line: &mut Line, refusal: Refusal)
     requires { array_vec_len line.old + 70 ≤ 192 }
     ensures items { line.new.items ≡ line.old.items ++ refusal_text refusal }
     ensures len { array_vec_len line.new ≤ array_vec_len line.old + 70 }
 {
-    put(line, refused_text(refusal));
+    put(line, b" NO ");
+    put_number(line, u64::from(refusal.number()));
+    line.push(b' ');
+    put(line, refusal.name());
     if let Some(detail) = refusal.detail() {
         line.push(b' ');
         put_number(line, detail as u64);

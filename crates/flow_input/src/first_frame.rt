@@ -38,6 +38,7 @@ fn frame_len(bytes: &[u8]) -> Option<usize>
 }
 
 /// The range of the first frame, if the slice shows its end.
+#[inline(always)]
 pub(crate) fn first_frame(bytes: &[u8]) -> Option<Span>
     ensures shows { IfSome result (λ span. Shows bytes.now span.begin span.end) }
     ensures none { IfNone result (IfSome (first_cut bytes.now) (λ c. c.ended ≡ false)) }

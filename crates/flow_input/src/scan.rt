@@ -18,7 +18,7 @@ pub(crate) enum Until {
 
 /// The index of the first byte that is no blank. Few blanks precede a frame, so vector loads would
 /// gain nothing.
-#[inline(always)]
+#[inline]
 pub(crate) fn text_in(bytes: &[u8]) -> Option<usize>
     ensures { result ≡ position is_text bytes.now }
 {
@@ -26,7 +26,7 @@ pub(crate) fn text_in(bytes: &[u8]) -> Option<usize>
 }
 
 /// The index of the first byte that ends the run.
-#[inline(always)]
+#[inline]
 pub(crate) fn stop_in(bytes: &[u8], until: Until) -> Option<usize>
     ensures { result ≡ position (stops_at until) bytes.now }
 {
@@ -37,7 +37,7 @@ pub(crate) fn stop_in(bytes: &[u8], until: Until) -> Option<usize>
 }
 
 /// The index of the first of two bytes, compared byte by byte.
-#[inline(always)]
+#[inline]
 fn first_of_few(byte: u8, other: u8, bytes: &[u8]) -> Option<usize>
     ensures { result ≡ position (is_byte2 byte other) bytes.now }
 {

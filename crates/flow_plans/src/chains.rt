@@ -30,7 +30,7 @@ pub(crate) struct FlightName {
 }
 
 impl FlightName {
-    #[inline(always)]
+    #[inline]
     fn new(ident: &Text<7>, dep: &Text<4>, dest: &Text<4>) -> FlightName
         ensures { result ≡ flight_named ident.now dep.now dest.now }
     {
@@ -42,7 +42,7 @@ impl FlightName {
         }
     }
 
-    #[inline(always)]
+    #[inline]
     pub(crate) fn of_key(key: &Key) -> FlightName
         ensures { result ≡ flight_of_key key.now }
     {
@@ -57,7 +57,7 @@ impl FlightName {
 }
 
 /// At most seven bytes as one number to the base 256. The first four are read at once.
-#[inline(always)]
+#[inline]
 fn number_of(bytes: &[u8]) -> u64
     requires { length bytes.now ≤ 7 }
     ensures { result ≡ base_256 bytes.now }
@@ -69,7 +69,7 @@ fn number_of(bytes: &[u8]) -> u64
 }
 
 /// A number of at most four bytes to the base 256, with at most three bytes appended.
-#[inline(always)]
+#[inline]
 fn number_with(front: u64, bytes: &[u8]) -> u64
     requires front { front < 4_294_967_296 }
     requires short { length bytes.now ≤ 3 }

@@ -26,7 +26,7 @@ pub fn row_of(spot: &Spot) -> usize
 }
 
 /// The word of a row. A row that the table doesn't have has each bit.
-#[inline(always)]
+#[inline]
 fn word_at(table: &[u64], row: usize) -> u64
     ensures { result ≡ word_at table.now row }
 {
@@ -45,7 +45,7 @@ pub(crate) fn words_of_ends(table: &[u64], dep: &[u8], dest: &[u8]) -> u64
 }
 
 /// The index of the next set bit from `from` on, 64 or more if there is none.
-#[inline(always)]
+#[inline]
 fn next_bit(word: u64, from: usize) -> usize
     ensures from { from ≤ result }
     ensures passed { (i : ℕ) → from ≤ i → i < result → bit_at word i ≡ 0 }

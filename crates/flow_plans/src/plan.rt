@@ -135,7 +135,7 @@ fn day_of<A: Allocator + Copy>(amended: Option<&Other18<A>>) -> Option<Day>
 
 /// Whether an aerodrome is `place`. Names of four letters, as nearly all are, are compared as one
 /// number.
-#[inline(always)]
+#[inline]
 fn is_place(aerodrome: &[u8], place: &[u8]) -> bool
     ensures { result ≡ bytes_eq aerodrome.now place.now }
 {
@@ -447,7 +447,7 @@ impl<A: Allocator + Copy> Plan<A> {
 
     /// Returns the minutes from take-off to a route point, by the first estimate for it in the EET
     /// items of field 18; `None` if there is no estimate for it.
-    #[inline(always)]
+    #[inline]
     pub fn elapsed(&self, place: &[u8]) -> Option<u32>
         ensures value { result ≡ elapsed_at place.now self.now }
         ensures bound { IfSome result (λ minutes. minutes < ELAPSED_LIMIT) }
@@ -468,7 +468,7 @@ impl<A: Allocator + Copy> Plan<A> {
     /// Returns the time at which the flight enters a point: take-off at its departure, and later by
     /// the elapsed times of fields 16 and 18 at its destination and at route points. `None` if it
     /// doesn't enter the point.
-    #[inline(always)]
+    #[inline]
     #[tactic(auto, unfolding(crate::specs::Entries::entry_at))]
     pub fn entry_at(&self, taxi: u32, spot: &Spot) -> Option<Minute>
         requires { taxi ≤ MAX_TAXI }
@@ -494,7 +494,7 @@ impl<A: Allocator + Copy> Plan<A> {
     }
 
     /// The time at which the flight enters a route point.
-    #[inline(always)]
+    #[inline]
     #[tactic(auto, unfolding(crate::specs::Entries::entry_at))]
     fn entry_on_way(&self, taxi: u32, place: &Text<11>) -> Option<Minute>
         requires { taxi ≤ MAX_TAXI }
@@ -505,7 +505,7 @@ impl<A: Allocator + Copy> Plan<A> {
     }
 
     /// The entry at a regulated point, if the regulation applies to the flight.
-    #[inline(always)]
+    #[inline]
     #[tactic(auto, unfolding(crate::specs::Entries::subject))]
     pub(crate) fn subject(
         &self,

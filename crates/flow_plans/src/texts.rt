@@ -222,7 +222,7 @@ impl<A: Allocator + Copy> Texts<A> {
 
     /// The minutes from take-off to a route point, by the first estimate for it in the EET items of
     /// field 18.
-    #[inline(always)]
+    #[inline]
     pub(crate) fn elapsed(&self, place: &[u8]) -> Option<u32>
         ensures value { result ≡ elapsed_to place.now (items_of (words_of self.now.field18)) }
         ensures bound { IfSome result (λ minutes. minutes < ELAPSED_LIMIT) }

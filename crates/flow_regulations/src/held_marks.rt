@@ -39,7 +39,7 @@ impl<A: Allocator + Copy> HeldMarks<A> {
     }
 
     /// The mask of a flight.
-    #[inline(always)]
+    #[inline]
     pub(crate) fn of(&self, flight: u32) -> u64
         ensures { (lists : List Listed) → AreMarked self.now lists
             → IsMarked result flight 0 lists }

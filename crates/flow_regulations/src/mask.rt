@@ -10,7 +10,7 @@ ghost use Rattle.flow_regulations.specs.Marks.{may_stand, word_of, Keeps, KeepsB
 use std::alloc::{AllocError, Allocator};
 
 /// The mask at an index.
-#[inline(always)]
+#[inline]
 pub(crate) fn word_of(words: &[u64], index: u32) -> u64
     ensures { result ≡ word_of words.now index }
 {
@@ -21,7 +21,7 @@ pub(crate) fn word_of(words: &[u64], index: u32) -> u64
 }
 
 /// Whether the regulation at this index may hold the flight of this mask.
-#[inline(always)]
+#[inline]
 #[tactic(auto, unfolding(crate::specs::Marks::may_stand))]
 pub(crate) fn may_stand(word: u64, index: usize) -> bool
     ensures { result ≡ may_stand word index }
@@ -34,7 +34,7 @@ pub(crate) fn may_stand(word: u64, index: usize) -> bool
 }
 
 /// The first index from `index` on of a regulation that may hold the flight of this mask.
-#[inline(always)]
+#[inline]
 pub(crate) fn next_marked(word: u64, index: usize) -> usize
     ensures from { index ≤ result }
     ensures passed { (i : ℕ) → index ≤ i → i < result → may_stand word i ≡ false }
@@ -51,7 +51,7 @@ pub(crate) fn next_marked(word: u64, index: usize) -> usize
 }
 
 /// The mask with bit `index` set.
-#[inline(always)]
+#[inline]
 pub(crate) fn with_mark(word: u64, index: usize) -> u64
     ensures marked { may_stand result index ≡ true }
     ensures kept { Keeps word result }
@@ -60,7 +60,7 @@ pub(crate) fn with_mark(word: u64, index: usize) -> u64
 }
 
 /// The mask with bit `index` set if the flight is held there.
-#[inline(always)]
+#[inline]
 pub(crate) fn mark_where(word: u64, index: usize, is_held: bool) -> u64
     ensures marked { is_held ≡ true → may_stand result index ≡ true }
     ensures kept { Keeps word result }
@@ -86,7 +86,7 @@ pub(crate) fn with_place(word: u64, index: usize, is_held: bool) -> u64
 
 /// The mask after the regulation at `index` is closed: the later bits move down by one. Bit 63 is
 /// set, since nothing is known of the 65th regulation.
-#[inline(always)]
+#[inline]
 fn without_place(word: u64, index: usize) -> u64
     requires { index < 64 }
     ensures { MovesUp index word result }

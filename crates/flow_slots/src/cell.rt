@@ -12,7 +12,7 @@ pub struct Planned {
 
 impl Planned {
     /// Returns the flight's rank in the order, as one number.
-    #[inline(always)]
+    #[inline]
     pub fn rank(self) -> u64
         ensures { result ≡ rank self }
     {
@@ -21,7 +21,7 @@ impl Planned {
 }
 
 /// The rank of a flight: by its entry, ties by its number.
-#[inline(always)]
+#[inline]
 pub(crate) fn rank(entry: u32, flight: u32) -> u64
     ensures { result ≡ 4_294_967_296 * entry + flight }
 {

@@ -84,7 +84,7 @@ fn make_to<A: Allocator + Copy>(row: &mut Vec<PackedCell, A>, len: u32, k: u32)
 }
 
 /// Inserts `flight` from slot `from` on, and returns the number of cells written.
-#[inline(always)]
+#[inline]
 fn displace_in(
     cells: &mut [PackedCell],
     places: &mut [HeldSlot],
@@ -111,7 +111,7 @@ fn displace_in(
 }
 
 /// Removes `flight` from slot `k`, and returns the number of cells written.
-#[inline(always)]
+#[inline]
 fn vacate_in<A: Allocator + Copy>(
     cells: &mut [PackedCell],
     places: &mut [HeldSlot],
@@ -153,7 +153,7 @@ impl<A: Allocator + Copy> Cells<A> {
     }
 
     /// The number of slots.
-    #[inline(always)]
+    #[inline]
     pub(crate) fn len(&self) -> u32
         ensures { result ≡ length self.now.row }
     {
@@ -195,7 +195,7 @@ impl<A: Allocator + Copy> Cells<A> {
     }
 
     /// The content of slot `k`.
-    #[inline(always)]
+    #[inline]
     pub(crate) fn cell(&self, k: u32) -> Cell
         requires { k < length self.now.row }
         ensures value { result ≡ cell_at self.now.row k }
@@ -217,7 +217,7 @@ impl<A: Allocator + Copy> Cells<A> {
 
     /// Inserts `flight` from slot `from` on: it gets the first slot that is empty or held by a
     /// later flight, which is inserted from the next slot on in the same way.
-    #[inline(always)]
+    #[inline]
     pub(crate) fn displace(&mut self, places: &mut Vec<HeldSlot, A>, from: u32, flight: Planned)
         requires tied { IsTied places.old.items self.old.row }
         requires order { AllFollow (drop from self.old.row) }
@@ -241,7 +241,7 @@ impl<A: Allocator + Copy> Cells<A> {
     }
 
     /// Removes `flight` from slot `k`: flights move up into the hole that it leaves.
-    #[inline(always)]
+    #[inline]
     pub(crate) fn vacate(
         &mut self,
         places: &mut Vec<HeldSlot, A>,
@@ -265,7 +265,7 @@ impl<A: Allocator + Copy> Cells<A> {
         self.writes = self.writes.saturating_add(moved);
     }
 
-    #[inline(always)]
+    #[inline]
     pub(crate) fn write(&mut self, k: u32, cell: Cell)
         requires slot { k < length self.old.row }
         requires kept { IsStored self.old.start cell }

@@ -18,7 +18,7 @@ use std::alloc::Allocator;
 
 /// The index of the first cell from `from` on that is empty or has a provisional flight that
 /// doesn't precede `flight`.
-#[inline(always)]
+#[inline]
 pub(crate) fn first_later(row: &Counting<'_>, from: usize, flight: PackedCell) -> usize
     requires few { length row.now.cells.now < 2 ^ 16 }
     requires order { AllFollow (drop from row.now.cells.now) }
@@ -35,7 +35,7 @@ pub(crate) fn first_later(row: &Counting<'_>, from: usize, flight: PackedCell) -
 
 /// Inserts `flight` at cell `from`, if no provisional flight up to the next empty cell precedes it:
 /// each flight takes the cell of the next provisional one, the last one the empty cell.
-#[inline(always)]
+#[inline]
 pub(crate) fn displace(
     row: &mut Counting<'_>,
     places: &mut [HeldSlot],
@@ -84,7 +84,7 @@ struct NextUp {
 
 /// The flight that may move up into the empty slot `hole`, with its slot. The row begins with these
 /// cells, whose entries are counted from the start of the period; empty cells follow.
-#[inline(always)]
+#[inline]
 fn next_up<A: Allocator + Copy>(
     row: &Counting<'_>,
     shape: &FirstSlots<A>,
@@ -125,7 +125,7 @@ fn next_up<A: Allocator + Copy>(
 
 /// Removes `flight` from slot `k`: flights move up into the hole that it leaves. The row begins
 /// with these cells, whose entries are counted from the start of the period; empty cells follow.
-#[inline(always)]
+#[inline]
 pub(crate) fn vacate<A: Allocator + Copy>(
     row: &mut Counting<'_>,
     places: &mut [HeldSlot],

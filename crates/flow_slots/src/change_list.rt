@@ -18,7 +18,7 @@ pub enum Change {
 
 impl<A: Allocator + Copy> SlotList<A> {
     /// Applies one change, whose conditions hold.
-    pub fn change(&mut self, change: Change)
+    fn change(&mut self, change: Change)
         requires { May change self.old.lineup }
         ensures { self.new.lineup ≡ changed change self.old.lineup }
     {

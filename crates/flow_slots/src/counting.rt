@@ -12,7 +12,7 @@ pub(crate) struct Counting<'a> {
 }
 
 impl<'a> Counting<'a> {
-    #[inline(always)]
+    #[inline]
     pub(crate) fn new(cells: &'a mut [PackedCell]) -> Counting<'a>
         ensures same_reference { result.cells.ghost_name ≡ cells.entry.ghost_name }
         ensures cells { result.cells.now ≡ cells.old }
@@ -21,7 +21,7 @@ impl<'a> Counting<'a> {
         Counting { cells, written: 0 }
     }
 
-    #[inline(always)]
+    #[inline]
     pub(crate) fn len(&self) -> usize
         ensures { result ≡ length self.now.cells.now }
     {
@@ -29,7 +29,7 @@ impl<'a> Counting<'a> {
     }
 
     /// The content of cell `k`.
-    #[inline(always)]
+    #[inline]
     pub(crate) fn get(&self, k: usize) -> PackedCell
         requires { k < length self.now.cells.now }
         ensures { result ≡ cell_at self.now.cells.now k }
@@ -38,7 +38,7 @@ impl<'a> Counting<'a> {
     }
 
     /// Writes cell `k`, and counts it.
-    #[inline(always)]
+    #[inline]
     pub(crate) fn put(&mut self, k: usize, cell: PackedCell)
         requires bound { k < length self.old.cells.now }
         requires few { self.old.written < 2 ^ 64 - 1 }
@@ -51,7 +51,7 @@ impl<'a> Counting<'a> {
     }
 
     /// Returns the number of writes, and ends the borrow.
-    #[inline(always)]
+    #[inline]
     pub(crate) fn end(self) -> u64
         ensures cells { self.exit.0.now ≡ self.entry.cells.now }
         ensures written { result ≡ self.entry.written }

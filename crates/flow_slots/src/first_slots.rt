@@ -43,7 +43,7 @@ impl<A: Allocator + Copy> FirstSlots<A> {
     }
 
     /// The number of the first slot not before an entry in minutes.
-    #[inline(always)]
+    #[inline]
     pub(crate) fn at(&self, entry: u32) -> u32
         requires { IsWithin self.now entry }
         ensures { result ≡ first_slot self.now entry }

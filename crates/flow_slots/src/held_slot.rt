@@ -32,14 +32,14 @@ impl Model for HeldSlot {
 }
 
 impl HeldSlot {
-    #[inline(always)]
+    #[inline]
     pub(crate) fn none() -> Self
         ensures { result ≡ None }
     {
         HeldSlot { after: 0 }
     }
 
-    #[inline(always)]
+    #[inline]
     pub(crate) fn of(slot: u32) -> Self
         requires { slot < 2 ^ 16 - 1 }
         ensures { result ≡ Some slot }
@@ -50,7 +50,7 @@ impl HeldSlot {
     }
 
     /// The number of the slot.
-    #[inline(always)]
+    #[inline]
     pub(crate) fn get(self) -> Option<u32>
         ensures { result ≡ self }
     {
@@ -61,7 +61,7 @@ impl HeldSlot {
         }
     }
 
-    #[inline(always)]
+    #[inline]
     pub(crate) fn is_none(self) -> bool
         ensures { IsTrue result ↔ (self ≡ None) }
     {
@@ -69,7 +69,7 @@ impl HeldSlot {
     }
 
     /// The stored number with the bits of another set.
-    #[inline(always)]
+    #[inline]
     fn or(self, other: u16) -> u16
         ensures { (result ≡ 0) ↔ (other ≡ 0) × (self ≡ None) }
     {
@@ -78,7 +78,7 @@ impl HeldSlot {
 }
 
 /// Whether none of these is a slot.
-#[inline(always)]
+#[inline]
 fn are_none(slots: &[HeldSlot]) -> bool
     ensures { IsTrue result ↔ All (λ slot. slot ≡ None) slots.now }
 {
@@ -110,7 +110,7 @@ pub(crate) fn first_held(slots: &[HeldSlot], from: usize) -> usize
 }
 
 /// The slot of `flight`, or `None`.
-#[inline(always)]
+#[inline]
 pub(crate) fn place_of<A: Allocator + Copy>(places: &Vec<HeldSlot, A>, flight: u32) -> Option<u32>
     ensures { result ≡ place_at places.now.items flight }
 {
@@ -123,7 +123,7 @@ pub(crate) fn place_of<A: Allocator + Copy>(places: &Vec<HeldSlot, A>, flight: u
 
 /// The first flight number from `from` on that has a slot. If none has, the first number after all,
 /// or `from` if that is greater.
-#[inline(always)]
+#[inline]
 pub(crate) fn next_placed<A: Allocator + Copy>(places: &Vec<HeldSlot, A>, from: u32) -> u32
     requires { vec_len places.now < 2 ^ 32 }
     ensures from { from ≤ result }

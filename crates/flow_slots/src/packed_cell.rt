@@ -46,7 +46,7 @@ impl Model for PackedCell {
 
 const _: () = prove!(size_of::<PackedCell>() <= 4);
 
-#[inline(always)]
+#[inline]
 fn word_of(entry: u32, flight: u32) -> u32
     requires entry { entry ≤ NO_ENTRY }
     requires flight { flight < FLIGHTS }
@@ -55,14 +55,14 @@ fn word_of(entry: u32, flight: u32) -> u32
     FLIGHTS * entry + flight
 }
 
-#[inline(always)]
+#[inline]
 fn entry_in(word: u32) -> u32
     ensures { result ≡ word / FLIGHTS }
 {
     word / FLIGHTS
 }
 
-#[inline(always)]
+#[inline]
 fn flight_in(word: u32) -> u32
     ensures { result ≡ word % FLIGHTS }
 {
@@ -70,7 +70,7 @@ fn flight_in(word: u32) -> u32
 }
 
 impl PackedCell {
-    #[inline(always)]
+    #[inline]
     pub(crate) fn empty() -> Self
         ensures { result ≡ Cell.Empty }
     {
@@ -80,7 +80,7 @@ impl PackedCell {
     }
 
     /// A provisional flight, its entry counted from `start`.
-    #[inline(always)]
+    #[inline]
     pub(crate) fn waiting(start: u32, planned: Planned) -> Self
         requires { IsStored start (Waiting planned) }
         ensures value { flight_from start (planned_in result) ≡ planned }
@@ -92,7 +92,7 @@ impl PackedCell {
     }
 
     /// The content, with the entry counted from 1970.
-    #[inline(always)]
+    #[inline]
     pub(crate) fn get(&self, start: u32) -> Cell
         requires { start < 2 ^ 31 }
         ensures value { result ≡ from_start start self.now }
@@ -114,7 +114,7 @@ impl PackedCell {
     }
 
     /// Whether the slot is provisional. A chain moves such a cell as one word.
-    #[inline(always)]
+    #[inline]
     pub(crate) fn is_waiting(self) -> bool
         ensures { result ≡ waits self }
     {
@@ -122,7 +122,7 @@ impl PackedCell {
     }
 
     /// The entry of the provisional flight.
-    #[inline(always)]
+    #[inline]
     pub(crate) fn entry(self, start: u32) -> u32
         requires { start < 2 ^ 31 }
         ensures { result ≡ start + entry_number self }
@@ -131,14 +131,14 @@ impl PackedCell {
     }
 
     /// The number of the flight, 0 if there is none.
-    #[inline(always)]
+    #[inline]
     pub(crate) fn flight(self) -> u32
         ensures { result ≡ flight_number self }
     {
         flight_in(self.word)
     }
 
-    #[inline(always)]
+    #[inline]
     pub(crate) fn is_empty(self) -> bool
         ensures { IsTrue result ↔ (self ≡ Cell.Empty) }
     {
@@ -148,7 +148,7 @@ impl PackedCell {
 
     /// Whether the slot is frozen. The word is then greater than that of an empty cell, so one
     /// comparison decides.
-    #[inline(always)]
+    #[inline]
     pub(crate) fn is_fixed(self) -> bool
         ensures { IsTrue result ↔ IsFixedCell self }
     {
@@ -157,7 +157,7 @@ impl PackedCell {
 
     /// Whether the slot is provisional and its flight precedes this one. Empty and frozen cells
     /// have the greatest entry, so one comparison of the words decides.
-    #[inline(always)]
+    #[inline]
     pub(crate) fn waits_before(&self, flight: PackedCell) -> bool
         requires { waits flight ≡ true }
         ensures { result ≡ waits_before (planned_in flight) self.now }
@@ -166,7 +166,7 @@ impl PackedCell {
     }
 
     /// Overwrites the cell.
-    #[inline(always)]
+    #[inline]
     pub(crate) fn set(&mut self, start: u32, cell: Cell)
         requires { IsStored start cell }
         ensures { from_start start self.new ≡ cell }

@@ -269,7 +269,7 @@ impl Shape {
             && self.parts[..self.count] == other.parts[..other.count]
     }
 
-    #[inline(always)]
+    #[inline]
     pub(crate) fn start_minutes(&self) -> u32
         ensures { result ≡ self.now.start }
     {

@@ -133,7 +133,7 @@ impl<A: Allocator + Copy> SlotList<A> {
 
     /// Returns the slot of a flight; `None` if it has none. No other flight has that slot, and no
     /// flight is twice in the list.
-    #[inline(always)]
+    #[inline]
     pub fn slot_of(&self, flight: u32) -> Option<u32>
         ensures slot { result ≡ held_slot self.now.lineup flight }
         ensures within { IfSome result (λ k. k < len_of self.now.lineup) }
@@ -147,7 +147,7 @@ impl<A: Allocator + Copy> SlotList<A> {
 
     /// Returns the first flight number from `from` on that has a slot. If none has, the first
     /// number after `max_plans`, or `from` if that is greater.
-    #[inline(always)]
+    #[inline]
     pub fn next_held(&self, from: u32) -> u32
         ensures from { from ≤ result }
         ensures passed { (f : ℕ) → from ≤ f → f < result → held_slot self.now.lineup f ≡ None }
@@ -161,7 +161,7 @@ impl<A: Allocator + Copy> SlotList<A> {
 
     /// Returns the entry of a provisional flight; `None` for any other. No flight is provisional
     /// twice, and none is both provisional and frozen.
-    #[inline(always)]
+    #[inline]
     pub fn entry_of(&self, flight: u32) -> Option<Minute>
         ensures entry { result ≡ waiting_entry self.now.lineup flight }
         ensures within { IfSome result (λ e. IsWithin self.now.lineup.period e) }
@@ -258,7 +258,7 @@ impl<A: Allocator + Copy> SlotList<A> {
 
     /// Whether a flight's slot is frozen. No flight has two frozen slots, and none is both
     /// provisional and frozen.
-    #[inline(always)]
+    #[inline]
     pub fn is_fixed(&self, flight: u32) -> bool
         ensures fixed { IsTrue result ↔ IsSome (fixed_slot self.now.lineup flight) }
         ensures lined { IsLineup self.now.lineup }

@@ -41,7 +41,7 @@ pub use opening::{Opening, openings_of};
 pub use past::desk_at;
 pub use rounds::PANEL_WIDTH;
 pub use scale::{PANEL_HEIGHT, Scale};
-pub use slot_row::{SlotRow, rows_of};
+pub use slot_row::SlotRow;
 pub use table::{Holding, Line, lines_with};
 pub use totals::{Totals, mean_tenths, totals_of};
 pub use what_if::{SweepFault, Swept, sweep};

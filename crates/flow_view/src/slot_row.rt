@@ -53,7 +53,7 @@ fn row_at<A: Allocator + Copy>(
 
 /// The rows of a slot list of a regulation at `spot`, in the order of its slots. Returns `Err` if
 /// allocation fails.
-pub fn rows_of<A: Allocator + Copy>(
+pub(crate) fn rows_of<A: Allocator + Copy>(
     alloc: A,
     core: &Core<A>,
     spot: &Spot,

@@ -55,7 +55,7 @@ impl Estimate {
 
     /// Whether the estimate is for the point `place`, of which `name` is the stored form. Names
     /// that differ mostly do in the fourth letter, so that is compared first.
-    #[inline(always)]
+    #[inline]
     #[tactic(auto, unfolding(crate::specs::Estimates::is_for))]
     pub(crate) fn is_for(&self, place: &[u8], name: &[u8; 12]) -> bool
         requires place { length place.now ≤ 11 }

@@ -69,7 +69,7 @@ impl<A: Allocator + Copy> Estimates<A> {
     }
 
     /// The elapsed time, in minutes, of the first estimate for the point `place`.
-    #[inline(always)]
+    #[inline]
     pub fn elapsed(&self, place: &[u8]) -> Option<u32>
         ensures value { result ≡ first_for place.now self.now }
         ensures bound { IfSome result (λ minutes. minutes < ELAPSED_LIMIT) }

@@ -15,7 +15,7 @@ use std::marker::Model;
 
 /// Whether a stroke is at this offset of a word, after a name of 2 to 9 bytes that begins with a
 /// letter.
-#[inline(always)]
+#[inline]
 fn has_name(stroke: usize, word: &[u8]) -> bool
     ensures { result ≡ (nat_lt stroke (length word.now)
         && (slice_index word.now stroke == 47) && nat_le 2 stroke
@@ -25,7 +25,7 @@ fn has_name(stroke: usize, word: &[u8]) -> bool
 }
 
 /// Whether a word begins an item: a name of letters and digits, and a stroke after it.
-#[inline(always)]
+#[inline]
 pub(crate) fn begins_item(measured: &Measured<'_>) -> bool
     requires { measured.now.letters_or_digits
         ≡ prefix_len is_letter_or_digit measured.now.word.now }
@@ -118,7 +118,7 @@ impl<'a> Item<'a> {
 }
 
 /// Skips the words before the next that has a stroke, since they begin no item.
-#[inline(always)]
+#[inline]
 fn skip_to_stroke(words: &mut Words<'_>)
     ensures items { items_of words.old ≡ items_of words.new }
     ensures fewer { length words.new ≤ length words.old }
@@ -128,7 +128,7 @@ fn skip_to_stroke(words: &mut Words<'_>)
 
 /// Takes the next item, after skipping the words before it. Most items follow directly on the item
 /// before, so a stroke is searched for only if the next word begins no item.
-#[inline(always)]
+#[inline]
 fn next_item<'a>(words: &mut Words<'a>) -> Option<Item<'a>>
     ensures { MatchOption result ((items_of words.old ≡ []) × (words.new ≡ []))
         (λ item. items_of words.old ≡ item ∷ items_of words.new) }
@@ -184,7 +184,7 @@ impl<'a> Iterator for Items<'a> {
 
     ghost remaining = { item_count (λ i. i) };
 
-    #[inline(always)]
+    #[inline]
     fn next(&mut self) -> Option<Item<'a>> {
         next_item(&mut self.words)
     }

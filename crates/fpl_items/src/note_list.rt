@@ -60,7 +60,7 @@ impl<A: Allocator + Copy> NoteList<A> {
     }
 
     /// The estimates that are inline, and those after them.
-    #[inline(always)]
+    #[inline]
     pub(crate) fn parts(&self) -> (&[Estimate], &[Estimate])
         ensures { result.0.now ++ result.1.now ≡ self.now }
     {

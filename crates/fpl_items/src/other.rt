@@ -95,7 +95,7 @@ fn note_word<A: Allocator + Copy>(
 }
 
 /// Records the estimate that a measured word is; any other word is refused.
-#[inline(always)]
+#[inline]
 #[tactic(auto, unfolding(crate::specs::Items::is_estimate))]
 fn note_measured<A: Allocator + Copy>(
     estimates: &mut Estimates<A>,
@@ -195,7 +195,7 @@ fn has_word(mut words: ItemWords<'_>, word: &[u8]) -> bool
 }
 
 /// Whether an item has this name.
-#[inline(always)]
+#[inline]
 fn is_name(name: &[u8], known: &[u8; 3]) -> bool
     ensures { result ≡ bytes_eq name.now known.now }
 {

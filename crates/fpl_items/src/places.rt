@@ -6,7 +6,7 @@ ghost use Rattle.std.specs.Prelude.{◌≡◌, ◌<◌, ◌≤◌, true, List, �
 ghost use Rattle.fpl_items.specs.Places.{bit_of, may_have, name_of};
 
 /// The bit of a point, below 64.
-#[inline(always)]
+#[inline]
 #[tactic(auto, unfolding(crate::specs::Places::bit_of))]
 pub fn bit_of(place: &[u8]) -> u32
     ensures value { result ≡ bit_of place.now }
@@ -22,7 +22,7 @@ pub fn bit_of(place: &[u8]) -> u32
 }
 
 /// Whether a point may be in a set: whether its bit is set.
-#[inline(always)]
+#[inline]
 pub fn may_have(places: u64, place: &[u8]) -> bool
     ensures { result ≡ may_have places place.now }
 {
@@ -39,7 +39,7 @@ pub(crate) fn with_place(places: u64, place: &[u8]) -> u64
 
 /// The stored form of a name: 12 bytes. Most points have four letters, for which it is put together
 /// in registers.
-#[inline(always)]
+#[inline]
 #[tactic(auto, using(crate::proofs::Notes::name_of_four))]
 pub(crate) fn name_of(place: &[u8]) -> [u8; 12]
     requires { length place.now ≤ 11 }

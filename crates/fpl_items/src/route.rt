@@ -202,7 +202,7 @@ fn kind_of_three(word: &[u8]) -> Kind
 }
 
 /// The first kind that fits a word of letters alone.
-#[inline(always)]
+#[inline]
 fn kind_of_letters(word: &[u8]) -> Kind
     requires { prefix_len is_letter word.now ≡ length word.now }
     ensures { kind_of word.now ≡ Some result }
@@ -220,7 +220,7 @@ fn kind_of_letters(word: &[u8]) -> Kind
 
 /// The first kind that fits a word of up to 6 letters and digits that has a digit: it is too short
 /// for a point.
-#[inline(always)]
+#[inline]
 fn kind_with_digit(word: &[u8]) -> Kind
     requires digit { prefix_len is_letter word.now < length word.now }
     requires alone { prefix_len is_letter_or_digit word.now ≡ length word.now }
@@ -255,7 +255,7 @@ fn kind_with_other(word: &[u8]) -> Option<Kind>
 }
 
 /// The first kind that fits a word.
-#[inline(always)]
+#[inline]
 fn kind_of(measured: &Measured<'_>) -> Option<Kind>
     requires letters { measured.now.letters ≡ prefix_len is_letter measured.now.word.now }
     requires letters_or_digits { measured.now.letters_or_digits

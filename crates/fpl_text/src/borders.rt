@@ -32,7 +32,7 @@ struct Look {
 
 impl Look {
     /// Loads the 16 bytes at `at` and finds the borders among them.
-    #[inline(always)]
+    #[inline]
     fn new(bytes: &[u8], at: usize) -> Self
         requires { at + 16 ≤ length bytes.now }
         ensures look { IsLook bytes.now result.at result.bits }
@@ -46,7 +46,7 @@ impl Look {
 /// Returns the offset of the first border at or after `from`, or `end` if there is none before it,
 /// and the last vector that was loaded. At least 16 more bytes follow `end`. `look`, the vector of
 /// the search before, has the byte at `from` or ends just before it.
-#[inline(always)]
+#[inline]
 fn next_border(bytes: &[u8], look: Look, from: usize, end: usize) -> (usize, Look)
     requires room { end + 16 ≤ length bytes.now }
     requires order { from ≤ end }

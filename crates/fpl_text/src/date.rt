@@ -27,7 +27,7 @@ fn civil_date(yy: u8, month: u8, day: u8) -> Option<Date>
 
 /// Reads yymmdd, a date of the years 2000 to 2099.
 #[tactic(auto, unfolding(crate::specs::Times::two_digits))]
-#[inline(always)]
+#[inline]
 pub(crate) fn read_date(text: &[u8]) -> Option<Date>
     ensures value { ReadsDate text.now result }
     ensures century { IfSome result (λ date. IsBetween (pos 2000) (pos 2099) date.year) }

@@ -56,7 +56,7 @@ fn transponder_of(text: &[u8]) -> Option<Option<u16>>
 impl Ident {
     /// Reads field 7: 1 to 7 letters or digits, then optionally `/A` and four digits 0 to 7. Any
     /// other text is `BadField(7)`.
-    #[inline(always)]
+    #[inline]
     #[tactic(auto, unfolding(crate::specs::Places::ident_of))]
     pub fn read(field: &[u8]) -> Result<Ident, FieldFault>
         ensures { result ≡ ok_or (ident_of field.now) (FieldFault.BadField 7) }

@@ -95,7 +95,7 @@ impl<const N: usize> Text<N> {
 
     /// Whether both texts are equal. Compares all `N` bytes, since the bytes after equal texts are
     /// equal zeros, so that the comparison has a fixed length.
-    #[inline(always)]
+    #[inline]
     pub fn is(&self, other: &Self) -> bool
         ensures { result ≡ bytes_eq self.now other.now }
     {
