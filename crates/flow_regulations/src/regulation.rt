@@ -311,8 +311,8 @@ impl<A: Allocator + Copy> Regulation<A> {
         }
     }
 
-    /// Restores the state of a flight in the slot list. The list is then as it was: the other flights
-    /// have their former states already.
+    /// Restores the state of a flight in the slot list. The list is then as it was: the other
+    /// flights have their former states already.
     pub(crate) fn put_back(&mut self, number: u32, place: Place)
         requires first { 0 < number }
         requires last { number ≤ self.old.lineup.capacity }
