@@ -16,7 +16,7 @@ Looked at are README.md, docs/*.md, tests/README.md, the stories in samples/ and
 - rings: no two modules of a crate import one another;
 - unused: what a library exports has a user, in another crate or in a test;
 - prose: no line has over 100 columns, outside tables and fences, and no page and no comment in src/ or specs/ has a word that
-  docs/GLOSSARY.md replaces, as far as a script can tell; the pages and crates that aren't so yet are listed there;
+  docs/GLOSSARY.md replaces, as far as a script can tell;
 - lists: docs/GUIDE.md has each refusal with its number, and README.md just the ported crates of crates.txt.
 With a program, each folder of samples/ is run as well: args (a word a line), stdin, stdout and status (0 where absent).
 Prints a line for each finding, then 'N findings'. The status is 1 if there are any.

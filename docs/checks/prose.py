@@ -6,7 +6,7 @@ but those of a `tactic`, which `rt fmt` doesn't break."""
 import re
 
 from checks.code import CRATES
-from checks.pages import CODE, LINK, anchor_of, lines_outside_fences, name_of, pages, text_of
+from checks.pages import CODE, LINK, lines_outside_fences, name_of, pages, text_of
 
 LONGEST = 100
 
@@ -39,15 +39,6 @@ REPLACED = {
     r"dearest": "slowest",
 }
 
-# Pages, and sections of pages, in which there still are such lines or words. Whoever cleans one takes it off this list.
-NOT_YET = set()
-
-# Crates of which the comments aren't clean yet. Whoever cleans one takes it off this list.
-CRATES_NOT_YET = {
-    "flow_regulations",
-}
-
-
 def long_lines(lines):
     for number, line in lines.items():
         if len(line) > LONGEST and not line.startswith("|"):
@@ -69,16 +60,6 @@ def replaced_words(lines):
             yield text.count("\n", 0, found.start()) + 1, "'%s', for which to say: %s" % (words, instead)
 
 
-def sections_of(page, lines):
-    """For each line the name of its page, and that with its heading."""
-    heading, found = "", {}
-    for number, line in lines.items():
-        if line.startswith("#"):
-            heading = anchor_of(line.lstrip("#"))
-        found[number] = {name_of(page), "%s#%s" % (name_of(page), heading)}
-    return found
-
-
 def comments_of(file):
     """The comment lines of a file of code by number, without their marks, and blank lines for the others."""
     mark = re.compile(r"\s*--(.*)" if file.suffix == ".antt" else r"\s*//[/!]?(.*)")
@@ -98,25 +79,10 @@ def findings_in_crate(crate):
             yield "%s:%d: %s" % (name_of(file), number, what)
 
 
-def findings_in_crates():
-    for crate in sorted(CRATES.iterdir()):
-        found = list(findings_in_crate(crate))
-        if crate.name not in CRATES_NOT_YET:
-            yield from found
-        elif not found:
-            yield "docs/checks/prose.py: %s is clean: take it off the list" % crate.name
-
-
 def findings():
-    yield from findings_in_crates()
-    unclean = set()
+    for crate in sorted(CRATES.iterdir()):
+        yield from findings_in_crate(crate)
     for page in pages():
         lines = dict(lines_outside_fences(text_of(page)))
-        sections = sections_of(page, lines)
         for number, what in sorted([*long_lines(lines), *replaced_words(lines)]):
-            listed = sections[number] & NOT_YET
-            unclean |= listed
-            if not listed:
-                yield "%s:%d: %s" % (name_of(page), number, what)
-    for name in sorted(NOT_YET - unclean):
-        yield "docs/checks/prose.py: %s is clean, or isn't there: take it off the list" % name
+            yield "%s:%d: %s" % (name_of(page), number, what)

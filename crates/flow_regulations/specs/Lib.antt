@@ -7,4 +7,3 @@ pub mod Awaiting
 pub mod Notices
 pub mod Places
 pub mod Quiet
-pub mod Asked

@@ -1,16 +1,18 @@
-//! The flights that aren't due yet, by off-block moment.
-ghost use Rattle.std.specs.Prelude.{◌≡◌, ◌∷◌, [], ◌+◌, ◌<◌, ◌≤◌, ℕ, true, false, Some, OnOk, IfSome};
+//! The flights that aren't due yet, by off-block time.
+ghost use Rattle.std.specs.Prelude.{◌≡◌, ◌∷◌, [], ◌+◌, ◌<◌, ◌≤◌};
+ghost use Rattle.std.specs.Prelude.{ℕ, true, false, Some, OnOk, IfSome};
 ghost use Rattle.std.specs.Prelude.{IfNone, map, length, vec_capacity};
 ghost use Rattle.std.specs.List.{All, AllByRecursion, Contains};
 ghost use Rattle.std.specs.List.Sorted.{IsPermutation, IsStrictlyIncreasing};
 ghost use Rattle.std.specs.BinaryHeap.{IsHeap, heap_items, heap_len, heap_capacity};
 ghost use Rattle.std.specs.declared.cmp.Reverse.{Reverse};
 ghost use Rattle.flow_plans.specs.Plans.{Plan as Held, plan_at};
-ghost use Rattle.flow_regulations.specs.Awaiting.{Covers, awaits, BecameDue, AreHeld, earlier_first};
+ghost use Rattle.flow_regulations.specs.Awaiting.{Covers, awaits, BecameDue};
+ghost use Rattle.flow_regulations.specs.Awaiting.{AreHeld, earlier_first};
 ghost use Rattle.flow_regulations.specs.Listing.{HoldNewlyDue};
 ghost use Rattle.flow_regulations.specs.declared.due.TheConstants.{ISSUE_LEAD};
 
-use crate::due::due_until;
+use crate::due::{due_until, is_due_by};
 use flow_plans::PlanStore;
 use fpl_text::Minute;
 use std::alloc::{AllocError, Allocator, Global};
@@ -18,16 +20,17 @@ use std::cmp::Reverse;
 use std::collections::BinaryHeap;
 use std::marker::Model;
 
-/// A flight that isn't due yet, with the off-block moment that its plan had when it was noted, in minutes from
-/// 1970-01-01 00:00 UTC.
+/// A flight that isn't due yet, with the off-block time that its plan had when it was put in the
+/// queue, in minutes since 1970-01-01 00:00 UTC.
 #[derive(Clone, Copy, Debug, PartialEq, Eq, PartialOrd, Ord)]
 pub struct Awaited {
     pub off_block: u32,
     pub number: u32,
 }
 
-/// The flights that aren't due yet, from which those that become due are taken (ATFCM Users Manual, slot issue). It may
-/// hold flights whose plans have moved or ended since they were noted: these are dropped when their turn comes.
+/// The flights that aren't due yet, from which those that become due are taken (ATFCM Users Manual,
+/// slot issue). It may hold flights whose plans have moved or ended since: these are dropped when
+/// their turn comes.
 #[derive(Drop)]
 pub struct DueQueue<A: Allocator + Copy = Global> {
     heap: BinaryHeap<Reverse<Awaited>, A>,
@@ -41,9 +44,13 @@ impl<A: Allocator + Copy> Model for DueQueue<A> {
 
     ghost Value = { Awaiting };
 
-    ghost view = { λ q. record { flights = map (λ x. x.0) (heap_items q.heap); room = heap_capacity q.heap } };
+    ghost view = { λ q. record {
+      flights = map (λ x. x.0) (heap_items q.heap);
+      room = heap_capacity q.heap;
+    } };
 
-    ghost invariant = { λ q. IsHeap earlier_first (heap_items q.heap) × All (λ x. 0 < x.0.number) (heap_items q.heap) };
+    ghost invariant = { λ q. IsHeap earlier_first (heap_items q.heap)
+        × All (λ x. 0 < x.0.number) (heap_items q.heap) };
 }
 
 impl<A: Allocator + Copy> DueQueue<A> {
@@ -56,7 +63,7 @@ impl<A: Allocator + Copy> DueQueue<A> {
         }
     }
 
-    /// How many flights were noted and not yet taken or dropped.
+    /// The number of flights that were put in and not yet taken or dropped.
     pub fn count(&self) -> usize
         ensures value { result ≡ length self.now.flights }
         ensures fits { result ≤ self.now.room }
@@ -64,7 +71,8 @@ impl<A: Allocator + Copy> DueQueue<A> {
         self.heap.len()
     }
 
-    /// Makes room for one more flight. Refused where memory is; the flights stay as they are.
+    /// Reserves capacity for one more flight. Returns `Err` if allocation fails; the flights are
+    /// unchanged.
     pub fn reserve(&mut self) -> Result<(), AllocError>
         ensures flights { self.new.flights ≡ self.old.flights }
         ensures room { self.old.room ≤ self.new.room }
@@ -73,7 +81,7 @@ impl<A: Allocator + Copy> DueQueue<A> {
         self.heap.reserve(1)
     }
 
-    /// Notes a flight with the off-block moment of its plan, where there is room.
+    /// Puts in a flight with the off-block time of its plan, within the capacity.
     pub fn note(&mut self, number: u32, off_block: Minute)
         requires some { 0 < number }
         requires room { length self.old.flights < self.old.room }
@@ -87,8 +95,8 @@ impl<A: Allocator + Copy> DueQueue<A> {
         push_reserved(&mut self.heap, Awaited { off_block, number });
     }
 
-    /// Takes out the flights that have become due from `earlier` to `now`, by rising number and none twice, with all
-    /// those whose off-block moment as noted says so.
+    /// Takes out the flights that have become due from `earlier` to `now`, by rising number and
+    /// none twice, and drops those whose plan has moved or ended.
     pub fn take_due(
         &mut self,
         plans: &PlanStore<A>,
@@ -114,13 +122,14 @@ impl<A: Allocator + Copy> DueQueue<A> {
         due.dedup();
     }
 
-    /// Puts the flights back that were taken when they became due, for the time before that. It takes no memory: the
-    /// room that they left is there.
+    /// Puts back the flights that were taken when they became due, for the time before that.
+    /// Allocates nothing, since their capacity is still there.
     pub fn put_back(&mut self, plans: &PlanStore<A>, due: &[u32])
         requires some { All (λ n. 0 < n) due.now }
         requires room { length self.old.flights + length due.now ≤ self.old.room }
         ensures covers { (earlier now : ℕ) → HoldNewlyDue earlier now plans.now.plans due.now
-            → Covers now plans.now.plans self.old.flights → Covers earlier plans.now.plans self.new.flights }
+            → Covers now plans.now.plans self.old.flights
+            → Covers earlier plans.now.plans self.new.flights }
         ensures kept { (a : Awaited) → Contains self.old.flights a → Contains self.new.flights a }
         ensures few { length self.new.flights ≤ length self.old.flights + length due.now }
         ensures room { self.old.room ≤ self.new.room }
@@ -129,7 +138,7 @@ impl<A: Allocator + Copy> DueQueue<A> {
     }
 }
 
-/// Puts in a flight, where there is room.
+/// Puts in a flight, within the capacity.
 fn push_reserved<A: Allocator + Copy>(heap: &mut BinaryHeap<Reverse<Awaited>, A>, flight: Awaited)
     requires room { heap_len heap.old < heap_capacity heap.old }
     requires order { IsHeap earlier_first (heap_items heap.old) }
@@ -137,26 +146,29 @@ fn push_reserved<A: Allocator + Copy>(heap: &mut BinaryHeap<Reverse<Awaited>, A>
     requires numbers { All (λ x. 0 < x.0.number) (heap_items heap.old) }
     ensures order { IsHeap earlier_first (heap_items heap.new) }
     ensures numbers { All (λ x. 0 < x.0.number) (heap_items heap.new) }
-    ensures items { IsPermutation (record { 0 = flight } ∷ heap_items heap.old) (heap_items heap.new) }
+    ensures items { IsPermutation (record { 0 = flight } ∷ heap_items heap.old)
+        (heap_items heap.new) }
     ensures len { heap_len heap.new ≡ heap_len heap.old + 1 }
     ensures capacity { heap_capacity heap.old ≤ heap_capacity heap.new }
 {
     heap.push(Reverse(flight)).unwrap();
 }
 
-/// Takes out the flight of the earliest off-block moment, where that is at most `limit`.
+/// Takes out the flight of the earliest off-block time, if that is at most `limit`.
 fn pop_until<A: Allocator + Copy>(
     heap: &mut BinaryHeap<Reverse<Awaited>, A>,
     limit: u32,
 ) -> Option<Awaited>
     requires { IsHeap earlier_first (heap_items heap.old) }
     ensures order { IsHeap earlier_first (heap_items heap.new) }
-    ensures first { IfSome result (λ a. IsPermutation (heap_items heap.old) (record { 0 = a } ∷ heap_items heap.new)) }
+    ensures first { IfSome result
+        (λ a. IsPermutation (heap_items heap.old) (record { 0 = a } ∷ heap_items heap.new)) }
     ensures within { IfSome result (λ a. a.off_block ≤ limit) }
     ensures len { IfSome result (λ a. heap_len heap.new + 1 ≡ heap_len heap.old) }
     ensures same { IfNone result (heap_items heap.new ≡ heap_items heap.old) }
     ensures same_len { IfNone result (heap_len heap.new ≡ heap_len heap.old) }
-    ensures later { IfNone result (AllByRecursion (λ x. limit < x.0.off_block) (heap_items heap.new)) }
+    ensures later { IfNone result
+        (AllByRecursion (λ x. limit < x.0.off_block) (heap_items heap.new)) }
     ensures capacity { heap_capacity heap.new ≡ heap_capacity heap.old }
 {
     let Reverse(first) = heap.peek()?;
@@ -167,7 +179,7 @@ fn pop_until<A: Allocator + Copy>(
     Some(first)
 }
 
-/// Whether the plan of this flight is filed, still has this off-block moment, and wasn't due earlier.
+/// Whether the plan of this flight is filed, still has this off-block time, and wasn't due earlier.
 fn awaits<A: Allocator + Copy>(plans: &PlanStore<A>, flight: &Awaited, earlier: Minute) -> bool
     requires { 0 < flight.now.number }
     ensures { result ≡ awaits earlier plans.now.plans flight.now }
@@ -175,12 +187,11 @@ fn awaits<A: Allocator + Copy>(plans: &PlanStore<A>, flight: &Awaited, earlier: 
     let Some(moment) = plans.filed_off_block(flight.number) else {
         return false;
     };
-    let off_block = moment.minutes();
-    off_block == flight.off_block && due_until(earlier) < off_block
+    moment.minutes() == flight.off_block && !is_due_by(moment, earlier)
 }
 
-/// Takes out all flights whose off-block moment is at most two hours after `now`, and appends those that have become
-/// due.
+/// Takes out all flights whose off-block time is at most two hours after `now`, and appends those
+/// that have become due.
 fn take_from<A: Allocator + Copy>(
     heap: &mut BinaryHeap<Reverse<Awaited>, A>,
     plans: &PlanStore<A>,
@@ -195,9 +206,11 @@ fn take_from<A: Allocator + Copy>(
     ensures order { IsHeap earlier_first (heap_items heap.new) }
     ensures numbers { All (λ x. 0 < x.0.number) (heap_items heap.new) }
     ensures became { All (BecameDue earlier now plans.now.plans) due.new.items }
-    ensures taken { (x : Reverse Awaited) → Contains (heap_items heap.old) x → x.0.off_block ≤ now + ISSUE_LEAD
+    ensures taken { (x : Reverse Awaited) → Contains (heap_items heap.old) x
+        → x.0.off_block ≤ now + ISSUE_LEAD
         → awaits earlier plans.now.plans x.0 ≡ true → Contains due.new.items x.0.number }
-    ensures left { (x : Reverse Awaited) → Contains (heap_items heap.old) x → now + ISSUE_LEAD < x.0.off_block
+    ensures left { (x : Reverse Awaited) → Contains (heap_items heap.old) x
+        → now + ISSUE_LEAD < x.0.off_block
         → Contains (heap_items heap.new) x }
     ensures fewer { heap_len heap.new + length due.new.items ≤ heap_len heap.old }
     ensures room { heap_capacity heap.new ≡ heap_capacity heap.old }
@@ -211,7 +224,7 @@ fn take_from<A: Allocator + Copy>(
     }
 }
 
-/// Puts in flights with the off-block moments of their plans, where there is room.
+/// Puts in flights with the off-block times of their plans, within the capacity.
 fn put_all<A: Allocator + Copy>(
     heap: &mut BinaryHeap<Reverse<Awaited>, A>,
     plans: &PlanStore<A>,
@@ -224,7 +237,8 @@ fn put_all<A: Allocator + Copy>(
     ensures order { IsHeap earlier_first (heap_items heap.new) }
     ensures numbers { All (λ x. 0 < x.0.number) (heap_items heap.new) }
     ensures held { AreHeld plans.now.plans (length due.now) due.now (heap_items heap.new) }
-    ensures kept { (x : Reverse Awaited) → Contains (heap_items heap.old) x → Contains (heap_items heap.new) x }
+    ensures kept { (x : Reverse Awaited) → Contains (heap_items heap.old) x
+        → Contains (heap_items heap.new) x }
     ensures len { heap_len heap.new ≤ heap_len heap.old + length due.now }
     ensures capacity { heap_capacity heap.old ≤ heap_capacity heap.new }
 {
@@ -233,7 +247,7 @@ fn put_all<A: Allocator + Copy>(
     }
 }
 
-/// Puts in a flight with the off-block moment of its plan, where there is room.
+/// Puts in a flight with the off-block time of its plan, within the capacity.
 fn put_plan<A: Allocator + Copy>(
     heap: &mut BinaryHeap<Reverse<Awaited>, A>,
     plans: &PlanStore<A>,
@@ -246,8 +260,10 @@ fn put_plan<A: Allocator + Copy>(
     ensures order { IsHeap earlier_first (heap_items heap.new) }
     ensures numbers { All (λ x. 0 < x.0.number) (heap_items heap.new) }
     ensures held { (p : Held) → plan_at plans.now.plans number ≡ Some p
-        → Contains (heap_items heap.new) (record { 0 = record { off_block = p.off_block; number = number } }) }
-    ensures kept { (x : Reverse Awaited) → Contains (heap_items heap.old) x → Contains (heap_items heap.new) x }
+        → Contains (heap_items heap.new)
+        (record { 0 = record { off_block = p.off_block; number = number } }) }
+    ensures kept { (x : Reverse Awaited) → Contains (heap_items heap.old) x
+        → Contains (heap_items heap.new) x }
     ensures len { heap_len heap.new ≤ heap_len heap.old + 1 }
     ensures capacity { heap_capacity heap.old ≤ heap_capacity heap.new }
 {

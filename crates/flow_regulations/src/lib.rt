@@ -39,7 +39,6 @@ mod advice;
 mod closed;
 mod due;
 mod due_queue;
-mod entry_asked;
 mod fixed_flights;
 mod held_marks;
 mod in_order;
@@ -54,7 +53,7 @@ mod telling;
 mod window;
 
 pub use closed::Closed;
-pub use due::{ISSUE_LEAD, due_until};
+pub use due::{ISSUE_LEAD, is_due_by};
 pub use due_queue::{Awaited, DueQueue};
 pub use notice::{Notice, Said, Told, Window};
 pub use places::Place;

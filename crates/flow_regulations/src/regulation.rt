@@ -3,14 +3,12 @@ ghost use Rattle.std.specs.Prelude.{◌≡◌, ◌<◌, ◌≤◌, ℕ, List, No
 ghost use Rattle.std.specs.Prelude.{true, false, IfSome, IsSome, IfOk, OnOk};
 ghost use Rattle.std.specs.Prelude.{IfNone, IsTrue, ◌+◌, ◌↔◌, length};
 ghost use Rattle.flow_plans.specs.Plans.{Plan as Held, plan_at, is_departed};
-ghost use Rattle.flow_plans.specs.Entries.{subject};
 ghost use Rattle.flow_plans.specs.Near.{row_of};
 ghost use Rattle.flow_plans.specs.Places.{IsDepartureOf};
 ghost use Rattle.flow_slots.specs.Lineup.{held_slot, fixed_slot, without_flight};
 ghost use Rattle.flow_slots.specs.Lineup.{waiting_entry, len_of};
 ghost use Rattle.flow_slots.specs.Lineup.{with_all_waiting, MayFill, IsLineup};
 ghost use Rattle.flow_slots.specs.Period.{IsWithin, IsRegular};
-ghost use Rattle.flow_regulations.specs.Asked.{IsAsked};
 ghost use Rattle.flow_regulations.specs.Places.{IsPlaceOf, MayStand, stood};
 ghost use Rattle.flow_regulations.specs.Marks.{IsOut, IsInOrder};
 ghost use Rattle.flow_regulations.specs.Regulations.{subject_to, AppliesToNone};
@@ -22,12 +20,10 @@ ghost use Rattle.flow_regulations.specs.Listing.{is_named, fixed_waiting};
 ghost use Rattle.flow_regulations.specs.Listing.{IsListedIn, IsSettledBut, AreSameBut};
 ghost use Rattle.flow_regulations.specs.Listing.{IsRenewed, IsFixedWaiting};
 ghost use Rattle.flow_regulations.specs.Listing.{IsLookedAgain, is_due_flight};
-ghost use Rattle.fpl_text.specs.declared.minute.TheConstants.{GREATEST_MINUTE};
 ghost use Rattle.flow_plans.specs.declared.setup.TheConstants.{MAX_PLANS};
 ghost use Rattle.flow_slots.specs.Period.{most_slots};
 
 use crate::due::is_due;
-use crate::entry_asked::EntryAsked;
 use crate::places::Place;
 use flow_plans::{PlanState, PlanStore, letters_of, row_of};
 use flow_slots::{Planned, Shape, SlotList};
@@ -192,23 +188,6 @@ impl<A: Allocator + Copy> Regulation<A> {
         plans.subject(number, &self.spot, start, end)
     }
 
-    /// This entry at its point, if it is in the period.
-    #[inline]
-    fn subject_from(&self, entry: &Option<Minute>) -> Option<Minute>
-        ensures { (taxi : ℕ) (p : Held) → entry.now ≡ subject taxi self.now.spot 0 GREATEST_MINUTE p
-            → result ≡ subject_to taxi (regulation_of self.now) p }
-    {
-        let shape = self.list.shape();
-        let Some(entry) = entry else {
-            return None;
-        };
-        if shape.contains(*entry) {
-            Some(*entry)
-        } else {
-            None
-        }
-    }
-
     /// The flight's frozen slot. `None` if it has none. No flight is in the list twice.
     #[inline]
     fn fixed_slot(&self, number: u32) -> Option<u32>
@@ -332,8 +311,8 @@ impl<A: Allocator + Copy> Regulation<A> {
         }
     }
 
-    /// Restores the state of a flight in the slot list. The list is then as it was: the other flights
-    /// have their former states already.
+    /// Restores the state of a flight in the slot list. The list is then as it was: the other
+    /// flights have their former states already.
     pub(crate) fn put_back(&mut self, number: u32, place: Place)
         requires first { 0 < number }
         requires last { number ≤ self.old.lineup.capacity }
@@ -397,8 +376,7 @@ impl<A: Allocator + Copy> Regulation<A> {
 
     /// Settles the regulation after a message about one flight, which changes that flight alone,
     /// and returns whether the flight may be held then. A flight that may not be held before is
-    /// inserted if the regulation applies to it. The entry of the flight at the regulation's point
-    /// is computed unless that is the point that was asked last.
+    /// inserted if the regulation applies to it.
     #[inline]
     pub(crate) fn look_where(
         &mut self,
@@ -406,21 +384,15 @@ impl<A: Allocator + Copy> Regulation<A> {
         number: u32,
         now: Minute,
         may_stand: bool,
-        asked: &mut EntryAsked,
     ) -> bool
         requires some { 0 < number }
         requires within { number ≤ length plans.now.plans }
-        requires asked { (p : Held) → plan_at plans.now.plans number ≡ Some p
-            → IsAsked plans.now.taxi p asked.old }
         requires room { number ≤ self.old.lineup.capacity }
         requires out { may_stand ≡ false → IsOut number self.old }
         ensures looked { IsLookedAgain number plans.now.taxi now plans.now.plans self.old self.new }
         ensures out { result ≡ false → IsOut number self.new }
-        ensures asked { (p : Held) → plan_at plans.now.plans number ≡ Some p
-            → IsAsked plans.now.taxi p asked.new }
     {
-        asked.ask(plans, number, &self.spot);
-        let entry = self.subject_from(&asked.entry);
+        let entry = self.subject(plans, number);
         if may_stand {
             self.look_again(plans, number, now, &entry);
             return true;

@@ -27,7 +27,7 @@ use crate::traffic::Traffic;
 use crate::undo::{Last, Undoing};
 use crate::verdict::{Kind, Verdict};
 use flow_plans::{Plan, PlanFault, PlanState, PlanStore};
-use flow_regulations::{DueQueue, Regulations, Told, Window, due_until, window_of};
+use flow_regulations::{DueQueue, Regulations, Told, Window, is_due_by, window_of};
 use fpl_message::{Message, Refusal};
 use fpl_text::{Minute, TimeOfDay};
 use std::alloc::{AllocError, Allocator};
@@ -215,7 +215,7 @@ fn settle_for<A: Allocator + Copy>(
 fn awaits<A: Allocator + Copy>(plan: &Plan<A>, now: Minute) -> bool
     ensures { result ≡ (is_filed plan.now.state && nat_lt (now + ISSUE_LEAD) plan.now.off_block) }
 {
-    matches!(plan.state(), PlanState::Filed) && due_until(now) < plan.off_block().minutes()
+    matches!(plan.state(), PlanState::Filed) && !is_due_by(plan.off_block(), now)
 }
 
 /// Whether plan `number` was filed before the last message, too, with this off-block time.

@@ -2,7 +2,6 @@ use Rattle.std.proofs.Common.{rules, ◌≡◌, ℕ, ◌+◌, ◌<◌, ◌≤◌
 use Rattle.std.proofs.lemmas.Bool.{true≢false, false_from_ne_true}
 use Rattle.flow_regulations.specs.Listing.{Listed, IsLookedAgain}
 use Rattle.flow_regulations.specs.Marks.{may_stand, IsOut}
-use Rattle.flow_regulations.proofs.Looks.{nowhere_asked}
 use Rattle.flow_regulations.proofs.Marking.{covers-at, covers-set}
 use Rattle.flow_regulations.proofs.Passing.{looks-past}
 use Rattle.flow_regulations.proofs.Walks.{walked-step, walked-end, all-set, all-at}
@@ -15,7 +14,6 @@ loop-index-init g c = record {
       c.requires.near c.next_marked-index.ensures.from c.next_marked-index.ensures.passed refl;
   room = c.requires.room;
   covers = c.requires.covers;
-  asked = λ p e. nowhere_asked c.args.plans.now.taxi p c.nowhere-asked.result c.nowhere-asked.ensures;
 }
 
 pub look_where-stands-requires-clause-out : goal.look_where-stands-requires-clause-out
@@ -58,7 +56,6 @@ loop-index-preserved g c =
           c.requires.near next c.next_marked-index-in-loop-index.ensures.passed
           (walked-step (IsLookedAgain n plans.taxi c.args.now plans.plans) i c.args.regulations.now ys d z within (record { same = e.same; capacity = e.capacity; others = e.others; alone = e.alone; renewed = e.renewed }) s.invariant.walked);
       room = all-set (λ r. n ≤ r.lineup.capacity) i ys z (let all : n ≤ z.lineup.capacity = omega (arith, e.capacity, room) in all) s.invariant.room;
-      asked = c.look_where-stands.ensures.asked;
       covers = covers-set s.marked c.mark_where-marked.result n i ys z c.mark_where-marked.ensures.kept out s.invariant.covers;
     }
 

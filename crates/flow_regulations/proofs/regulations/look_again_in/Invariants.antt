@@ -1,7 +1,5 @@
-use Rattle.std.proofs.Common.{◌≡◌, ◌-◌, ◌≤◌, length, Some}
+use Rattle.std.proofs.Common.{◌-◌, ◌≤◌, length}
 use Rattle.std.specs.List.{AllByRecursion}
-use Rattle.flow_plans.specs.Plans.{Plan, plan_at}
-use Rattle.flow_regulations.specs.Asked.{IsAsked}
 use Rattle.flow_regulations.specs.Listing.{Walked, IsLookedAgain}
 use Rattle.flow_regulations.specs.Marks.{IsMarked}
 use Rattle.flow_regulations.proofs.regulations.look_again_in.Given as goal
@@ -11,7 +9,6 @@ invariant-loop-index g l = record {
   walked : Walked (IsLookedAgain l.number l.plans.taxi l.now l.plans.plans) l.index l.initial.regulations l.regulations;
   room : AllByRecursion (λ r. l.number ≤ r.lineup.capacity) l.regulations;
   covers : IsMarked l.marked l.number 0 l.regulations;
-  asked : (p : Plan) → plan_at l.plans.plans l.number ≡ Some p → IsAsked l.plans.taxi p l.asked;
 }
 
 abbrev pub decreases-loop-index : goal.decreases-loop-index

@@ -1,15 +1,11 @@
-use Rattle.std.proofs.Common.{ap}
 use Rattle.flow_regulations.proofs.Outs.{out-looks, is-none}
-use Rattle.flow_regulations.proofs.Looks.{asked-at}
 use Rattle.flow_regulations.proofs.regulation.Regulation.look_where.Goals as goal
 
 pub look_again-requires-clause-entry : goal.look_again-requires-clause-entry
-look_again-requires-clause-entry g c = λ p e.
-    c.subject_from-entry.ensures c.args.plans.now.taxi p (asked-at c.args.plans.now.taxi p c.ask.new.self c.self.inside.spot c.args.self.now.spot (c.ask.ensures.asked p e) c.ask.ensures.at (ap (λ v. v.spot) c.self.view_is))
+look_again-requires-clause-entry g c = c.subject-entry.ensures
 
 pub look_again-requires-2-clause-entry : goal.look_again-requires-2-clause-entry
-look_again-requires-2-clause-entry g c = λ p e.
-    c.subject_from-entry.ensures c.args.plans.now.taxi p (asked-at c.args.plans.now.taxi p c.ask.new.self c.self.inside.spot c.args.self.now.spot (c.ask.ensures.asked p e) c.ask.ensures.at (ap (λ v. v.spot) c.self.view_is))
+look_again-requires-2-clause-entry g c = c.subject-entry.ensures
 
 pub returns-then-may_stand-clause-looked : goal.returns-then-may_stand-clause-looked
 returns-then-may_stand-clause-looked g c =
@@ -18,8 +14,8 @@ returns-then-may_stand-clause-looked g c =
 
 pub returns-then-is_none-clause-looked : goal.returns-then-is_none-clause-looked
 returns-then-is_none-clause-looked g c =
-    out-looks c.args.number c.args.plans.now.taxi c.args.now c.args.plans.now.plans c.args.self.now c.subject_from-entry.result c.requires.some c.requires.within (c.requires.out c.if-may_stand.false)
-    (λ p e. c.subject_from-entry.ensures c.args.plans.now.taxi p (asked-at c.args.plans.now.taxi p c.ask.new.self c.self.inside.spot c.args.self.now.spot (c.ask.ensures.asked p e) c.ask.ensures.at (ap (λ v. v.spot) c.self.view_is))) (is-none c.subject_from-entry.result c.is_none.result c.is_none.ensures c.if-is_none.true)
+    out-looks c.args.number c.args.plans.now.taxi c.args.now c.args.plans.now.plans c.args.self.now c.subject-entry.result c.requires.some c.requires.within (c.requires.out c.if-may_stand.false)
+    c.subject-entry.ensures (is-none c.subject-entry.result c.is_none.result c.is_none.ensures c.if-is_none.true)
 
 pub returns-then-is_none-clause-out : goal.returns-then-is_none-clause-out
 returns-then-is_none-clause-out g c = λ _. c.requires.out c.if-may_stand.false
