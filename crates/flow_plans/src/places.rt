@@ -2,7 +2,7 @@
 ghost use Rattle.std.specs.Prelude.{◌≡◌};
 ghost use Rattle.flow_plans.specs.Places.{letters_of, AreBytes};
 
-/// The first four letters of a name as one number, 0 for a shorter one.
+/// Returns the first four letters of a name as one number, 0 for a shorter one.
 #[inline]
 #[tactic(auto, unfolding(crate::specs::Places::letters_of))]
 pub(crate) fn letters_of(place: &[u8]) -> u32

@@ -133,8 +133,9 @@ impl<A: Allocator + Copy> Regulation<A> {
         self.list.next_held(from)
     }
 
-    /// The first flight from number `from` on to which the regulation applies, with its entry. It
-    /// doesn't apply to the flights of the plans before, and to none from there on if it is `None`.
+    /// The first flight from plan `from` on that the regulation applies to, with its entry. To the
+    /// flights of the plans before it the regulation doesn't apply, and to none from there on if it
+    /// is `None`.
     #[inline]
     pub(crate) fn next_coming(&self, plans: &PlanStore<A>, from: u32) -> Option<Planned>
         requires { 0 < from }
