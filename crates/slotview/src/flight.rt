@@ -134,7 +134,8 @@ fn entry_without_slot(core: &Core, opening: &Opening, number: u32) -> Option<Min
     if opening.shut_by().is_some() {
         return None;
     }
-    core.plan(number)?.entry_at(core.setup().taxi(), opening.spot())
+    core.plan(number)?
+        .entry_at(core.setup().taxi(), opening.spot())
 }
 
 /// The cells of a slot: its number, its time, the delay and how it is held.
