@@ -94,7 +94,8 @@ filings-short (f ∷ fs) = by (leb (length f) 2000) (filings-short fs)
     by true next = omega (arith, next)
     by false next = omega (arith, next)
 
--- where no frame is too long the answers to their entries are told, and that the others found the journal full
+-- where no frame is too long the answers to their entries are told, and that the others found the
+-- journal full
 pub told-filings : (s : State) (fs : List (List ℕ)) (es : List Record) (left : ℕ) → length (filings fs) ≡ length fs → length fs ≡ length es + left
     → told s fs es ≡ answers_with (10 ∷ []) s es ++ full_lines left
 unfolding told filings

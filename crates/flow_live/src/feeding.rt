@@ -1,5 +1,6 @@
-//! Feeders at their desk, each at its own source, in a thread of its own.
-ghost use Rattle.std.specs.Prelude.{◌≡◌, ◌≤◌, ◌<◌, [], ℕ, List, Option, length, slice_index_or, IfErr, OnOk};
+//! Feeders at their desk, each with a source of its own, in a thread of its own.
+ghost use Rattle.std.specs.Prelude.{◌≡◌, ◌≤◌, ◌<◌, [], ℕ, List};
+ghost use Rattle.std.specs.Prelude.{Option, length, slice_index_or, IfErr, OnOk};
 ghost use Rattle.flow_input.specs.Writes.{Writes};
 ghost use Rattle.flow_input.specs.Reader.{Agrees};
 ghost use Rattle.flow_desk.specs.Histories.{IsLawful};
@@ -25,7 +26,7 @@ pub(crate) struct Seated<N: Name, R, W, A: Allocator + Copy = Global> {
     pub feed: Feed<R, W>,
 }
 
-/// Writes the answers, and flushes them: who reads them may wait for them.
+/// Writes the answers, and flushes them, since their reader may wait for them.
 fn hand_on<W: Write>(writer: &mut Counted<W>, answers: &[u8]) -> Result<(), FeedEnd>
     ensures writes { Writes W.contents result writer.old writer.new answers.now }
     ensures kind { IfErr result (λ e. e ≡ FeedEnd.Write) }
@@ -39,7 +40,7 @@ fn hand_on<W: Write>(writer: &mut Counted<W>, answers: &[u8]) -> Result<(), Feed
     }
 }
 
-/// Why no frame came.
+/// The end of a feed from which no frame came.
 fn end_of(fault: IntakeFault) -> FeedEnd
     ensures { result ≡ end_by fault }
 {
@@ -50,7 +51,7 @@ fn end_of(fault: IntakeFault) -> FeedEnd
     }
 }
 
-/// Files the frame that was taken last and those that stand whole after it, and writes their answers.
+/// Files the frame that was taken last and the complete ones after it, and writes their answers.
 fn answer_piece<N: Name, Q: Wait + Drop, W: Write, H: Watch, P: Wait, A: Allocator + Copy>(
     wait: &P,
     alloc: A,
@@ -65,7 +66,8 @@ fn answer_piece<N: Name, Q: Wait + Drop, W: Write, H: Watch, P: Wait, A: Allocat
     requires none { batch.old.ready.items ≡ [] }
     ensures piece { PieceIs result N.setup pass.old pass.new (W.contents writer.old.device)
         (W.contents writer.new.device) input.old input.new }
-    ensures agrees { OnOk result ((rest : Option (List ℕ)) → Agrees input.old rest → Agrees input.new rest) }
+    ensures agrees { OnOk result
+        ((rest : Option (List ℕ)) → Agrees input.old rest → Agrees input.new rest) }
     ensures nearer { OnOk result (input.old.taken ≤ input.new.taken) }
     ensures none { OnOk result (batch.new.ready.items ≡ []) }
 {
@@ -91,7 +93,8 @@ fn serve_feed<N: Name, Q: Wait + Drop, R: Read, W: Write, H: Watch, P: Wait, A: 
     writer: &mut Counted<W>,
 ) -> FeedEnd
     ensures { IsLawful N.setup pass.old.seen → FedUnlessStopped N.setup pass.old pass.new result
-        (W.contents writer.old.device) (W.contents writer.new.device) (R.remaining reader.old.device)
+        (W.contents writer.old.device) (W.contents writer.new.device)
+        (R.remaining reader.old.device)
         (R.remaining reader.new.device) }
 {
     let Ok(mut input) = Input::new(alloc) else {
@@ -113,7 +116,7 @@ fn serve_feed<N: Name, Q: Wait + Drop, R: Read, W: Write, H: Watch, P: Wait, A: 
     }
 }
 
-/// Answers a feed until it ends, and notes how it did.
+/// Answers a feed until it ends, and records how it did.
 fn run_feed<N: Name, Q: Wait + Drop, R: Read, W: Write, H: Watch, P: Wait, A: Allocator + Copy>(
     wait: &P,
     alloc: A,
@@ -170,7 +173,8 @@ fn run_seats<
 )
     ensures len { length seated.new.items ≡ length seated.old.items }
     ensures each { (i : ℕ) (d : _) → i < length seated.old.items
-        → HasRun N.setup (slice_index_or seated.old.items i d).pass (slice_index_or seated.new.items i d).pass
+        → HasRun N.setup (slice_index_or seated.old.items i d).pass
+        (slice_index_or seated.new.items i d).pass
         (slice_index_or seated.new.items i d).feed.end
         (W.contents (slice_index_or seated.old.items i d).feed.writer.device)
         (W.contents (slice_index_or seated.new.items i d).feed.writer.device)
@@ -186,7 +190,7 @@ fn run_seats<
     );
 }
 
-/// Runs all feeds at the same time, and tells the follower when the last has ended. Returns the
+/// Runs all feeds at the same time, and wakes the follower when the last has ended. Returns the
 /// seats.
 pub(crate) fn run_all<
     N: Name + Send + Sync,
@@ -208,7 +212,8 @@ pub(crate) fn run_all<
 ) -> Vec<Seated<N, R, W, A>, A>
     ensures len { length result.items ≡ length seated.old.items }
     ensures each { (i : ℕ) (d : _) → i < length seated.old.items
-        → HasRun N.setup (slice_index_or seated.old.items i d).pass (slice_index_or result.items i d).pass
+        → HasRun N.setup (slice_index_or seated.old.items i d).pass
+        (slice_index_or result.items i d).pass
         (slice_index_or result.items i d).feed.end
         (W.contents (slice_index_or seated.old.items i d).feed.writer.device)
         (W.contents (slice_index_or result.items i d).feed.writer.device)
