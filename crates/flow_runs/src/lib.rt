@@ -22,7 +22,6 @@ pub mod laws;
 mod run;
 mod stored;
 
-pub use answers::write_end;
 pub use fault::RunFault;
 pub use run::{run_many, run_resumed};
 pub use stored::{StoredRunFault, run_stored};
