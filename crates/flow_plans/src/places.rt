@@ -1,8 +1,6 @@
 //! Aerodromes and route points as numbers.
-ghost use Rattle.std.specs.Prelude.{◌≡◌, ◌<◌};
-ghost use Rattle.flow_plans.specs.Places.{letters_of, AreBytes, IsDepartureOf};
-
-use fpl_message::Spot;
+ghost use Rattle.std.specs.Prelude.{◌≡◌};
+ghost use Rattle.flow_plans.specs.Places.{letters_of, AreBytes};
 
 /// Returns the first four letters of a name as one number, 0 for a shorter one.
 #[inline]
@@ -16,15 +14,4 @@ pub(crate) fn letters_of(place: &[u8]) -> u32
     }
     let front = 16_777_216 * u32::from(place[0]) + 65_536 * u32::from(place[1]);
     front + 256 * u32::from(place[2]) + u32::from(place[3])
-}
-
-/// Returns the letters of a departure aerodrome with a name of four letters; 0 for other points.
-#[inline]
-pub(crate) fn departure_letters(spot: &Spot) -> u32
-    ensures { 0 < result → IsDepartureOf result spot.now }
-{
-    let Spot::Dep(place) = spot else {
-        return 0;
-    };
-    letters_of(place.as_bytes())
 }

@@ -17,7 +17,7 @@ ghost use Rattle.flow_plans.specs.Times.{off_blocks_end};
 
 use crate::chains::Chains;
 use crate::outline::Outline;
-use crate::places::departure_letters;
+use crate::places::letters_of;
 use crate::plan::{Former, Plan, PlanState};
 use crate::texts::Texts;
 use fpl_message::{Chg, Spot};
@@ -69,7 +69,7 @@ impl<A: Allocator + Copy> PlanList<A> {
 
     /// Whether the flight of plan `number` may enter a point in a period. If it may not, no
     /// regulation of that point and period applies to it.
-    #[inline(always)]
+    #[inline]
     fn may_come(&self, number: u32, taxi: u32, spot: &Spot, start: Minute, end: Minute) -> bool
         requires { (0 < number) × (number ≤ length self.now) }
         ensures { result ≡ false → IfSome (plan_at self.now number)
@@ -81,7 +81,7 @@ impl<A: Allocator + Copy> PlanList<A> {
 
     /// The entry of plan `number` at its departure, if a regulation of an aerodrome of these
     /// letters and that period applies to its flight.
-    #[inline(always)]
+    #[inline]
     fn departure(
         &self,
         number: u32,
@@ -99,7 +99,8 @@ impl<A: Allocator + Copy> PlanList<A> {
     }
 
     /// The entry of plan `number`, if a regulation of that point and period applies to its flight.
-    /// At a departure of four letters it is read from the outline.
+    /// The plan is read if its flight may enter the point in the period; at a departure of four
+    /// letters it never is.
     #[inline]
     pub(crate) fn subject(
         &self,
@@ -114,33 +115,11 @@ impl<A: Allocator + Copy> PlanList<A> {
         ensures { IfSome (plan_at self.now number) (λ plan.
             result ≡ subject taxi spot.now start end plan) }
     {
-        let letters = departure_letters(spot);
-        if letters != 0 {
-            return self.departure(number, taxi, letters, start, end);
-        }
-        self.plans[(number - 1) as usize].subject(taxi, spot, start, end)
-    }
-
-    /// The same in a walk over many plans, with `letters` as `departure_letters` returns them. The
-    /// plan is read only if its flight may enter the point in the period.
-    #[inline(always)]
-    fn walked_subject(
-        &self,
-        number: u32,
-        taxi: u32,
-        spot: &Spot,
-        letters: u32,
-        start: Minute,
-        end: Minute,
-    ) -> Option<Minute>
-        requires number { (0 < number) × (number ≤ length self.now) }
-        requires taxi { taxi ≤ MAX_TAXI }
-        requires letters { 0 < letters → IsDepartureOf letters spot.now }
-        ensures { IfSome (plan_at self.now number) (λ plan.
-            result ≡ subject taxi spot.now start end plan) }
-    {
-        if letters != 0 {
-            return self.departure(number, taxi, letters, start, end);
+        if let Spot::Dep(place) = spot {
+            let letters = letters_of(place.as_bytes());
+            if letters != 0 {
+                return self.departure(number, taxi, letters, start, end);
+            }
         }
         if !self.may_come(number, taxi, spot, start, end) {
             return None;
@@ -170,11 +149,10 @@ impl<A: Allocator + Copy> PlanList<A> {
         ensures none { IfNone result (
             ApplyToNone from (length self.now + 1) taxi spot.now start end self.now) }
     {
-        let letters = departure_letters(spot);
         let count = self.plans.len() as u32;
         let mut number = from;
         while number <= count {
-            if let Some(entry) = self.walked_subject(number, taxi, spot, letters, start, end) {
+            if let Some(entry) = self.subject(number, taxi, spot, start, end) {
                 return Some((number, entry));
             }
             number += 1;
