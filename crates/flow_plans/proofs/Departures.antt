@@ -95,7 +95,7 @@ outline-at (n ∷ os) [] i o h at = absurd h
 outline-at (n ∷ os) (p ∷ ps) zero o h at = subst (λ v. IsOutlineOf v p) (ap (λ (x : Option Outline). unwrap_or x n) at) h.0
 outline-at (n ∷ os) (p ∷ ps) (suc i) o h at = outline-at os ps i o h.1 at
 
-pub of-some : (o : Option Plan) (P Q : Plan → Type 0) → ((p : Plan) → P p → Q p) → IfSome o P → IfSome o Q
+of-some : (o : Option Plan) (P Q : Plan → Type 0) → ((p : Plan) → P p → Q p) → IfSome o P → IfSome o Q
 of-some None P Q f h = h
 of-some (Some p) P Q f h = f p h
 

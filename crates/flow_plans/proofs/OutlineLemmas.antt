@@ -1,20 +1,20 @@
 -- Outlines of plans, and rows of them.
-use Rattle.std.proofs.Common.{◌≡◌, ℕ, zero, suc, ◌+◌, ◌-◌, ◌<◌, ◌≤◌, arith, get_or, Bool, true, false, not, ◌&&◌, nat_le, nat_lt, if◌then◌else◌, List, [], ◌∷◌, ◌++◌, length, take, Option, Some, None, slice_get, slice_set, unwrap_or, refl, sym, ap, ◌∙◌, ⊎_elim}
+use Rattle.std.proofs.Common.{◌≡◌, ℕ, zero, suc, ◌+◌, ◌-◌, ◌<◌, ◌≤◌, arith, get_or, Bool, true, false, not, ◌&&◌, nat_le, nat_lt, if◌then◌else◌, List, [], ◌∷◌, ◌++◌, length, take, Option, Some, None, slice_get, slice_set, unwrap_or, refl, sym, ap, ◌∙◌}
 use Rattle.std.specs.Prelude.{IsSome, IfSome, codes}
 use Rattle.std.specs.Option.{option_and_then}
 use Rattle.std.specs.Str.{bytes_eq}
-use Rattle.std.proofs.lemmas.Bool.{false≢true, eq-eqb, and_parts, le-leb, lt-ltb, leb-true, ltb-true, cases_lt}
+use Rattle.std.proofs.lemmas.Bool.{false≢true, eq-eqb, and_parts, le-leb, lt-ltb, leb-true, ltb-true}
 use Rattle.std.proofs.lemmas.Option.{slice_get-get_or}
 use lib.Pointwise.{bytes_decides}
 use Rattle.fpl_text.specs.Moments.{moment_within}
 use Rattle.fpl_message.specs.declared.order.Spot.{Spot}
 use Rattle.fpl_message.specs.declared.order.Spot.TheVariants.{Dep, Arr, Via}
 use Rattle.flow_plans.specs.declared.outline.Outline.{Outline}
-use Rattle.flow_plans.specs.Plans.{Plan, is_filed, is_visual, plan_at}
+use Rattle.flow_plans.specs.Plans.{Plan, is_filed, is_visual, plan_at, filed_moment, filed_off_block}
 use Rattle.fpl_items.specs.Places.{may_have}
 use Rattle.flow_plans.specs.Places.{letters_of, AreBytes}
-use Rattle.flow_plans.specs.Entries.{take_off, elapsed_at, entry_at, in_period, subject, ApplyToNone}
-use Rattle.flow_plans.specs.Outlines.{may_be_subject, may_come, may_fly, IsOutlineOf, AreOutlines}
+use Rattle.flow_plans.specs.Entries.{take_off, elapsed_at, entry_at, in_period, subject}
+use Rattle.flow_plans.specs.Outlines.{may_be_subject, may_come, may_fly, outlined_moment, IsOutlineOf, AreOutlines}
 use Rattle.flow_plans.proofs.Departures.{departs-all, departs-none}
 use Rattle.flow_plans.proofs.NearLemmas.{some-first, some-if, some-then, subject-enters}
 
@@ -36,12 +36,14 @@ no-entry (Some m) b f h = absurd (false≢true (sym f ∙ h refl))
 
 -- any outline without a departure comes where the flight of a plan does to which no regulation
 -- applies
-pub outline-of-none : (o : Outline) (p : Plan) → o.dep ≡ 0 → may_be_subject p ≡ false → IsOutlineOf o p
-outline-of-none o p dep never = record {
+pub outline-of-none : (o : Outline) (p : Plan) → o.is_filed ≡ is_filed p.state → o.off_block ≡ p.off_block → o.dep ≡ 0 → may_be_subject p ≡ false → IsOutlineOf o p
+outline-of-none o p is off_block dep never = record {
+  is_filed = is;
+  off_block = off_block;
+  comes = λ taxi start end spot h. absurd (false≢true (sym never ∙ subject-may-be taxi start end spot p h));
   departs = λ taxi start end place told.
       no-entry (subject taxi (Dep place) start end p) (may_be_subject p) never (subject-may-be taxi start end (Dep place) p)
       ∙ sym (departs-none o taxi start end place dep told);
-  comes = λ taxi start end spot h. absurd (false≢true (sym never ∙ subject-may-be taxi start end spot p h));
 }
 
 -- when a flight enters a point in a period
@@ -114,11 +116,13 @@ outline-comes o p dep dest way taxi start end (Via place) h =
     way place (some-first (elapsed_at place p) (λ elapsed. moment_within (take_off taxi p + elapsed)) (subject-enters taxi start end (Via place) p h))
 
 -- with the off-block time and the longest time it is there when its flight is
-pub outline-of-all : (o : Outline) (p : Plan) → o.off_block ≡ p.off_block → o.dep ≡ letters_of p.key.dep → o.dest ≡ letters_of p.key.dest
+pub outline-of-all : (o : Outline) (p : Plan) → o.is_filed ≡ is_filed p.state → o.off_block ≡ p.off_block → o.dep ≡ letters_of p.key.dep → o.dest ≡ letters_of p.key.dest
     → may_be_subject p ≡ true → length p.key.dep ≤ 4 → AreBytes p.key.dep
     → ((place : List ℕ) → IsSome (elapsed_at place p) → may_have o.way place ≡ true)
     → p.elapsed ≤ o.longest → ((place : List ℕ) → IfSome (elapsed_at place p) (λ minutes. minutes ≤ o.longest)) → IsOutlineOf o p
-outline-of-all o p off_block dep dest may most bytes way arrival minutes = record {
+outline-of-all o p is off_block dep dest may most bytes way arrival minutes = record {
+  is_filed = is;
+  off_block = off_block;
   departs = departs-all o p may off_block dep most bytes;
   comes = λ taxi start end spot h.
       (let at = subject-in taxi start end spot p h in
@@ -166,6 +170,24 @@ outline-never (n ∷ os) (p ∷ ps) zero o taxi start end spot h at never =
     no-entry (subject taxi spot start end p) (may_come spot n && may_fly taxi start end n) same (h.0.comes taxi start end spot)
 outline-never (n ∷ os) (p ∷ ps) (suc i) o taxi start end spot h at never = outline-never os ps i o taxi start end spot h.1 at never
 
+-- an outline says whether its plan is filed, and its off-block time
+outlined-same : (o : Outline) (p : Plan) → IsOutlineOf o p → outlined_moment o ≡ filed_moment p
+outlined-same o p h = rw (h.is_filed, h.off_block) refl
+
+-- so does that at an index
+outlined-at : (os : List Outline) (ps : List Plan) (i : ℕ) → AreOutlines os ps → option_and_then outlined_moment (slice_get os i) ≡ option_and_then filed_moment (slice_get ps i)
+outlined-at [] [] i h = refl
+outlined-at [] (p ∷ ps) i h = absurd h
+outlined-at (o ∷ os) [] i h = absurd h
+outlined-at (o ∷ os) (p ∷ ps) zero h = outlined-same o p h.0
+outlined-at (o ∷ os) (p ∷ ps) (suc i) h = outlined-at os ps i h.1
+
+-- and that of a number
+pub outlined-number : (os read : List Outline) (ps all : List Plan) (number : ℕ) (o : Option Outline) → AreOutlines os ps → ps ≡ all → read ≡ os → o ≡ slice_get read (number - 1) → option_and_then outlined_moment o ≡ filed_off_block all number
+outlined-number os read ps all number o h same all_read at =
+    ap (option_and_then outlined_moment) (at ∙ ap (λ (xs : List Outline). slice_get xs (number - 1)) all_read)
+    ∙ outlined-at os ps (number - 1) h ∙ ap (λ (qs : List Plan). filed_off_block qs number) same
+
 -- the index of a plan is one of an outline
 pub outline-within : (number len : ℕ) (os : List Outline) (ps all : List Plan) → len ≡ length os → AreOutlines os ps → ps ≡ all → (0 < number) × (number ≤ length all) → number - 1 < len
 outline-within number len os ps all l h same within =
@@ -193,15 +215,3 @@ plan-read number read all p same some within is =
     let inside : number - 1 < length all = omega (arith, some, within) in
     let there : p ≡ get_or all (number - 1) p = rw same at is in
     slice_get-get_or all (number - 1) p inside ∙ ap (λ x. Some x) (sym there)
-
--- one more plan, to whose flight no regulation applies
-pub none-more : (from n taxi start end : ℕ) (spot : Spot) (plans : List Plan) (o : Option ℕ) → IfSome (plan_at plans n) (λ p. o ≡ subject taxi spot start end p) → o ≡ None → ApplyToNone from n taxi spot start end plans → ApplyToNone from (n + 1) taxi spot start end plans
-none-more from n taxi start end spot plans o says none before m p low high at = ⊎_elim (λ below. before m p low below at) (λ above. here (omega (arith, high, above))) (cases_lt m n) where
-  read : (v : Option Plan) → v ≡ Some p → IfSome v (λ q. o ≡ subject taxi spot start end q) → subject taxi spot start end p ≡ None
-  read None e h = absurd (cc)
-  read (Some q) e h = ap (subject taxi spot start end) (same q e) ∙ (sym h ∙ none) where
-    same : (q : Plan) → Some q ≡ Some p → p ≡ q
-    same q e = cc
-
-  here : m ≡ n → subject taxi spot start end p ≡ None
-  here e = read (plan_at plans n) (ap (plan_at plans) (sym e) ∙ at) says

@@ -1,7 +1,7 @@
 -- When a flight enters a regulated point, and whether the regulation applies to it (EUROCONTROL
 -- ATFCM Users Manual, slot allocation). One taxi time serves all aerodromes. That AFIL flights are
 -- not subject is the desk's own rule.
-use Rattle.std.specs.Prelude.{◌≡◌, ℕ, ◌+◌, ◌≤◌, ◌<◌, ◌&&◌, not, nat_le, nat_lt, if◌then◌else◌, List, Option, Some, None, codes}
+use Rattle.std.specs.Prelude.{ℕ, ◌+◌, ◌&&◌, not, nat_le, nat_lt, if◌then◌else◌, List, Option, Some, None, codes}
 use Rattle.std.specs.Option.{option_and_then}
 use Rattle.std.specs.Str.{bytes_eq}
 use Rattle.fpl_text.specs.Moments.{moment_within}
@@ -9,7 +9,7 @@ use Rattle.fpl_text.specs.Words.{words_of}
 use Rattle.fpl_items.specs.Items.{items_of, elapsed_to}
 use Rattle.fpl_message.specs.declared.order.Spot.{Spot}
 use Rattle.fpl_message.specs.declared.order.Spot.TheVariants.{Dep, Arr, Via}
-use Rattle.flow_plans.specs.Plans.{Plan, is_filed, is_visual, plan_at}
+use Rattle.flow_plans.specs.Plans.{Plan, is_filed, is_visual}
 
 -- the time of take-off
 abbrev pub take_off : ℕ → Plan → ℕ
@@ -40,9 +40,3 @@ subject taxi spot start end plan =
     if is_filed plan.state && not (is_visual plan.rules) && not (bytes_eq plan.key.dep (codes "AFIL")) && not plan.exempt
     then in_period start end (entry_at taxi spot plan)
     else None
-
--- to the flights of the plans from one number to before another no regulation of this point and
--- period applies
-abbrev pub ApplyToNone : ℕ → ℕ → ℕ → Spot → ℕ → ℕ → List Plan → Type 0
-ApplyToNone from to taxi spot start end plans =
-    (n : ℕ) (p : Plan) → from ≤ n → n < to → plan_at plans n ≡ Some p → subject taxi spot start end p ≡ None

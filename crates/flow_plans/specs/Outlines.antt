@@ -1,5 +1,6 @@
 -- Where and when a regulation may apply to a flight, in few bytes. An outline may seem to enter a
--- point that its flight doesn't enter then, never the other way round.
+-- point that its flight doesn't enter then, never the other way round. Whether the plan is filed,
+-- and its off-block date and time, it says exactly.
 use Rattle.std.specs.Prelude.{◌≡◌, ℕ, ◌+◌, Bool, true, not, ◌&&◌, ◌==◌, nat_le, nat_lt, if◌then◌else◌, List, Option, Some, None, IsSome, codes}
 use Rattle.std.specs.List.{AllZip}
 use Rattle.fpl_message.specs.declared.order.Spot.{Spot}
@@ -25,6 +26,10 @@ unfoldable pub may_fly : ℕ → ℕ → ℕ → Outline → Bool
 may_fly taxi start end outline =
     nat_lt (outline.off_block + taxi) end && nat_le start (outline.off_block + taxi + outline.longest)
 
+-- the off-block date and time, if the plan is filed
+abbrev pub outlined_moment : Outline → Option ℕ
+outlined_moment outline = if outline.is_filed then Some outline.off_block else None
+
 -- the entry of its flight at a departure of these letters, if a regulation of that aerodrome and
 -- period applies to it: to none that departs in the air
 unfoldable pub departure : ℕ → ℕ → ℕ → ℕ → Outline → Option ℕ
@@ -36,6 +41,8 @@ departure taxi letters start end outline =
 -- wherever and whenever a regulation applies to the flight of the plan, the outline may be there
 -- then; at a departure of four letters it says exactly whether one does
 pub record IsOutlineOf (outline : Outline) (plan : Plan) : Type 0 where
+  pub is_filed : outline.is_filed ≡ is_filed plan.state
+  pub off_block : outline.off_block ≡ plan.off_block
   pub comes : (taxi start end : ℕ) (spot : Spot) → IsSome (subject taxi spot start end plan) → (may_come spot outline && may_fly taxi start end outline) ≡ true
   pub departs : (taxi start end : ℕ) (place : List ℕ) → IsTold place → subject taxi (Dep place) start end plan ≡ departure taxi (letters_of place) start end outline
 

@@ -1,6 +1,6 @@
 -- Flight plans as the desk holds them.
 use Rattle.std.specs.Prelude.{ℕ, ◌-◌, Bool, true, false, ◌&&◌, ◌==◌, if◌then◌else◌, List, slice_get, slice_set, Option, Some, None, unwrap_or, box_value}
-use Rattle.std.specs.Option.{option_map, option_map_or}
+use Rattle.std.specs.Option.{option_map, option_map_or, option_and_then}
 use Rattle.std.specs.Str.{bytes_eq}
 use Rattle.std.specs.declared.boxed.Box.{Box}
 use Rattle.fpl_text.specs.declared.craft.FlightRules.{FlightRules}
@@ -86,6 +86,15 @@ text_of field texts =
 -- the plan of this number, where plan n is the n-th
 abbrev pub plan_at : List Plan → ℕ → Option Plan
 plan_at plans number = slice_get plans (number - 1)
+
+-- the off-block date and time of a plan, if it is filed
+abbrev pub filed_moment : Plan → Option ℕ
+filed_moment plan = if is_filed plan.state then Some plan.off_block else None
+
+-- that of the plan of this number: none if there is no such plan, or if it has departed or was
+-- cancelled
+abbrev pub filed_off_block : List Plan → ℕ → Option ℕ
+filed_off_block plans number = option_and_then filed_moment (plan_at plans number)
 
 -- the state of a plan, and its off-block date and time
 abbrev pub status_of : Plan → Status

@@ -41,6 +41,7 @@ mod undo;
 pub use fault::PlanFault;
 pub use fpl_message::Parts;
 pub use near::{ROWS, row_of};
+pub use places::letters_of;
 pub use plan::{Key, Plan, PlanState, Status};
 pub use setup::{MAX_ENTRIES, MAX_PLANS, MAX_TAXI, Setup, is_desk_time};
 pub use store::PlanStore;

@@ -1,10 +1,11 @@
-//! Where and when a regulation may apply to a flight, in few bytes.
+//! Where and when a regulation may apply to a flight, and whether its plan is filed, in few bytes.
 //!
 //! Most flights never enter a regulated point, or not in its period. Their outlines, the index
 //! entries of the plans, say so without a read of the plan. The outline also has the entry of a
-//! flight at a regulated departure, which is worth a fifth of an OPEN there.
+//! flight at a regulated departure.
 ghost use Rattle.std.specs.Prelude.{◌≡◌, ◌≤◌};
-ghost use Rattle.flow_plans.specs.Outlines.{may_come, may_fly, departure, IsOutlineOf};
+ghost use Rattle.flow_plans.specs.Outlines.{may_come, may_fly, outlined_moment};
+ghost use Rattle.flow_plans.specs.Outlines.{departure, IsOutlineOf};
 ghost use Rattle.flow_plans.specs.declared.setup.TheConstants.{MAX_TAXI};
 
 use crate::places::letters_of;
@@ -14,7 +15,7 @@ use fpl_message::Spot;
 use fpl_text::Minute;
 use std::alloc::Allocator;
 
-/// The points at which a regulation may apply to a flight, and when.
+/// The points at which a regulation may apply to a flight and when, and whether its plan is filed.
 #[derive(Clone, Copy, Debug)]
 pub(crate) struct Outline {
     /// The letters of the departure, as `letters_of` returns them.
@@ -26,6 +27,7 @@ pub(crate) struct Outline {
     off_block: Minute,
     /// The minutes from take-off to the last point that the flight enters, or more.
     longest: u16,
+    is_filed: bool,
 }
 
 const _: () = prove!(size_of::<Outline>() <= 24);
@@ -37,6 +39,7 @@ impl Outline {
         ensures { IsOutlineOf result plan.now }
     {
         let off_block = plan.off_block();
+        let is_filed = plan.is_filed();
         if !plan.may_be_subject() {
             return Outline {
                 dep: 0,
@@ -44,6 +47,7 @@ impl Outline {
                 way: 0,
                 off_block,
                 longest: 0,
+                is_filed,
             };
         }
         let key = plan.key();
@@ -53,6 +57,7 @@ impl Outline {
             way: plan.way(),
             off_block,
             longest: plan.longest(),
+            is_filed,
         }
     }
 
@@ -91,6 +96,18 @@ impl Outline {
             return None;
         }
         Some(Minute::from_minutes(take_off))
+    }
+
+    /// The off-block date and time, if the plan is filed.
+    #[inline]
+    pub(crate) fn filed_off_block(&self) -> Option<Minute>
+        ensures { result ≡ outlined_moment self.now }
+    {
+        if self.is_filed {
+            Some(self.off_block)
+        } else {
+            None
+        }
     }
 
     /// The minutes from take-off to the last point that the flight enters, or more.

@@ -3,13 +3,13 @@
 //! The outlines are in an array of their own, so that a scan for flights that may enter a point
 //! reads little memory.
 ghost use Rattle.std.specs.Prelude.{◌≡◌, ◌+◌, ◌≤◌, ◌<◌, ◌-◌, ◌++◌, ◌∷◌, ℕ, []};
-ghost use Rattle.std.specs.Prelude.{None, Some, true, false, length, take, OnOk};
-ghost use Rattle.std.specs.Prelude.{OnErr, IfSome, IfNone};
+ghost use Rattle.std.specs.Prelude.{None, true, false, length, take, OnOk};
+ghost use Rattle.std.specs.Prelude.{OnErr, IfSome};
 ghost use Rattle.flow_plans.specs.Chains.{AreChained, StayChained};
-ghost use Rattle.flow_plans.specs.Entries.{subject, ApplyToNone};
+ghost use Rattle.flow_plans.specs.Entries.{subject};
 ghost use Rattle.fpl_message.specs.declared.order.Spot.{Spot};
 ghost use Rattle.flow_plans.specs.Places.{IsDepartureOf};
-ghost use Rattle.flow_plans.specs.Plans.{is_held, plan_at, changed_at, with_state};
+ghost use Rattle.flow_plans.specs.Plans.{is_held, plan_at, filed_off_block, changed_at, with_state};
 ghost use Rattle.flow_plans.specs.Plans.{with_off_block, with_former, texts_or};
 ghost use Rattle.flow_plans.specs.Changes.{amended_plan, texts_after};
 ghost use Rattle.flow_plans.specs.declared.setup.TheConstants.{MAX_PLANS, MAX_TAXI};
@@ -67,10 +67,29 @@ impl<A: Allocator + Copy> PlanList<A> {
         self.plans.len()
     }
 
+    /// The off-block date and time of plan `number`, if it is filed.
+    #[inline]
+    pub(crate) fn filed_off_block(&self, number: u32) -> Option<Minute>
+        requires { 0 < number }
+        ensures { result ≡ filed_off_block self.now number }
+    {
+        match self.outlines.get((number - 1) as usize) {
+            Some(outline) => outline.filed_off_block(),
+            None => None,
+        }
+    }
+
     /// Whether the flight of plan `number` may enter a point in a period. If it may not, no
     /// regulation of that point and period applies to it.
     #[inline]
-    fn may_come(&self, number: u32, taxi: u32, spot: &Spot, start: Minute, end: Minute) -> bool
+    pub(crate) fn may_come(
+        &self,
+        number: u32,
+        taxi: u32,
+        spot: &Spot,
+        start: Minute,
+        end: Minute,
+    ) -> bool
         requires { (0 < number) × (number ≤ length self.now) }
         ensures { result ≡ false → IfSome (plan_at self.now number)
             (λ plan. subject taxi spot.now start end plan ≡ None) }
@@ -82,7 +101,7 @@ impl<A: Allocator + Copy> PlanList<A> {
     /// The entry of plan `number` at its departure, if a regulation of an aerodrome of these
     /// letters and that period applies to its flight.
     #[inline]
-    fn departure(
+    pub(crate) fn departure(
         &self,
         number: u32,
         taxi: u32,
@@ -99,8 +118,7 @@ impl<A: Allocator + Copy> PlanList<A> {
     }
 
     /// The entry of plan `number`, if a regulation of that point and period applies to its flight.
-    /// The plan is read if its flight may enter the point in the period; at a departure of four
-    /// letters it never is.
+    /// At a departure of four letters it is read from the outline.
     #[inline]
     pub(crate) fn subject(
         &self,
@@ -121,14 +139,12 @@ impl<A: Allocator + Copy> PlanList<A> {
                 return self.departure(number, taxi, letters, start, end);
             }
         }
-        if !self.may_come(number, taxi, spot, start, end) {
-            return None;
-        }
         self.plans[(number - 1) as usize].subject(taxi, spot, start, end)
     }
 
-    /// The first plan from number `from` on to whose flight a regulation of that point and period
-    /// applies, and the entry of its flight.
+    /// The first number from `from` on of a plan whose flight may enter a point in a period, or the
+    /// number of plans plus 1. To the flights of the plans before it no regulation of that point
+    /// and period applies.
     #[inline]
     pub(crate) fn next_coming(
         &self,
@@ -137,27 +153,21 @@ impl<A: Allocator + Copy> PlanList<A> {
         spot: &Spot,
         start: Minute,
         end: Minute,
-    ) -> Option<(u32, Minute)>
+    ) -> u32
         requires some { 0 < from }
         requires few { length self.now ≤ MAX_PLANS }
-        requires taxi { taxi ≤ MAX_TAXI }
-        ensures within { IfSome result (λ r. (from ≤ r.0) × (r.0 ≤ length self.now)) }
-        ensures entry { IfSome result (λ r. IfSome (plan_at self.now r.0) (λ plan.
-            subject taxi spot.now start end plan ≡ Some r.1)) }
-        ensures passed { IfSome result (λ r.
-            ApplyToNone from r.0 taxi spot.now start end self.now) }
-        ensures none { IfNone result (
-            ApplyToNone from (length self.now + 1) taxi spot.now start end self.now) }
+        ensures from { from ≤ result }
+        ensures passed { (n : ℕ) → from ≤ n → n < result
+            → IfSome (plan_at self.now n) (λ plan. subject taxi spot.now start end plan ≡ None) }
+        ensures end { length self.now < from → result ≡ from }
+        ensures most { from ≤ length self.now → result ≤ length self.now + 1 }
     {
         let count = self.plans.len() as u32;
         let mut number = from;
-        while number <= count {
-            if let Some(entry) = self.subject(number, taxi, spot, start, end) {
-                return Some((number, entry));
-            }
+        while number <= count && !self.may_come(number, taxi, spot, start, end) {
             number += 1;
         }
-        None
+        number
     }
 
     /// Appends a plan, also to the chain of its flight. After an `Err` the plans and all chains are

@@ -1,14 +1,15 @@
 //! The plans of a desk, by number.
 ghost use Rattle.std.specs.Prelude.{◌≡◌, ◌≢◌, ◌≤◌, ◌<◌, ◌+◌, ◌-◌, ◌++◌, ◌∷◌};
 ghost use Rattle.std.specs.Prelude.{ℕ, [], Ok, Err, Some, None, IfOk};
-ghost use Rattle.std.specs.Prelude.{IfErr, IsOk, OnOk, OnErr, IfSome, IfNone};
+ghost use Rattle.std.specs.Prelude.{IfErr, IsOk, OnOk, OnErr, IfSome};
 ghost use Rattle.std.specs.Prelude.{IsSome, IsTrue, ◌↔◌, true, length};
 ghost use Rattle.std.specs.Prelude.{slice_get, option_copied};
 ghost use Rattle.flow_plans.specs.Settings.{IsDeskTime};
-ghost use Rattle.flow_plans.specs.Entries.{take_off, entry_at, subject, ApplyToNone};
+ghost use Rattle.flow_plans.specs.Entries.{take_off, entry_at, subject};
 ghost use Rattle.flow_plans.specs.Undoing.{undone};
 ghost use Rattle.flow_plans.specs.Chains.{flight_of_key, AreChained, HasRoomFor};
-ghost use Rattle.flow_plans.specs.Plans.{plan_at, status_at};
+ghost use Rattle.flow_plans.specs.Places.{IsDepartureOf};
+ghost use Rattle.flow_plans.specs.Plans.{plan_at, filed_off_block, status_at};
 ghost use Rattle.flow_plans.specs.Plans.{changed_at, with_state, with_off_block};
 ghost use Rattle.fpl_message.specs.declared.order.Spot.{Spot};
 ghost use Rattle.flow_plans.specs.Near.{row_of, word_at, HasBitsOf};
@@ -319,6 +320,16 @@ impl<A: Allocator + Copy> PlanStore<A> {
         self.plans.as_slice()[(number - 1) as usize].take_off(self.taxi)
     }
 
+    /// Returns the off-block date and time of plan `number`, if it is filed. Reads only its
+    /// outline.
+    #[inline]
+    pub fn filed_off_block(&self, number: u32) -> Option<Minute>
+        requires { 0 < number }
+        ensures { result ≡ filed_off_block self.now.plans number }
+    {
+        self.plans.filed_off_block(number)
+    }
+
     /// Returns the time at which plan `number` enters a point: its take-off at the departure, and
     /// later by the elapsed times of fields 16 and 18 at the destination and at route points.
     /// `None` if the flight doesn't enter it.
@@ -344,26 +355,32 @@ impl<A: Allocator + Copy> PlanStore<A> {
         self.plans.subject(number, self.taxi, spot, start, end)
     }
 
-    /// Returns the first plan from number `from` on to whose flight a regulation of that point and
-    /// period applies, and the entry of its flight; `None` if there is none. A plan whose flight
-    /// doesn't enter the point in the period is mostly passed by 24 bytes of it.
+    /// Returns the entry of plan `number` at its departure, if a regulation of that period and of
+    /// an aerodrome of these letters, as `letters_of` returns them, applies to it. Reads only its
+    /// outline.
     #[inline]
-    pub fn next_coming(
-        &self,
-        from: u32,
-        spot: &Spot,
-        start: Minute,
-        end: Minute,
-    ) -> Option<(u32, Minute)>
+    pub fn departure(&self, number: u32, letters: u32, start: Minute, end: Minute) -> Option<Minute>
+        requires some { 0 < number }
+        requires within { number ≤ length self.now.plans }
+        ensures { (spot : Spot) → IsDepartureOf letters spot
+            → IfSome (plan_at self.now.plans number) (λ plan.
+            result ≡ subject self.now.taxi spot start end plan) }
+    {
+        self.plans.departure(number, self.taxi, letters, start, end)
+    }
+
+    /// Returns the first number from `from` on of a plan to whose flight a regulation of that point
+    /// and period may apply; if there is none, the first number that no plan has, or `from` if that
+    /// is greater. To the flights of the plans before it none applies. Reads 24 bytes a plan.
+    #[inline]
+    pub fn next_coming(&self, from: u32, spot: &Spot, start: Minute, end: Minute) -> u32
         requires { 0 < from }
-        ensures within { IfSome result (λ r. (from ≤ r.0) × (r.0 ≤ length self.now.plans)) }
-        ensures bound { IfSome result (λ r. r.0 ≤ MAX_PLANS) }
-        ensures entry { IfSome result (λ r. IfSome (plan_at self.now.plans r.0) (λ plan.
-            subject self.now.taxi spot.now start end plan ≡ Some r.1)) }
-        ensures passed { IfSome result (λ r.
-            ApplyToNone from r.0 self.now.taxi spot.now start end self.now.plans) }
-        ensures none { IfNone result (ApplyToNone from (length self.now.plans + 1)
-            self.now.taxi spot.now start end self.now.plans) }
+        ensures from { from ≤ result }
+        ensures passed { (n : ℕ) → from ≤ n → n < result
+            → IfSome (plan_at self.now.plans n) (λ plan.
+            subject self.now.taxi spot.now start end plan ≡ None) }
+        ensures end { length self.now.plans < from → result ≡ from }
+        ensures most { from ≤ length self.now.plans → result ≤ length self.now.plans + 1 }
     {
         self.plans.next_coming(from, self.taxi, spot, start, end)
     }

@@ -4,7 +4,7 @@ ghost use Rattle.std.specs.Prelude.{◌≡◌, ◌<◌, ◌+◌, nat_le, Some};
 ghost use Rattle.flow_plans.specs.Plans.{Plan as Held, plan_at};
 ghost use Rattle.flow_regulations.specs.Settling.{is_due};
 
-use flow_plans::{PlanState, PlanStore};
+use flow_plans::PlanStore;
 use fpl_text::Minute;
 use std::alloc::Allocator;
 
@@ -34,8 +34,8 @@ pub(crate) fn is_due<A: Allocator + Copy>(plans: &PlanStore<A>, number: u32, now
     requires { 0 < number }
     ensures { (p : Held) → plan_at plans.now.plans number ≡ Some p → result ≡ is_due now p }
 {
-    match plans.plan(number) {
-        Some(plan) => matches!(plan.state(), PlanState::Filed) && is_due_by(plan.off_block(), now),
+    match plans.filed_off_block(number) {
+        Some(off_block) => is_due_by(off_block, now),
         None => false,
     }
 }

@@ -13,7 +13,7 @@ ghost use Rattle.flow_regulations.specs.Listing.{HoldNewlyDue};
 ghost use Rattle.flow_regulations.specs.declared.due.TheConstants.{ISSUE_LEAD};
 
 use crate::due::{due_until, is_due_by};
-use flow_plans::{PlanState, PlanStore};
+use flow_plans::PlanStore;
 use fpl_text::Minute;
 use std::alloc::{AllocError, Allocator, Global};
 use std::cmp::Reverse;
@@ -184,13 +184,10 @@ fn awaits<A: Allocator + Copy>(plans: &PlanStore<A>, flight: &Awaited, earlier: 
     requires { 0 < flight.now.number }
     ensures { result ≡ awaits earlier plans.now.plans flight.now }
 {
-    let Some(plan) = plans.plan(flight.number) else {
+    let Some(moment) = plans.filed_off_block(flight.number) else {
         return false;
     };
-    let moment = plan.off_block();
-    matches!(plan.state(), PlanState::Filed)
-        && moment.minutes() == flight.off_block
-        && !is_due_by(moment, earlier)
+    moment.minutes() == flight.off_block && !is_due_by(moment, earlier)
 }
 
 /// Takes out all flights whose off-block time is at most two hours after `now`, and appends those

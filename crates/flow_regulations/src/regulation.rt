@@ -4,6 +4,7 @@ ghost use Rattle.std.specs.Prelude.{true, false, IfSome, IsSome, IfOk, OnOk};
 ghost use Rattle.std.specs.Prelude.{IfNone, IsTrue, ◌+◌, ◌↔◌, length};
 ghost use Rattle.flow_plans.specs.Plans.{Plan as Held, plan_at, is_departed};
 ghost use Rattle.flow_plans.specs.Near.{row_of};
+ghost use Rattle.flow_plans.specs.Places.{IsDepartureOf};
 ghost use Rattle.flow_slots.specs.Lineup.{held_slot, fixed_slot, without_flight};
 ghost use Rattle.flow_slots.specs.Lineup.{waiting_entry, len_of};
 ghost use Rattle.flow_slots.specs.Lineup.{with_all_waiting, MayFill, IsLineup};
@@ -24,7 +25,7 @@ ghost use Rattle.flow_slots.specs.Period.{most_slots};
 
 use crate::due::is_due;
 use crate::places::Place;
-use flow_plans::{PlanState, PlanStore, row_of};
+use flow_plans::{PlanState, PlanStore, letters_of, row_of};
 use flow_slots::{Planned, Shape, SlotList};
 use fpl_message::Spot;
 use fpl_text::{Minute, Text};
@@ -133,26 +134,38 @@ impl<A: Allocator + Copy> Regulation<A> {
         self.list.next_held(from)
     }
 
-    /// The first flight from plan `from` on that the regulation applies to, with its entry. To the
-    /// flights of the plans before it the regulation doesn't apply, and to none from there on if it
-    /// is `None`.
+    /// The letters of its point, if that is a departure aerodrome of four letters.
+    pub(crate) fn departure(&self) -> Option<u32>
+        ensures { IfSome result (λ letters. IsDepartureOf letters self.now.spot) }
+    {
+        let Spot::Dep(place) = &self.spot else {
+            return None;
+        };
+        let letters = letters_of(place.as_bytes());
+        if letters != 0 { Some(letters) } else { None }
+    }
+
+    /// The first number from `from` on of a plan to whose flight the regulation may apply. The
+    /// regulation doesn't apply to the flights of the plans before it, and to none from there on if
+    /// it is `None`.
     #[inline]
-    pub(crate) fn next_coming(&self, plans: &PlanStore<A>, from: u32) -> Option<Planned>
+    pub(crate) fn next_coming(&self, plans: &PlanStore<A>, from: u32) -> Option<u32>
         requires { 0 < from }
-        ensures within { IfSome result
-            (λ w. (from ≤ w.flight) × (w.flight ≤ length plans.now.plans)) }
-        ensures most { IfSome result (λ w. w.flight ≤ MAX_PLANS) }
-        ensures entry { IfSome result (λ w. (p : Held) → plan_at plans.now.plans w.flight ≡ Some p
-            → Some w.entry ≡ subject_to plans.now.taxi (regulation_of self.now) p) }
-        ensures passed { IfSome result (λ w. AppliesToNone from w.flight plans.now.taxi
+        ensures from { IfSome result
+            (λ number. (from ≤ number) × (number ≤ length plans.now.plans)) }
+        ensures passed { IfSome result (λ number. AppliesToNone from number plans.now.taxi
             (regulation_of self.now) plans.now.plans) }
+        ensures most { IfSome result (λ number. number ≤ MAX_PLANS) }
         ensures none { IfNone result (AppliesToNone from (length plans.now.plans + 1) plans.now.taxi
             (regulation_of self.now) plans.now.plans) }
     {
         let (start, end) = self.list.shape().period();
-        let (flight, entry) = plans.next_coming(from, &self.spot, start, end)?;
-        let entry = entry.minutes();
-        Some(Planned { entry, flight })
+        let number = plans.next_coming(from, &self.spot, start, end);
+        if number <= plans.count() {
+            Some(number)
+        } else {
+            None
+        }
     }
 
     /// Inserts flights into the slot list, which has none yet.

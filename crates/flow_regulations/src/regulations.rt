@@ -6,6 +6,7 @@ ghost use Rattle.std.specs.Prelude.{OnOk, OnErr, length, map, replicate};
 ghost use Rattle.std.specs.Prelude.{vec_capacity};
 ghost use Rattle.std.specs.List.{All, AllByRecursion, insert, list_any};
 ghost use Rattle.std.specs.List.Sorted.{IsNonDecreasing, IsStrictlyIncreasing};
+ghost use Rattle.flow_plans.specs.Places.{IsDepartureOf};
 ghost use Rattle.flow_plans.specs.Plans.{Plan, plan_at};
 ghost use Rattle.flow_slots.specs.Assignment.{is_in};
 ghost use Rattle.flow_regulations.specs.Advice.{advice};
@@ -605,12 +606,71 @@ fn note_coming<A: Allocator + Copy>(
         ≡ coming_from 1 plans.now.taxi (regulation_of regulation.now) plans.now.plans }
     ensures due { result ≡ false → AreUndue now plans.now.plans coming.new.items }
 {
+    match regulation.departure() {
+        Some(letters) => note_departing(regulation, plans, letters, now, coming),
+        None => note_entering(regulation, plans, now, coming),
+    }
+}
+
+/// Collects them for a regulation at any point, from their plans.
+fn note_entering<A: Allocator + Copy>(
+    regulation: &Regulation<A>,
+    plans: &PlanStore<A>,
+    now: Minute,
+    coming: &mut Vec<Planned, A>,
+) -> bool
+    requires none { coming.old.items ≡ [] }
+    requires room { length plans.now.plans ≤ vec_capacity coming.old }
+    ensures coming { coming.new.items
+        ≡ coming_from 1 plans.now.taxi (regulation_of regulation.now) plans.now.plans }
+    ensures due { result ≡ false → AreUndue now plans.now.plans coming.new.items }
+{
     let mut due = false;
     let mut from = 1;
-    while let Some(planned) = regulation.next_coming(plans, from) {
-        due |= is_due(plans, planned.flight, now);
-        from = planned.flight + 1;
-        coming.push_reserved(planned);
+    while let Some(number) = regulation.next_coming(plans, from) {
+        if let Some(entry) = regulation.subject(plans, number) {
+            let entry = entry.minutes();
+            coming.push_reserved(Planned {
+                entry,
+                flight: number,
+            });
+            due |= is_due(plans, number, now);
+        }
+        from = number + 1;
+    }
+    due
+}
+
+/// Collects them for a regulation at a departure aerodrome of these letters, from the index entries
+/// of the plans. To read the plans takes 19 % more instructions in 128 OPEN of 5,000 departures.
+fn note_departing<A: Allocator + Copy>(
+    regulation: &Regulation<A>,
+    plans: &PlanStore<A>,
+    letters: u32,
+    now: Minute,
+    coming: &mut Vec<Planned, A>,
+) -> bool
+    requires departure { IsDepartureOf letters regulation.now.spot }
+    requires none { coming.old.items ≡ [] }
+    requires room { length plans.now.plans ≤ vec_capacity coming.old }
+    ensures coming { coming.new.items
+        ≡ coming_from 1 plans.now.taxi (regulation_of regulation.now) plans.now.plans }
+    ensures due { result ≡ false → AreUndue now plans.now.plans coming.new.items }
+{
+    let (start, end) = regulation.list().shape().period();
+    let count = plans.count();
+    let mut due = false;
+    let mut number = 1;
+    while number <= count {
+        if let Some(entry) = plans.departure(number, letters, start, end) {
+            let entry = entry.minutes();
+            coming.push_reserved(Planned {
+                entry,
+                flight: number,
+            });
+            due |= is_due(plans, number, now);
+        }
+        number += 1;
     }
     due
 }

@@ -5,12 +5,12 @@ use Rattle.flow_plans.proofs.OutlineLemmas.{outline-of-none, outline-of-all}
 use Rattle.flow_plans.proofs.outline.Outline.of.Goals as goal
 
 pub returns-then-not-may_be_subject : goal.returns-then-not-may_be_subject
-returns-then-not-may_be_subject g c = outline-of-none _ c.args.plan.now refl (sym c.may_be_subject.ensures ∙ c.if-not-may_be_subject.true)
+returns-then-not-may_be_subject g c = outline-of-none _ c.args.plan.now c.is_filed-is_filed.ensures c.off_block-off_block.ensures.value refl (sym c.may_be_subject.ensures ∙ c.if-not-may_be_subject.true)
 
 pub returns : goal.returns
 returns g c =
     let dep = c.as_bytes.ensures.value ∙ ap (λ (k : Key). k.dep) c.key-key.ensures in
-    outline-of-all _ c.args.plan.now c.off_block-off_block.ensures.value
+    outline-of-all _ c.args.plan.now c.is_filed-is_filed.ensures c.off_block-off_block.ensures.value
     (c.letters_of.ensures.letters ∙ ap letters_of dep)
     (c.letters_of-2.ensures.letters ∙ ap letters_of (c.as_bytes-2.ensures.value ∙ ap (λ (k : Key). k.dest) c.key-key.ensures))
     (sym c.may_be_subject.ensures ∙ c.if-not-may_be_subject.false)

@@ -1,9 +1,7 @@
-use Rattle.std.proofs.Common.{◌≡◌, List, ℕ, Some, None, sym, ap, ◌∙◌, arith}
+use Rattle.std.proofs.Common.{◌≡◌, List, ℕ, Some, sym, ap, ◌∙◌, arith}
 use Rattle.fpl_message.specs.declared.order.Spot.TheVariants.{Dep}
 use Rattle.flow_plans.specs.Plans.{plan_at}
 use Rattle.flow_plans.specs.Places.{IsTold}
-use Rattle.flow_plans.specs.Entries.{subject}
-use Rattle.flow_plans.proofs.Departures.{of-some}
 use Rattle.flow_plans.proofs.OutlineLemmas.{plan-read}
 use Rattle.flow_plans.proofs.plan_list.PlanList.subject.Goals as goal
 
@@ -24,7 +22,3 @@ returns g c =
     let p = c.index.result.now in
     let at : plan_at c.args.self.now c.args.number ≡ Some p = plan-read c.args.number s.plans.items c.args.self.now p c.self.view_is c.requires.number.0 c.requires.number.1 c.index.ensures in
     rw at c.subject.ensures
-
-pub returns-then-not-may_come : goal.returns-then-not-may_come
-returns-then-not-may_come g c =
-    of-some (plan_at c.args.self.now c.args.number) (λ p. subject c.args.taxi c.args.spot.now c.args.start c.args.end p ≡ None) (λ p. None ≡ subject c.args.taxi c.args.spot.now c.args.start c.args.end p) (λ p e. sym e) (c.may_come.ensures c.if-not-may_come.true)

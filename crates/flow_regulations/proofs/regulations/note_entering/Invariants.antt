@@ -1,10 +1,10 @@
 use Rattle.std.proofs.Common.{◌≡◌, false, ◌<◌, ◌≤◌, ◌+◌, ◌-◌, length, take, vec_capacity}
 use Rattle.flow_regulations.specs.Listing.{regulation_of, AreUndue}
 use Rattle.flow_regulations.specs.Regulations.{coming_from}
-use Rattle.flow_regulations.proofs.regulations.note_coming.Given as goal
+use Rattle.flow_regulations.proofs.regulations.note_entering.Given as goal
 
-abbrev pub invariant-loop-planned : goal.invariant-loop-planned
-invariant-loop-planned g l = record {
+abbrev pub invariant-loop-number : goal.invariant-loop-number
+invariant-loop-number g l = record {
   some : 0 < l.from;
   within : l.from ≤ length l.plans.plans + 1;
   noted : l.coming.items ≡ coming_from 1 l.plans.taxi (regulation_of l.regulation) (take (l.from - 1) l.plans.plans);
@@ -12,5 +12,5 @@ invariant-loop-planned g l = record {
   undue : l.due ≡ false → AreUndue l.now l.plans.plans l.coming.items;
 }
 
-abbrev pub decreases-loop-planned : goal.decreases-loop-planned
-decreases-loop-planned g l = length l.plans.plans + 1 - l.from
+abbrev pub decreases-loop-number : goal.decreases-loop-number
+decreases-loop-number g l = length l.plans.plans + 1 - l.from
