@@ -62,7 +62,7 @@ impl Outline {
     }
 
     /// Whether the flight may enter a point.
-    #[inline]
+    #[inline(always)]
     #[tactic(auto, unfolding(crate::specs::Outlines::may_come))]
     pub(crate) fn may_come(&self, spot: &Spot) -> bool
         ensures { result ≡ may_come spot.now self.now }
@@ -76,7 +76,7 @@ impl Outline {
 
     /// The entry of the flight at its departure of these letters, if a regulation of that aerodrome
     /// and period applies to it. None applies to a flight that departs in the air.
-    #[inline]
+    #[inline(always)]
     #[tactic(auto, unfolding(crate::specs::Outlines::departure))]
     pub(crate) fn departure(
         &self,
@@ -99,7 +99,7 @@ impl Outline {
     }
 
     /// The off-block date and time, if the plan is filed.
-    #[inline]
+    #[inline(always)]
     pub(crate) fn filed_off_block(&self) -> Option<Minute>
         ensures { result ≡ outlined_moment self.now }
     {
@@ -111,7 +111,7 @@ impl Outline {
     }
 
     /// The minutes from take-off to the last point that the flight enters, or more.
-    #[inline]
+    #[inline(always)]
     fn longest(&self) -> u16
         ensures { result ≡ self.now.longest }
     {
@@ -120,7 +120,7 @@ impl Outline {
 
     /// Whether the flight takes off before the end of a period, and may not yet be over at its
     /// start.
-    #[inline]
+    #[inline(always)]
     #[tactic(auto, unfolding(crate::specs::Outlines::may_fly))]
     pub(crate) fn may_fly(&self, taxi: u32, start: Minute, end: Minute) -> bool
         ensures { result ≡ may_fly taxi start end self.now }

@@ -3,7 +3,7 @@ ghost use Rattle.std.specs.Prelude.{◌≡◌};
 ghost use Rattle.flow_plans.specs.Places.{letters_of, AreBytes};
 
 /// Returns the first four letters of a name as one number, 0 for a shorter one.
-#[inline]
+#[inline(always)]
 #[tactic(auto, unfolding(crate::specs::Places::letters_of))]
 pub fn letters_of(place: &[u8]) -> u32
     ensures letters { result ≡ letters_of place.now }

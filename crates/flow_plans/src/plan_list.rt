@@ -54,7 +54,7 @@ impl<A: Allocator + Copy> PlanList<A> {
         }
     }
 
-    #[inline]
+    #[inline(always)]
     pub(crate) fn as_slice(&self) -> &[Plan<A>]
         ensures { result.now ≡ self.now }
     {
@@ -68,7 +68,7 @@ impl<A: Allocator + Copy> PlanList<A> {
     }
 
     /// The off-block date and time of plan `number`, if it is filed.
-    #[inline]
+    #[inline(always)]
     pub(crate) fn filed_off_block(&self, number: u32) -> Option<Minute>
         requires { 0 < number }
         ensures { result ≡ filed_off_block self.now number }
@@ -81,7 +81,7 @@ impl<A: Allocator + Copy> PlanList<A> {
 
     /// Whether the flight of plan `number` may enter a point in a period. If it may not, no
     /// regulation of that point and period applies to it.
-    #[inline]
+    #[inline(always)]
     pub(crate) fn may_come(
         &self,
         number: u32,
@@ -100,7 +100,7 @@ impl<A: Allocator + Copy> PlanList<A> {
 
     /// The entry of plan `number` at its departure, if a regulation of an aerodrome of these
     /// letters and that period applies to its flight.
-    #[inline]
+    #[inline(always)]
     pub(crate) fn departure(
         &self,
         number: u32,
@@ -119,7 +119,7 @@ impl<A: Allocator + Copy> PlanList<A> {
 
     /// The entry of plan `number`, if a regulation of that point and period applies to its flight.
     /// At a departure of four letters it is read from the outline.
-    #[inline]
+    #[inline(always)]
     pub(crate) fn subject(
         &self,
         number: u32,
@@ -145,7 +145,7 @@ impl<A: Allocator + Copy> PlanList<A> {
     /// The first number from `from` on of a plan whose flight may enter a point in a period, or the
     /// number of plans plus 1. To the flights of the plans before it no regulation of that point
     /// and period applies.
-    #[inline]
+    #[inline(always)]
     pub(crate) fn next_coming(
         &self,
         from: u32,

@@ -322,7 +322,7 @@ impl<A: Allocator + Copy> PlanStore<A> {
 
     /// Returns the off-block date and time of plan `number`, if it is filed. Reads only its
     /// outline.
-    #[inline]
+    #[inline(always)]
     pub fn filed_off_block(&self, number: u32) -> Option<Minute>
         requires { 0 < number }
         ensures { result ≡ filed_off_block self.now.plans number }
@@ -345,7 +345,7 @@ impl<A: Allocator + Copy> PlanStore<A> {
     /// Returns the entry of plan `number`, if a regulation of that point applies to it: one from
     /// `start` to before `end`, of a filed plan that is not flown by visual rules throughout, does
     /// not depart in the air (AFIL) and is not exempt.
-    #[inline]
+    #[inline(always)]
     pub fn subject(&self, number: u32, spot: &Spot, start: Minute, end: Minute) -> Option<Minute>
         requires some { 0 < number }
         requires within { number ≤ length self.now.plans }
@@ -358,7 +358,7 @@ impl<A: Allocator + Copy> PlanStore<A> {
     /// Returns the entry of plan `number` at its departure, if a regulation of that period and of
     /// an aerodrome of these letters, as `letters_of` returns them, applies to it. Reads only its
     /// outline.
-    #[inline]
+    #[inline(always)]
     pub fn departure(&self, number: u32, letters: u32, start: Minute, end: Minute) -> Option<Minute>
         requires some { 0 < number }
         requires within { number ≤ length self.now.plans }
@@ -372,7 +372,7 @@ impl<A: Allocator + Copy> PlanStore<A> {
     /// Returns the first number from `from` on of a plan to whose flight a regulation of that point
     /// and period may apply; if there is none, the first number that no plan has, or `from` if that
     /// is greater. To the flights of the plans before it none applies. Reads 24 bytes a plan.
-    #[inline]
+    #[inline(always)]
     pub fn next_coming(&self, from: u32, spot: &Spot, start: Minute, end: Minute) -> u32
         requires { 0 < from }
         ensures from { from ≤ result }

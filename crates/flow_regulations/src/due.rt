@@ -12,7 +12,7 @@ use std::alloc::Allocator;
 pub const ISSUE_LEAD: u32 = 120;
 
 /// The last off-block time of the flights that are due now, in minutes since 1970-01-01 00:00 UTC.
-#[inline]
+#[inline(always)]
 pub(crate) fn due_until(now: Minute) -> u32
     ensures { result ≡ now + ISSUE_LEAD }
 {
@@ -20,7 +20,7 @@ pub(crate) fn due_until(now: Minute) -> u32
 }
 
 /// Whether a flight of this off-block date and time is due: at most two hours before it.
-#[inline]
+#[inline(always)]
 pub fn is_due_by(off_block: Minute, now: Minute) -> bool
     ensures { result ≡ nat_le off_block (now + ISSUE_LEAD) }
 {
@@ -29,7 +29,7 @@ pub fn is_due_by(off_block: Minute, now: Minute) -> bool
 
 /// Whether the flight of plan `number` is due: filed, and at most two hours before its off-block
 /// time.
-#[inline]
+#[inline(always)]
 pub(crate) fn is_due<A: Allocator + Copy>(plans: &PlanStore<A>, number: u32, now: Minute) -> bool
     requires { 0 < number }
     ensures { (p : Held) → plan_at plans.now.plans number ≡ Some p → result ≡ is_due now p }

@@ -124,7 +124,7 @@ impl<A: Allocator + Copy> Regulation<A> {
 
     /// The first number from `from` on of a flight that it holds, or one past the last, after which
     /// it holds none. The flights before it aren't held.
-    #[inline]
+    #[inline(always)]
     pub(crate) fn next_held(&self, from: u32) -> u32
         ensures from { from ≤ result }
         ensures passed { (f : ℕ) → from ≤ f → f < result → IsOut f self.now }
@@ -148,7 +148,7 @@ impl<A: Allocator + Copy> Regulation<A> {
     /// The first number from `from` on of a plan to whose flight the regulation may apply. The
     /// regulation doesn't apply to the flights of the plans before it, and to none from there on if
     /// it is `None`.
-    #[inline]
+    #[inline(always)]
     pub(crate) fn next_coming(&self, plans: &PlanStore<A>, from: u32) -> Option<u32>
         requires { 0 < from }
         ensures from { IfSome result
@@ -177,7 +177,7 @@ impl<A: Allocator + Copy> Regulation<A> {
     }
 
     /// The entry of the flight of plan `number`, if the regulation applies to it.
-    #[inline]
+    #[inline(always)]
     pub(crate) fn subject(&self, plans: &PlanStore<A>, number: u32) -> Option<Minute>
         requires some { 0 < number }
         requires within { number ≤ length plans.now.plans }
@@ -189,7 +189,7 @@ impl<A: Allocator + Copy> Regulation<A> {
     }
 
     /// The flight's frozen slot. `None` if it has none. No flight is in the list twice.
-    #[inline]
+    #[inline(always)]
     fn fixed_slot(&self, number: u32) -> Option<u32>
         ensures slot { result ≡ fixed_slot self.now.lineup number }
         ensures below { IfSome result (λ k. k < len_of self.now.lineup) }
@@ -205,7 +205,7 @@ impl<A: Allocator + Copy> Regulation<A> {
 
     /// Whether a frozen flight keeps its slot: it has departed, or it is subject and due and its
     /// slot is not before its entry.
-    #[inline]
+    #[inline(always)]
     fn keeps(&self, plans: &PlanStore<A>, number: u32, now: Minute, entry: &Option<Minute>) -> bool
         requires some { 0 < number }
         requires within { number ≤ length plans.now.plans }
@@ -229,7 +229,7 @@ impl<A: Allocator + Copy> Regulation<A> {
     }
 
     /// Removes a flight, if it is held.
-    #[inline]
+    #[inline(always)]
     fn take_out(&mut self, number: u32)
         ensures { self.new ≡ with_lineup (without_flight number self.old.lineup) self.old }
     {
@@ -377,7 +377,7 @@ impl<A: Allocator + Copy> Regulation<A> {
     /// Settles the regulation after a message about one flight, which changes that flight alone,
     /// and returns whether the flight may be held then. A flight that may not be held before is
     /// inserted if the regulation applies to it.
-    #[inline]
+    #[inline(always)]
     pub(crate) fn look_where(
         &mut self,
         plans: &PlanStore<A>,
