@@ -21,6 +21,8 @@ import tty
 WORDS = ["--start", "2409010500"]
 FILINGS = "(FPL-AAA%d-IS-A320/M-SDFG/LB1-LIML%02d%02d-N0450F350 DCT-EDDF0150-0)\n"
 LIMIT = 5.0
+# More filings than a history has had in any other test of many feeders.
+MANY = 1200
 
 
 def wait_for_line(source, begin):
@@ -69,16 +71,18 @@ def on_terminal(program, filings):
         return result
 
 
-def with_feeders(program, filings):
+def with_feeders(program, _filings):
     """How long the last line took after the end of the input, and what was wrong."""
     words = [*WORDS, "--feeders", "2"]
+    filed = "".join(FILINGS % (count, 6 + count // 60 % 12, count % 60) for count in range(1, MANY + 1))
     with subprocess.Popen([program, *words], stdin=subprocess.PIPE, stdout=subprocess.PIPE, bufsize=0) as child:
-        for count in range(1, filings + 1):
-            child.stdin.write((FILINGS % (count, 6 + count // 60 % 12, count % 60)).encode())
         begin = time.monotonic()
-        child.stdin.close()
-        lines = child.stdout.read().splitlines()
-        right = len(lines) == filings + 1 and lines[-1] == b"REPLAY OK"
+        try:
+            lines = child.communicate(filed.encode(), timeout=60)[0].splitlines()
+        except subprocess.TimeoutExpired:
+            child.kill()
+            lines = []
+        right = len(lines) == MANY + 1 and lines[-1] == b"REPLAY OK"
         return [time.monotonic() - begin], None if right else "NOT ANSWERED: %d lines" % len(lines)
 
 
@@ -88,11 +92,12 @@ def main():
     parser.add_argument("--filings", type=int, default=500)
     args = parser.parse_args()
     failed = 0
-    for name, way in (("a pipe", on_pipe), ("a terminal", on_terminal), ("2 feeders", with_feeders)):
+    ways = [("a pipe", on_pipe), ("a terminal", on_terminal), ("2 feeders", with_feeders)]
+    for name, way in ways:
         waits, wrong = way(args.program, args.filings)
         failed += wrong is not None
         figures = "longest %.1f ms, median %.3f ms" % (1000 * max(waits), 1000 * statistics.median(waits))
-        print("%s: %s; %s" % (name, wrong or "each of %d filings answered" % args.filings, figures))
+        print("%s: %s; %s" % (name, wrong or "answered", figures))
     sys.exit(1 if failed else 0)
 
 
