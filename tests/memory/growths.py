@@ -1,5 +1,5 @@
 #!/usr/bin/env python3
-"""Refuses each request for memory in turn to feeds at a desk and to a run of two feeders.
+"""Refuses each request for memory in turn to feeds at a desk, to a run of two feeders, and to two that are answered as they file.
 
     tests/memory/growths.py
 
@@ -22,9 +22,9 @@ sys.dont_write_bytecode = True
 
 from workspace import placed  # noqa: E402
 
-STANDS_ON = ["fpl_text", "fpl_message", "flow_plans", "flow_core", "flow_desk", "flow_runs"]
+STANDS_ON = ["fpl_text", "fpl_message", "flow_plans", "flow_core", "flow_desk", "flow_runs", "flow_live"]
 # More than the calls make.
-LAST = 190
+LAST = 240
 REFUSED, NOTHING = "refused, and all as promised", "not refused"
 ENDED = "run=ended status=0 "
 

@@ -3,11 +3,12 @@
 
     tests/memory/refused.py PROGRAM [NAME ..]
 
-NAME is a worked run in tests/cli/slotdesk; if none is named, some that file by themselves, with two feeders, and going on from
-a journal. Where cc isn't there it says so, and refuses nothing.
+NAME is a worked run in tests/cli/slotdesk; if none is named, some that file by themselves, with two feeders, over feeds, and going
+on from a journal. Where cc isn't there it says so, and refuses nothing.
 The program asks the C library for its memory. A shim, built here with cc and loaded before that library, refuses the request
 number N, so that each N takes one short run; N rises until nothing is refused. A run must end as the worked run does, with its
-output, or with status 2, the line of want of memory and a beginning of that output; but never so where the journal is full. With feeders it may also end with the line of
+output, or with status 2, the line of want of memory and a beginning of that output, and so of what its feeds are answered; but
+never so where the journal is full. With feeders it may also end with the line of
 a thread that wasn't started, and what it has answered are then entries without a gap in their numbers and nothing behind them,
 since the filings of the other feeders go on. What the loader and the C library ask for before the program begins isn't counted.
 Prints for each worked run how many ended in which way, and ends with 1 if one ended in another, or none for want of memory.
@@ -30,6 +31,8 @@ CHOSEN = [
     "feeders-and-their-journal",
     "feeders-resumed-write-the-whole-journal",
     "feeders-resumed-with-the-journal-full",
+    "feeds-of-one-pair",
+    "feeds-in-the-order-of-their-names",
 ]
 FULL, MEMORY, THREAD = b"- NO 91 JournalFull\n", b"slotdesk: out of memory\n", b"slotdesk: thread not started\n"
 SHIM = r"""
@@ -83,7 +86,7 @@ def text(path):
     return path.read_bytes() if path.exists() else b""
 
 
-def run(program, library, words, filings, count):
+def run(program, library, words, filings, count, place):
     """The run in which this request is refused: its status, output and errors, and whether anything was refused."""
     ours, theirs = os.pipe()
 
@@ -92,7 +95,7 @@ def run(program, library, words, filings, count):
 
     done = subprocess.run(
         [program, *words], input=filings, capture_output=True, timeout=60, preexec_fn=hand_over, pass_fds=(9,),
-        env={"LD_PRELOAD": str(library), "REFUSE": str(count)},
+        env={"LD_PRELOAD": str(library), "REFUSE": str(count)}, cwd=place,
     )
     os.close(theirs)
     refused = os.read(ours, 1) == b"r"
@@ -113,6 +116,24 @@ def is_cut_at_full(output, wanted):
     return FULL in wanted and output == wanted.split(FULL, 1)[0]
 
 
+def run_placed(program, library, folder, count):
+    """As `run`, of a worked run in its folder, or in a copy of its folder data. The third is what is left in the latter."""
+    words, filings = text(folder / "args").split(b"\n")[:-1], text(folder / "stdin")
+    if not (folder / "data").is_dir():
+        return *run(program, library, words, filings, count, folder), {}
+    with tempfile.TemporaryDirectory() as place:
+        shutil.copytree(folder / "data", place, dirs_exist_ok=True)
+        done, refused = run(program, library, words, filings, count, place)
+        names = [path.relative_to(folder / "after") for path in (folder / "after").rglob("*") if path.is_file()]
+        return done, refused, {name: text(pathlib.Path(place) / name) for name in names}
+
+
+def are_left(left, folder, whole):
+    """Whether what is left in the files of a run is what the worked run leaves there, or, if it needn't be whole, begins so."""
+    wanted = {name: text(folder / "after" / name) for name in left}
+    return all(left[name] == wanted[name] or not whole and wanted[name].startswith(left[name]) for name in left)
+
+
 def ending(done, wanted, feeders):
     """How a run ended, or None where that is none of the ways in which it may."""
     if done.returncode == 2 and is_cut_at_full(done.stdout, wanted):
@@ -131,10 +152,11 @@ def refuse(program, library, name):
     words, wanted = text(folder / "args").split(b"\n")[:-1], text(folder / "stdout")
     ways, wrong = collections.Counter(), 0
     for count in range(1, 1_000_000):
-        done, refused = run(program, library, words, text(folder / "stdin"), count)
+        done, refused, left = run_placed(program, library, folder, count)
         if not refused:
             break
         way = ending(done, wanted, b"--feeders" in words)
+        way = way if are_left(left, folder, done.returncode == 0) else None
         ways[way] += 1
         if way is None:
             wrong += 1

@@ -2,7 +2,7 @@
 ghost use Rattle.std.specs.Prelude.{◌≡◌, Some, IfSome, IsTrue};
 ghost use Rattle.flow_core.specs.declared.receipt.Receipt.{Receipt as Given};
 ghost use Rattle.flow_desk.specs.Histories.{row_at};
-ghost use Rattle.flow_desk.specs.Passes.{PassView, Filed, FiledInTurn, SawMore, SawOthers};
+ghost use Rattle.flow_desk.specs.FeederPasses.{PassView, Filed, FiledInTurn, SawMore, SawOthers};
 
 use flow_core::Row;
 use flow_desk::{Desk, Name, Pass};

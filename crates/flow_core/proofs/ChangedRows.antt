@@ -10,7 +10,7 @@ use Rattle.std.proofs.lemmas.Slice.Eq.{bytes_eq-Decides}
 use Rattle.flow_plans.specs.declared.plan.PlanState.{PlanState}
 use Rattle.flow_plans.specs.declared.plan.PlanState.TheVariants as state
 use Rattle.flow_plans.specs.declared.plan.Status.{Status}
-use Rattle.flow_plans.specs.Plans.{Plan, status_of, status_at}
+use Rattle.flow_plans.specs.Plans.{PlanView, status_of, status_at}
 use Rattle.flow_slots.specs.Assignment.{is_in}
 use Rattle.flow_regulations.specs.declared.notice.Told.{Told}
 use Rattle.flow_traffic.specs.Traffic.{Traffic, told_of}
@@ -22,7 +22,7 @@ use Rattle.flow_core.specs.Changes.{same_state, same_told, same_row, change_to, 
 
 -- ---- rows by their parts
 
-row-get : (ps : List Plan) (ts : List (Option Told)) (i : ℕ) → length ts ≡ length ps
+row-get : (ps : List PlanView) (ts : List (Option Told)) (i : ℕ) → length ts ≡ length ps
     → slice_get (rows_of ps ts) i ≡ option_map (row_with (option_map_or (λ t. t) (slice_get ts i) None)) (option_map status_of (slice_get ps i))
 row-get [] ts i e = refl
 row-get (p ∷ ps) [] i e = absurd (omega (arith, e))
@@ -78,7 +78,7 @@ stands-still : (before after : Traffic) (n : ℕ) (told : Option Told) → befor
 stands-still before after n told plans each_before each told_is same =
     let status : Option Status = status_at after.plans n in
     let was : option_map (row_with told) status ≡ slice_get (rows_in before) (n - 1) =
-    row-was before n told status each_before told_is (ap (λ (ps : List Plan). status_at ps n) (sym plans)) in
+    row-was before n told status each_before told_is (ap (λ (ps : List PlanView). status_at ps n) (sym plans)) in
     let is : option_map (row_with (told_of after.told n)) status ≡ slice_get (rows_in after) (n - 1) = row-was after n (told_of after.told n) status each refl refl in
     sym (still n told (told_of after.told n) status same)
     ∙ ap (λ (o : Option Row). option_and_then (change_to n o) (option_map (row_with (told_of after.told n)) status)) was
@@ -192,7 +192,7 @@ walk k before [] [] up inside none = refl
 walk k before [] (n ∷ ns) up inside none = absurd (omega (arith, up.0, inside.0))
 walk k before (r ∷ rs) ns up inside none = either k before r rs ns (walk (k + 1) (drop 1 before) rs) up inside none
 
-rows-count : (ps : List Plan) (ts : List (Option Told)) → length ts ≡ length ps → length (rows_of ps ts) ≡ length ps
+rows-count : (ps : List PlanView) (ts : List (Option Told)) → length ts ≡ length ps → length (rows_of ps ts) ≡ length ps
 rows-count [] ts e = refl
 rows-count (p ∷ ps) [] e = absurd (omega (arith, e))
 rows-count (p ∷ ps) (t ∷ ts) e = ap suc (rows-count ps ts (omega (arith, e)))

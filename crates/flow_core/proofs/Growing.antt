@@ -5,11 +5,11 @@ use Rattle.std.specs.Prelude.{nat_le}
 use Rattle.std.proofs.lemmas.Bool.{leb-false}
 use Rattle.fpl_message.specs.declared.refusal.Refusal.{Refusal}
 use Rattle.fpl_message.specs.declared.refusal.Refusal.TheVariants as refusal
-use Rattle.fpl_message.specs.Messages.{Message, Fpl, fpl, dla, chg, cnl, dep, open_reg, shut_reg, set_time}
-use Rattle.fpl_message.specs.Reads.{Reading, msg, ord, bad, reading_of}
+use Rattle.fpl_message.specs.Messages.{Message, FplView, fpl, dla, chg, cnl, dep, open_reg, shut_reg, set_time}
+use Rattle.fpl_message.specs.Reads.{ReadingView, msg, ord, bad, reading_of}
 use Rattle.fpl_message.specs.Refusals.{◌>>=◌}
-use Rattle.flow_plans.specs.Settings.{Settings}
-use Rattle.flow_plans.specs.Plans.{Plan}
+use Rattle.flow_plans.specs.Settings.{SetupView}
+use Rattle.flow_plans.specs.Plans.{PlanView}
 use Rattle.flow_plans.specs.Times.{unless}
 use Rattle.flow_plans.specs.Changes.{Changed, filed}
 use Rattle.flow_plans.proofs.Distincts.{filed-count, delayed-count, cancelled-count, departed-count, amended-count}
@@ -32,7 +32,7 @@ then-ok : {X Y : Type 0} (r : Result X Refusal) (f : X → Result Y Refusal) (y 
 then-ok (Ok x) f y e = (x, refl, e)
 then-ok (Err r) f y e = absurd (cc)
 
-filed-room : (max now : ℕ) (ps qs : List Plan) (m : Fpl) → filed max now ps m ≡ Ok qs → length ps < max
+filed-room : (max now : ℕ) (ps qs : List PlanView) (m : FplView) → filed max now ps m ≡ Ok qs → length ps < max
 unfolding filed
 filed-room max now ps qs m e =
     let a = unless-ok _ refusal.Past _ qs e in
@@ -41,13 +41,13 @@ filed-room max now ps qs m e =
     leb-false max (length ps) (unless-not (nat_le max (length ps)) refusal.PlansFull _ qs c)
 
 -- one plan more or none, and none above the limit
-abbrev pub Grows : ℕ → List Plan → List Plan → Type 0
+abbrev pub Grows : ℕ → List PlanView → List PlanView → Type 0
 Grows max ps qs = (length ps ≤ length qs) × (length ps ≤ max → length qs ≤ max)
 
-as-many : (max : ℕ) (ps qs : List Plan) → length qs ≡ length ps → Grows max ps qs
+as-many : (max : ℕ) (ps qs : List PlanView) → length qs ≡ length ps → Grows max ps qs
 as-many max ps qs e = (omega (arith, e), λ few. omega (arith, e, few))
 
-changed-grows : (max now : ℕ) (ps : List Plan) (m : Message) (c : Changed) → changed_by max now ps m ≡ Ok c → Grows max ps c.plans
+changed-grows : (max now : ℕ) (ps : List PlanView) (m : Message) (c : Changed) → changed_by max now ps m ≡ Ok c → Grows max ps c.plans
 unfolding changed_by
 changed-grows max now ps (fpl m) c e =
     let a = then-ok (filed max now ps m) _ c e in
@@ -69,7 +69,7 @@ message-grows t m a e =
 ordered-grows : (t : Traffic) (b a : Asked) → b.plans ≡ t.plans → b ≡ a → Grows t.max_plans t.plans a.plans
 ordered-grows t b a same e = subst (λ (d : Asked). Grows t.max_plans t.plans d.plans) e (as-many t.max_plans t.plans b.plans (ap length same))
 
-pub asked-grows : (t : Traffic) (r : Reading) (a : Asked) → asked t r ≡ Ok a → Grows t.max_plans t.plans a.plans
+pub asked-grows : (t : Traffic) (r : ReadingView) (a : Asked) → asked t r ≡ Ok a → Grows t.max_plans t.plans a.plans
 unfolding asked_to_open asked_to_shut asked_at
 asked-grows t (msg m) a e = message-grows t m a e
 asked-grows t (ord (open_reg m)) a e =
@@ -82,12 +82,12 @@ asked-grows t (ord (set_time at)) a e = ordered-grows t _ a refl (ok-same _ a (u
 asked-grows t (bad r) a e = absurd (cc)
 
 -- each plan has an issued slot or none
-to-each : (ps : List Plan) (ts : List (Option Told)) → length (told_to ps ts) ≡ length ps
+to-each : (ps : List PlanView) (ts : List (Option Told)) → length (told_to ps ts) ≡ length ps
 to-each [] ts = refl
 to-each (p ∷ ps) [] = ap suc (to-each ps [])
 to-each (p ∷ ps) (t ∷ ts) = ap suc (to-each ps ts)
 
-from-each : (n taxi : ℕ) (rs : List Regulation) (ps : List Plan) (ts : List (Option Told)) → length ts ≡ length ps → length (told_from n taxi rs ps ts) ≡ length ps
+from-each : (n taxi : ℕ) (rs : List Regulation) (ps : List PlanView) (ts : List (Option Told)) → length ts ≡ length ps → length (told_from n taxi rs ps ts) ≡ length ps
 from-each n taxi rs [] [] e = refl
 from-each n taxi rs [] (t ∷ ts) e = absurd (omega (arith, e))
 from-each n taxi rs (p ∷ ps) [] e = absurd (omega (arith, e))
@@ -127,36 +127,36 @@ step-more : (s : State) (i : Input) → Holds s → HoldsMore s (step s i)
 unfolding step
 step-more s i holds = answered-more s i (asked s.traffic (reading_of i.text)) refl holds
 
-record HoldsAfter (setup : Settings) (s : State) : Type 0 where
+record HoldsAfter (setup : SetupView) (s : State) : Type 0 where
   pub holds : Holds s
   pub same : s.setup ≡ setup
 
-steps-hold : (setup : Settings) (s : State) (filed : List Input) → Holds s → s.setup ≡ setup → HoldsAfter setup (steps s filed)
+steps-hold : (setup : SetupView) (s : State) (filed : List Input) → Holds s → s.setup ≡ setup → HoldsAfter setup (steps s filed)
 unfolding steps
 steps-hold setup s [] holds e = record { holds = holds; same = e }
 steps-hold setup s (i ∷ is) holds e =
     let m = step-more s i holds in steps-hold setup (step s i) is m.holds (m.setup ∙ e)
 
-run-holds : (setup : Settings) (filed : List Input) → HoldsAfter setup (run setup filed)
+run-holds : (setup : SetupView) (filed : List Input) → HoldsAfter setup (run setup filed)
 unfolding run
 run-holds setup filed = steps-hold setup (fresh setup) filed (record { each = refl; room = omega arith; limit = refl }) refl
 
-rows-count : (ps : List Plan) (ts : List (Option Told)) → length ts ≡ length ps → length (rows_of ps ts) ≡ length ps
+rows-count : (ps : List PlanView) (ts : List (Option Told)) → length ts ≡ length ps → length (rows_of ps ts) ≡ length ps
 rows-count [] ts e = refl
 rows-count (p ∷ ps) [] e = absurd (omega (arith, e))
 rows-count (p ∷ ps) (t ∷ ts) e =
     let rest : length ts ≡ length ps = omega (arith, e) in ap suc (rows-count ps ts rest)
 
 -- the rows are those of the plans, at most as many as the setup allows
-pub rows-few : (setup : Settings) (filed : List Input) → length (rows_in (run setup filed).traffic) ≤ setup.max_plans
+pub rows-few : (setup : SetupView) (filed : List Input) → length (rows_in (run setup filed).traffic) ≤ setup.max_plans
 rows-few setup filed =
     let t = (run setup filed).traffic in
     let h = run-holds setup filed in
-    let limit : t.max_plans ≡ setup.max_plans = h.holds.limit ∙ ap (λ (s : Settings). s.max_plans) h.same in
+    let limit : t.max_plans ≡ setup.max_plans = h.holds.limit ∙ ap (λ (s : SetupView). s.max_plans) h.same in
     omega (arith, rows-count t.plans t.told h.holds.each, h.holds.room, limit)
 
 -- they are no fewer after one more filing
-pub rows-more : (setup : Settings) (filed : List Input) (i : Input) → length (rows_in (run setup filed).traffic) ≤ length (rows_in (step (run setup filed) i).traffic)
+pub rows-more : (setup : SetupView) (filed : List Input) (i : Input) → length (rows_in (run setup filed).traffic) ≤ length (rows_in (step (run setup filed) i).traffic)
 rows-more setup filed i =
     let s = run setup filed in
     let h = (run-holds setup filed).holds in

@@ -6,9 +6,9 @@ use Rattle.std.proofs.lemmas.Bool.{le-leb}
 use Rattle.std.proofs.lemmas.List.{append-nil}
 use Rattle.std.specs.Io.KnownBytes.{Appends, Keeps}
 use Rattle.std.proofs.KnownBytes.{Appends-nil, Appends-trans, Consumes-nil}
-use Rattle.fpl_message.specs.Filings.{FilingText}
+use Rattle.fpl_message.specs.Filings.{FilingView}
 use Rattle.flow_input.specs.Frames.{frames}
-use Rattle.flow_input.specs.Reader.{Ahead, Agrees, Came, CameTooMuch}
+use Rattle.flow_input.specs.Reader.{InputView, Agrees, Came, CameTooMuch}
 use Rattle.flow_input.specs.NextFrame.{second, filing_of, GaveFirst, GaveNone, Starves}
 use Rattle.flow_input.specs.Cutting.{Cutting, CutFront, Overrun}
 use Rattle.flow_input.specs.Writes.{AppendsFront}
@@ -42,24 +42,24 @@ module _ (s : State) (frame : List ℕ) where
       by false h = refl
 
   -- a frame that is a filing
-  pub served-whole : (text : FilingText) → Some text ≡ filing_of frame → ltb (length s.journal) s.setup.max_entries ≡ true → served s frame ≡ step s (record { feeder = 0; text = text })
+  pub served-whole : (text : FilingView) → Some text ≡ filing_of frame → ltb (length s.journal) s.setup.max_entries ≡ true → served s frame ≡ step s (record { feeder = 0; text = text })
   unfolding served
   served-whole text h r = by (leb (length frame) 2000) h
     where
       by : (b : Bool) → Some text ≡ (cond b (Some (second frame)) None) → cond b (cond (ltb (length s.journal) s.setup.max_entries) (step s (as_input frame)) s) s ≡ step s (record { feeder = 0; text = text })
-      by true e = let same : second frame ≡ text = cc in rw r (ap (λ (t : FilingText). step s (record { feeder = 0; text = t })) same)
+      by true e = let same : second frame ≡ text = cc in rw r (ap (λ (t : FilingView). step s (record { feeder = 0; text = t })) same)
       by false e = absurd (cc)
 
-  pub said-whole : (text : FilingText) → Some text ≡ filing_of frame → ltb (length s.journal) s.setup.max_entries ≡ true → said s frame ≡ answer_text (step s (record { feeder = 0; text = text })) (length s.journal)
+  pub said-whole : (text : FilingView) → Some text ≡ filing_of frame → ltb (length s.journal) s.setup.max_entries ≡ true → said s frame ≡ answer_text (step s (record { feeder = 0; text = text })) (length s.journal)
   unfolding said
   said-whole text h r = by (leb (length frame) 2000) h
     where
       by : (b : Bool) → Some text ≡ (cond b (Some (second frame)) None) → cond b (cond (ltb (length s.journal) s.setup.max_entries) (answer_text (step s (as_input frame)) (length s.journal)) (codes "- NO 91 JournalFull\n")) (codes "- NO 90 TooLong\n") ≡ answer_text (step s (record { feeder = 0; text = text })) (length s.journal)
-      by true e = let same : second frame ≡ text = cc in rw r (ap (λ (t : FilingText). answer_text (step s (record { feeder = 0; text = t })) (length s.journal)) same)
+      by true e = let same : second frame ≡ text = cc in rw r (ap (λ (t : FilingView). answer_text (step s (record { feeder = 0; text = t })) (length s.journal)) same)
       by false e = absurd (cc)
 
   -- a filing at a full journal
-  pub served-full : (text : FilingText) → Some text ≡ filing_of frame → ltb (length s.journal) s.setup.max_entries ≡ false → served s frame ≡ s
+  pub served-full : (text : FilingView) → Some text ≡ filing_of frame → ltb (length s.journal) s.setup.max_entries ≡ false → served s frame ≡ s
   unfolding served
   served-full text h r = by (leb (length frame) 2000)
     where
@@ -67,7 +67,7 @@ module _ (s : State) (frame : List ℕ) where
       by true = rw r refl
       by false = refl
 
-  pub said-full : (text : FilingText) → Some text ≡ filing_of frame → ltb (length s.journal) s.setup.max_entries ≡ false → said s frame ≡ codes "- NO 91 JournalFull\n"
+  pub said-full : (text : FilingView) → Some text ≡ filing_of frame → ltb (length s.journal) s.setup.max_entries ≡ false → said s frame ≡ codes "- NO 91 JournalFull\n"
   unfolding said
   said-full text h r = by (leb (length frame) 2000) h
     where
@@ -144,7 +144,7 @@ Stopped-answered first now begun written input rest a =
 -- ---- frames that were served
 
 -- none
-pub Served-none : (s : State) (written : Option (List ℕ)) (ahead : Ahead) (rest : Option (List ℕ)) → ServedMore s s written written ahead ahead rest rest
+pub Served-none : (s : State) (written : Option (List ℕ)) (ahead : InputView) (rest : Option (List ℕ)) → ServedMore s s written written ahead ahead rest rest
 Served-none s written ahead rest =
     record {
       frames = [];
@@ -154,7 +154,7 @@ Served-none s written ahead rest =
     }
 
 -- one that came
-pub Served-one : (s next : State) (written then : Option (List ℕ)) (old new : Ahead) (mid rest : Option (List ℕ)) (filing : Option FilingText) → GaveFirst filing old new mid rest → AnswersFrame filing s next written then → ServedMore s next written then old new mid rest
+pub Served-one : (s next : State) (written then : Option (List ℕ)) (old new : InputView) (mid rest : Option (List ℕ)) (filing : Option FilingView) → GaveFirst filing old new mid rest → AnswersFrame filing s next written then → ServedMore s next written then old new mid rest
 Served-one s next written then old new mid rest filing f a =
     let did = a f.whole.frame f.filed in
     record {
@@ -165,7 +165,7 @@ Served-one s next written then old new mid rest filing f a =
     }
 
 -- some, and then others
-pub Served-both : (s next last : State) (written then now : Option (List ℕ)) (old mid new : Ahead) (input some rest : Option (List ℕ)) → ServedMore s next written then old mid input some → ServedMore next last then now mid new some rest → ServedMore s last written now old new input rest
+pub Served-both : (s next last : State) (written then now : Option (List ℕ)) (old mid new : InputView) (input some rest : Option (List ℕ)) → ServedMore s next written then old mid input some → ServedMore next last then now mid new some rest → ServedMore s last written now old new input rest
 Served-both s next last written then now old mid new input some rest a b =
     record {
       frames = a.frames ++ b.frames;
@@ -178,7 +178,7 @@ Served-both s next last written then now old mid new input some rest a b =
 -- ---- in the middle
 
 -- nothing was read yet
-pub Serving-start : (s : State) (begun : Option (List ℕ)) (ahead : Ahead) (input : Option (List ℕ)) → ahead ≡ record { unread = []; taken = 0; ended = false; item = Some [] } → Serving s s begun begun ahead input input
+pub Serving-start : (s : State) (begun : Option (List ℕ)) (ahead : InputView) (input : Option (List ℕ)) → ahead ≡ record { unread = []; taken = 0; ended = false; item = Some [] } → Serving s s begun begun ahead input input
 Serving-start s begun ahead input e =
     record {
       done = [];
@@ -194,7 +194,7 @@ Appends-kept (Some b) (Some w) None bytes a k = absurd k
 Appends-kept (Some b) (Some w) (Some v) bytes a k = k ∙ a
 
 -- and it comes on by the frames that were served
-pub Serving-more : (first now next : State) (begun written then : Option (List ℕ)) (old new : Ahead) (input mid rest : Option (List ℕ)) → Serving first now begun written old input mid → ServedMore now next written then old new mid rest → Serving first next begun then new input rest
+pub Serving-more : (first now next : State) (begun written then : Option (List ℕ)) (old new : InputView) (input mid rest : Option (List ℕ)) → Serving first now begun written old input mid → ServedMore now next written then old new mid rest → Serving first next begun then new input rest
 Serving-more first now next begun written then old new input mid rest s more =
     record {
       done = s.done ++ more.frames;
@@ -205,12 +205,12 @@ Serving-more first now next begun written then old new input mid rest s more =
     }
 
 -- what was written is flushed
-pub Serving-kept : (first now : State) (begun written kept : Option (List ℕ)) (ahead : Ahead) (input mid : Option (List ℕ))
+pub Serving-kept : (first now : State) (begun written kept : Option (List ℕ)) (ahead : InputView) (input mid : Option (List ℕ))
     → Serving first now begun written ahead input mid → Keeps written kept → Serving first now begun kept ahead input mid
 Serving-kept first now begun written kept ahead input mid s k =
     record { done = s.done; cutting = s.cutting; state = s.state; appended = Appends-kept begun written kept (output first s.done) s.appended k }
 
-module _ (first now : State) (begun written : Option (List ℕ)) (old : Ahead) (input mid : Option (List ℕ)) (s : Serving first now begun written old input mid) where
+module _ (first now : State) (begun written : Option (List ℕ)) (old : InputView) (input mid : Option (List ℕ)) (s : Serving first now begun written old input mid) where
   -- if flushing failed, nothing more was read
   pub Answered-here : Answered first now begun written input mid
   Answered-here =
@@ -238,18 +238,18 @@ module _ (first now : State) (begun written : Option (List ℕ)) (old : Ahead) (
   Overrun-read rest m = Overrun-came s.done old input mid s.cutting rest m
 
   -- at the end all frames were served
-  pub Served-output : (new : Ahead) (rest : Option (List ℕ)) → GaveNone old new mid rest → Agrees new rest → IfSome input (λ bytes. Appends begun written (output first (frames bytes)))
+  pub Served-output : (new : InputView) (rest : Option (List ℕ)) → GaveNone old new mid rest → Agrees new rest → IfSome input (λ bytes. Appends begun written (output first (frames bytes)))
   Served-output new rest f agrees = Cutting-end s.done old input mid s.cutting new rest (λ fs. Appends begun written (output first fs)) f agrees s.appended
 
-  pub Served-state : (new : Ahead) (rest : Option (List ℕ)) → GaveNone old new mid rest → Agrees new rest → IfSome input (λ bytes. now ≡ after first (frames bytes))
+  pub Served-state : (new : InputView) (rest : Option (List ℕ)) → GaveNone old new mid rest → Agrees new rest → IfSome input (λ bytes. now ≡ after first (frames bytes))
   Served-state new rest f agrees = Cutting-end s.done old input mid s.cutting new rest (λ fs. now ≡ after first fs) f agrees s.state
 
   -- and the input isn't too long
-  pub Served-within : (new : Ahead) (rest : Option (List ℕ)) → GaveNone old new mid rest → Agrees new rest → new.taken ≤ 4000000000 → IfSome input (λ bytes. length bytes ≤ 4000000000)
+  pub Served-within : (new : InputView) (rest : Option (List ℕ)) → GaveNone old new mid rest → Agrees new rest → new.taken ≤ 4000000000 → IfSome input (λ bytes. length bytes ≤ 4000000000)
   Served-within new rest f agrees within = Cutting-within s.done old input mid s.cutting new rest f agrees within
 
   -- a frame came
-  module _ (new : Ahead) (rest : Option (List ℕ)) (filing : Option FilingText) (f : GaveFirst filing old new mid rest) where
+  module _ (new : InputView) (rest : Option (List ℕ)) (filing : Option FilingView) (f : GaveFirst filing old new mid rest) where
     said-one : output first (s.done ++ f.whole.frame ∷ []) ≡ output first s.done ++ said now f.whole.frame
     said-one =
         output-append first s.done (f.whole.frame ∷ []) ∙ ap (λ (t : State). output first s.done ++ output t (f.whole.frame ∷ [])) (sym s.state) ∙ ap (λ (bs : List ℕ). output first s.done ++ bs) (output-one now f.whole.frame)

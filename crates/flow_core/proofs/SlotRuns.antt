@@ -9,13 +9,13 @@ use Rattle.std.proofs.lemmas.List.Elements.{filter-append}
 use Rattle.fpl_message.specs.declared.refusal.Refusal.{Refusal}
 use Rattle.fpl_message.specs.declared.refusal.Refusal.TheVariants as refusal
 use Rattle.fpl_message.specs.declared.order.OpenReg.{OpenReg}
-use Rattle.fpl_message.specs.Filings.{FilingText}
+use Rattle.fpl_message.specs.Filings.{FilingView}
 use Rattle.fpl_message.specs.Messages.{Message, open_reg, shut_reg, set_time}
-use Rattle.fpl_message.specs.Reads.{Reading, msg, ord, bad, reading_of}
+use Rattle.fpl_message.specs.Reads.{ReadingView, msg, ord, bad, reading_of}
 use Rattle.fpl_message.specs.Refusals.{◌>>=◌}
 use Rattle.fpl_message.proofs.OrderYears.{open-within}
-use Rattle.flow_plans.specs.Settings.{Settings}
-use Rattle.flow_plans.specs.Plans.{Plan}
+use Rattle.flow_plans.specs.Settings.{SetupView}
+use Rattle.flow_plans.specs.Plans.{PlanView}
 use Rattle.flow_plans.specs.Times.{unless}
 use Rattle.flow_plans.specs.Changes.{Changed}
 use Rattle.flow_slots.specs.declared.cell.Planned.{Planned}
@@ -39,7 +39,7 @@ use Rattle.flow_regulations.proofs.Waiting.{waiting-from}
 use Rattle.flow_traffic.specs.declared.verdict.Kind.TheVariants as kind
 use Rattle.flow_traffic.specs.declared.opening.TheConstants.{MAX_REGULATIONS}
 use Rattle.flow_traffic.specs.Traffic.{Traffic, regulation_named, slots_of}
-use Rattle.flow_traffic.specs.Opening.{is_period, regulation_by}
+use Rattle.flow_traffic.specs.Opening.{has_period, regulation_by}
 use Rattle.flow_traffic.specs.Asked.{Asked, asked, asked_by_message, asked_to_open, asked_to_shut, asked_at, changed_by, departing, is_called, is_departure, ordered, verdict_on}
 use Rattle.flow_traffic.specs.Answers.{settle}
 use Rattle.flow_traffic.proofs.Changing.{ok-same, unless-ok}
@@ -114,7 +114,7 @@ none-kept f (x ∷ xs) e = by (none-kept f xs) (eqb x.flight f) refl e where
   by rest true q h = absurd (cc)
   by rest false q h = (eqb-false x.flight f q, rest h)
 
-waiting-sound : (max taxi k : ℕ) (r : Regulation) (fs : List Placed) (ps : List Plan) → 0 < k → k + length ps ≤ max + 1 → IsRegular r.period → AreKept max r.period fs → IsSound (around max r fs (waiting_from k taxi r fs ps))
+waiting-sound : (max taxi k : ℕ) (r : Regulation) (fs : List Placed) (ps : List PlanView) → 0 < k → k + length ps ≤ max + 1 → IsRegular r.period → AreKept max r.period fs → IsSound (around max r fs (waiting_from k taxi r fs ps))
 waiting-sound max taxi k r fs [] some few regular kept =
     record {
       lined = record { in_order = tt; by_slot = kept.by_slot; fixed_apart = kept.apart; waiting_apart = tt };
@@ -139,7 +139,7 @@ waiting-sound max taxi k r fs (p ∷ ps) some few regular kept =
     by (Some entry) false e q s =
         sound-insert (around max r fs rest) (planned entry k) s later (none-kept k fs q) (some, omega arith) (subject-within taxi r.spot r.period.start r.period.end entry p e)
 
-fit-sound : (max taxi : ℕ) (plans : List Plan) (r : Regulation) → length plans ≤ max → IsFit max r → IsSound (lineup_of taxi max plans r)
+fit-sound : (max taxi : ℕ) (plans : List PlanView) (r : Regulation) → length plans ≤ max → IsFit max r → IsSound (lineup_of taxi max plans r)
 fit-sound max taxi plans r few fit = waiting-sound max taxi 1 r r.fixed plans (omega arith) (omega arith) fit.regular fit.kept
 
 -- ---- more pairs are kept
@@ -206,7 +206,7 @@ served-may l s =
 
 -- ---- a regulation is settled
 
-settled-fit : (max taxi now : ℕ) (plans : List Plan) (r : Regulation) → length plans ≤ max → IsFit max r → IsFit max (settled taxi now plans r)
+settled-fit : (max taxi now : ℕ) (plans : List PlanView) (r : Regulation) → length plans ≤ max → IsFit max r → IsFit max (settled taxi now plans r)
 unfolding settled
 settled-fit max taxi now plans r few fit =
     let fixed = kept taxi now plans r in
@@ -218,7 +218,7 @@ settled-fit max taxi now plans r few fit =
       kept = keep-all max r.period (filter (is_due_at now plans) (assigned_around taxi plans r fixed)) fixed left (may-left max r.period fixed (is_due_at now plans) (served l) (served-may l sound));
     }
 
-all-settled-fit : (max taxi now : ℕ) (plans : List Plan) (rs : List Regulation) → length plans ≤ max → AllByRecursion (IsFit max) rs → AllByRecursion (IsFit max) (map (settled taxi now plans) rs)
+all-settled-fit : (max taxi now : ℕ) (plans : List PlanView) (rs : List Regulation) → length plans ≤ max → AllByRecursion (IsFit max) rs → AllByRecursion (IsFit max) (map (settled taxi now plans) rs)
 all-settled-fit max taxi now plans [] few all = tt
 all-settled-fit max taxi now plans (r ∷ rs) few all = (settled-fit max taxi now plans r few all.0, all-settled-fit max taxi now plans rs few all.1)
 
@@ -230,7 +230,7 @@ no-pairs n (x ∷ xs) e = by (no-pairs n xs) (eqb x.flight n) e where
   by rest true h = absurd (cc)
   by rest false h = rest h
 
-departing-fit : (taxi max n : ℕ) (before : List Plan) (r : Regulation) → length before ≤ max → IsFit max r → IsFit max (frozen_at_departure taxi max before n r)
+departing-fit : (taxi max n : ℕ) (before : List PlanView) (r : Regulation) → length before ≤ max → IsFit max r → IsFit max (frozen_at_departure taxi max before n r)
 unfolding frozen_at_departure
 departing-fit taxi max n before r few fit = by (has_flight n r.fixed) refl where
   l : Lineup
@@ -248,7 +248,7 @@ departing-fit taxi max n before r few fit = by (has_flight n r.fixed) refl where
             (subst (λ gs. MayKeep max r.period r.fixed gs) (sym (pairs e)) (may-left max r.period r.fixed (λ a. eqb a.flight n) (served l) (served-may l (fit-sound max taxi before r few fit))));
       }
 
-all-departing-fit : (departs : Bool) (n taxi max : ℕ) (before : List Plan) (rs : List Regulation) → length before ≤ max → AllByRecursion (IsFit max) rs → AllByRecursion (IsFit max) (departing departs n taxi max before rs)
+all-departing-fit : (departs : Bool) (n taxi max : ℕ) (before : List PlanView) (rs : List Regulation) → length before ≤ max → AllByRecursion (IsFit max) rs → AllByRecursion (IsFit max) (departing departs n taxi max before rs)
 all-departing-fit false n taxi max before rs few all = all
 all-departing-fit true n taxi max before [] few all = tt
 all-departing-fit true n taxi max before (r ∷ rs) few all = (departing-fit taxi max n before r few all.0, all-departing-fit true n taxi max before rs few all.1)
@@ -267,8 +267,8 @@ unless-not : {X : Type 0} (b : Bool) (r : Refusal) (next : Result X Refusal) (x 
 unless-not true r next x e = refl
 unless-not false r next x e = absurd (cc)
 
-opened-fit : (max : ℕ) (text : FilingText) (m : OpenReg) → reading_of text ≡ ord (open_reg m) → is_period m ≡ true → rates_fit m.rate m.more ≡ true → IsFit max (regulation_by m)
-unfolding is_period
+opened-fit : (max : ℕ) (text : FilingView) (m : OpenReg) → reading_of text ≡ ord (open_reg m) → has_period m ≡ true → rates_fit m.rate m.more ≡ true → IsFit max (regulation_by m)
+unfolding has_period
 opened-fit max text m e a b =
     let years = open-within text m e in
     record {
@@ -286,14 +286,14 @@ message-fit t m x fits e = by (changed_by t.max_plans t.now t.plans m) e where
   by (Err r) e = absurd (cc)
   by (Ok c) e = subst (AreFit t.max_plans) (ok-same (made c) x e) (all-departing-fit (is_departure m) c.number t.taxi t.max_plans t.plans t.regulations fits.few fits.regulations)
 
-open-fit : (t : Traffic) (text : FilingText) (m : OpenReg) (x : Asked) → reading_of text ≡ ord (open_reg m) → Fits t → asked_to_open t m ≡ Ok x → AreFit t.max_plans x
+open-fit : (t : Traffic) (text : FilingView) (m : OpenReg) (x : Asked) → reading_of text ≡ ord (open_reg m) → Fits t → asked_to_open t m ≡ Ok x → AreFit t.max_plans x
 unfolding asked_to_open
 open-fit t text m x is fits e =
-    let b = unless-ok (not (is_period m)) refusal.BadPeriod _ x e in
+    let b = unless-ok (not (has_period m)) refusal.BadPeriod _ x e in
     let c = unless-ok (not (rates_fit m.rate m.more)) refusal.BadRate _ x b in
     let d = unless-ok (list_any (is_called m.id) t.regulations) refusal.RegulationHeld _ x c in
     let f = unless-ok (nat_le MAX_REGULATIONS (length t.regulations)) refusal.RegulationsFull _ x d in
-    let new = opened-fit t.max_plans text m is (unless-not (is_period m) refusal.BadPeriod _ x e) (unless-not (rates_fit m.rate m.more) refusal.BadRate _ x b) in
+    let new = opened-fit t.max_plans text m is (unless-not (has_period m) refusal.BadPeriod _ x e) (unless-not (rates_fit m.rate m.more) refusal.BadRate _ x b) in
     subst (AreFit t.max_plans) (ok-same (ordered t kind.Open t.now (t.regulations ++ regulation_by m ∷ [])) x f) (all-last (IsFit t.max_plans) t.regulations (regulation_by m) fits.regulations new)
 
 shut-fit : (t : Traffic) (id : List ℕ) (x : Asked) → Fits t → asked_to_shut t id ≡ Ok x → AreFit t.max_plans x
@@ -307,9 +307,9 @@ unfolding asked_at
 time-fit t at x fits e =
     subst (AreFit t.max_plans) (ok-same (ordered t kind.Time at t.regulations) x (unless-ok _ refusal.TimeBack _ x e)) fits.regulations
 
-pub asked-fit : (t : Traffic) (text : FilingText) (x : Asked) → Fits t → asked t (reading_of text) ≡ Ok x → AllByRecursion (IsFit t.max_plans) x.regulations
+pub asked-fit : (t : Traffic) (text : FilingView) (x : Asked) → Fits t → asked t (reading_of text) ≡ Ok x → AllByRecursion (IsFit t.max_plans) x.regulations
 asked-fit t text x fits e = by (reading_of text) refl e where
-  by : (r : Reading) → reading_of text ≡ r → asked t r ≡ Ok x → AreFit t.max_plans x
+  by : (r : ReadingView) → reading_of text ≡ r → asked t r ≡ Ok x → AreFit t.max_plans x
   by (msg m) is e = message-fit t m x fits e
   by (ord (open_reg m)) is e = open-fit t text m x is fits e
   by (ord (shut_reg id)) is e = shut-fit t id x fits e
@@ -334,10 +334,10 @@ unfolding steps
 steps-fit s [] fits = fits
 steps-fit s (i ∷ is) fits = steps-fit (step s i) is (step-fits s i fits)
 
-pub fresh-fits : (setup : Settings) → Fits (fresh setup).traffic
+pub fresh-fits : (setup : SetupView) → Fits (fresh setup).traffic
 fresh-fits setup = record { few = omega arith; regulations = tt }
 
-run-fits : (setup : Settings) (filed : List Input) → Fits (run setup filed).traffic
+run-fits : (setup : SetupView) (filed : List Input) → Fits (run setup filed).traffic
 unfolding run
 run-fits setup filed = steps-fit (fresh setup) filed (fresh-fits setup)
 
@@ -349,7 +349,7 @@ named-fit P id (r ∷ rs) all = by (named-fit P id rs all.1) (bytes_eq r.id id) 
   by rest true = all.0
   by rest false = rest
 
-pub slots-sound : (setup : Settings) (filed : List Input) (id : List ℕ) → IfSome (slots_of (run setup filed).traffic id) IsSound
+pub slots-sound : (setup : SetupView) (filed : List Input) (id : List ℕ) → IfSome (slots_of (run setup filed).traffic id) IsSound
 slots-sound setup filed id =
     let t = (run setup filed).traffic in
     let fits = run-fits setup filed in
@@ -359,7 +359,7 @@ slots-sound setup filed id =
     by None h = tt
     by (Some r) h = fit-sound (run setup filed).traffic.max_plans (run setup filed).traffic.taxi (run setup filed).traffic.plans r (run-fits setup filed).few h
 
-pub slots-served : (setup : Settings) (filed : List Input) (id : List ℕ) → IfSome (slots_of (run setup filed).traffic id) IsFirstServed
+pub slots-served : (setup : SetupView) (filed : List Input) (id : List ℕ) → IfSome (slots_of (run setup filed).traffic id) IsFirstServed
 slots-served setup filed id = by (slots_of (run setup filed).traffic id) (slots-sound setup filed id) where
   by : (o : Option Lineup) → IfSome o IsSound → IfSome o IsFirstServed
   by None h = tt

@@ -1,11 +1,11 @@
 -- How a core stores the state.
 use Rattle.std.specs.Prelude.{◌≡◌, ◌≤◌, ◌<◌, ◌+◌, ◌-◌, List, [], ◌∷◌, ◌++◌, map, length, take, ℕ, Bool, true, Some}
 use Rattle.std.specs.List.{AllByRecursion}
-use Rattle.fpl_message.specs.Reads.{Reading, reading_of}
-use Rattle.flow_plans.specs.Settings.{Settings}
-use Rattle.flow_traffic.specs.Traffic.{Traffic, Undoable}
+use Rattle.fpl_message.specs.Reads.{ReadingView, reading_of}
+use Rattle.flow_plans.specs.Settings.{SetupView}
+use Rattle.flow_traffic.specs.Traffic.{Traffic, TrafficView}
 use Rattle.flow_traffic.specs.Frozen.{FrozenPairsStay}
-use Rattle.flow_core.specs.State.{State, Input, Record}
+use Rattle.flow_core.specs.State.{State, Input, EntryView}
 use Rattle.flow_traffic.specs.Answers.{Answers}
 use Rattle.flow_core.specs.declared.receipt.Receipt.{Receipt}
 use Rattle.flow_core.specs.declared.change.Change.{Change}
@@ -16,7 +16,7 @@ use Rattle.flow_core.specs.History.{History}
 use Rattle.flow_core.specs.Changes.{changes_between, rows_at, without_last_filing}
 use Rattle.flow_plans.specs.declared.setup.TheConstants.{MAX_ENTRIES}
 
-abbrev pub inputs : List Record → List Input
+abbrev pub inputs : List EntryView → List Input
 inputs journal = map (λ e. e.input) journal
 
 -- the state in these fields is that of the run
@@ -33,23 +33,23 @@ without_last xs = take (length xs - 1) xs
 
 -- The last filing can be undone: the reader has read its text, for which there is capacity, and the
 -- state before it is the run without it.
-pub record MayTakeBack (setup : Settings) (traffic : Undoable) (journal : List Record) (read : Reading) (capacity : ℕ) : Type 0 where
+pub record MayTakeBack (setup : SetupView) (traffic : TrafficView) (journal : List EntryView) (read : ReadingView) (capacity : ℕ) : Type 0 where
   pub before : Traffic
   pub is : traffic.before ≡ Some before
   pub some : 0 < length journal
-  pub reads : (earlier : List Record) (e : Record) → journal ≡ earlier ++ e ∷ [] → read ≡ reading_of e.input.text
-  pub fits : (earlier : List Record) (e : Record) → journal ≡ earlier ++ e ∷ [] → length e.input.text.bytes ≤ capacity
+  pub reads : (earlier : List EntryView) (e : EntryView) → journal ≡ earlier ++ e ∷ [] → read ≡ reading_of e.input.text
+  pub fits : (earlier : List EntryView) (e : EntryView) → journal ≡ earlier ++ e ∷ [] → length e.input.text.bytes ≤ capacity
   pub run_then : IsRun (record { setup = setup; traffic = before; journal = without_last journal })
 
 -- the state in these fields is that of the run, and so is what can be undone, if anything can
-pub record IsRunWith (setup : Settings) (traffic : Undoable) (journal : List Record) (undoable : Bool) (read : Reading) (buffer : List ℕ) (capacity : ℕ) : Type 0 where
+pub record IsRunWith (setup : SetupView) (traffic : TrafficView) (journal : List EntryView) (undoable : Bool) (read : ReadingView) (buffer : List ℕ) (capacity : ℕ) : Type 0 where
   pub run_now : IsRun (record { setup = setup; traffic = traffic.traffic; journal = journal })
   pub empty : buffer ≡ []
   pub back : undoable ≡ true → MayTakeBack setup traffic journal read capacity
 
 -- the result of answering this reading: the receipt of the entry after `entries` others; and the
 -- traffic can be undone
-pub record IsReceipt (read : Reading) (old : Traffic) (new : Undoable) (entries : ℕ) (r : Receipt) : Type 0 where
+pub record IsReceipt (read : ReadingView) (old : Traffic) (new : TrafficView) (entries : ℕ) (r : Receipt) : Type 0 where
   pub number : r.number ≡ entries + 1
   pub first : r.first_notice ≡ length old.notices
   pub count : r.notices ≡ length new.traffic.notices - length old.notices
@@ -59,7 +59,7 @@ pub record IsReceipt (read : Reading) (old : Traffic) (new : Undoable) (entries 
   pub before : new.before ≡ Some old
 
 -- this entry was appended: the state is that of the run with it, and the traffic can be undone
-pub record Enters (setup : Settings) (old : Traffic) (new : Undoable) (journal longer : List Record) (e : Record) : Type 0 where
+pub record Enters (setup : SetupView) (old : Traffic) (new : TrafficView) (journal longer : List EntryView) (e : EntryView) : Type 0 where
   pub entries : longer ≡ journal ++ e ∷ []
   pub number : e.receipt.number ≡ length journal + 1
   pub run_now : IsRun (record { setup = setup; traffic = new.traffic; journal = longer })

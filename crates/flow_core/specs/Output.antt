@@ -17,7 +17,7 @@ use Rattle.flow_regulations.specs.declared.notice.Said.{Said}
 use Rattle.flow_regulations.specs.declared.notice.Said.TheVariants.{Sam, Srm, Slc}
 use Rattle.flow_regulations.specs.declared.notice.Told.{Told}
 use Rattle.flow_regulations.specs.declared.notice.Notice.{Notice}
-use Rattle.flow_core.specs.State.{State, Record}
+use Rattle.flow_core.specs.State.{State, EntryView}
 
 abbrev pub kind_text : Kind → List ℕ
 kind_text kind.Fpl = codes "FPL"
@@ -74,7 +74,7 @@ abbrev pub notice_line : Notice → List ℕ
 notice_line n = notice_text n n.says
 
 -- the answer line of an entry and the lines of its notices
-abbrev pub answer_of : State → Record → List ℕ
+abbrev pub answer_of : State → EntryView → List ℕ
 answer_of s e = answer_line e.receipt ++ flat_map notice_line (slice_range s.traffic.notices e.receipt.first_notice (e.receipt.first_notice + e.receipt.notices))
 
 -- the answer to the entry at an index, from 0

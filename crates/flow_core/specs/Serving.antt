@@ -1,9 +1,9 @@
 -- How far serving has come, and how it can stop.
 use Rattle.std.specs.Prelude.{◌≡◌, ◌≤◌, ℕ, List, ◌++◌, length, Option, Result, Ok, Err}
 use Rattle.std.specs.Io.KnownBytes.{Appends, Consumes}
-use Rattle.fpl_message.specs.Filings.{FilingText}
+use Rattle.fpl_message.specs.Filings.{FilingView}
 use Rattle.flow_input.specs.Frames.{frames, ended_frames}
-use Rattle.flow_input.specs.Reader.{Ahead, Agrees}
+use Rattle.flow_input.specs.Reader.{InputView, Agrees}
 use Rattle.flow_input.specs.NextFrame.{GaveFirst, filing_of, filing_kept}
 use Rattle.flow_input.specs.Cutting.{Cutting}
 use Rattle.flow_input.specs.Writes.{AppendsFront}
@@ -78,18 +78,18 @@ writer_failures (Err fault.OutOfMemory) before = before
 -- ---- one frame
 
 -- whatever frame this is the filing of, it was served, and its output was appended
-abbrev pub AnswersFrame : Option FilingText → State → State → Option (List ℕ) → Option (List ℕ) → Type 0
+abbrev pub AnswersFrame : Option FilingView → State → State → Option (List ℕ) → Option (List ℕ) → Type 0
 AnswersFrame filing old new before now = (frame : List ℕ) → filing ≡ filing_of frame → (new ≡ served old frame) × Appends before now (said old frame)
 
 -- it was served, and a prefix of its output was appended
-abbrev pub AnswersPart : Option FilingText → State → State → Option (List ℕ) → Option (List ℕ) → Type 0
+abbrev pub AnswersPart : Option FilingView → State → State → Option (List ℕ) → Option (List ℕ) → Type 0
 AnswersPart filing old new before now = (frame : List ℕ) → filing ≡ filing_of frame → (new ≡ served old frame) × AppendsFront before now (said old frame)
 
 -- ---- in the middle of serving
 
 -- the frames that were served were taken from the beginning of the input, and their output was
 -- written
-pub record Serving (first now : State) (begun written : Option (List ℕ)) (ahead : Ahead) (input rest : Option (List ℕ)) : Type 0 where
+pub record Serving (first now : State) (begun written : Option (List ℕ)) (ahead : InputView) (input rest : Option (List ℕ)) : Type 0 where
   pub done : List (List ℕ)
   pub cutting : Cutting done ahead input rest
   pub state : now ≡ after first done
@@ -97,37 +97,37 @@ pub record Serving (first now : State) (begun written : Option (List ℕ)) (ahea
 
 -- frames were taken from the beginning of what is unread, they were served, and their output was
 -- appended
-pub record ServedMore (old new : State) (before now : Option (List ℕ)) (ahead left : Ahead) (mid rest : Option (List ℕ)) : Type 0 where
+pub record ServedMore (old new : State) (before now : Option (List ℕ)) (ahead left : InputView) (mid rest : Option (List ℕ)) : Type 0 where
   pub frames : List (List ℕ)
   pub cutting : (done : List (List ℕ)) (input : Option (List ℕ)) → Cutting done ahead input mid → Cutting (done ++ frames) left input rest
   pub state : new ≡ after old frames
   pub appended : Appends before now (output old frames)
 
 -- serving has come this far, and the rest of the input is unchanged
-abbrev pub ComesOn : State → State → Option (List ℕ) → Option (List ℕ) → Ahead → Ahead → Type 0
+abbrev pub ComesOn : State → State → Option (List ℕ) → Option (List ℕ) → InputView → InputView → Type 0
 ComesOn old new before now ahead left = (rest : Option (List ℕ)) → Agrees ahead rest → ServedMore old new before now ahead left rest rest
 
 -- or it has stopped there
-abbrev pub StopsOn : State → State → Option (List ℕ) → Option (List ℕ) → Ahead → Type 0
+abbrev pub StopsOn : State → State → Option (List ℕ) → Option (List ℕ) → InputView → Type 0
 StopsOn old new before now ahead = (first : State) (begun input rest : Option (List ℕ)) → Agrees ahead rest → Serving first old begun before ahead input rest → Stopped first new begun now input rest
 
 -- but not since the writer failed
-abbrev pub IsAnsweredOn : State → State → Option (List ℕ) → Option (List ℕ) → Ahead → Type 0
+abbrev pub IsAnsweredOn : State → State → Option (List ℕ) → Option (List ℕ) → InputView → Type 0
 IsAnsweredOn old new before now ahead = (first : State) (begun input rest : Option (List ℕ)) → Agrees ahead rest → Serving first old begun before ahead input rest → Answered first new begun now input rest
 
 -- ---- after a frame was taken
 
 -- serving has advanced: that frame was served, and others that were whole
-abbrev pub AnswersTaken : State → State → Option (List ℕ) → Option (List ℕ) → Ahead → Ahead → Type 0
-AnswersTaken old new before now taken left = (ahead : Ahead) (mid rest : Option (List ℕ)) → GaveFirst (filing_kept taken.item) ahead taken mid rest → Agrees taken rest
+abbrev pub AnswersTaken : State → State → Option (List ℕ) → Option (List ℕ) → InputView → InputView → Type 0
+AnswersTaken old new before now taken left = (ahead : InputView) (mid rest : Option (List ℕ)) → GaveFirst (filing_kept taken.item) ahead taken mid rest → Agrees taken rest
     → ServedMore old new before now ahead left mid rest
 
 -- or it has stopped
-abbrev pub StopsTaken : State → State → Option (List ℕ) → Option (List ℕ) → Ahead → Type 0
-StopsTaken old new before now taken = (ahead : Ahead) (mid rest : Option (List ℕ)) → GaveFirst (filing_kept taken.item) ahead taken mid rest → Agrees taken rest
+abbrev pub StopsTaken : State → State → Option (List ℕ) → Option (List ℕ) → InputView → Type 0
+StopsTaken old new before now taken = (ahead : InputView) (mid rest : Option (List ℕ)) → GaveFirst (filing_kept taken.item) ahead taken mid rest → Agrees taken rest
     → (first : State) (begun input : Option (List ℕ)) → Serving first old begun before ahead input mid → Stopped first new begun now input rest
 
 -- but not since the writer failed
-abbrev pub IsAnsweredTaken : State → State → Option (List ℕ) → Option (List ℕ) → Ahead → Type 0
-IsAnsweredTaken old new before now taken = (ahead : Ahead) (mid rest : Option (List ℕ)) → GaveFirst (filing_kept taken.item) ahead taken mid rest → Agrees taken rest
+abbrev pub IsAnsweredTaken : State → State → Option (List ℕ) → Option (List ℕ) → InputView → Type 0
+IsAnsweredTaken old new before now taken = (ahead : InputView) (mid rest : Option (List ℕ)) → GaveFirst (filing_kept taken.item) ahead taken mid rest → Agrees taken rest
     → (first : State) (begun input : Option (List ℕ)) → Serving first old begun before ahead input mid → Answered first new begun now input rest

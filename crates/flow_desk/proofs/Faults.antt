@@ -1,6 +1,6 @@
 -- Which fault a desk is refused with.
 use Rattle.std.proofs.Common.{◌≡◌, ℕ, ◌<◌, ◌≤◌, ◌⊎◌, ◌↔◌, Bool, [], Option, Some, None, Result, Ok, Err, IfErr, refl, arith, ⊎_elim}
-use Rattle.flow_plans.specs.Settings.{Settings}
+use Rattle.flow_plans.specs.Settings.{SetupView}
 use Rattle.flow_core.specs.Steps.{run, steps}
 use Rattle.flow_core.specs.History.{state_of}
 use Rattle.flow_desk.specs.declared.blank.DeskFault.{DeskFault}
@@ -36,6 +36,6 @@ wanted-beyond (Ok x) f o none w = tt
 wanted-beyond (Err e) f o none w = want-beyond e.0 f o none w
 
 -- a desk at which nothing was filed has no entry
-pub journal-fresh : (setup : Settings) (undoable : Bool) → (state_of (record { setup = setup; filed = []; undoable = undoable })).journal ≡ []
+pub journal-fresh : (setup : SetupView) (undoable : Bool) → (state_of (record { setup = setup; filed = []; undoable = undoable })).journal ≡ []
 unfolding run steps
 journal-fresh setup undoable = refl

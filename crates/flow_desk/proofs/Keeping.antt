@@ -5,19 +5,19 @@ use mathlib.Core.List.{IsPrefix}
 use lib.ListN.{get_elem?}
 use Rattle.left_right.specs.Register.{Admits, TurnsAt, Forks, Merges}
 use Rattle.atomic_table.proofs.Lists.{at_set, at_snoc}
-use Rattle.flow_plans.specs.Settings.{Settings}
-use Rattle.flow_core.specs.State.{Record}
+use Rattle.flow_plans.specs.Settings.{SetupView}
+use Rattle.flow_core.specs.State.{EntryView}
 use Rattle.flow_core.specs.declared.row.Row.{Row}
 use Rattle.flow_core.specs.Boards.{padded, put_all}
 use Rattle.flow_desk.specs.Histories.{rows_after, row_at}
-use Rattle.flow_desk.specs.Boards.{Shown, IsBoard, Turn, absorbed, shown_row}
+use Rattle.flow_desk.specs.Boards.{BoardView, IsBoard, OperationView, absorbed, shown_row}
 use Rattle.flow_desk.specs.Views.{Keeps, Reads, Fits, newcomer, informed}
 use Rattle.flow_desk.specs.declared.rule.View.{View}
 use Rattle.flow_desk.proofs.Fronts.{prefix_self, prefix_trans}
 use Rattle.flow_desk.proofs.Rows.{shown-is}
 
 -- a newcomer knows nothing
-fits-newcomer : (b : Shown) → Fits b newcomer
+fits-newcomer : (b : BoardView) → Fits b newcomer
 fits-newcomer b = record { book = λ k. absurd cc; setup = λ k. absurd cc; entries = (b.entries, refl) }
 
 pub admits : Admits Keeps newcomer
@@ -26,13 +26,13 @@ admits b views h = record {
   each = λ seat v at. ⊎_elim (h.each seat v) (λ (e : newcomer ≡ v). subst (λ (u : View). Fits b u) e (fits-newcomer b)) (at_snoc views newcomer v seat at);
 }
 
-pub first-kept : (b : Shown) → IsBoard b → Keeps b (newcomer ∷ [])
+pub first-kept : (b : BoardView) → IsBoard b → Keeps b (newcomer ∷ [])
 first-kept b is = admits b [] (record { board = is; each = λ seat v at. absurd cc })
 
-abbrev sight : Shown → View
+abbrev sight : BoardView → View
 sight y = record { knows = true; setup = y.setup; front = record { book = y.book; entries = y.entries } }
 
-fits-later : (x y : Shown) (u : View) → IsPrefix x.entries y.entries → y.book ≡ x.book → y.setup ≡ x.setup → Fits x u → Fits y u
+fits-later : (x y : BoardView) (u : View) → IsPrefix x.entries y.entries → y.book ≡ x.book → y.setup ≡ x.setup → Fits x u → Fits y u
 fits-later x y u later book setup f = record {
   book = λ k. f.book k ∙ sym book;
   setup = λ k. f.setup k ∙ sym setup;
@@ -40,7 +40,7 @@ fits-later x y u later book setup f = record {
 }
 
 -- a step to a later board of the same desk keeps the rule, and shows that board
-pub sees : (seat : ℕ) (v : View) (x y : Shown) → IsPrefix x.entries y.entries → y.book ≡ x.book → y.setup ≡ x.setup → (IsBoard x → IsBoard y) → TurnsAt Keeps seat v x y Reads
+pub sees : (seat : ℕ) (v : View) (x y : BoardView) → IsPrefix x.entries y.entries → y.book ≡ x.book → y.setup ≡ x.setup → (IsBoard x → IsBoard y) → TurnsAt Keeps seat v x y Reads
 sees seat v x y later book setup board views h at =
     let f : Fits y v = fits-later x y v later book setup (h.each seat v at) in
     let mine : Fits y (sight y) = record { book = λ _. refl; setup = λ _. refl; entries = prefix_self y.entries } in (
@@ -62,7 +62,7 @@ sees seat v x y later book setup board views h at =
     )
 
 -- so a step that changes nothing
-pub reads : (seat : ℕ) (v : View) (x : Shown) → TurnsAt Keeps seat v x x Reads
+pub reads : (seat : ℕ) (v : View) (x : BoardView) → TurnsAt Keeps seat v x x Reads
 reads seat v x = sees seat v x x (prefix_self x.entries) refl refl (λ b. b)
 
 fold-append : {A B : Type 0} (f : B → A → B) (b : B) (xs ys : List A) → fold f b (xs ++ ys) ≡ fold f (fold f b xs) ys
@@ -70,31 +70,31 @@ fold-append f b [] ys = refl
 fold-append f b (x ∷ xs) ys = fold-append f (f b x) xs ys
 
 -- and one that absorbs an operation after others that change nothing
-pub publishes : (seat : ℕ) (v : View) (x next : Shown) (op : Turn) (idle : List Turn) → fold absorbed x idle ≡ x → next ≡ fold absorbed x (idle ++ op ∷ [])
+pub publishes : (seat : ℕ) (v : View) (x next : BoardView) (op : OperationView) (idle : List OperationView) → fold absorbed x idle ≡ x → next ≡ fold absorbed x (idle ++ op ∷ [])
     → op.front.book ≡ x.book → IsPrefix x.entries op.front.entries → op.number ≡ length op.front.entries
     → put_all (padded x.setup.max_plans (rows_after x.setup x.entries)) op.changes ≡ padded x.setup.max_plans (rows_after x.setup op.front.entries) → TurnsAt Keeps seat v x next Reads
 publishes seat v x next op idle none is book later number rows =
-    let y : Shown = absorbed x op in
-    let so : next ≡ y = is ∙ (fold-append absorbed x idle (op ∷ []) ∙ ap (λ (z : Shown). absorbed z op) none) in
+    let y : BoardView = absorbed x op in
+    let so : next ≡ y = is ∙ (fold-append absorbed x idle (op ∷ []) ∙ ap (λ (z : BoardView). absorbed z op) none) in
     let board : IsBoard x → IsBoard y = λ b. record { counted = number; rows = ap (λ (rs : List (Option Row)). put_all rs op.changes) b.rows ∙ rows } in
-    subst (λ (z : Shown). TurnsAt Keeps seat v x z Reads) (sym so) (sees seat v x y later book refl board)
+    subst (λ (z : BoardView). TurnsAt Keeps seat v x z Reads) (sym so) (sees seat v x y later book refl board)
 
 -- and one that absorbs only such
-pub settles : (seat : ℕ) (v : View) (x next : Shown) (idle : List Turn) → fold absorbed x idle ≡ x → next ≡ fold absorbed x idle → TurnsAt Keeps seat v x next Reads
-settles seat v x next idle none is = subst (λ (z : Shown). TurnsAt Keeps seat v x z Reads) (sym (is ∙ none)) (reads seat v x)
+pub settles : (seat : ℕ) (v : View) (x next : BoardView) (idle : List OperationView) → fold absorbed x idle ≡ x → next ≡ fold absorbed x idle → TurnsAt Keeps seat v x next Reads
+settles seat v x next idle none is = subst (λ (z : BoardView). TurnsAt Keeps seat v x z Reads) (sym (is ∙ none)) (reads seat v x)
 
 -- what was published, with the pending operations
-pub published : (x y : Shown) (op : Turn) (idle : List Turn) → fold absorbed x idle ≡ x → y ≡ fold absorbed x (idle ++ op ∷ []) → y ≡ absorbed x op
-published x y op idle none is = is ∙ (fold-append absorbed x idle (op ∷ []) ∙ ap (λ (z : Shown). absorbed z op) none)
+pub published : (x y : BoardView) (op : OperationView) (idle : List OperationView) → fold absorbed x idle ≡ x → y ≡ fold absorbed x (idle ++ op ∷ []) → y ≡ absorbed x op
+published x y op idle none is = is ∙ (fold-append absorbed x idle (op ∷ []) ∙ ap (λ (z : BoardView). absorbed z op) none)
 
 -- the board that was made of a core
-pub whole-board : (b : Shown) (s : Settings) (es : List Record) → b.count ≡ length es → b.entries ≡ es → b.setup ≡ s → b.rows ≡ padded s.max_plans (rows_after s es) → IsBoard b
+pub whole-board : (b : BoardView) (s : SetupView) (es : List EntryView) → b.count ≡ length es → b.entries ≡ es → b.setup ≡ s → b.rows ≡ padded s.max_plans (rows_after s es) → IsBoard b
 whole-board b s es count entries setup rows = record {
   counted = count ∙ sym (ap length entries);
   rows = rw (entries, setup) rows;
 }
 
-each-set : (b : Shown) (views : List View) (seat : ℕ) (v : View) → Keeps b views → Fits b v → Keeps b (set views seat v)
+each-set : (b : BoardView) (views : List View) (seat : ℕ) (v : View) → Keeps b views → Fits b v → Keeps b (set views seat v)
 each-set b views seat v h f = record {
   board = h.board;
   each = λ j u e. ⊎_elim
@@ -103,7 +103,7 @@ each-set b views seat v h f = record {
       (at_set views seat j v u e);
 }
 
-each-snoc : (b : Shown) (views : List View) (v : View) → Keeps b views → Fits b v → Keeps b (views ++ v ∷ [])
+each-snoc : (b : BoardView) (views : List View) (v : View) → Keeps b views → Fits b v → Keeps b (views ++ v ∷ [])
 each-snoc b views v h f = record {
   board = h.board;
   each = λ seat u at. ⊎_elim (h.each seat u) (λ (e : v ≡ u). subst (λ (w : View). Fits b w) e f) (at_snoc views v u seat at);
@@ -129,5 +129,5 @@ done (Ok x) P Q ok m = m
 done (Err e) P Q ok m = absurd cc
 
 -- the row that a version shows of a plan
-pub row-read : (v : View) (x y : Shown) (w : View) → Reads v x y w → (plan : ℕ) → shown_row y.rows plan ≡ row_at w.setup w.front.entries plan
+pub row-read : (v : View) (x y : BoardView) (w : View) → Reads v x y w → (plan : ℕ) → shown_row y.rows plan ≡ row_at w.setup w.front.entries plan
 row-read v x y w r plan = rw (r.known.2, r.known.3) (shown-is y r.board plan)

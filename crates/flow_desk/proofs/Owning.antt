@@ -7,39 +7,39 @@ use Rattle.std.proofs.lemmas.Bool.Decides.{nat_tests}
 use Rattle.std.proofs.lemmas.Grind.{common_steps}
 use native.Mathlib.Decide.{ℕ_discrete}
 use mathlib.Core.List.{IsPrefix}
-use Rattle.flow_core.specs.State.{Record}
+use Rattle.flow_core.specs.State.{EntryView}
 use Rattle.flow_desk.specs.Histories.{own}
 use Rattle.flow_desk.specs.Locks.{Counts}
 
-pub own-append : (k : ℕ) (xs ys : List Record) → own k (xs ++ ys) ≡ own k xs ++ own k ys
-own-append k xs ys = filter-append (λ (e : Record). e.input.feeder == k) xs ys
+pub own-append : (k : ℕ) (xs ys : List EntryView) → own k (xs ++ ys) ≡ own k xs ++ own k ys
+own-append k xs ys = filter-append (λ (e : EntryView). e.input.feeder == k) xs ys
 
-pub own_more : (k : ℕ) (xs ys : List Record) → IsPrefix xs ys → length (own k xs) ≤ length (own k ys)
+pub own_more : (k : ℕ) (xs ys : List EntryView) → IsPrefix xs ys → length (own k xs) ≤ length (own k ys)
 own_more k xs ys p =
     let e : own k ys ≡ own k xs ++ own k p.0 = ap (own k) (sym p.1) ∙ own-append k xs p.0 in
     omega (arith, ap length e, length-append (own k xs) (own k p.0))
 
-pub own_short : (k : ℕ) (xs : List Record) → length (own k xs) ≤ length xs
-own_short k xs = omega (arith, length-filter (λ (e : Record). e.input.feeder == k) xs, count_by-le-length (λ (e : Record). e.input.feeder == k) xs)
+pub own_short : (k : ℕ) (xs : List EntryView) → length (own k xs) ≤ length xs
+own_short k xs = omega (arith, length-filter (λ (e : EntryView). e.input.feeder == k) xs, count_by-le-length (λ (e : EntryView). e.input.feeder == k) xs)
 
-own-one : (k : ℕ) (e : Record) → e.input.feeder ≡ k → own k (e ∷ []) ≡ e ∷ []
+own-one : (k : ℕ) (e : EntryView) → e.input.feeder ≡ k → own k (e ∷ []) ≡ e ∷ []
 own-one k e is = let t : (e.input.feeder == k) ≡ true = grind (arith, nat_tests) in rw t refl
 
-own-other : (k : ℕ) (e : Record) → e.input.feeder ≢ k → own k (e ∷ []) ≡ []
+own-other : (k : ℕ) (e : EntryView) → e.input.feeder ≢ k → own k (e ∷ []) ≡ []
 own-other k e not_is = let t : (e.input.feeder == k) ≡ false = grind (arith, nat_tests) in rw t refl
 
 -- one more of the feeder's
-pub own-snoc : (k : ℕ) (xs : List Record) (e : Record) → e.input.feeder ≡ k → own k (xs ++ e ∷ []) ≡ own k xs ++ e ∷ []
+pub own-snoc : (k : ℕ) (xs : List EntryView) (e : EntryView) → e.input.feeder ≡ k → own k (xs ++ e ∷ []) ≡ own k xs ++ e ∷ []
 own-snoc k xs e is = own-append k xs (e ∷ []) ∙ ap (λ ys. own k xs ++ ys) (own-one k e is)
 
 -- one more of another's
-pub own-snoc-other : (k : ℕ) (xs : List Record) (e : Record) → e.input.feeder ≢ k → own k (xs ++ e ∷ []) ≡ own k xs
+pub own-snoc-other : (k : ℕ) (xs : List EntryView) (e : EntryView) → e.input.feeder ≢ k → own k (xs ++ e ∷ []) ≡ own k xs
 own-snoc-other k xs e not_is = own-append k xs (e ∷ []) ∙ (ap (λ ys. own k xs ++ ys) (own-other k e not_is) ∙ append-nil (own k xs))
 
-pub own-snoc-length : (k : ℕ) (xs : List Record) (e : Record) → e.input.feeder ≡ k → length (own k (xs ++ e ∷ [])) ≡ length (own k xs) + 1
+pub own-snoc-length : (k : ℕ) (xs : List EntryView) (e : EntryView) → e.input.feeder ≡ k → length (own k (xs ++ e ∷ [])) ≡ length (own k xs) + 1
 own-snoc-length k xs e is = omega (arith, ap length (own-snoc k xs e is), length-append (own k xs) (e ∷ []))
 
-each-counted : (n : ℕ) (xs : List Record) (cs : List ℕ) (e : Record) (v : ℕ) → Counts n xs cs → e.input.feeder < n → v ≡ slice_index cs e.input.feeder + 1 → (j : ℕ) → j < n → Dec (e.input.feeder ≡ j) → slice_index (slice_set cs e.input.feeder v) j ≡ length (own j (xs ++ e ∷ []))
+each-counted : (n : ℕ) (xs : List EntryView) (cs : List ℕ) (e : EntryView) (v : ℕ) → Counts n xs cs → e.input.feeder < n → v ≡ slice_index cs e.input.feeder + 1 → (j : ℕ) → j < n → Dec (e.input.feeder ≡ j) → slice_index (slice_set cs e.input.feeder v) j ≡ length (own j (xs ++ e ∷ []))
 each-counted n xs cs e v c in_n is j in_j (yes same) =
     let got : slice_index cs e.input.feeder ≡ length (own e.input.feeder xs) = c.each e.input.feeder in_n in
     let len : length (own e.input.feeder (xs ++ e ∷ [])) ≡ length (own e.input.feeder xs) + 1 = own-snoc-length e.input.feeder xs e refl in
@@ -50,15 +50,15 @@ each-counted n xs cs e v c in_n is j in_j (no other) =
     there ∙ (c.each j in_j ∙ ap length (sym (own-snoc-other j xs e other)))
 
 -- one more entry, counted
-pub counted-snoc : (n : ℕ) (xs : List Record) (cs : List ℕ) (e : Record) (v : ℕ) → Counts n xs cs → e.input.feeder < n → v ≡ slice_index cs e.input.feeder + 1 → Counts n (xs ++ e ∷ []) (slice_set cs e.input.feeder v)
+pub counted-snoc : (n : ℕ) (xs : List EntryView) (cs : List ℕ) (e : EntryView) (v : ℕ) → Counts n xs cs → e.input.feeder < n → v ≡ slice_index cs e.input.feeder + 1 → Counts n (xs ++ e ∷ []) (slice_set cs e.input.feeder v)
 counted-snoc n xs cs e v c in_n is = record {
   wide = length-set cs e.input.feeder v ∙ c.wide;
   each = λ j in_j. each-counted n xs cs e v c in_n is j in_j (ℕ_discrete e.input.feeder j);
-  below = All-append (λ (x : Record). x.input.feeder < n) xs (e ∷ []) c.below (λ k d in_k. grind (arith, common_steps));
+  below = All-append (λ (x : EntryView). x.input.feeder < n) xs (e ∷ []) c.below (λ k d in_k. grind (arith, common_steps));
 }
 
 -- the count of a feeder is no more than the number of entries
-pub count_small : (n : ℕ) (xs : List Record) (cs : List ℕ) (k : ℕ) → Counts n xs cs → k < n → slice_index cs k ≤ length xs
+pub count_small : (n : ℕ) (xs : List EntryView) (cs : List ℕ) (k : ℕ) → Counts n xs cs → k < n → slice_index cs k ≤ length xs
 count_small n xs cs k c in_n = omega (arith, c.each k in_n, own_short k xs)
 
 empty : {A : Type 0} (xs : List A) → length xs ≡ 0 → xs ≡ []
@@ -66,7 +66,7 @@ empty [] e = refl
 empty (x ∷ xs) e = absurd (omega arith)
 
 -- if a history has no more of a feeder's than its prefix, it has the same
-pub own_same : (k n : ℕ) (xs ys : List Record) → IsPrefix xs ys → length (own k ys) ≡ n → n ≤ length (own k xs) → own k ys ≡ own k xs
+pub own_same : (k n : ℕ) (xs ys : List EntryView) → IsPrefix xs ys → length (own k ys) ≡ n → n ≤ length (own k xs) → own k ys ≡ own k xs
 own_same k n xs ys p all had =
     let e : own k ys ≡ own k xs ++ own k p.0 = ap (own k) (sym p.1) ∙ own-append k xs p.0 in
     let none : own k p.0 ≡ [] = empty (own k p.0) (omega (arith, ap length e, length-append (own k xs) (own k p.0))) in

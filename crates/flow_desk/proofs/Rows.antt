@@ -3,7 +3,7 @@ use Rattle.std.proofs.Common.{◌≡◌, ◌≤◌, ℕ, zero, suc, ◌+◌, ◌
 use Rattle.std.specs.Option.{option_flatten}
 use native.Mathlib.Numerals.{unary_clauses}
 use Rattle.flow_core.specs.declared.row.Row.{Row}
-use Rattle.flow_plans.specs.Settings.{Settings}
+use Rattle.flow_plans.specs.Settings.{SetupView}
 use Rattle.flow_core.specs.declared.change.Change.{Change}
 use Rattle.flow_core.specs.State.{Input}
 use Rattle.flow_core.specs.Steps.{run}
@@ -14,7 +14,7 @@ use Rattle.flow_core.specs.CoreView.{inputs}
 use Rattle.flow_core.proofs.Growing.{rows-few}
 use Rattle.flow_desk.proofs.Journals.{rows-are}
 use Rattle.flow_desk.specs.Histories.{rows_after, row_at}
-use Rattle.flow_desk.specs.Boards.{Shown, IsBoard, shown_row}
+use Rattle.flow_desk.specs.Boards.{BoardView, IsBoard, shown_row}
 
 padded-suc : (n : ℕ) (rows : List Row) → padded (suc n) rows ≡ padded n rows ++ slice_get rows n ∷ []
 padded-suc zero [] = refl
@@ -35,7 +35,7 @@ within (suc m) (r ∷ rs) zero few = refl
 within (suc m) (r ∷ rs) (suc i) few = within m rs i (omega (arith, few))
 
 -- the row that a board shows of a plan is the plan's
-pub shown-is : (b : Shown) → IsBoard b → (plan : ℕ) → shown_row b.rows plan ≡ row_at b.setup b.entries plan
+pub shown-is : (b : BoardView) → IsBoard b → (plan : ℕ) → shown_row b.rows plan ≡ row_at b.setup b.entries plan
 shown-is b is plan =
     ap (λ (rows : List (Option Row)). shown_row rows plan) is.rows
     ∙ ap (λ (row : Option Row). if plan == 0 then None else row) (within b.setup.max_plans (rows_after b.setup b.entries) (plan - 1) (rows-few b.setup (inputs b.entries)))
@@ -48,5 +48,5 @@ rows-taken_in old new i cs ds setup filed copied taken_in =
     let there : put_all (padded new.setup.max_plans (rows_in (run new.setup old.filed).traffic)) cs ≡ padded new.setup.max_plans (rows_after new.setup (state_of new).journal) =
     taken_in old.filed i filed ∙ ap (padded new.setup.max_plans) (rows-are new) in
     let here : put_all (padded old.setup.max_plans (rows_at old)) cs ≡ padded old.setup.max_plans (rows_after old.setup (state_of new).journal) =
-    subst (λ (s : Settings). put_all (padded s.max_plans (rows_in (run s old.filed).traffic)) cs ≡ padded s.max_plans (rows_after s (state_of new).journal)) setup there in
+    subst (λ (s : SetupView). put_all (padded s.max_plans (rows_in (run s old.filed).traffic)) cs ≡ padded s.max_plans (rows_after s (state_of new).journal)) setup there in
     ap (λ (rows : List Row). put_all (padded old.setup.max_plans rows) ds) (sym (rows-are old)) ∙ (ap (put_all (padded old.setup.max_plans (rows_at old))) copied ∙ here)

@@ -2,30 +2,30 @@
 use Rattle.std.specs.Prelude.{◌≡◌, ℕ, ◌-◌, ◌==◌, if◌then◌else◌, List, ◌∷◌, length, slice_get, Option, None, Some}
 use Rattle.std.specs.Option.{option_flatten}
 use Rattle.logbook.specs.Pages.{Book}
-use Rattle.flow_plans.specs.Settings.{Settings}
+use Rattle.flow_plans.specs.Settings.{SetupView}
 use Rattle.flow_core.specs.declared.row.Row.{Row}
 use Rattle.flow_core.specs.declared.change.Change.{Change}
-use Rattle.flow_core.specs.State.{Record}
+use Rattle.flow_core.specs.State.{EntryView}
 use Rattle.flow_core.specs.Boards.{padded, put_all}
 use Rattle.flow_desk.specs.Fronts.{FrontView}
 use Rattle.flow_desk.specs.Histories.{rows_after}
 
 -- the history that it shows, the number of its entries, and a row for each plan that the setup
 -- allows
-pub record Shown : Type 0 where
+pub record BoardView : Type 0 where
   pub book : Book
-  pub setup : Settings
-  pub entries : List Record
+  pub setup : SetupView
+  pub entries : List EntryView
   pub count : ℕ
   pub rows : List (Option Row)
 
 -- the board shows what its entries leave
-pub record IsBoard (b : Shown) : Type 0 where
+pub record IsBoard (b : BoardView) : Type 0 where
   pub counted : b.count ≡ length b.entries
   pub rows : b.rows ≡ padded b.setup.max_plans (rows_after b.setup b.entries)
 
 -- one more entry: the history that ends with it, its number, and the rows that it changed
-pub record Turn : Type 0 where
+pub record OperationView : Type 0 where
   pub front : FrontView
   pub number : ℕ
   pub changes : List Change
@@ -36,7 +36,7 @@ with_first None cs = cs
 with_first (Some c) cs = c ∷ cs
 
 -- what it makes of a board
-abbrev pub absorbed : Shown → Turn → Shown
+abbrev pub absorbed : BoardView → OperationView → BoardView
 absorbed b t = record { book = t.front.book; setup = b.setup; entries = t.front.entries; count = t.number; rows = put_all b.rows t.changes }
 
 -- the row of the plan of this number, from 1, among these

@@ -3,7 +3,7 @@ pub mod Histories
 pub mod Boards
 pub mod Views
 pub mod Seats
-pub mod Passes
+pub mod FeederPasses
 pub mod Locks
 pub mod Blanks
 pub mod Desks

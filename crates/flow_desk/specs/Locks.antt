@@ -3,24 +3,24 @@ use Rattle.std.specs.Prelude.{◌≡◌, ℕ, ◌<◌, ◌≤◌, true, List, le
 use mathlib.Core.List.{IsPrefix}
 use Rattle.std.specs.List.{All}
 use Rattle.logbook.specs.Pages.{Book}
-use Rattle.flow_plans.specs.Settings.{Settings}
-use Rattle.flow_core.specs.State.{Record}
+use Rattle.flow_plans.specs.Settings.{SetupView}
+use Rattle.flow_core.specs.State.{EntryView}
 use Rattle.flow_core.specs.History.{History, state_of}
 use Rattle.flow_desk.specs.Fronts.{FrontView}
-use Rattle.flow_desk.specs.Seats.{WriterView}
-use Rattle.flow_desk.specs.Passes.{PassView}
+use Rattle.flow_desk.specs.Seats.{PublisherView}
+use Rattle.flow_desk.specs.FeederPasses.{PassView}
 use Rattle.flow_desk.specs.Histories.{own, after}
 use Rattle.flow_core.specs.declared.entry.TheConstants.{MAX_FEEDERS}
 
 -- each feeder's entries are counted, and there are no others
-pub record Counts (feeders : ℕ) (es : List Record) (counts : List ℕ) : Type 0 where
+pub record Counts (feeders : ℕ) (es : List EntryView) (counts : List ℕ) : Type 0 where
   pub wide : length counts ≡ feeders
   pub each : (k : ℕ) → k < feeders → slice_index counts k ≡ length (own k es)
   pub below : All (λ e. e.input.feeder < feeders) es
 
 -- whenever the lock is free the core is the one-thread desk over its journal, which is both the
 -- history and what is published
-pub record IsLocked (book : Book) (setup : Settings) (feeders : ℕ) (core : History) (head : Book) (front : FrontView) (counts : List ℕ) (publisher : WriterView) : Type 0 where
+pub record IsLocked (book : Book) (setup : SetupView) (feeders : ℕ) (core : History) (head : Book) (front : FrontView) (counts : List ℕ) (publisher : PublisherView) : Type 0 where
   pub setup_is : core.setup ≡ setup
   pub one_thread : state_of core ≡ after setup (state_of core).journal
   pub head_is : head ≡ book
@@ -32,7 +32,7 @@ pub record IsLocked (book : Book) (setup : Settings) (feeders : ℕ) (core : His
 
 -- the history begins with what the pass has seen, which has all of its feeder's entries; they are
 -- as many as its receipts
-pub record Agrees (es : List Record) (p : PassView) : Type 0 where
+pub record AgreesWithPass (es : List EntryView) (p : PassView) : Type 0 where
   pub later : IsPrefix p.seen es
   pub all_own : length (own p.feeder es) ≡ p.receipts
   pub none_own : own p.feeder es ≡ own p.feeder p.seen

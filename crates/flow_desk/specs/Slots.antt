@@ -1,11 +1,11 @@
 -- The held slots of a regulation, by number.
 use Rattle.std.specs.Prelude.{ℕ, zero, suc, ◌+◌, Bool, true, false, List, [], ◌∷◌, ◌++◌, Option, Some, None}
 use Rattle.std.specs.Option.{option_map}
-use Rattle.flow_plans.specs.Settings.{Settings}
+use Rattle.flow_plans.specs.Settings.{SetupView}
 use Rattle.flow_slots.specs.Period.{slot_time}
 use Rattle.flow_slots.specs.Lineup.{Lineup, len_of, held_flight, fixed_slot}
 use Rattle.flow_traffic.specs.Traffic.{slots_of}
-use Rattle.flow_core.specs.State.{Record}
+use Rattle.flow_core.specs.State.{EntryView}
 use Rattle.flow_desk.specs.declared.slots.SlotRow.{SlotRow}
 use Rattle.flow_desk.specs.Histories.{after}
 
@@ -30,5 +30,5 @@ held_slots l = held_from l 0 (len_of l)
 
 -- the held slots of the open regulation of this name after these entries; None if no regulation of
 -- this name is open
-abbrev pub slots_at : Settings → List Record → List ℕ → Option (List SlotRow)
+abbrev pub slots_at : SetupView → List EntryView → List ℕ → Option (List SlotRow)
 slots_at setup es id = option_map held_slots (slots_of (after setup es).traffic id)

@@ -3,7 +3,7 @@ ghost use Rattle.std.specs.Prelude.{◌≡◌, ◌≢◌, ◌<◌, ◌≤◌, �
 ghost use Rattle.std.specs.Prelude.{true, None, Some, [], length, replicate};
 ghost use Rattle.std.specs.Prelude.{slice_get, IfOk, IfErr, IsErrOf, IsTrue, IsFalse};
 ghost use Rattle.std.specs.List.{All};
-ghost use Rattle.flow_core.specs.State.{Record};
+ghost use Rattle.flow_core.specs.State.{EntryView};
 ghost use Rattle.flow_core.specs.History.{state_of};
 ghost use Rattle.flow_desk.specs.Locks.{Counts};
 ghost use Rattle.flow_desk.specs.Blanks.{IsFree, IsBlank, first_beyond};
@@ -112,7 +112,7 @@ fn seats_for<R: Wait + Drop, A: Allocator + Copy>(
 /// The feeder of the entry at `index`, counted from 0.
 fn feeder_at<A: Allocator + Copy>(core: &Core<A>, index: u32) -> u8
     requires { index < length (state_of core.now).journal }
-    ensures { (e : Record) × (slice_get (state_of core.now).journal index ≡ Some e)
+    ensures { (e : EntryView) × (slice_get (state_of core.now).journal index ≡ Some e)
         × (result ≡ e.input.feeder) }
 {
     prove!(index < core.entries());

@@ -22,9 +22,9 @@ pub struct Operation<A: Allocator + Copy = Global> {
 }
 
 impl<A: Allocator + Copy> Model for Operation<A> {
-    ghost use Rattle.flow_desk.specs.Boards.{Turn};
+    ghost use Rattle.flow_desk.specs.Boards.{OperationView};
 
-    ghost Value = { Turn };
+    ghost Value = { OperationView };
 
     ghost view = { λ o. record { front = o.front; number = o.number; changes = o.changes } };
 }
@@ -52,9 +52,9 @@ pub struct Board<A: Allocator + Copy = Global> {
 }
 
 impl<A: Allocator + Copy> Model for Board<A> {
-    ghost use Rattle.flow_desk.specs.Boards.{Shown};
+    ghost use Rattle.flow_desk.specs.Boards.{BoardView};
 
-    ghost Value = { Shown };
+    ghost Value = { BoardView };
 
     ghost view = { λ b. record {
       book = b.front.book;

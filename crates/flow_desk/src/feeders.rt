@@ -12,6 +12,7 @@ use flow_core::{Receipt, StepFault};
 use fpl_message::Filing;
 use std::alloc::{AllocError, Allocator, Global};
 use std::collections::VecDeque;
+use std::mem::replace;
 use std::sync::Wait;
 use std::thread;
 use std::thread::Threads;
@@ -47,35 +48,28 @@ pub struct Done<N: Name, A: Allocator + Copy = Global> {
     pub end: End,
 }
 
-/// A feed while it runs.
-#[derive(Drop)]
-struct Feed<N: Name, A: Allocator + Copy = Global> {
-    pass: Pass<N, A>,
-    receipts: Vec<Receipt, A>,
-    left: VecDeque<Filing<A>, A>,
-    end: End,
-}
-
-/// Files the next filing of a feed. Returns false if it was refused or nothing is left.
+/// Files the next filing of a feed, of which these are left. Returns false if it was refused or
+/// nothing is left.
 fn file_next<N: Name, Q: Wait + Drop, G: Gate, W: Wait, A: Allocator + Copy>(
     wait: &W,
     alloc: A,
     desk: &Desk<N, Q, A>,
     gate: &G,
-    feed: &mut Feed<N, A>,
+    left: &mut VecDeque<Filing<A>, A>,
+    feed: &mut Done<N, A>,
 ) -> bool
-    requires room { vec_len feed.old.receipts + length feed.old.left.items
+    requires room { vec_len feed.old.receipts + length left.old.items
         ≤ vec_capacity feed.old.receipts }
-    ensures room { vec_len feed.new.receipts + length feed.new.left.items
+    ensures room { vec_len feed.new.receipts + length left.new.items
         ≤ vec_capacity feed.new.receipts }
     ensures ran { (p : _) (texts : _)
-        → Ran p texts feed.old.pass feed.old.receipts.items feed.old.left.items
-        → Ran p texts feed.new.pass feed.new.receipts.items feed.new.left.items }
+        → Ran p texts feed.old.pass feed.old.receipts.items left.old.items
+        → Ran p texts feed.new.pass feed.new.receipts.items left.new.items }
     ensures ends { IsFalse result
-        → EndsAs N.setup feed.new.end feed.new.pass feed.new.receipts.items feed.new.left.items }
-    ensures goes { IsTrue result → length feed.new.left.items + 1 ≡ length feed.old.left.items }
+        → EndsAs N.setup feed.new.end feed.new.pass feed.new.receipts.items left.new.items }
+    ensures goes { IsTrue result → length left.new.items + 1 ≡ length left.old.items }
 {
-    let Some(filing) = feed.left.pop_front() else {
+    let Some(filing) = left.pop_front() else {
         feed.end = End::Finished;
         return false;
     };
@@ -89,7 +83,7 @@ fn file_next<N: Name, Q: Wait + Drop, G: Gate, W: Wait, A: Allocator + Copy>(
             true
         }
         Err((fault, filing)) => {
-            feed.left.push_front_reserved(filing);
+            left.push_front_reserved(filing);
             feed.end = End::Stopped(fault);
             gate.after(feeder, i);
             false
@@ -103,14 +97,16 @@ fn run_feed<N: Name, Q: Wait + Drop, G: Gate, W: Wait, A: Allocator + Copy>(
     alloc: A,
     desk: &Desk<N, Q, A>,
     gate: &G,
-    feed: &mut Feed<N, A>,
+    feed: &mut Done<N, A>,
 )
     requires { IsFresh feed.old.receipts.items feed.old.left.items
         (vec_capacity feed.old.receipts) }
     ensures { HasRun N.setup feed.old.pass feed.old.left.items feed.new.pass feed.new.receipts.items
         feed.new.left.items feed.new.end }
 {
-    while file_next(wait, alloc, desk, gate, feed) {}
+    let mut left = VecDeque::from(replace(&mut feed.left, Vec::new(alloc)));
+    while file_next(wait, alloc, desk, gate, &mut left, feed) {}
+    feed.left = Vec::from(left);
 }
 
 /// Runs all feeds at the same time, each in a thread of its own if one can be made.
@@ -121,7 +117,7 @@ fn run_all<
     R: Threads + Sync,
     W: Wait + Sync,
     A: Allocator + Copy + Send + Sync,
->(rt: &R, wait: &W, alloc: A, desk: &Desk<N, Q, A>, gate: &G, feeds: &mut Vec<Feed<N, A>, A>)
+>(rt: &R, wait: &W, alloc: A, desk: &Desk<N, Q, A>, gate: &G, feeds: &mut Vec<Done<N, A>, A>)
     requires { All (λ f. IsFresh f.receipts.items f.left.items
         (vec_capacity f.receipts)) feeds.old.items }
     ensures len { length feeds.new.items ≡ length feeds.old.items }
@@ -147,7 +143,7 @@ fn gather<N: Name, A: Allocator + Copy>(
     alloc: A,
     passes: &mut Vec<Pass<N, A>, A>,
     texts: &mut Vec<Vec<Filing<A>, A>, A>,
-    feeds: &mut Vec<Feed<N, A>, A>,
+    feeds: &mut Vec<Done<N, A>, A>,
 ) -> Result<(), AllocError>
     requires each { length passes.old.items ≡ length texts.old.items }
     requires room { vec_len feeds.old + length passes.old.items ≤ vec_capacity feeds.old }
@@ -181,10 +177,10 @@ fn gather<N: Name, A: Allocator + Copy>(
     };
     match gather(alloc, passes, texts, feeds) {
         Ok(()) => {
-            feeds.push_reserved(Feed {
+            feeds.push_reserved(Done {
                 pass,
                 receipts,
-                left: VecDeque::from(left),
+                left,
                 end: End::NotStarted,
             });
             Ok(())
@@ -195,42 +191,6 @@ fn gather<N: Name, A: Allocator + Copy>(
             Err(AllocError)
         }
     }
-}
-
-/// Moves each feed, in order, to those that are done.
-fn hand_over<N: Name, A: Allocator + Copy>(
-    feeds: &mut Vec<Feed<N, A>, A>,
-    dones: &mut Vec<Done<N, A>, A>,
-)
-    requires room { vec_len dones.old + length feeds.old.items ≤ vec_capacity dones.old }
-    ensures passes { map (λ d. d.pass) dones.new.items ≡ map (λ d. d.pass) dones.old.items
-        ++ map (λ f. f.pass) feeds.old.items }
-    ensures receipts { map (λ d. d.receipts.items) dones.new.items
-        ≡ map (λ d. d.receipts.items) dones.old.items
-        ++ map (λ f. f.receipts.items) feeds.old.items }
-    ensures left { map (λ d. d.left.items) dones.new.items ≡ map (λ d. d.left.items) dones.old.items
-        ++ map (λ f. f.left.items) feeds.old.items }
-    ensures ends { map (λ d. d.end) dones.new.items ≡ map (λ d. d.end) dones.old.items
-        ++ map (λ f. f.end) feeds.old.items }
-    ensures len { vec_len dones.new ≡ vec_len dones.old + length feeds.old.items }
-    ensures room { vec_capacity dones.new ≡ vec_capacity dones.old }
-{
-    let Some(feed) = feeds.pop() else {
-        return;
-    };
-    hand_over(feeds, dones);
-    let Feed {
-        pass,
-        receipts,
-        left,
-        end,
-    } = feed;
-    dones.push_reserved(Done {
-        pass,
-        receipts,
-        left: Vec::from(left),
-        end,
-    });
 }
 
 /// Files the feeds, each by its pass, and calls the gate before and after each filing: one thread
@@ -260,18 +220,13 @@ pub fn run_feeders<
         (map (λ d. d.end) ds.items)) }
     ensures refused { IfErr result (λ e. (e.1.items ≡ passes.items) × (e.2.items ≡ feeds.items)) }
 {
-    let mut work = Vec::new(alloc);
     let mut dones = Vec::new(alloc);
-    if work.reserve(passes.len()).is_err() {
-        return Err((AllocError, passes, feeds));
-    }
     if dones.reserve(passes.len()).is_err() {
         return Err((AllocError, passes, feeds));
     }
-    let Ok(()) = gather(alloc, &mut passes, &mut feeds, &mut work) else {
+    let Ok(()) = gather(alloc, &mut passes, &mut feeds, &mut dones) else {
         return Err((AllocError, passes, feeds));
     };
-    run_all(rt, wait, alloc, desk, gate, &mut work);
-    hand_over(&mut work, &mut dones);
+    run_all(rt, wait, alloc, desk, gate, &mut dones);
     Ok(dones)
 }

@@ -6,11 +6,11 @@ use std::marker::Brand;
 pub trait Name {
     ghost use Rattle.std.specs.Prelude.{ℕ};
     ghost use Rattle.logbook.specs.Pages.{Book};
-    ghost use Rattle.flow_plans.specs.Settings.{Settings};
+    ghost use Rattle.flow_plans.specs.Settings.{SetupView};
 
     ghost book: { Book };
 
-    ghost setup: { Settings };
+    ghost setup: { SetupView };
 
     ghost feeders: { ℕ };
 }

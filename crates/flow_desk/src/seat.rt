@@ -69,9 +69,9 @@ where
     ghost use Rattle.std.specs.Prelude.{◌≡◌, true, drop};
     ghost use Rattle.std.specs.List.{fold};
     ghost use Rattle.left_right.specs.Sides.{view as view_of};
-    ghost use Rattle.flow_desk.specs.Seats.{WriterView};
+    ghost use Rattle.flow_desk.specs.Seats.{PublisherView};
 
-    ghost Value = { WriterView };
+    ghost Value = { PublisherView };
 
     ghost use Rattle.flow_desk.specs.Boards.{absorbed};
 

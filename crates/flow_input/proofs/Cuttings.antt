@@ -1,15 +1,15 @@
 -- Frames that are taken from an input, one after the other.
 use Rattle.std.proofs.Common.{◌≡◌, ◌≤◌, ℕ, length, Bool, true, false, List, [], ◌∷◌, ◌++◌, refl, sym, ap, ◌∙◌, subst, arith, Option, Some, append_assoc, append-nil, IfSome, length-append}
 use Rattle.std.proofs.KnownBytes.{Consumes-nil, Consumes-trans, Consumes-whole}
-use Rattle.fpl_message.specs.Filings.{FilingText}
+use Rattle.fpl_message.specs.Filings.{FilingView}
 use Rattle.flow_input.specs.Frames.{first_cut, frames, ended_frames}
-use Rattle.flow_input.specs.Reader.{Ahead, Agrees, Came, CameTooMuch}
+use Rattle.flow_input.specs.Reader.{InputView, Agrees, Came, CameTooMuch}
 use Rattle.flow_input.specs.NextFrame.{GaveFirst, GaveNone, Starves}
 use Rattle.flow_input.specs.Cutting.{Cutting, CutFront, CutEnded, Overrun}
 use Rattle.flow_input.proofs.FrameLists.{extended, frames-some, frames-none, ended-some, first_cut-more}
 
 -- nothing was read yet
-pub Cutting-start : (ahead : Ahead) (input : Option (List ℕ)) → ahead ≡ record { unread = []; taken = 0; ended = false; item = Some [] } → Cutting [] ahead input input
+pub Cutting-start : (ahead : InputView) (input : Option (List ℕ)) → ahead ≡ record { unread = []; taken = 0; ended = false; item = Some [] } → Cutting [] ahead input input
 Cutting-start ahead input e =
     record {
       read = [];
@@ -19,7 +19,7 @@ Cutting-start ahead input e =
       goes_on = λ _ more. rw e (refl, refl);
     }
 
-module _ (done : List (List ℕ)) (old : Ahead) (input mid : Option (List ℕ)) (s : Cutting done old input mid) where
+module _ (done : List (List ℕ)) (old : InputView) (input mid : Option (List ℕ)) (s : Cutting done old input mid) where
   -- where reading stopped
   pub CutFront-came : (rest : Option (List ℕ)) → old.ended ≡ false → Came mid rest → CutFront done input rest
   CutFront-came rest going m =
@@ -40,7 +40,7 @@ module _ (done : List (List ℕ)) (old : Ahead) (input mid : Option (List ℕ)) 
       record { read = s.read ++ m.0; consumed = Consumes-trans input mid rest s.read m.0 s.consumed m.1; long = omega (arith, m.2, s.count, length-append s.read m.0) }
 
   -- at the end all frames were taken
-  all-cut : (new : Ahead) (rest : Option (List ℕ)) (f : GaveNone old new mid rest) (ended : Bool) → old.ended ≡ ended → frames (s.read ++ f.came) ≡ done
+  all-cut : (new : InputView) (rest : Option (List ℕ)) (f : GaveNone old new mid rest) (ended : Bool) → old.ended ≡ ended → frames (s.read ++ f.came) ≡ done
   all-cut new rest f true e =
       let none : f.came ≡ [] = f.quiet e in
       let left : frames old.unread ≡ [] = frames-none old.unread (ap first_cut (sym (ap (λ (bs : List ℕ). old.unread ++ bs) none ∙ append-nil old.unread)) ∙ f.is) in
@@ -48,20 +48,20 @@ module _ (done : List (List ℕ)) (old : Ahead) (input mid : Option (List ℕ)) 
   all-cut new rest f false e = (s.goes_on e f.came).0 ∙ ap (λ (fs : List (List ℕ)). done ++ fs) (frames-none (old.unread ++ f.came) f.is) ∙ append-nil done
 
   -- so what holds of them holds of the frames of the known input
-  pub Cutting-end : (new : Ahead) (rest : Option (List ℕ)) (P : List (List ℕ) → Type 0) → GaveNone old new mid rest → Agrees new rest → P done → IfSome input (λ bytes. P (frames bytes))
+  pub Cutting-end : (new : InputView) (rest : Option (List ℕ)) (P : List (List ℕ) → Type 0) → GaveNone old new mid rest → Agrees new rest → P done → IfSome input (λ bytes. P (frames bytes))
   Cutting-end new rest P f agrees p =
       Consumes-whole input rest (s.read ++ f.came) (λ bytes. P (frames bytes)) (Consumes-trans input mid rest s.read f.came s.consumed f.consumed) (agrees f.ended).1
       (subst P (sym (all-cut new rest f old.ended refl)) p)
 
   -- and the known input isn't too long
-  pub Cutting-within : (new : Ahead) (rest : Option (List ℕ)) → GaveNone old new mid rest → Agrees new rest → new.taken ≤ 4000000000 → IfSome input (λ bytes. length bytes ≤ 4000000000)
+  pub Cutting-within : (new : InputView) (rest : Option (List ℕ)) → GaveNone old new mid rest → Agrees new rest → new.taken ≤ 4000000000 → IfSome input (λ bytes. length bytes ≤ 4000000000)
   Cutting-within new rest f agrees within =
       let none : length new.unread ≡ 0 = ap length (agrees f.ended).0 in
       Consumes-whole input rest (s.read ++ f.came) (λ bytes. length bytes ≤ 4000000000) (Consumes-trans input mid rest s.read f.came s.consumed f.consumed) (agrees f.ended).1
       (omega (arith, s.count, f.count, none, within, length-append s.read f.came))
 
   -- a frame came
-  module _ (new : Ahead) (rest : Option (List ℕ)) (filing : Option FilingText) (f : GaveFirst filing old new mid rest) where
+  module _ (new : InputView) (rest : Option (List ℕ)) (filing : Option FilingView) (f : GaveFirst filing old new mid rest) where
     one-more : (fs : List (List ℕ)) → done ++ f.whole.frame ∷ fs ≡ (done ++ f.whole.frame ∷ []) ++ fs
     one-more fs = sym (append_assoc done (f.whole.frame ∷ []) fs)
 

@@ -1,6 +1,6 @@
 -- The filings among frames.
 use Rattle.std.proofs.Common.{◌≡◌, ℕ, Bool, true, false, cond, leb, List, [], ◌∷◌, ◌++◌, length, Option, Some, None, refl, ap}
-use Rattle.fpl_message.specs.Filings.{FilingText}
+use Rattle.fpl_message.specs.Filings.{FilingView}
 use Rattle.flow_input.specs.NextFrame.{second, filing_of}
 use Rattle.flow_input.specs.Filings.{filings}
 
@@ -10,7 +10,7 @@ filings-append [] ys = refl
 filings-append (x ∷ xs) ys = by (leb (length x) 2000) (filings-append xs ys)
   where
     by : (b : Bool) → filings (xs ++ ys) ≡ filings xs ++ filings ys → cond b (second x ∷ filings (xs ++ ys)) (filings (xs ++ ys)) ≡ cond b (second x ∷ filings xs) (filings xs) ++ filings ys
-    by true e = ap (λ (q : List FilingText). second x ∷ q) e
+    by true e = ap (λ (q : List FilingView). second x ∷ q) e
     by false e = e
 
 -- a frame that isn't too long is one
@@ -30,14 +30,14 @@ is-long x e = by (leb (length x) 2000) e
     by true h = absurd (cc)
     by false h = refl
 
-pub is-whole : (x : List ℕ) (f : FilingText) → Some f ≡ filing_of x → leb (length x) 2000 ≡ true
+pub is-whole : (x : List ℕ) (f : FilingView) → Some f ≡ filing_of x → leb (length x) 2000 ≡ true
 is-whole x f e = by (leb (length x) 2000) e
   where
     by : (b : Bool) → Some f ≡ cond b (Some (second x)) None → b ≡ true
     by true h = refl
     by false h = absurd (cc)
 
-pub whole-is : (x : List ℕ) (f : FilingText) → Some f ≡ filing_of x → f ≡ second x
+pub whole-is : (x : List ℕ) (f : FilingView) → Some f ≡ filing_of x → f ≡ second x
 whole-is x f e = by (leb (length x) 2000) e
   where
     by : (b : Bool) → Some f ≡ cond b (Some (second x)) None → f ≡ second x

@@ -2,7 +2,7 @@
 use Rattle.std.proofs.Common.{◌≡◌, ℕ, inl, inr, Bool, true, false, cond, List, [], ◌∷◌, ◌++◌, refl, sym, ap, ◌∙◌, Option, Some, IfSome, IsTrue, eqb, ◌+◌, length, length-append, arith}
 use Rattle.std.proofs.lemmas.Bool.{ne_eqb}
 use Rattle.flow_input.specs.Frames.{Cut, until, since, closed, order_cut, cut, is_bracket, ends_order}
-use Rattle.flow_input.specs.Reader.{Ahead, NoneStops, BeginsWithStop, BeginsWithOther, Took, TakesIf, Finished, Unfinished}
+use Rattle.flow_input.specs.Reader.{InputView, NoneStops, BeginsWithStop, BeginsWithOther, Took, TakesIf, Finished, Unfinished}
 use Rattle.flow_input.proofs.Runs.{since-run, until-run}
 
 -- what a message is cut to, once the bytes up to a bracket were taken
@@ -26,10 +26,10 @@ not-false : (b : Bool) → IsTrue b → b ≡ false → ⊥
 not-false b h e = cc
 
 -- bytes that came were taken or are unread
-pub lengths : {stops : ℕ → Bool} (old new : Ahead) (before after : Option (List ℕ)) (t : Took stops old new before after) → new.taken + length new.unread ≡ old.taken + length old.unread + length t.came
+pub lengths : {stops : ℕ → Bool} (old new : InputView) (before after : Option (List ℕ)) (t : Took stops old new before after) → new.taken + length new.unread ≡ old.taken + length old.unread + length t.came
 lengths old new before after t = omega (arith, t.count, ap length t.whole, length-append old.unread t.came, length-append t.run new.unread)
 
-module _ (old mid new : Ahead) (before after : Option (List ℕ)) where
+module _ (old mid new : InputView) (before after : Option (List ℕ)) where
   -- a message that was taken with its closing bracket
   message-closed : Took is_bracket old mid before after → BeginsWithStop is_bracket mid.unread → mid.unread ≡ 41 ∷ new.unread → new.taken ≡ mid.taken + 1 → Finished 40 old new before after
   message-closed t at e one =
@@ -52,9 +52,9 @@ module _ (old mid new : Ahead) (before after : Option (List ℕ)) where
         consumed = t.consumed;
         whole = closed t.run [];
         is = message-is (old.unread ++ t.came) t.run mid.unread t.whole t.none at ∙ ap (λ (bs : List ℕ). Some (closed t.run bs)) e;
-        rest = ap (λ (a : Ahead). a.unread) same ∙ e;
-        seen = λ f. absurd (not-false mid.ended (end e) (sym (ap (λ (a : Ahead). a.ended) same) ∙ f));
-        count = ap (λ (a : Ahead). a.taken + length a.unread) same ∙ lengths old mid before after t;
+        rest = ap (λ (a : InputView). a.unread) same ∙ e;
+        seen = λ f. absurd (not-false mid.ended (end e) (sym (ap (λ (a : InputView). a.ended) same) ∙ f));
+        count = ap (λ (a : InputView). a.taken + length a.unread) same ∙ lengths old mid before after t;
       }
   message-open (b ∷ rest) t at end e other same =
       record {
@@ -62,16 +62,16 @@ module _ (old mid new : Ahead) (before after : Option (List ℕ)) where
         consumed = t.consumed;
         whole = record { frame = 40 ∷ t.run; rest = b ∷ rest; ended = true };
         is = message-is (old.unread ++ t.came) t.run mid.unread t.whole t.none at ∙ ap (λ (bs : List ℕ). Some (closed t.run bs)) e ∙ ap (λ (c : Cut). Some c) (message-other t.run b rest other);
-        rest = ap (λ (a : Ahead). a.unread) same ∙ e;
+        rest = ap (λ (a : InputView). a.unread) same ∙ e;
         seen = λ _. refl;
-        count = ap (λ (a : Ahead). a.taken + length a.unread) same ∙ lengths old mid before after t;
+        count = ap (λ (a : InputView). a.taken + length a.unread) same ∙ lengths old mid before after t;
       }
 
   pub Finished-message : Took is_bracket old mid before after → BeginsWithStop is_bracket mid.unread → (mid.unread ≡ [] → IsTrue mid.ended) → TakesIf 41 mid new → Finished 40 old new before after
   Finished-message t at end (inl h) = message-closed t at h.0 h.1
   Finished-message t at end (inr h) = message-open mid.unread t at end refl h.0 h.1
 
-module _ (first : ℕ) (old new : Ahead) (before after : Option (List ℕ)) (other : first ≡ 40 → ⊥) (t : Took ends_order old new before after) where
+module _ (first : ℕ) (old new : InputView) (before after : Option (List ℕ)) (other : first ≡ 40 → ⊥) (t : Took ends_order old new before after) where
   order-ends : (u : List ℕ) → BeginsWithStop ends_order new.unread → (new.unread ≡ [] → IsTrue new.ended) → new.unread ≡ u → Finished first old new before after
   order-ends [] at end e =
       record {
@@ -101,7 +101,7 @@ if_some : (o : Option Cut) (c : Cut) → o ≡ Some c → c.ended ≡ false → 
 if_some o c e h = rw e h
 
 -- a message that the reader's failure cut off, and an order
-pub Unfinished-message : (old mid : Ahead) (before after : Option (List ℕ)) → mid.unread ≡ [] → Took is_bracket old mid before after → Unfinished 40 old before after
+pub Unfinished-message : (old mid : InputView) (before after : Option (List ℕ)) → mid.unread ≡ [] → Took is_bracket old mid before after → Unfinished 40 old before after
 Unfinished-message old mid before after e t =
     let at : BeginsWithStop is_bracket mid.unread = rw e tt in (
       t.came,
@@ -109,7 +109,7 @@ Unfinished-message old mid before after e t =
       if_some (cut (40 ∷ (old.unread ++ t.came))) (closed t.run []) (message-is (old.unread ++ t.came) t.run mid.unread t.whole t.none at ∙ ap (λ (bs : List ℕ). Some (closed t.run bs)) e) refl,
     )
 
-pub Unfinished-order : (first : ℕ) (old mid : Ahead) (before after : Option (List ℕ)) → (first ≡ 40 → ⊥) → mid.unread ≡ [] → Took ends_order old mid before after → Unfinished first old before after
+pub Unfinished-order : (first : ℕ) (old mid : InputView) (before after : Option (List ℕ)) → (first ≡ 40 → ⊥) → mid.unread ≡ [] → Took ends_order old mid before after → Unfinished first old before after
 Unfinished-order first old mid before after other e t =
     let at : BeginsWithStop ends_order mid.unread = rw e tt in (
       t.came,

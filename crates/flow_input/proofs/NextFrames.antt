@@ -5,9 +5,9 @@ use Rattle.std.proofs.KnownBytes.{Consumes-nil, Consumes-trans}
 use Rattle.std.specs.Io.KnownBytes.{Consumes}
 use Rattle.flow_input.specs.Frames.{Cut, until, since, closed, order_cut, cut, first_cut, ended_frames, is_text, is_bracket, ends_order, kept_of}
 use Rattle.flow_input.specs.FirstFrame.{Shows}
-use Rattle.flow_input.specs.Reader.{Ahead, Agrees, Came, CameTooMuch, BeginsWithStop, Filled, NoneStops, TookRun, Finished, Unfinished}
+use Rattle.flow_input.specs.Reader.{InputView, Agrees, Came, CameTooMuch, BeginsWithStop, Filled, NoneStops, TookRun, Finished, Unfinished}
 use Rattle.flow_input.specs.NextFrame.{second, filing_kept, filing_of, IsFiled, GaveFirst, GaveNone, Cuts, Starves}
-use Rattle.fpl_message.specs.Filings.{FilingText}
+use Rattle.fpl_message.specs.Filings.{FilingView}
 use Rattle.flow_input.proofs.FrameLists.{ended-none, ended-some, first_cut-shorter}
 use Rattle.flow_input.proofs.Texts.{cut-joins, cut-open}
 
@@ -15,14 +15,14 @@ use Rattle.flow_input.proofs.Texts.{cut-joins, cut-open}
 
 -- what is unread now begins with the same frame as what was unread and the bytes that came,
 -- whatever follows
-pub record Sought (old now : Ahead) (before during : Option (List ℕ)) : Type 0 where
+pub record Sought (old now : InputView) (before during : Option (List ℕ)) : Type 0 where
   pub came : List ℕ
   pub consumed : Consumes before during came
   pub same : (more : List ℕ) → first_cut ((old.unread ++ came) ++ more) ≡ first_cut (now.unread ++ more)
   pub count : now.taken + length now.unread ≡ old.taken + length old.unread + length came
   pub going : old.ended ≡ false
 
-pub Sought-start : (old : Ahead) (before : Option (List ℕ)) → old.ended ≡ false → Sought old old before before
+pub Sought-start : (old : InputView) (before : Option (List ℕ)) → old.ended ≡ false → Sought old old before before
 Sought-start old before going =
     record {
       came = [];
@@ -37,31 +37,31 @@ since-past stops [] rest none = refl
 since-past stops (x ∷ xs) rest none = rw none.0 (since-past stops xs rest none.1)
 
 -- blanks change nothing
-pub blanks-past : (old new : Ahead) (more : List ℕ) → TookRun is_text old new → first_cut (old.unread ++ more) ≡ first_cut (new.unread ++ more)
+pub blanks-past : (old new : InputView) (more : List ℕ) → TookRun is_text old new → first_cut (old.unread ++ more) ≡ first_cut (new.unread ++ more)
 unfolding first_cut
 blanks-past old new more t =
     ap cut (ap (since is_text) (ap (λ (bs : List ℕ). bs ++ more) t.whole ∙ append_assoc t.run new.unread more) ∙ since-past is_text t.run (new.unread ++ more) t.none)
 
-module _ (old now mid new : Ahead) (still : mid ≡ now) (t : TookRun is_text mid new) where
+module _ (old now mid new : InputView) (still : mid ≡ now) (t : TookRun is_text mid new) where
   pub Sought-blanks : (before during : Option (List ℕ)) → Sought old now before during → Sought old new before during
   Sought-blanks before during s =
       record {
         came = s.came;
         consumed = s.consumed;
-        same = λ more. s.same more ∙ ap (λ (a : Ahead). first_cut (a.unread ++ more)) (sym still) ∙ blanks-past mid new more t;
-        count = omega (arith, s.count, t.count, ap length t.whole, length-append t.run new.unread, ap (λ (a : Ahead). a.taken + length a.unread) still);
+        same = λ more. s.same more ∙ ap (λ (a : InputView). first_cut (a.unread ++ more)) (sym still) ∙ blanks-past mid new more t;
+        count = omega (arith, s.count, t.count, ap length t.whole, length-append t.run new.unread, ap (λ (a : InputView). a.taken + length a.unread) still);
         going = s.going;
       }
 
   pub goes-past : IfSome (first_cut now.unread) (λ c. c.ended ≡ false) → IfSome (first_cut new.unread) (λ c. c.ended ≡ false)
   goes-past goes =
       subst (λ (o : Option Cut). IfSome o (λ c. c.ended ≡ false))
-      (ap (λ (a : Ahead). first_cut a.unread) (sym still) ∙ ap first_cut (sym (append-nil mid.unread)) ∙ blanks-past mid new [] t ∙ ap first_cut (append-nil new.unread)) goes
+      (ap (λ (a : InputView). first_cut a.unread) (sym still) ∙ ap first_cut (sym (append-nil mid.unread)) ∙ blanks-past mid new [] t ∙ ap first_cut (append-nil new.unread)) goes
 
   pub nearer-past : (n : ℕ) → n ≤ now.taken → n ≤ new.taken
-  nearer-past n h = omega (arith, h, t.count, ap (λ (a : Ahead). a.taken) still)
+  nearer-past n h = omega (arith, h, t.count, ap (λ (a : InputView). a.taken) still)
 
-pub Sought-fill : (old now new : Ahead) (before during after : Option (List ℕ)) → Sought old now before during → Filled now new during after → new.taken ≡ now.taken → Sought old new before after
+pub Sought-fill : (old now new : InputView) (before during after : Option (List ℕ)) → Sought old now before during → Filled now new during after → new.taken ≡ now.taken → Sought old new before after
 Sought-fill old now new before during after s f taken =
     record {
       came = s.came ++ f.0;
@@ -86,11 +86,11 @@ ended-same xs ys e = by (first_cut ys) refl
     by None q = ended-none xs (opens xs None (e ∙ q) tt) ∙ sym (ended-none ys (opens ys None q tt))
     by (Some c) q = one c q c.ended refl
 
-module _ (old now : Ahead) (before during after : Option (List ℕ)) (s : Sought old now before during) where
+module _ (old now : InputView) (before during after : Option (List ℕ)) (s : Sought old now before during) where
   all-came : (came : List ℕ) → first_cut (old.unread ++ (s.came ++ came)) ≡ first_cut (now.unread ++ came)
   all-came came = ap first_cut (sym (append_assoc old.unread s.came came)) ∙ s.same came
 
-  pub GaveFirst-sought : (new : Ahead) (filing : Option FilingText) → GaveFirst filing now new during after → GaveFirst filing old new before after
+  pub GaveFirst-sought : (new : InputView) (filing : Option FilingView) → GaveFirst filing now new during after → GaveFirst filing old new before after
   GaveFirst-sought new filing g =
       record {
         came = s.came ++ g.came;
@@ -114,11 +114,11 @@ module _ (old now : Ahead) (before during after : Option (List ℕ)) (s : Sought
   Came-sought m = (s.came ++ m.0, Consumes-trans before during after s.came m.0 s.consumed m.1)
 
 -- the reader failed where the bytes show no end
-pub Starves-still : (now : Ahead) (during after : Option (List ℕ)) → Consumes during after [] → IfSome (first_cut now.unread) (λ c. c.ended ≡ false) → Starves now during after
+pub Starves-still : (now : InputView) (during after : Option (List ℕ)) → Consumes during after [] → IfSome (first_cut now.unread) (λ c. c.ended ≡ false) → Starves now during after
 Starves-still now during after came goes = ([], came, ended-none (now.unread ++ []) (rw (append-nil now.unread) goes))
 
 -- each frame takes a byte
-pub GaveFirst-nearer : (old new : Ahead) (before after : Option (List ℕ)) (filing : Option FilingText) → GaveFirst filing old new before after → old.taken < new.taken
+pub GaveFirst-nearer : (old new : InputView) (before after : Option (List ℕ)) (filing : Option FilingView) → GaveFirst filing old new before after → old.taken < new.taken
 GaveFirst-nearer old new before after filing g = omega (arith, g.count, ap length g.rest, first_cut-shorter (old.unread ++ g.came) g.whole g.is, length-append old.unread g.came)
 
 -- ---- frames that are shown
@@ -132,7 +132,7 @@ IsFiled-kept kept frame e = rw e (by (leb (length frame) 2000))
     by false = refl
 
 -- the bytes that were there show the end of the frame
-pub GaveFirst-shown : (old new : Ahead) (before : Option (List ℕ)) (begin end : ℕ) → Agrees old before → Shows old.unread begin end → new.unread ≡ drop end old.unread → new.taken ≡ old.taken + end
+pub GaveFirst-shown : (old new : InputView) (before : Option (List ℕ)) (begin end : ℕ) → Agrees old before → Shows old.unread begin end → new.unread ≡ drop end old.unread → new.taken ≡ old.taken + end
     → new.item ≡ kept_of (slice_range old.unread begin end) → GaveFirst (filing_kept new.item) old new before before
 GaveFirst-shown old new before begin end agrees shows rest count is =
     record {
@@ -159,7 +159,7 @@ text-first [] at = refl
 text-first (b ∷ bs) at = rw at refl
 
 -- what is left at the end of the input is a frame
-module _ (old now new : Ahead) (before after : Option (List ℕ)) (s : Sought old now before after) (at : BeginsWithStop is_text now.unread) where
+module _ (old now new : InputView) (before after : Option (List ℕ)) (s : Sought old now before after) (at : BeginsWithStop is_text now.unread) where
   is-now : first_cut (old.unread ++ s.came) ≡ cut now.unread
   unfolding first_cut
   is-now =
@@ -202,12 +202,12 @@ module _ (old now new : Ahead) (before after : Option (List ℕ)) (s : Sought ol
         consumed = s.consumed;
         is = is-now ∙ ap cut none;
         ended = ended;
-        count = ap (λ (a : Ahead). a.taken + length a.unread) same ∙ s.count;
+        count = ap (λ (a : InputView). a.taken + length a.unread) same ∙ s.count;
         quiet = λ q. let f : true ≡ false = sym q ∙ s.going in absurd (cc);
       }
 
 -- whether any is left
-pub Cuts-rest : (found : Bool) (old now new : Ahead) (before after : Option (List ℕ)) → Sought old now before after → BeginsWithStop is_text now.unread → IfSome (first_cut now.unread) (λ c. c.ended ≡ false) → IsTrue new.ended
+pub Cuts-rest : (found : Bool) (old now new : InputView) (before after : Option (List ℕ)) → Sought old now before after → BeginsWithStop is_text now.unread → IfSome (first_cut now.unread) (λ c. c.ended ≡ false) → IsTrue new.ended
     → (found ≡ true → (new.unread ≡ []) × (new.item ≡ kept_of now.unread) × (new.taken ≡ now.taken + length now.unread) × (now.unread ≡ [] → ⊥)) → (found ≡ false → (now.unread ≡ []) × (new ≡ now)) → Cuts found new.item old new before after
 Cuts-rest true old now new before after s at goes ended some none = let h = some refl in GaveFirst-rest old now new before after s at goes h.3 h.0 h.1 h.2 ended
 Cuts-rest false old now new before after s at goes ended some none = let h = none refl in GaveNone-rest old now new before after s at h.0 h.1 ended
@@ -217,7 +217,7 @@ is-true true e = refl
 is-true false e = absurd (cc)
 
 -- no byte is left, and none comes
-pub GaveNone-ended : (old : Ahead) (before : Option (List ℕ)) → Agrees old before → old.ended ≡ true → GaveNone old old before before
+pub GaveNone-ended : (old : InputView) (before : Option (List ℕ)) → Agrees old before → old.ended ≡ true → GaveNone old old before before
 unfolding first_cut
 GaveNone-ended old before agrees e =
     let empty : old.unread ++ [] ≡ [] = append-nil old.unread ∙ (agrees e).0 in
@@ -281,7 +281,7 @@ first-is [] h = absurd (omega arith)
 first-is (b ∷ bs) h = refl
 
 -- the first byte of a frame that is too long was taken, then the others as they came
-module _ (old then : Ahead) (first : ℕ) (at : BeginsWithStop is_text old.unread) (is : first ≡ get_or old.unread 0 0) (rest : then.unread ≡ drop 1 old.unread) (taken : then.taken ≡ old.taken + 1) (long : 2000 < length old.unread) where
+module _ (old then : InputView) (first : ℕ) (at : BeginsWithStop is_text old.unread) (is : first ≡ get_or old.unread 0 0) (rest : then.unread ≡ drop 1 old.unread) (taken : then.taken ≡ old.taken + 1) (long : 2000 < length old.unread) where
   was : old.unread ≡ first ∷ then.unread
   was = first-is old.unread long ∙ ap (λ (b : ℕ). b ∷ drop 1 old.unread) (sym is) ∙ ap (λ (bs : List ℕ). first ∷ bs) (sym rest)
 
@@ -291,7 +291,7 @@ module _ (old then : Ahead) (first : ℕ) (at : BeginsWithStop is_text old.unrea
       let begins : BeginsWithStop is_text (first ∷ then.unread) = subst (λ (bs : List ℕ). BeginsWithStop is_text bs) was at in
       ap (λ (bs : List ℕ). cut (since is_text (bs ++ came))) was ∙ ap cut (text-first (first ∷ (then.unread ++ came)) begins)
 
-  pub GaveFirst-long : (new : Ahead) (before after : Option (List ℕ)) → old.ended ≡ false → IfSome (first_cut old.unread) (λ c. c.ended ≡ false) → Finished first then new before after → new.item ≡ None → GaveFirst (filing_kept new.item) old new before after
+  pub GaveFirst-long : (new : InputView) (before after : Option (List ℕ)) → old.ended ≡ false → IfSome (first_cut old.unread) (λ c. c.ended ≡ false) → Finished first then new before after → new.item ≡ None → GaveFirst (filing_kept new.item) old new before after
   GaveFirst-long new before after going goes f item =
       let opens : IfSome (cut (first ∷ then.unread)) (λ c. c.ended ≡ false) =
       subst (λ (o : Option Cut). IfSome o (λ c. c.ended ≡ false)) (ap first_cut (sym (append-nil old.unread)) ∙ cut-is [] ∙ ap (λ (bs : List ℕ). cut (first ∷ bs)) (append-nil then.unread)) goes in

@@ -3,16 +3,16 @@ use Rattle.std.proofs.Common.{◌≡◌, ℕ, ◌+◌, ◌≤◌, Bool, List, []
 use Rattle.std.proofs.lemmas.List.{take-append-drop, length-take}
 use Rattle.std.proofs.KnownBytes.{Consumes-nil, Consumes-trans}
 use Rattle.std.specs.Io.KnownBytes.{Consumes}
-use Rattle.flow_input.specs.Reader.{Ahead, Agrees, CameTooMuch, Filled, NoneStops, TookRun, Took}
+use Rattle.flow_input.specs.Reader.{InputView, Agrees, CameTooMuch, Filled, NoneStops, TookRun, Took}
 use Rattle.flow_input.proofs.Runs.{NoneStops-append}
 
 -- nothing was taken yet
-pub Took-start : (stops : ℕ → Bool) (old : Ahead) (before : Option (List ℕ)) → Took stops old old before before
+pub Took-start : (stops : ℕ → Bool) (old : InputView) (before : Option (List ℕ)) → Took stops old old before before
 Took-start stops old before =
     record { came = []; consumed = Consumes-nil before; run = []; whole = append-nil old.unread; none = tt; count = omega arith }
 
 -- a piece came, and a run of it was taken
-pub Took-more : (stops : ℕ → Bool) (old mid filled new : Ahead) (before during after : Option (List ℕ))
+pub Took-more : (stops : ℕ → Bool) (old mid filled new : InputView) (before during after : Option (List ℕ))
     → Took stops old mid before during → Filled mid filled during after → filled.taken ≡ mid.taken → TookRun stops filled new → Took stops old new before after
 Took-more stops old mid filled new before during after t f same r =
     record {
@@ -26,7 +26,7 @@ Took-more stops old mid filled new before during after t f same r =
     }
 
 -- the reader failed, so no piece came
-pub Took-still : (stops : ℕ → Bool) (old mid new : Ahead) (before during after : Option (List ℕ))
+pub Took-still : (stops : ℕ → Bool) (old mid new : InputView) (before during after : Option (List ℕ))
     → Took stops old mid before during → Consumes during after [] → new.unread ≡ mid.unread → new.taken ≡ mid.taken → Took stops old new before after
 Took-still stops old mid new before during after t f same taken =
     record {
@@ -39,7 +39,7 @@ Took-still stops old mid new before during after t f same taken =
     }
 
 -- bytes were read meanwhile
-pub Took-much : (stops : ℕ → Bool) (old mid : Ahead) (before during after : Option (List ℕ))
+pub Took-much : (stops : ℕ → Bool) (old mid : InputView) (before during after : Option (List ℕ))
     → Took stops old mid before during → CameTooMuch mid during after → CameTooMuch old before after
 Took-much stops old mid before during after t m =
     let whole : length old.unread + length t.came ≡ length t.run + length mid.unread = omega (arith, length-append old.unread t.came, length-append t.run mid.unread, ap length t.whole) in (
@@ -49,7 +49,7 @@ Took-much stops old mid before during after t m =
     )
 
 -- what is unread and empty leaves the reader at its end
-pub Agrees-taken : (stops : ℕ → Bool) (old new : Ahead) (remaining : Option (List ℕ)) → Agrees old remaining → TookRun stops old new → new.ended ≡ old.ended → Agrees new remaining
+pub Agrees-taken : (stops : ℕ → Bool) (old new : InputView) (remaining : Option (List ℕ)) → Agrees old remaining → TookRun stops old new → new.ended ≡ old.ended → Agrees new remaining
 Agrees-taken stops old new remaining agrees r same e =
     let was = agrees (subst IsTrue same e) in
     (second r.run new.unread (sym r.whole ∙ was.0), was.1)
@@ -59,7 +59,7 @@ Agrees-taken stops old new remaining agrees r same e =
     second (x ∷ xs) ys h = absurd (cc)
 
 -- a run of this length was taken
-pub TookRun-of : (stops : ℕ → Bool) (old new : Ahead) (count : ℕ)
+pub TookRun-of : (stops : ℕ → Bool) (old new : InputView) (count : ℕ)
     → NoneStops stops (take count old.unread) → new.unread ≡ drop count old.unread → new.taken ≡ old.taken + count → count ≤ length old.unread → TookRun stops old new
 TookRun-of stops old new count none rest taken within =
     record {

@@ -60,7 +60,7 @@ pub Writes-none : {D T E : Type 0} (contents : D → Option (List ℕ)) (x : T) 
 Writes-none contents x writer = record {
   ok = Appends-none (contents writer.device);
   err = tt;
-  calm = refl;
+  no_failure = refl;
   failed = tt;
 }
 
@@ -70,14 +70,14 @@ pub Writes-then : {D T E U F : Type 0} {contents : D → Option (List ℕ)} {x :
 Writes-then {contents = contents} {old = old} {mid = mid} {new = new} {xs = xs} {ys = ys} (Ok y) all a b e = record {
   ok = Appends-both (contents old.device) (contents mid.device) (contents new.device) xs ys all a.ok b.ok e;
   err = tt;
-  calm = b.calm ∙ a.calm;
+  no_failure = b.no_failure ∙ a.no_failure;
   failed = tt;
 }
 Writes-then {contents = contents} {old = old} {mid = mid} {new = new} {xs = xs} {ys = ys} (Err f) all a b e = record {
   ok = tt;
   err = AppendsFront-both (contents old.device) (contents mid.device) (contents new.device) xs ys all a.ok b.err e;
-  calm = tt;
-  failed = b.failed ∙ ap counted_up a.calm;
+  no_failure = tt;
+  failed = b.failed ∙ ap counted_up a.no_failure;
 }
 
 -- writing a text has stopped with a fault, and so has writing all, which begins with it
@@ -87,7 +87,7 @@ Writes-stopped (Ok y) more all is a e = absurd (false≢true is)
 Writes-stopped {contents = contents} {old = old} {new = new} {xs = xs} (Err g) more all is a e = record {
   ok = tt;
   err = AppendsFront-more (contents old.device) (contents new.device) xs more all a.err e;
-  calm = tt;
+  no_failure = tt;
   failed = a.failed;
 }
 
@@ -100,6 +100,6 @@ pub Writes-done : {D T E U F : Type 0} {contents : D → Option (List ℕ)} {x :
 Writes-done {contents = contents} {old = old} {new = new} y a e = record {
   ok = subst (λ (q : List ℕ). Appends (contents old.device) (contents new.device) q) e a.ok;
   err = tt;
-  calm = a.calm;
+  no_failure = a.no_failure;
   failed = tt;
 }

@@ -2,11 +2,11 @@
 use Rattle.std.specs.Prelude.{◌≡◌, ◌+◌, ◌<◌, false, ℕ, List, ◌++◌, length, Option}
 use Rattle.std.specs.Io.KnownBytes.{Consumes}
 use Rattle.flow_input.specs.Frames.{frames, ended_frames}
-use Rattle.flow_input.specs.Reader.{Ahead}
+use Rattle.flow_input.specs.Reader.{InputView}
 use Rattle.flow_input.specs.declared.input.TheConstants.{MAX_INPUT}
 
 -- these frames are the first of the bytes read, and stay so however the input continues
-pub record Cutting (done : List (List ℕ)) (ahead : Ahead) (input rest : Option (List ℕ)) : Type 0 where
+pub record Cutting (done : List (List ℕ)) (ahead : InputView) (input rest : Option (List ℕ)) : Type 0 where
   pub read : List ℕ
   pub consumed : Consumes input rest read
   pub count : length read ≡ ahead.taken + length ahead.unread

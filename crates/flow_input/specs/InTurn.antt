@@ -1,13 +1,13 @@
 -- The frames of an input, as successive calls return them.
 use Rattle.std.specs.Prelude.{◌≡◌, ◌+◌, ◌≤◌, ℕ, length, map, List, [], ◌∷◌, Option, Some, None, IfSome}
-use Rattle.fpl_message.specs.Filings.{FilingText}
+use Rattle.fpl_message.specs.Filings.{FilingView}
 use Rattle.flow_input.specs.declared.intake.Frame.{Frame}
 use Rattle.flow_input.specs.Frames.{Cut, first_cut, frames}
 use Rattle.flow_input.specs.NextFrame.{filing_in, filing_of}
 use Rattle.flow_input.specs.declared.input.TheConstants.{MAX_INPUT}
 
 -- the filings of the frames of an input: none for a frame that is too long
-abbrev pub filings_of : List ℕ → List (Option FilingText)
+abbrev pub filings_of : List ℕ → List (Option FilingView)
 filings_of bytes = map filing_of (frames bytes)
 
 -- the result is the first filing of the bytes, and what is left has the others; or they have none,
@@ -24,7 +24,7 @@ GivesNext frame (Some old) (Some new) = IsNext frame old new
 
 -- successive calls, each of which took the first frame of what the one before left, returned these
 -- filings
-abbrev pub AnswerInTurn : List (Option FilingText) → List ℕ → List ℕ → Type 0
+abbrev pub AnswerInTurn : List (Option FilingView) → List ℕ → List ℕ → Type 0
 AnswerInTurn [] old new = new ≡ old
 AnswerInTurn (filing ∷ filings) old new =
     (c : Cut) × (first_cut old ≡ Some c) × (filing ≡ filing_of c.frame) × AnswerInTurn filings c.rest new

@@ -2,7 +2,7 @@
 use Rattle.std.specs.Prelude.{◌≡◌, ◌+◌, ◌-◌, ◌^◌, min, length, ℕ, Bool, List, [], Option, Some, None, Result, Ok, Err}
 use Rattle.flow_input.specs.Frames.{Cut, first_cut}
 use Rattle.flow_input.specs.NextFrame.{filing_in, filing_of}
-use Rattle.fpl_message.specs.Filings.{FilingText}
+use Rattle.fpl_message.specs.Filings.{FilingView}
 use Rattle.flow_input.specs.declared.fault.IntakeFault.{IntakeFault}
 use Rattle.flow_input.specs.declared.fault.IntakeFault.TheVariants as fault
 use Rattle.flow_input.specs.declared.intake.Frame.{Frame}
@@ -10,7 +10,7 @@ use Rattle.flow_input.specs.declared.intake.Frame.TheVariants.{Whole}
 
 -- the known bytes of which no frame was taken yet, how many bytes were taken, how many calls of the
 -- reader failed, whether the input has ended, and whether it has failed
-pub record Source : Type 0 where
+pub record IntakeView : Type 0 where
   pub left : Option (List ℕ)
   pub taken : ℕ
   pub failures : ℕ
@@ -46,7 +46,7 @@ CutsFirst frame (Some old) (Some new) = IsFirst frame old new
 
 -- the first frame of the bytes, one that isn't too long, was taken, and what is left is the rest
 abbrev pub MissesFirst : Option (List ℕ) → Option (List ℕ) → Type 0
-MissesFirst old new = (filing : FilingText) × CutsFirst {A = Unit {0}} (Some (Whole filing)) old new
+MissesFirst old new = (filing : FilingView) × CutsFirst {A = Unit {0}} (Some (Whole filing)) old new
 
 -- the same number of bytes, if they are known
 abbrev pub SameTotal : ℕ → Option (List ℕ) → ℕ → Option (List ℕ) → Type 0
@@ -55,5 +55,5 @@ SameTotal n (Some old) m None = ⊥
 SameTotal n (Some old) m (Some new) = m + length new ≡ n + length old
 
 -- what was taken and what is left are as many bytes as before, if they are known
-abbrev pub KeepsTotal : Source → Source → Type 0
+abbrev pub KeepsTotal : IntakeView → IntakeView → Type 0
 KeepsTotal old new = SameTotal old.taken old.left new.taken new.left

@@ -15,5 +15,5 @@ AppendsFront (Some old) (Some new) bytes = (front : List ℕ) × (rest : List �
 pub record Writes {D T E : Type 0} (contents : D → Option (List ℕ)) (result : Result T E) (old new : Counted D) (text : List ℕ) : Type 0 where
   pub ok : OnOk result (Appends (contents old.device) (contents new.device) text)
   pub err : OnErr result (AppendsFront (contents old.device) (contents new.device) text)
-  pub calm : OnOk result (new.failures ≡ old.failures)
+  pub no_failure : OnOk result (new.failures ≡ old.failures)
   pub failed : OnErr result (new.failures ≡ counted_up old.failures)

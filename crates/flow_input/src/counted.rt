@@ -125,7 +125,7 @@ impl<W: Write> Write for Counted<W> {
         ensures bound { WritesAtMost result buf.now }
         ensures bytes { WriteAppends (W.contents self.old.device) (W.contents self.new.device)
             result buf.now }
-        ensures calm { IfOk result (λ n. 0 < n → self.new.failures ≡ self.old.failures) }
+        ensures no_failure { IfOk result (λ n. 0 < n → self.new.failures ≡ self.old.failures) }
         ensures empty { length buf.now ≡ 0 → OnOk result (self.new.failures ≡ self.old.failures) }
         ensures counts { MatchResult result (λ n. n ≡ 0 → 0 < length buf.now
             → self.new.failures ≡ counted_up self.old.failures) (λ _.
@@ -161,7 +161,7 @@ fn write_some<W: Write>(writer: &mut Counted<W>, bytes: &[u8]) -> Option<usize>
     ensures some { IfSome result (λ n. (0 < n) × (n ≤ length bytes.now)) }
     ensures written { IfSome result (λ n.
         Appends (W.contents writer.old.device) (W.contents writer.new.device) (take n bytes.now)) }
-    ensures calm { OnSome result (writer.new.failures ≡ writer.old.failures) }
+    ensures no_failure { OnSome result (writer.new.failures ≡ writer.old.failures) }
     ensures none { IfNone result
         (Keeps (W.contents writer.old.device) (W.contents writer.new.device)) }
     ensures failed { IfNone result (writer.new.failures ≡ counted_up writer.old.failures) }

@@ -78,11 +78,11 @@ pub struct Input<A: Allocator = Global> {
 impl<A: Allocator> Model for Input<A> {
     ghost use Rattle.std.specs.Prelude.{◌≡◌, ◌≤◌, ◌-◌, ◌+◌, length, slice_range};
     ghost use Rattle.std.specs.Prelude.{false, if◌then◌else◌, None, Some};
-    ghost use Rattle.flow_input.specs.Reader.{Ahead};
+    ghost use Rattle.flow_input.specs.Reader.{InputView};
     ghost use Rattle.flow_input.specs.declared.input.TheConstants.{MAX_INPUT, PIECE};
     ghost use Rattle.fpl_message.specs.declared.filed_text.TheConstants.{MAX_BYTES};
 
-    ghost Value = { Ahead };
+    ghost Value = { InputView };
 
     ghost view = { λ p. record {
       unread = slice_range p.buffer.items p.at p.end;

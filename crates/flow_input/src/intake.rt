@@ -53,7 +53,8 @@ fn next_frame<R: Read, A: Allocator + Copy>(
         Gives frame input.old input.new (R.remaining reader.old.device)
         (R.remaining reader.new.device)) }
     ensures ended { IsTrue input.old.ended → IfOk result (λ frame. IsNone frame) }
-    ensures still { IsTrue input.old.ended → (input.new ≡ input.old) × (reader.new ≡ reader.old) }
+    ensures unchanged { IsTrue input.old.ended → (input.new ≡ input.old) × (reader.new
+        ≡ reader.old) }
     ensures agrees { OnOk result (Agrees input.new (R.remaining reader.new.device)) }
     ensures most { OnOk result (input.new.taken ≤ MAX_INPUT) }
 
@@ -86,9 +87,9 @@ impl<R: Read, A: Allocator + Copy> Model for Intake<R, A> {
     ghost use Rattle.std.specs.Prelude.{◌≡◌, false};
     ghost use Rattle.std.specs.Io.KnownBytes.{prepend_known};
     ghost use Rattle.flow_input.specs.Reader.{Agrees};
-    ghost use Rattle.flow_input.specs.Source.{Source};
+    ghost use Rattle.flow_input.specs.Source.{IntakeView};
 
-    ghost Value = { Source };
+    ghost Value = { IntakeView };
 
     ghost view = { λ a. record {
       left = prepend_known a.input.unread (R.remaining a.reader.device);

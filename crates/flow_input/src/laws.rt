@@ -6,7 +6,7 @@ ghost use Rattle.std.specs.List.{concat, filter};
 ghost use Rattle.flow_input.specs.Frames.{Cut, ended_frames, first_cut, frames, is_text};
 ghost use Rattle.flow_input.specs.InTurn.{AnswerInTurn, filings_of};
 ghost use Rattle.flow_input.specs.declared.input.TheConstants.{MAX_INPUT};
-ghost use Rattle.fpl_message.specs.Filings.{FilingText};
+ghost use Rattle.fpl_message.specs.Filings.{FilingView};
 
 /// The frames of an input have all its bytes except blanks, each once and in their order.
 pub fn no_byte_is_lost()
@@ -28,10 +28,10 @@ pub fn frames_come_in_turn()
     ensures first { (bytes : List ℕ) (c : Cut) → first_cut bytes ≡ Some c
         → frames bytes ≡ c.frame ∷ frames c.rest }
     ensures none { (bytes : List ℕ) → (first_cut bytes ≡ None) ↔ (frames bytes ≡ []) }
-    ensures so_far { (filings : List (Option FilingText)) (input left : List ℕ)
+    ensures so_far { (filings : List (Option FilingView)) (input left : List ℕ)
         → AnswerInTurn filings input left
         → filings_of input ≡ filings ++ filings_of left }
-    ensures whole { (filings : List (Option FilingText)) (input left : List ℕ)
+    ensures whole { (filings : List (Option FilingView)) (input left : List ℕ)
         → AnswerInTurn filings input left
         → first_cut left ≡ None → filings_of input ≡ filings }
 {}

@@ -215,7 +215,8 @@ pub fn take_frame<R: Read, A: Allocator>(
         Cuts found input.new.item input.old input.new (R.remaining reader.old.device)
         (R.remaining reader.new.device)) }
     ensures ended { IsTrue input.old.ended → IfOk result (λ found. found ≡ false) }
-    ensures still { IsTrue input.old.ended → (input.new ≡ input.old) × (reader.new ≡ reader.old) }
+    ensures unchanged { IsTrue input.old.ended → (input.new ≡ input.old) × (reader.new
+        ≡ reader.old) }
     ensures agrees { OnOk result (Agrees input.new (R.remaining reader.new.device)) }
     ensures nearer { IfOk result (λ found. IsTrue found → input.old.taken < input.new.taken) }
     ensures within { IfOk result (λ found. IsTrue found → input.new.taken ≤ MAX_INPUT) }

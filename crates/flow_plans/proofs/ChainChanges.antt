@@ -5,32 +5,32 @@ use Rattle.std.specs.Map.{lookup}
 use Rattle.flow_plans.specs.declared.chains.FlightName.{FlightName}
 use Rattle.flow_plans.specs.declared.plan.PlanState.{PlanState}
 use Rattle.flow_plans.specs.declared.plan.PlanState.TheVariants as state
-use Rattle.flow_plans.specs.Plans.{Plan, is_held, plan_at, with_plan, changed_at, with_state}
+use Rattle.flow_plans.specs.Plans.{PlanView, is_held, plan_at, with_plan, changed_at, with_state}
 use Rattle.flow_plans.specs.Changes.{others}
-use Rattle.flow_plans.specs.Chains.{Chained, newest, same_flight, IsUpdated, IsForgotten, flight_of_key, is_held_there, AreLinks, IsNewest, AreChained, IsApart, LeaveOut, TakeIn}
+use Rattle.flow_plans.specs.Chains.{ChainsView, newest, same_flight, IsUpdated, IsForgotten, flight_of_key, is_held_there, AreLinks, IsNewest, AreChained, IsApart, LeaveOut, TakeIn}
 use Rattle.flow_plans.proofs.ChainLemmas.{same_flight-flip}
 use Rattle.flow_plans.proofs.ChainMoves.{head-newest, head-within, others-length, leave-absent, leave-past, leave-newest, leave-later, join-newest, join-later, join-apart, join-below}
 use Rattle.flow_plans.proofs.Keepings.{set-there, plan-stood, changed-length, changed-is, others-set, chained-forgot}
 
 -- there is a plan of each number
-pub there-is : (ps : List Plan) (i : ℕ) (R : Type 0) → i < length ps → ((p : Plan) → slice_get ps i ≡ Some p → p ≡ get_or ps i p → R) → R
+pub there-is : (ps : List PlanView) (i : ℕ) (R : Type 0) → i < length ps → ((p : PlanView) → slice_get ps i ≡ Some p → p ≡ get_or ps i p → R) → R
 there-is [] i R h use-it = absurd (omega (arith, h))
 there-is (x ∷ ps) zero R h use-it = use-it x refl refl
 there-is (x ∷ ps) (suc i) R h use-it = there-is ps i R (omega (arith, h)) use-it
 
 -- the index that a walk down a chain reached has a plan of that chain
-abbrev pub IsReached : Chained → FlightName → ℕ → Type 0
+abbrev pub IsReached : ChainsView → FlightName → ℕ → Type 0
 IsReached chains name l = (test : ℕ → Bool) → AreLinks test chains.older → IsNewest test (newest chains.heads name) → test l ≡ true
 
-reached-held : (chains : Chained) (ps : List Plan) (name : FlightName) (l : ℕ) → AreChained chains ps → IsReached chains name l → is_held_there name ps l ≡ true
+reached-held : (chains : ChainsView) (ps : List PlanView) (name : FlightName) (l : ℕ) → AreChained chains ps → IsReached chains name l → is_held_there name ps l ≡ true
 reached-held chains ps name l are reached = reached (is_held_there name ps) (are.links name) (head-newest chains ps name are)
 
-module _ (chains : Chained) (name : FlightName) (n : ℕ) (some : 0 < n) (inside : n ≤ length chains.older) where
-  within : (ps : List Plan) → AreChained chains ps → n ≤ length ps
+module _ (chains : ChainsView) (name : FlightName) (n : ℕ) (some : 0 < n) (inside : n ≤ length chains.older) where
+  within : (ps : List PlanView) → AreChained chains ps → n ≤ length ps
   within ps are = omega (arith, inside, are.count)
 
-  out : (later : Chained)
-      → ((ps : List Plan) (p : Plan) → n ≤ length ps → p ≡ get_or ps (n - 1) p → flight_of_key p.key ≡ name → AreChained chains ps → AreChained later (others n ps))
+  out : (later : ChainsView)
+      → ((ps : List PlanView) (p : PlanView) → n ≤ length ps → p ≡ get_or ps (n - 1) p → flight_of_key p.key ≡ name → AreChained chains ps → AreChained later (others n ps))
       → LeaveOut chains later name n
   out later by ps are named =
       there-is ps (n - 1) (AreChained later (others n ps)) (omega (arith, some, within ps are))
@@ -60,13 +60,13 @@ module _ (chains : Chained) (name : FlightName) (n : ℕ) (some : 0 < n) (inside
       leave-past ps n p some few stood chains are l a
       (subst (λ (q : FlightName). is_held_there q ps l ≡ true) (sym own) (reached-held chains ps name l are reached)) most other)
 
-pub out-stay : (chains left later : Chained) (name : FlightName) (n : ℕ) → ((q : FlightName) → lookup (same_flight q) later.heads ≡ lookup (same_flight q) left.heads)
+pub out-stay : (chains left later : ChainsView) (name : FlightName) (n : ℕ) → ((q : FlightName) → lookup (same_flight q) later.heads ≡ lookup (same_flight q) left.heads)
     → later.older ≡ left.older → LeaveOut chains left name n → LeaveOut chains later name n
 out-stay chains left later name n heads older gone ps are named =
     chained-forgot left later (others n ps) (λ q. ap (λ (o : Option ℕ). unwrap_or o 0) (heads q)) older (gone ps are named)
 
 -- the newest plan of its chain, which is the oldest, too, is taken out, and its flight forgotten
-pub out-forgotten : (chains : Chained) (name : FlightName) (n : ℕ) (heads : List (FlightName × ℕ)) (room : ℕ) → 0 < n → n ≤ length chains.older
+pub out-forgotten : (chains : ChainsView) (name : FlightName) (n : ℕ) (heads : List (FlightName × ℕ)) (room : ℕ) → 0 < n → n ≤ length chains.older
     → newest chains.heads name ≡ n → slice_index chains.older (n - 1) ≡ 0 → IsForgotten chains.heads heads name
     → LeaveOut chains (record { heads = heads; older = chains.older; room = room }) name n
 out-forgotten chains name n heads room some inside first last gone ps are named =
@@ -83,7 +83,7 @@ out-forgotten chains name n heads room some inside first last gone ps are named 
     zeroed q true e = rw (e, gone q, same_flight-flip q name true e) refl
     zeroed q false e = rw e refl
 
-module _ (chains : Chained) (n : ℕ) (apart : IsApart chains n) where
+module _ (chains : ChainsView) (n : ℕ) (apart : IsApart chains n) where
   pub apart-within : n - 1 < length chains.older
   apart-within = there-is apart.plans (n - 1) (n - 1 < length chains.older) (omega (arith, apart.within)) (λ p there stood.
       omega (arith, apart.within, apart.chained.count, others-length apart.plans n p apart.within.0 apart.within.1 stood))
@@ -100,14 +100,14 @@ module _ (chains : Chained) (n : ℕ) (apart : IsApart chains n) where
       join-below apart.plans n p apart.within.0 apart.within.1 stood chains apart.chained name l
       (reached-held chains (others n apart.plans) name l apart.chained reached) next)
 
-  within-these : (ps : List Plan) → AreChained chains (others n ps) → length ps ≡ length apart.plans
+  within-these : (ps : List PlanView) → AreChained chains (others n ps) → length ps ≡ length apart.plans
   within-these ps are = omega (arith, are.count, apart.chained.count, same ps, same apart.plans) where
-    same : (qs : List Plan) → length (others n qs) ≡ length qs
+    same : (qs : List PlanView) → length (others n qs) ≡ length qs
     same qs = changed-length (with_state state.Cancelled) n qs
 
   module _ (name : FlightName) where
-    into : (later : Chained)
-        → ((ps : List Plan) (p : Plan) → n ≤ length ps → p ≡ get_or ps (n - 1) p → is_held p.state ≡ true → flight_of_key p.key ≡ name
+    into : (later : ChainsView)
+        → ((ps : List PlanView) (p : PlanView) → n ≤ length ps → p ≡ get_or ps (n - 1) p → is_held p.state ≡ true → flight_of_key p.key ≡ name
         → AreChained chains (others n ps) → AreChained later ps)
         → TakeIn chains later name n
     into later by ps are named =
@@ -135,31 +135,31 @@ module _ (chains : Chained) (n : ℕ) (apart : IsApart chains n) where
         (subst (λ (q : FlightName). is_held_there q (others n ps) l ≡ true) (sym own) (reached-held chains (others n ps) name l are reached)) most))
 
 -- a plan that replaces another
-module _ (ps qs : List Plan) (n : ℕ) (q : Plan) (some : 0 < n) (most : n ≤ length ps) (changed : qs ≡ with_plan ps n q) where
-  pub exchanged-out : (chains left : Chained) (p : Plan) (name : FlightName) → p ≡ get_or ps (n - 1) p → name ≡ flight_of_key p.key
+module _ (ps qs : List PlanView) (n : ℕ) (q : PlanView) (some : 0 < n) (most : n ≤ length ps) (changed : qs ≡ with_plan ps n q) where
+  pub exchanged-out : (chains left : ChainsView) (p : PlanView) (name : FlightName) → p ≡ get_or ps (n - 1) p → name ≡ flight_of_key p.key
       → AreChained chains ps → LeaveOut chains left name n → AreChained left (others n qs)
   exchanged-out chains left p name stood own are gone =
       rw changed (others-set left ps n p q some most stood (gone ps are (rw (plan-stood ps n p some most stood) (sym own))))
 
-  pub exchanged-in : (left joined : Chained) (name : FlightName) → is_held q.state ≡ true → name ≡ flight_of_key q.key
+  pub exchanged-in : (left joined : ChainsView) (name : FlightName) → is_held q.state ≡ true → name ≡ flight_of_key q.key
       → AreChained left (others n qs) → TakeIn left joined name n → AreChained joined qs
   exchanged-in left joined name held own are taken =
       taken qs are (rw (changed, set-there ps (n - 1) q (omega (arith, some, most))) (held, sym own))
 
 -- a plan that was changed, and keeps its state
-module _ (f : Plan → Plan) (keeps : (p : Plan) → (f p).state ≡ p.state) (ps : List Plan) (n : ℕ) (some : 0 < n) (most : n ≤ length ps)
+module _ (f : PlanView → PlanView) (keeps : (p : PlanView) → (f p).state ≡ p.state) (ps : List PlanView) (n : ℕ) (some : 0 < n) (most : n ≤ length ps)
     (held : IfSome (plan_at ps n) (λ p. is_held p.state ≡ true)) where
-  own : (p : Plan) → plan_at ps n ≡ Some p → is_held (f p).state ≡ true
+  own : (p : PlanView) → plan_at ps n ≡ Some p → is_held (f p).state ≡ true
   own p there = ap (λ (s : PlanState). is_held s) (keeps p) ∙ (rw there at held)
 
-  pub changed-stands : (qs : List Plan) → qs ≡ changed_at f n ps → IfSome (plan_at qs n) (λ p. is_held p.state ≡ true)
+  pub changed-stands : (qs : List PlanView) → qs ≡ changed_at f n ps → IfSome (plan_at qs n) (λ p. is_held p.state ≡ true)
   changed-stands qs changed =
       there-is ps (n - 1) (IfSome (plan_at qs n) (λ p. is_held p.state ≡ true)) (omega (arith, some, most)) (λ p there stood.
       rw (changed, changed-is f n ps p there, set-there ps (n - 1) (f p) (omega (arith, some, most))) (own p there))
 
-  pub changed-chained : (later : Chained) (name : FlightName)
-      → ((p : Plan) → is_held p.state ≡ true → flight_of_key p.key ≡ name → AreChained later (with_plan ps n p))
-      → ((p : Plan) → plan_at ps n ≡ Some p → flight_of_key (f p).key ≡ name) → AreChained later (changed_at f n ps)
+  pub changed-chained : (later : ChainsView) (name : FlightName)
+      → ((p : PlanView) → is_held p.state ≡ true → flight_of_key p.key ≡ name → AreChained later (with_plan ps n p))
+      → ((p : PlanView) → plan_at ps n ≡ Some p → flight_of_key (f p).key ≡ name) → AreChained later (changed_at f n ps)
   changed-chained later name chained named =
       there-is ps (n - 1) (AreChained later (changed_at f n ps)) (omega (arith, some, most)) (λ p there stood.
       rw (changed-is f n ps p there) (chained (f p) (own p there) (named p there)))

@@ -5,8 +5,8 @@ use Rattle.std.proofs.lemmas.Bool.{cases_eq, cases_lt}
 use Rattle.std.proofs.lemmas.Bool.Decides.{Decides-eqb}
 use Rattle.std.proofs.lemmas.List.{get_or-set_same, get_or-set_other}
 use Rattle.flow_plans.specs.declared.chains.FlightName.{FlightName}
-use Rattle.flow_plans.specs.Plans.{Plan, is_held}
-use Rattle.flow_plans.specs.Chains.{Chained, newest, IsUpdated, IsForgotten, same_flight, flight_of_key, is_held_under, is_held_there, newest_held, AreChained}
+use Rattle.flow_plans.specs.Plans.{PlanView, is_held}
+use Rattle.flow_plans.specs.Chains.{ChainsView, newest, IsUpdated, IsForgotten, same_flight, flight_of_key, is_held_under, is_held_there, newest_held, AreChained}
 use Rattle.flow_plans.proofs.LastNumbers.{last-le, last-passes, last-above, last-same, last-lower, last-low, last-skipped, last-stays, last-high, last-new}
 use Rattle.flow_plans.proofs.Matches.{passes_at-within}
 
@@ -37,12 +37,12 @@ same_flight-flip a b false h = by (same_flight b a) refl where
   by false e = e
 
 -- a plan is held under one name
-pub held-name : (ps : List Plan) (k : ℕ) (p : Plan) (name : FlightName) → slice_get ps k ≡ Some p → is_held_there name ps k ≡ true → name ≡ flight_of_key p.key
+pub held-name : (ps : List PlanView) (k : ℕ) (p : PlanView) (name : FlightName) → slice_get ps k ≡ Some p → is_held_there name ps k ≡ true → name ≡ flight_of_key p.key
 held-name ps k p name there t =
     let u : is_held_under name p ≡ true = rw there at t in
     same_flight-same name (flight_of_key p.key) (and-right (is_held p.state) _ u)
 
-pub held-one : (ps : List Plan) (k : ℕ) (a b : FlightName) → is_held_there a ps k ≡ true → is_held_there b ps k ≡ true → a ≡ b
+pub held-one : (ps : List PlanView) (k : ℕ) (a b : FlightName) → is_held_there a ps k ≡ true → is_held_there b ps k ≡ true → a ≡ b
 held-one [] k a b s t = absurd (cc)
 held-one (p ∷ ps) zero a b s t = held-name (p ∷ ps) zero p a refl s ∙ sym (held-name (p ∷ ps) zero p b refl t)
 held-one (p ∷ ps) (suc k) a b s t = held-one ps k a b s t
@@ -51,7 +51,7 @@ clash : (b : Bool) → b ≡ true → b ≡ false → ⊥
 clash b t f = absurd (cc)
 
 -- the same plans are held under the same names
-pub chained-same : (chains : Chained) (ps qs : List Plan) → length qs ≡ length ps → ((name : FlightName) (k : ℕ) → is_held_there name qs k ≡ is_held_there name ps k) → AreChained chains ps → AreChained chains qs
+pub chained-same : (chains : ChainsView) (ps qs : List PlanView) → length qs ≡ length ps → ((name : FlightName) (k : ℕ) → is_held_there name qs k ≡ is_held_there name ps k) → AreChained chains ps → AreChained chains qs
 chained-same chains ps qs len same are = record {
   count = are.count ∙ sym len;
   heads = λ name. are.heads name ∙ sym (last-same (is_held_there name ps) (is_held_there name qs) (length ps) (λ k l. same name k)) ∙ ap (λ n. newest_held name qs n) (sym len);
@@ -59,7 +59,7 @@ chained-same chains ps qs len same are = record {
 }
 
 -- one plan is held no more
-module _ (chains : Chained) (ps qs : List Plan) (i : ℕ) (own : FlightName) (len : length qs ≡ length ps) (within : i < length ps)
+module _ (chains : ChainsView) (ps qs : List PlanView) (i : ℕ) (own : FlightName) (len : length qs ≡ length ps) (within : i < length ps)
     (same : (name : FlightName) (k : ℕ) → (k ≡ i → ⊥) → is_held_there name qs k ≡ is_held_there name ps k)
     (gone : (name : FlightName) → is_held_there name qs i ≡ false)
     (only : (name : FlightName) → is_held_there name ps i ≡ true → name ≡ own) (are : AreChained chains ps) where
@@ -158,7 +158,7 @@ module _ (chains : Chained) (ps qs : List Plan) (i : ℕ) (own : FlightName) (le
         ∙ are.links name k (was name k t) ∙ stays name k (λ e. apart-of name k ne t e (cases_lt k l))
 
 -- one plan more is held
-module _ (chains : Chained) (ps qs : List Plan) (i : ℕ) (own : FlightName) (len : length qs ≡ length ps) (within : i < length ps)
+module _ (chains : ChainsView) (ps qs : List PlanView) (i : ℕ) (own : FlightName) (len : length qs ≡ length ps) (within : i < length ps)
     (same : (name : FlightName) (k : ℕ) → (k ≡ i → ⊥) → is_held_there name qs k ≡ is_held_there name ps k)
     (absent : (name : FlightName) → is_held_there name ps i ≡ false) (here : is_held_there own qs i ≡ true)
     (only : (name : FlightName) → is_held_there name qs i ≡ true → name ≡ own) (are : AreChained chains ps) where

@@ -6,20 +6,20 @@ use Rattle.std.proofs.lemmas.Option.{slice_get-get_or}
 use Rattle.std.proofs.lemmas.List.{length_push, length-take-le, get_or-set_same, get_or-set_other, get_or_push, get_or_append_left, get_or-take, get_or_past}
 use Rattle.flow_plans.specs.declared.chains.FlightName.{FlightName}
 use Rattle.flow_plans.specs.declared.plan.PlanState.TheVariants as state
-use Rattle.flow_plans.specs.Plans.{Plan, is_held, changed_at, with_state}
+use Rattle.flow_plans.specs.Plans.{PlanView, is_held, changed_at, with_state}
 use Rattle.flow_plans.specs.Searching.{passes_at}
 use Rattle.flow_plans.specs.Changes.{others}
-use Rattle.flow_plans.specs.Chains.{Chained, newest, IsUpdated, same_flight, flight_of_key, is_held_under, is_held_there, newest_held, GoDown, IsNewest, AreChained}
+use Rattle.flow_plans.specs.Chains.{ChainsView, newest, IsUpdated, same_flight, flight_of_key, is_held_under, is_held_there, newest_held, GoDown, IsNewest, AreChained}
 use Rattle.flow_plans.proofs.LastNumbers.{last-le, last-passes, last-same, last-more}
 use Rattle.flow_plans.proofs.ChainLemmas.{same_flight-same, same_flight-refl, and-right, held-name, left-absent, left-past, left-newest, left-later, joined-newest, joined-later, updated-newest}
 use Rattle.flow_plans.proofs.Matches.{passes_at-within}
 use Rattle.flow_plans.proofs.Walks.{passes_at-set-other, passes_at-set-same}
 
 -- the number in the map is that of a plan held under the name
-pub head-newest : (chains : Chained) (ps : List Plan) (name : FlightName) → AreChained chains ps → IsNewest (is_held_there name ps) (newest chains.heads name)
+pub head-newest : (chains : ChainsView) (ps : List PlanView) (name : FlightName) → AreChained chains ps → IsNewest (is_held_there name ps) (newest chains.heads name)
 head-newest chains ps name are k e = last-passes (is_held_there name ps) (length ps) k (sym (are.heads name) ∙ e)
 
-pub head-within : (chains : Chained) (ps : List Plan) (name : FlightName) → AreChained chains ps → newest chains.heads name ≤ length ps
+pub head-within : (chains : ChainsView) (ps : List PlanView) (name : FlightName) → AreChained chains ps → newest chains.heads name ≤ length ps
 head-within chains ps name are = omega (arith, are.heads name, last-le (is_held_there name ps) (length ps))
 
 -- links that go down still do
@@ -54,7 +54,7 @@ down-take older n down k = by (cases_lt k n) where
       shorter (suc n) (x ∷ xs) a = omega (arith, shorter n xs (omega (arith, a)))
 
 -- the plan of a number, which the others leave out
-module _ (ps : List Plan) (n : ℕ) (p : Plan) (some : 0 < n) (within : n ≤ length ps) (stood : p ≡ get_or ps (n - 1) p) where
+module _ (ps : List PlanView) (n : ℕ) (p : PlanView) (some : 0 < n) (within : n ≤ length ps) (stood : p ≡ get_or ps (n - 1) p) where
   there : slice_get ps (n - 1) ≡ Some p
   there = slice_get-get_or ps (n - 1) p (omega (arith, some, within)) ∙ ap (λ r. Some r) (sym stood)
 
@@ -66,15 +66,15 @@ module _ (ps : List Plan) (n : ℕ) (p : Plan) (some : 0 < n) (within : n ≤ le
   others-are = rw there refl
 
   pub others-length : length (others n ps) ≡ length ps
-  others-length = ap (λ (qs : List Plan). length qs) others-are ∙ length-set ps (n - 1) (with_state state.Cancelled p)
+  others-length = ap (λ (qs : List PlanView). length qs) others-are ∙ length-set ps (n - 1) (with_state state.Cancelled p)
 
   pub others-same : (name : FlightName) (k : ℕ) → (k ≡ n - 1 → ⊥) → is_held_there name (others n ps) k ≡ is_held_there name ps k
   others-same name k ne =
-      ap (λ (qs : List Plan). is_held_there name qs k) others-are ∙ passes_at-set-other (is_held_under name) ps (n - 1) k (with_state state.Cancelled p) ne
+      ap (λ (qs : List PlanView). is_held_there name qs k) others-are ∙ passes_at-set-other (is_held_under name) ps (n - 1) k (with_state state.Cancelled p) ne
 
   pub others-gone : (name : FlightName) → is_held_there name (others n ps) (n - 1) ≡ false
   others-gone name =
-      ap (λ (qs : List Plan). is_held_there name qs (n - 1)) others-are ∙ passes_at-set-same (is_held_under name) ps (n - 1) (with_state state.Cancelled p) refl
+      ap (λ (qs : List PlanView). is_held_there name qs (n - 1)) others-are ∙ passes_at-set-same (is_held_under name) ps (n - 1) (with_state state.Cancelled p) refl
 
   only-own : (name : FlightName) → is_held_there name ps (n - 1) ≡ true → name ≡ flight_of_key p.key
   only-own name t = held-name ps (n - 1) p name there t
@@ -82,7 +82,7 @@ module _ (ps : List Plan) (n : ℕ) (p : Plan) (some : 0 < n) (within : n ≤ le
   own-held : is_held p.state ≡ true → is_held_there (flight_of_key p.key) ps (n - 1) ≡ true
   own-held h = rw (there, h) (same_flight-refl (flight_of_key p.key))
 
-  module _ (chains : Chained) (are : AreChained chains ps) where
+  module _ (chains : ChainsView) (are : AreChained chains ps) where
     pub leave-absent : newest chains.heads (flight_of_key p.key) < n → AreChained chains (others n ps)
     leave-absent few =
         left-absent chains ps (others n ps) (n - 1) (flight_of_key p.key) others-length (omega (arith, some, within)) others-same others-gone only-own are (omega (arith, few))
@@ -106,7 +106,7 @@ module _ (ps : List Plan) (n : ℕ) (p : Plan) (some : 0 < n) (within : n ≤ le
         left-later chains ps (others n ps) (n - 1) (flight_of_key p.key) others-length (omega (arith, some, within)) others-same others-gone only-own are
         l room (omega (arith, a, some)) held (next ∙ at)
 
-  module _ (chains : Chained) (are : AreChained chains (others n ps)) where
+  module _ (chains : ChainsView) (are : AreChained chains (others n ps)) where
     same-back : (name : FlightName) (k : ℕ) → (k ≡ n - 1 → ⊥) → is_held_there name ps k ≡ is_held_there name (others n ps) k
     same-back name k ne = sym (others-same name k ne)
 
@@ -144,17 +144,17 @@ module _ (ps : List Plan) (n : ℕ) (p : Plan) (some : 0 < n) (within : n ≤ le
         (others-gone name)
 
 -- a list with one plan more
-push-before : (test : Plan → Bool) (ps : List Plan) (p : Plan) (k : ℕ) → k < length ps → passes_at test (ps ++ p ∷ []) k ≡ passes_at test ps k
+push-before : (test : PlanView → Bool) (ps : List PlanView) (p : PlanView) (k : ℕ) → k < length ps → passes_at test (ps ++ p ∷ []) k ≡ passes_at test ps k
 push-before test [] p k h = absurd (omega (arith, h))
 push-before test (x ∷ ps) p zero h = refl
 push-before test (x ∷ ps) p (suc k) h = push-before test ps p k (omega (arith, h))
 
-push-at : (test : Plan → Bool) (ps : List Plan) (p : Plan) → passes_at test (ps ++ p ∷ []) (length ps) ≡ test p
+push-at : (test : PlanView → Bool) (ps : List PlanView) (p : PlanView) → passes_at test (ps ++ p ∷ []) (length ps) ≡ test p
 push-at test [] p = refl
 push-at test (x ∷ ps) p = push-at test ps p
 
-module _ (chains : Chained) (ps : List Plan) (p : Plan) (held : is_held p.state ≡ true) (are : AreChained chains ps) where
-  more : List Plan
+module _ (chains : ChainsView) (ps : List PlanView) (p : PlanView) (held : is_held p.state ≡ true) (are : AreChained chains ps) where
+  more : List PlanView
   more = ps ++ p ∷ []
 
   under : (name : FlightName) (b : Bool) → is_held_under name p ≡ b → same_flight (flight_of_key p.key) name ≡ b
@@ -201,13 +201,13 @@ module _ (chains : Chained) (ps : List Plan) (p : Plan) (held : is_held p.state 
         ∙ are.links name k (sym (push-before (is_held_under name) ps p k low) ∙ t) ∙ old-newest name k (omega (arith, low))
 
 -- a list without its last plan
-take-before : (test : Plan → Bool) (n : ℕ) (ps : List Plan) (k : ℕ) → k < n → passes_at test (take n ps) k ≡ passes_at test ps k
+take-before : (test : PlanView → Bool) (n : ℕ) (ps : List PlanView) (k : ℕ) → k < n → passes_at test (take n ps) k ≡ passes_at test ps k
 take-before test zero ps k h = absurd (omega (arith, h))
 take-before test (suc n) [] k h = refl
 take-before test (suc n) (x ∷ ps) zero h = refl
 take-before test (suc n) (x ∷ ps) (suc k) h = take-before test n ps k (omega (arith, h))
 
-module _ (chains : Chained) (ps qs : List Plan) (n : ℕ) (len : length qs ≡ n + 1) (same : (name : FlightName) (k : ℕ) → k < n → is_held_there name ps k ≡ is_held_there name qs k)
+module _ (chains : ChainsView) (ps qs : List PlanView) (n : ℕ) (len : length qs ≡ n + 1) (same : (name : FlightName) (k : ℕ) → k < n → is_held_there name ps k ≡ is_held_there name qs k)
     (absent : (name : FlightName) → is_held_there name qs n ≡ false) (short : length ps ≡ n) (are : AreChained chains qs) where
   fewer : (name : FlightName) (m : ℕ) → m ≤ n → newest_held name qs m ≡ newest_held name ps m
   fewer name m a = sym (last-same (is_held_there name qs) (is_held_there name ps) m (λ k l. same name k (omega (arith, l, a))))
@@ -225,7 +225,7 @@ module _ (chains : Chained) (ps qs : List Plan) (n : ℕ) (len : length qs ≡ n
   }
 
 -- that of the list in which it counts as cancelled
-pub popped : (chains : Chained) (ps : List Plan) (p : Plan) → 0 < length ps → p ≡ get_or ps (length ps - 1) p → AreChained chains (others (length ps) ps)
+pub popped : (chains : ChainsView) (ps : List PlanView) (p : PlanView) → 0 < length ps → p ≡ get_or ps (length ps - 1) p → AreChained chains (others (length ps) ps)
     → (heads : List (FlightName × ℕ)) (room : ℕ) → ((q : FlightName) → newest heads q ≡ newest chains.heads q)
     → AreChained (record { heads = heads; older = take (length ps - 1) chains.older; room = room }) (take (length ps - 1) ps)
 popped chains ps p some stood are heads room stay =

@@ -2,8 +2,8 @@
 use Rattle.std.proofs.Common.{◌≡◌, ℕ, zero, suc, ◌+◌, ◌-◌, ◌≤◌, ◌==◌, Bool, true, false, if◌then◌else◌, List, [], ◌∷◌, length, slice_index, refl, sym, ap, ◌∙◌, arith}
 use Rattle.std.proofs.lemmas.Bool.Decides.{nat_tests}
 use Rattle.flow_plans.specs.declared.chains.FlightName.{FlightName}
-use Rattle.flow_plans.specs.Plans.{Plan}
-use Rattle.flow_plans.specs.Chains.{Chained, newest, is_held_there, newest_held, last_number, AreLinks, AreChained, chain_from, held_numbers}
+use Rattle.flow_plans.specs.Plans.{PlanView}
+use Rattle.flow_plans.specs.Chains.{ChainsView, newest, is_held_there, newest_held, last_number, AreLinks, AreChained, chain_from, held_numbers}
 
 walk-none : (m : ℕ) (older : List ℕ) → chain_from m older 0 ≡ []
 unfolding chain_from
@@ -17,25 +17,25 @@ walk-on m older n =
     let back : n + 1 - 1 ≡ n = omega arith in
     rw (some, back) refl
 
-held-more : (name : FlightName) (ps : List Plan) (n : ℕ) (b : Bool) → is_held_there name ps n ≡ b
+held-more : (name : FlightName) (ps : List PlanView) (n : ℕ) (b : Bool) → is_held_there name ps n ≡ b
     → held_numbers name ps (suc n) ≡ (if b then (n + 1) ∷ held_numbers name ps n else held_numbers name ps n)
 unfolding held_numbers
 held-more name ps n b e = rw e refl
 
-last-next : (name : FlightName) (ps : List Plan) (n : ℕ) (b : Bool) → is_held_there name ps n ≡ b
+last-next : (name : FlightName) (ps : List PlanView) (n : ℕ) (b : Bool) → is_held_there name ps n ≡ b
     → newest_held name ps (suc n) ≡ (if b then n + 1 else newest_held name ps n)
 unfolding last_number
 last-next name ps n b e = rw e refl
 
-held-none : (name : FlightName) (ps : List Plan) → held_numbers name ps zero ≡ []
+held-none : (name : FlightName) (ps : List PlanView) → held_numbers name ps zero ≡ []
 unfolding held_numbers
 held-none name ps = refl
 
-last-none-first : (name : FlightName) (ps : List Plan) → newest_held name ps zero ≡ 0
+last-none-first : (name : FlightName) (ps : List PlanView) → newest_held name ps zero ≡ 0
 unfolding last_number
 last-none-first name ps = refl
 
-module _ (name : FlightName) (ps : List Plan) (older : List ℕ) (links : AreLinks (is_held_there name ps) older) where
+module _ (name : FlightName) (ps : List PlanView) (older : List ℕ) (links : AreLinks (is_held_there name ps) older) where
   walk-all : (n m : ℕ) → n ≤ m → chain_from m older (newest_held name ps n) ≡ held_numbers name ps n
   walk-all zero m a = rw (last-none-first name ps) (walk-none m older ∙ sym (held-none name ps))
   walk-all (suc n) zero a = absurd (omega (arith, a))
@@ -48,7 +48,7 @@ module _ (name : FlightName) (ps : List Plan) (older : List ℕ) (links : AreLin
         (walk-on m older n ∙ ap (λ (xs : List ℕ). (n + 1) ∷ xs) (ap (λ k. chain_from m older k) (links n e) ∙ fewer))
     split false e same fewer = rw (last-next name ps n false e, held-more name ps n false e) same
 
-pub chain-held : (chains : Chained) (ps : List Plan) (name : FlightName) → AreChained chains ps
+pub chain-held : (chains : ChainsView) (ps : List PlanView) (name : FlightName) → AreChained chains ps
     → chain_from (length ps) chains.older (newest chains.heads name) ≡ held_numbers name ps (length ps)
 chain-held chains ps name are =
     ap (λ k. chain_from (length ps) chains.older k) (are.heads name) ∙ walk-all name ps chains.older (are.links name) (length ps) (length ps) (omega arith)

@@ -8,9 +8,9 @@ use Rattle.std.proofs.lemmas.Option.{slice_get-get_or}
 use lib.Pointwise.{bytes_decides}
 use Rattle.fpl_message.specs.declared.order.Spot.{Spot}
 use Rattle.fpl_message.specs.declared.order.Spot.TheVariants.{Dep, Arr, Via}
-use Rattle.flow_plans.specs.declared.outline.Outline.{Outline}
-use Rattle.flow_plans.specs.Plans.{Plan, is_filed, is_visual, plan_at}
-use Rattle.flow_plans.specs.Places.{letters_of, AreBytes, IsTold, IsDepartureOf}
+use Rattle.flow_plans.specs.declared.outline.PlanIndexEntry.{PlanIndexEntry}
+use Rattle.flow_plans.specs.Plans.{PlanView, is_filed, is_visual, plan_at}
+use Rattle.flow_plans.specs.Letters.{letters_of, AreBytes, IsTold, IsDepartureOf}
 use Rattle.flow_plans.specs.Entries.{entry_at, in_period, subject}
 use Rattle.flow_plans.specs.Outlines.{may_be_subject, departure, IsOutlineOf, AreOutlines}
 use Rattle.flow_plans.proofs.Letters.{letters-same, letters-tell}
@@ -68,7 +68,7 @@ both-say start end m k c a false e n free same air moment =
     nowhere start end c ∙ sym (ap (λ v. if v && not n then in_period start end (Some k) else None) same)
 
 -- an outline with the letters of the departure has the entry there
-pub departs-all : (o : Outline) (p : Plan) → may_be_subject p ≡ true → o.off_block ≡ p.off_block → o.dep ≡ letters_of p.key.dep → length p.key.dep ≤ 4 → AreBytes p.key.dep
+pub departs-all : (o : PlanIndexEntry) (p : PlanView) → may_be_subject p ≡ true → o.off_block ≡ p.off_block → o.dep ≡ letters_of p.key.dep → length p.key.dep ≤ 4 → AreBytes p.key.dep
     → (taxi start end : ℕ) (place : List ℕ) → IsTold place → subject taxi (Dep place) start end p ≡ departure taxi (letters_of place) start end o
 unfolding subject entry_at departure
 departs-all o p may off_block dep most bytes taxi start end place told =
@@ -81,7 +81,7 @@ departs-all o p may off_block dep most bytes taxi start end place told =
     (ap (λ m. m + taxi) off_block)
 
 -- one without letters has none
-pub departs-none : (o : Outline) (taxi start end : ℕ) (place : List ℕ) → o.dep ≡ 0 → IsTold place → departure taxi (letters_of place) start end o ≡ None
+pub departs-none : (o : PlanIndexEntry) (taxi start end : ℕ) (place : List ℕ) → o.dep ≡ 0 → IsTold place → departure taxi (letters_of place) start end o ≡ None
 unfolding departure
 departs-none o taxi start end place dep told = by (nat_eq o.dep (letters_of place)) refl where
   by : (b : Bool) → nat_eq o.dep (letters_of place) ≡ b → (if b && not (nat_eq (letters_of place) (letters_of (codes "AFIL"))) then in_period start end (Some (o.off_block + taxi)) else None) ≡ None
@@ -89,26 +89,35 @@ departs-none o taxi start end place dep told = by (nat_eq o.dep (letters_of plac
   by false e = refl
 
 -- the outline at the index of a plan
-outline-at : (os : List Outline) (ps : List Plan) (i : ℕ) (o : Outline) → AreOutlines os ps → slice_get os i ≡ Some o → IfSome (slice_get ps i) (IsOutlineOf o)
+pub outline-at : (os : List PlanIndexEntry) (ps : List PlanView) (i : ℕ) (o : PlanIndexEntry) → AreOutlines os ps → slice_get os i ≡ Some o → IfSome (slice_get ps i) (IsOutlineOf o)
 outline-at [] ps i o h at = absurd (cc)
 outline-at (n ∷ os) [] i o h at = absurd h
-outline-at (n ∷ os) (p ∷ ps) zero o h at = subst (λ v. IsOutlineOf v p) (ap (λ (x : Option Outline). unwrap_or x n) at) h.0
+outline-at (n ∷ os) (p ∷ ps) zero o h at = subst (λ v. IsOutlineOf v p) (ap (λ (x : Option PlanIndexEntry). unwrap_or x n) at) h.0
 outline-at (n ∷ os) (p ∷ ps) (suc i) o h at = outline-at os ps i o h.1 at
 
-of-some : (o : Option Plan) (P Q : Plan → Type 0) → ((p : Plan) → P p → Q p) → IfSome o P → IfSome o Q
+pub of-some : (o : Option PlanView) (P Q : PlanView → Type 0) → ((p : PlanView) → P p → Q p) → IfSome o P → IfSome o Q
 of-some None P Q f h = h
 of-some (Some p) P Q f h = f p h
 
--- what the outline of the plan of a number says of the entry at its departure
-outline-departs : (number len : ℕ) (os : List Outline) (ps all : List Plan) (o : Outline) (taxi start end : ℕ) (place : List ℕ) (entry : Option ℕ) → number - 1 < len → len ≡ length os → AreOutlines os ps → ps ≡ all
-    → o ≡ get_or os (number - 1) o → IsTold place → entry ≡ departure taxi (letters_of place) start end o → IfSome (plan_at all number) (λ p. entry ≡ subject taxi (Dep place) start end p)
-outline-departs number len os ps all o taxi start end place entry inside l h same is told e =
+-- that of the plan of a number
+pub outline-there : (number len : ℕ) (os : List PlanIndexEntry) (ps all : List PlanView) (o : PlanIndexEntry) → number - 1 < len → len ≡ length os → AreOutlines os ps → ps ≡ all → o ≡ get_or os (number - 1) o → IfSome (plan_at all number) (IsOutlineOf o)
+outline-there number len os ps all o inside l h same is =
     let at : slice_get os (number - 1) ≡ Some o = slice_get-get_or os (number - 1) o (omega (arith, l, inside)) ∙ ap (λ x. Some x) (sym is) in
-    rw (← same) (of-some (slice_get ps (number - 1)) (IsOutlineOf o) (λ p. entry ≡ subject taxi (Dep place) start end p) (λ p r. e ∙ sym (r.departs taxi start end place told)) (outline-at os ps (number - 1) o h at))
+    rw (← same) (outline-at os ps (number - 1) o h at)
 
-pub outline-enters : (number len : ℕ) (os : List Outline) (ps all : List Plan) (o : Outline) (taxi start end letters : ℕ) (entry : Option ℕ) → number - 1 < len → len ≡ length os → AreOutlines os ps → ps ≡ all → o ≡ get_or os (number - 1) o
+-- an outline has the entry at a departure of these letters
+pub departs-at : (o : PlanIndexEntry) (p : PlanView) (taxi start end letters : ℕ) (entry : Option ℕ) → IsOutlineOf o p → entry ≡ departure taxi letters start end o → (spot : Spot) → IsDepartureOf letters spot → entry ≡ subject taxi spot start end p
+departs-at o p taxi start end letters entry r e (Dep place) told = e ∙ (ap (λ n. departure taxi n start end o) told.1 ∙ sym (r.departs taxi start end place told.0))
+departs-at o p taxi start end letters entry r e (Arr place) told = absurd told
+departs-at o p taxi start end letters entry r e (Via place) told = absurd told
+
+pub outline-enters : (number len : ℕ) (os : List PlanIndexEntry) (ps all : List PlanView) (o : PlanIndexEntry) (taxi start end letters : ℕ) (entry : Option ℕ) → number - 1 < len → len ≡ length os → AreOutlines os ps → ps ≡ all → o ≡ get_or os (number - 1) o
     → entry ≡ departure taxi letters start end o → (spot : Spot) → IsDepartureOf letters spot → IfSome (plan_at all number) (λ p. entry ≡ subject taxi spot start end p)
-outline-enters number len os ps all o taxi start end letters entry inside l h same is e (Dep place) told =
-    outline-departs number len os ps all o taxi start end place entry inside l h same is told.0 (e ∙ ap (λ n. departure taxi n start end o) told.1)
-outline-enters number len os ps all o taxi start end letters entry inside l h same is e (Arr place) told = absurd told
-outline-enters number len os ps all o taxi start end letters entry inside l h same is e (Via place) told = absurd told
+outline-enters number len os ps all o taxi start end letters entry inside l h same is e spot told =
+    of-some (plan_at all number) (IsOutlineOf o) (λ p. entry ≡ subject taxi spot start end p) (λ p r. departs-at o p taxi start end letters entry r e spot told) (outline-there number len os ps all o inside l h same is)
+
+-- the plan of the number after an index
+pub outlined-next : (os : List PlanIndexEntry) (ps : List PlanView) (i : ℕ) (o : PlanIndexEntry) (P : PlanView → Type 0) → AreOutlines os ps → slice_get os i ≡ Some o → ((p : PlanView) → IsOutlineOf o p → P p) → IfSome (plan_at ps (i + 1)) P
+outlined-next os ps i o P h at f =
+    let same : i ≡ i + 1 - 1 = omega arith in
+    subst (λ k. IfSome (slice_get ps k) P) same (of-some (slice_get ps i) (IsOutlineOf o) P f (outline-at os ps i o h at))

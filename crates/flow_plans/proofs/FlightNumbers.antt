@@ -2,7 +2,7 @@
 use Rattle.std.proofs.Common.{◌≡◌, ℕ, suc, ◌+◌, ◌-◌, ◌*◌, ◌^◌, ◌<◌, ◌≤◌, List, [], ◌∷◌, length, take, get_or, slice_range, ap, sym, ◌∙◌, arith}
 use Rattle.std.specs.List.{fold}
 use Rattle.std.proofs.lemmas.Bool.{le-ltb}
-use Rattle.flow_plans.specs.Places.{letters_of}
+use Rattle.flow_plans.specs.Letters.{letters_of}
 use Rattle.std.proofs.Math.Nat.{pow-suc, pow-le-pow_right}
 use Rattle.std.proofs.lemmas.List.{take_more, take_all}
 use Rattle.std.proofs.lemmas.List.Sums.{fold_push}

@@ -5,7 +5,7 @@ use Rattle.std.proofs.lemmas.Bool.{eqb-true, eq-eqb}
 use Rattle.std.proofs.lemmas.Bool.Decides.{same_from_decides}
 use Rattle.std.proofs.lemmas.List.{ext_get_or}
 use lib.Pointwise.{bytes_decides}
-use Rattle.flow_plans.specs.Places.{letters_of, AreBytes}
+use Rattle.flow_plans.specs.Letters.{letters_of, AreBytes}
 
 -- the first four as one number
 abbrev number_at : List ℕ → ℕ

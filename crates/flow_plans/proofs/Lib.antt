@@ -13,6 +13,7 @@ pub mod RunLemmas
 pub mod Longest
 pub mod NearLemmas
 pub mod OutlineLemmas
+pub mod Entered
 pub mod NextBits
 pub mod Amendments
 pub mod Previous

@@ -8,7 +8,7 @@ use Rattle.fpl_text.specs.Bytes.{is_digit}
 use Rattle.fpl_text.specs.Times.{two_digits, hhmm_below, elapsed_time}
 use Rattle.fpl_text.specs.Words.{words_of}
 use Rattle.fpl_items.specs.Kinds.{is_text}
-use Rattle.fpl_items.specs.Items.{Item, items_of, estimate_for, elapsed_to}
+use Rattle.fpl_items.specs.Items.{ItemView, items_of, estimate_for, elapsed_to}
 use Rattle.fpl_items.specs.declared.estimate.Estimate.{Estimate}
 use Rattle.fpl_items.specs.Estimates.{first_for, AreEstimatesOf}
 
@@ -41,7 +41,7 @@ if-below true o p = p
 if-below false o p = tt
 
 -- nor does that to any route point
-pub way-below : (place : List ℕ) (items : List Item) → IfSome (elapsed_to place items) (λ minutes. minutes ≤ 6000)
+pub way-below : (place : List ℕ) (items : List ItemView) → IfSome (elapsed_to place items) (λ minutes. minutes ≤ 6000)
 way-below place [] = tt
 way-below place (item ∷ items) =
     or-below _ (elapsed_to place items) (if-below (is_text (codes "EET") item.name) (estimate_for place item.words) (estimate-below place item.words)) (way-below place items)

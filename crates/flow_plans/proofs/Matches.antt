@@ -8,12 +8,12 @@ use Rattle.flow_plans.specs.declared.matching.Found.TheVariants as found
 use Rattle.fpl_message.specs.declared.parts.Parts.{Parts}
 use Rattle.flow_plans.specs.declared.plan.PlanState.{PlanState}
 use Rattle.flow_plans.specs.declared.plan.PlanState.TheVariants as state
-use Rattle.flow_plans.specs.Plans.{Plan, is_filed}
+use Rattle.flow_plans.specs.Plans.{PlanView, is_filed}
 use Rattle.flow_plans.specs.Matching.{agrees, is_candidate, numbers, the_one}
-use Rattle.flow_plans.specs.Searching.{with_candidate, with_gone, with_one_more, answer_of, passes_at, IsSound, IsCounted}
+use Rattle.flow_plans.specs.Searching.{with_candidate, with_gone, with_one_more, number_found, passes_at, IsSound, IsCounted}
 
 -- no plan passes
-numbers-none : (test : Plan → Bool) (n : ℕ) (ps : List Plan) → ((k : ℕ) → passes_at test ps k ≡ false) → numbers test n ps ≡ []
+numbers-none : (test : PlanView → Bool) (n : ℕ) (ps : List PlanView) → ((k : ℕ) → passes_at test ps k ≡ false) → numbers test n ps ≡ []
 numbers-none test n [] h = refl
 numbers-none test n (p ∷ ps) h = let e : test p ≡ false = h zero in rw e (numbers-none test (n + 1) ps (λ k. h (suc k)))
 
@@ -23,7 +23,7 @@ not-passed true k i h apart = absurd (apart (h refl))
 not-passed false k i h apart = refl
 
 -- just one plan passes
-numbers-one : (test : Plan → Bool) (n : ℕ) (ps : List Plan) (i : ℕ) → passes_at test ps i ≡ true → ((k : ℕ) → passes_at test ps k ≡ true → k ≡ i) → numbers test n ps ≡ (n + i) ∷ []
+numbers-one : (test : PlanView → Bool) (n : ℕ) (ps : List PlanView) (i : ℕ) → passes_at test ps i ≡ true → ((k : ℕ) → passes_at test ps k ≡ true → k ≡ i) → numbers test n ps ≡ (n + i) ∷ []
 numbers-one test n [] i t u = absurd (cc)
 numbers-one test n (p ∷ ps) zero t u =
     let e : test p ≡ true = t in
@@ -34,7 +34,7 @@ numbers-one test n (p ∷ ps) (suc i) t u =
     rw e (numbers-one test (n + 1) ps i t (λ k h. let s : suc k ≡ suc i = u (suc k) h in omega (arith, s)) ∙ ap (λ m. m ∷ []) (omega arith))
 
 -- one more besides a first
-two-of-rest : (test : Plan → Bool) (d : Bool) (m n : ℕ) (ps : List Plan) (i : ℕ) → passes_at test ps i ≡ true → the_one d (m ∷ numbers test n ps) ≡ Err refusal.Ambiguous
+two-of-rest : (test : PlanView → Bool) (d : Bool) (m n : ℕ) (ps : List PlanView) (i : ℕ) → passes_at test ps i ≡ true → the_one d (m ∷ numbers test n ps) ≡ Err refusal.Ambiguous
 two-of-rest test d m n [] i t = absurd (cc)
 two-of-rest test d m n (p ∷ ps) zero t = let e : test p ≡ true = t in rw e refl
 two-of-rest test d m n (p ∷ ps) (suc i) t =
@@ -42,7 +42,7 @@ two-of-rest test d m n (p ∷ ps) (suc i) t =
     [ true ↦ refl | false ↦ two-of-rest test d m (n + 1) ps i t ]
 
 -- two plans pass
-numbers-two : (test : Plan → Bool) (d : Bool) (n : ℕ) (ps : List Plan) (i j : ℕ) → (i ≡ j → ⊥) → passes_at test ps i ≡ true → passes_at test ps j ≡ true → the_one d (numbers test n ps) ≡ Err refusal.Ambiguous
+numbers-two : (test : PlanView → Bool) (d : Bool) (n : ℕ) (ps : List PlanView) (i j : ℕ) → (i ≡ j → ⊥) → passes_at test ps i ≡ true → passes_at test ps j ≡ true → the_one d (numbers test n ps) ≡ Err refusal.Ambiguous
 numbers-two test d n [] i j apart s t = absurd (cc)
 numbers-two test d n (p ∷ ps) zero zero apart s t = absurd (apart refl)
 numbers-two test d n (p ∷ ps) zero (suc j) apart s t = let e : test p ≡ true = s in rw e (two-of-rest test d n (n + 1) ps j t)
@@ -51,18 +51,18 @@ numbers-two test d n (p ∷ ps) (suc i) (suc j) apart s t =
     elim (test p) as (λ b. the_one d (if b then n ∷ numbers test (n + 1) ps else numbers test (n + 1) ps) ≡ Err refusal.Ambiguous)
     [ true ↦ two-of-rest test d n (n + 1) ps i s | false ↦ numbers-two test d (n + 1) ps i j (λ e. apart (ap suc e)) s t ]
 
-pub any-none : (test : Plan → Bool) (ps : List Plan) → ((k : ℕ) → passes_at test ps k ≡ false) → list_any test ps ≡ false
+pub any-none : (test : PlanView → Bool) (ps : List PlanView) → ((k : ℕ) → passes_at test ps k ≡ false) → list_any test ps ≡ false
 any-none test [] h = refl
 any-none test (p ∷ ps) h = let e : test p ≡ false = h zero in rw e (any-none test ps (λ k. h (suc k)))
 
-pub any-one : (test : Plan → Bool) (ps : List Plan) (i : ℕ) → passes_at test ps i ≡ true → list_any test ps ≡ true
+pub any-one : (test : PlanView → Bool) (ps : List PlanView) (i : ℕ) → passes_at test ps i ≡ true → list_any test ps ≡ true
 any-one test [] i t = absurd (cc)
 any-one test (p ∷ ps) zero t = let e : test p ≡ true = t in rw e refl
 any-one test (p ∷ ps) (suc i) t =
     elim (test p) as (λ b. (b || list_any test ps) ≡ true) [ true ↦ refl | false ↦ any-one test ps i t ]
 
 -- what was found, once all plans are counted
-pub the_one-found : (test gone : Plan → Bool) (ps : List Plan) (f : Found) → IsSound test gone ps f → ((k : ℕ) → IsCounted test gone ps f k) → the_one (list_any gone ps) (numbers test 1 ps) ≡ answer_of f
+pub the_one-found : (test gone : PlanView → Bool) (ps : List PlanView) (f : Found) → IsSound test gone ps f → ((k : ℕ) → IsCounted test gone ps f k) → the_one (list_any gone ps) (numbers test 1 ps) ≡ number_found f
 the_one-found test gone ps found.Nothing s c =
     rw (numbers-none test 1 ps (λ k. (c k).0), any-none gone ps (λ k. (c k).1)) refl
 the_one-found test gone ps found.Gone s c =
@@ -70,17 +70,17 @@ the_one-found test gone ps found.Gone s c =
 the_one-found test gone ps (found.One i) s c = rw (numbers-one test 1 ps i s c) (ap (λ m. Ok m) (omega arith))
 the_one-found test gone ps found.Several s c = s (list_any gone ps)
 
-pub passes_at-past : (test : Plan → Bool) (ps : List Plan) (k : ℕ) → length ps ≤ k → passes_at test ps k ≡ false
+pub passes_at-past : (test : PlanView → Bool) (ps : List PlanView) (k : ℕ) → length ps ≤ k → passes_at test ps k ≡ false
 passes_at-past test [] k h = refl
 passes_at-past test (p ∷ ps) zero h = absurd (omega (arith, h))
 passes_at-past test (p ∷ ps) (suc k) h = passes_at-past test ps k (omega (arith, h))
 
-pub passes_at-within : (test : Plan → Bool) (ps : List Plan) (k : ℕ) → passes_at test ps k ≡ true → k < length ps
+pub passes_at-within : (test : PlanView → Bool) (ps : List PlanView) (k : ℕ) → passes_at test ps k ≡ true → k < length ps
 passes_at-within test [] k t = absurd (cc)
 passes_at-within test (p ∷ ps) zero t = omega arith
 passes_at-within test (p ∷ ps) (suc k) t = let h : k < length ps = passes_at-within test ps k t in omega (arith, h)
 
-module _ (test gone : Plan → Bool) (ps : List Plan) where
+module _ (test gone : PlanView → Bool) (ps : List PlanView) where
   candidate-sound : (f : Found) (i : ℕ) → passes_at test ps i ≡ true → IsSound test gone ps f → IsSound test gone ps (with_candidate i f)
   candidate-sound found.Nothing i t s = t
   candidate-sound found.Gone i t s = t
@@ -146,7 +146,7 @@ module _ (test gone : Plan → Bool) (ps : List Plan) where
   counted-here f i false false t u = neither-here f i t u
 
 -- the candidate that was found is a filed plan
-pub passes_at-filed : (parts : Parts) (ps : List Plan) (i : ℕ) → passes_at (is_candidate parts) ps i ≡ true → IfSome (slice_get ps i) (λ p. p.state ≡ state.Filed)
+pub passes_at-filed : (parts : Parts) (ps : List PlanView) (i : ℕ) → passes_at (is_candidate parts) ps i ≡ true → IfSome (slice_get ps i) (λ p. p.state ≡ state.Filed)
 passes_at-filed parts [] i t = tt
 passes_at-filed parts (p ∷ ps) zero t = filed p.state (agrees parts p.key) t where
   filed : (s : PlanState) (b : Bool) → (is_filed s && b) ≡ true → s ≡ state.Filed
@@ -155,5 +155,5 @@ passes_at-filed parts (p ∷ ps) zero t = filed p.state (agrees parts p.key) t w
   filed state.Cancelled b h = absurd (cc)
 passes_at-filed parts (p ∷ ps) (suc i) t = passes_at-filed parts ps i t
 
-pub passes_at-filed-there : (parts : Parts) (ps : List Plan) (i j : ℕ) → j ≡ i → passes_at (is_candidate parts) ps i ≡ true → IfSome (slice_get ps j) (λ p. p.state ≡ state.Filed)
+pub passes_at-filed-there : (parts : Parts) (ps : List PlanView) (i j : ℕ) → j ≡ i → passes_at (is_candidate parts) ps i ≡ true → IfSome (slice_get ps j) (λ p. p.state ≡ state.Filed)
 passes_at-filed-there parts ps i j e t = rw e (passes_at-filed parts ps i t)

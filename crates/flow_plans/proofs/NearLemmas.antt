@@ -14,11 +14,11 @@ use Rattle.fpl_items.specs.Items.{items_of, elapsed_to}
 use Rattle.fpl_message.specs.declared.order.Spot.{Spot}
 use Rattle.fpl_message.specs.declared.order.Spot.TheVariants.{Dep, Arr, Via}
 use Rattle.fpl_items.specs.declared.estimate.Estimate.{Estimate}
-use Rattle.flow_plans.specs.Plans.{Plan, is_filed, is_visual}
-use Rattle.fpl_items.specs.Places.{bit_of, may_have}
+use Rattle.flow_plans.specs.Plans.{PlanView, is_filed, is_visual}
+use Rattle.fpl_items.specs.Points.{bit_of, may_have}
 use Rattle.fpl_items.specs.Estimates.{first_for, AreEstimatesOf}
 use Rattle.flow_plans.specs.Entries.{take_off, elapsed_at, entry_at, in_period, subject}
-use Rattle.flow_plans.specs.Near.{row_of, word_at, HasBitsOf}
+use Rattle.flow_plans.specs.Near.{table_row, word_at, HasBitsOf}
 
 pub or-first : (a b w : ℕ) → HasBitsOf a w → HasBitsOf (bit_or a b) w
 or-first a b w h i l s = (let e = h i l s in omega (arith, bit_at_or a b i, bit_at-lt b i, e))
@@ -83,15 +83,15 @@ some-in start end None h = absurd (false≢true h)
 some-in start end (Some m) h = refl
 
 -- a flight to which a regulation applies has an entry there
-pub subject-enters : (taxi start end : ℕ) (spot : Spot) (p : Plan) → IsSome (subject taxi spot start end p) → IsSome (entry_at taxi spot p)
+pub subject-enters : (taxi start end : ℕ) (spot : Spot) (p : PlanView) → IsSome (subject taxi spot start end p) → IsSome (entry_at taxi spot p)
 unfolding subject
 subject-enters taxi start end spot p h =
     some-in start end (entry_at taxi spot p) (some-then (is_filed p.state && not (is_visual p.rules) && not (bytes_eq p.key.dep (codes "AFIL")) && not p.exempt) (in_period start end (entry_at taxi spot p)) h)
 
 -- the flight comes there
-pub comes-there : (taxi near : ℕ) (spot : Spot) (p : Plan) (table : List ℕ) → HasBitsOf near (word_at table (bit_of p.key.dep)) → HasBitsOf near (word_at table (64 + bit_of p.key.dest))
-    → ((place : List ℕ) → IsSome (elapsed_at place p) → HasBitsOf near (word_at table (128 + bit_of place))) → IsSome (entry_at taxi spot p) → HasBitsOf near (word_at table (row_of spot))
-unfolding entry_at row_of
+pub comes-there : (taxi near : ℕ) (spot : Spot) (p : PlanView) (table : List ℕ) → HasBitsOf near (word_at table (bit_of p.key.dep)) → HasBitsOf near (word_at table (64 + bit_of p.key.dest))
+    → ((place : List ℕ) → IsSome (elapsed_at place p) → HasBitsOf near (word_at table (128 + bit_of place))) → IsSome (entry_at taxi spot p) → HasBitsOf near (word_at table (table_row spot))
+unfolding entry_at table_row
 comes-there taxi near (Dep place) p table dep dest via h =
     let same : p.key.dep ≡ place = (bytes_decides p.key.dep place).0 (some-if (bytes_eq p.key.dep place) (Some (take_off taxi p)) h) in
     let B : List ℕ → Type 0 = λ v. HasBitsOf near (word_at table (bit_of v)) in
@@ -103,7 +103,7 @@ comes-there taxi near (Arr place) p table dep dest via h =
 comes-there taxi near (Via place) p table dep dest via h = via place (some-first (elapsed_at place p) (λ elapsed. moment_within (take_off taxi p + elapsed)) h)
 
 -- no regulation applies to a plan that isn't filed, or is exempt
-pub not-filed : (taxi start end near : ℕ) (spot : Spot) (p : Plan) (table : List ℕ) → is_filed p.state ≡ false → IsSome (subject taxi spot start end p) → HasBitsOf near (word_at table (row_of spot))
+pub not-filed : (taxi start end near : ℕ) (spot : Spot) (p : PlanView) (table : List ℕ) → is_filed p.state ≡ false → IsSome (subject taxi spot start end p) → HasBitsOf near (word_at table (table_row spot))
 unfolding subject
 not-filed taxi start end near spot p table never h =
     absurd (out (is_filed p.state) (not (is_visual p.rules)) (not (bytes_eq p.key.dep (codes "AFIL"))) (not p.exempt) never (some-if (is_filed p.state && not (is_visual p.rules) && not (bytes_eq p.key.dep (codes "AFIL")) && not p.exempt) (in_period start end (entry_at taxi spot p)) h)) where
@@ -111,7 +111,7 @@ not-filed taxi start end near spot p table never h =
       out true b c d n e = true≢false n
       out false b c d n e = false≢true e
 
-pub exempted : (taxi start end near : ℕ) (spot : Spot) (p : Plan) (table : List ℕ) → p.exempt ≡ true → IsSome (subject taxi spot start end p) → HasBitsOf near (word_at table (row_of spot))
+pub exempted : (taxi start end near : ℕ) (spot : Spot) (p : PlanView) (table : List ℕ) → p.exempt ≡ true → IsSome (subject taxi spot start end p) → HasBitsOf near (word_at table (table_row spot))
 unfolding subject
 exempted taxi start end near spot p table is h =
     absurd (out (is_filed p.state) (not (is_visual p.rules)) (not (bytes_eq p.key.dep (codes "AFIL"))) p.exempt is (some-if (is_filed p.state && not (is_visual p.rules) && not (bytes_eq p.key.dep (codes "AFIL")) && not p.exempt) (in_period start end (entry_at taxi spot p)) h)) where

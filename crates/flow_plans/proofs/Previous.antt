@@ -1,7 +1,7 @@
 -- What plans were before a change of one of them.
 use Rattle.std.proofs.Common.{◌≡◌, ℕ, zero, suc, ◌-◌, ◌<◌, ◌≤◌, List, [], ◌∷◌, length, take, Option, Some, None, slice_get, slice_set, refl, ap, arith}
 use Rattle.std.specs.Option.{option_map_or}
-use Rattle.flow_plans.specs.Plans.{Plan, plan_at, with_plan, changed_at}
+use Rattle.flow_plans.specs.Plans.{PlanView, plan_at, with_plan, changed_at}
 use Rattle.flow_plans.proofs.Keepings.{set-there}
 
 -- the first ones are among all
@@ -19,24 +19,24 @@ first-end (suc k) (p ∷ ps) zero h = absurd (omega (arith, h))
 first-end (suc k) (p ∷ ps) (suc i) h = first-end k ps i (omega (arith, h))
 
 -- another plan stays
-set-elsewhere : (ps : List Plan) (j i : ℕ) (p : Plan) → (i ≡ j → ⊥) → slice_get (slice_set ps j p) i ≡ slice_get ps i
+set-elsewhere : (ps : List PlanView) (j i : ℕ) (p : PlanView) → (i ≡ j → ⊥) → slice_get (slice_set ps j p) i ≡ slice_get ps i
 set-elsewhere [] j i p ne = refl
 set-elsewhere (q ∷ ps) zero zero p ne = absurd (ne refl)
 set-elsewhere (q ∷ ps) zero (suc i) p ne = refl
 set-elsewhere (q ∷ ps) (suc j) zero p ne = refl
 set-elsewhere (q ∷ ps) (suc j) (suc i) p ne = set-elsewhere ps j i p (λ e. ne (ap suc e))
 
-with-elsewhere : (ps : List Plan) (m n : ℕ) (p : Plan) → 0 < m → 0 < n → (n ≡ m → ⊥) → plan_at (with_plan ps m p) n ≡ plan_at ps n
+with-elsewhere : (ps : List PlanView) (m n : ℕ) (p : PlanView) → 0 < m → 0 < n → (n ≡ m → ⊥) → plan_at (with_plan ps m p) n ≡ plan_at ps n
 with-elsewhere ps m n p a b ne = set-elsewhere ps (m - 1) (n - 1) p (λ e. ne (omega (arith, a, b, e)))
 
-pub changed-elsewhere : (f : Plan → Plan) (ps : List Plan) (m n : ℕ) → 0 < m → 0 < n → (n ≡ m → ⊥) → plan_at (changed_at f m ps) n ≡ plan_at ps n
+pub changed-elsewhere : (f : PlanView → PlanView) (ps : List PlanView) (m n : ℕ) → 0 < m → 0 < n → (n ≡ m → ⊥) → plan_at (changed_at f m ps) n ≡ plan_at ps n
 unfolding changed_at
 changed-elsewhere f ps m n a b ne = by (plan_at ps m) where
-  by : (o : Option Plan) → plan_at (option_map_or (λ p. with_plan ps m (f p)) o ps) n ≡ plan_at ps n
+  by : (o : Option PlanView) → plan_at (option_map_or (λ p. with_plan ps m (f p)) o ps) n ≡ plan_at ps n
   by None = refl
   by (Some p) = with-elsewhere ps m n (f p) a b ne
 
 -- the plan itself changes
-pub changed-own : (f : Plan → Plan) (ps : List Plan) (n : ℕ) (p : Plan) → n - 1 < length ps → plan_at ps n ≡ Some p → plan_at (changed_at f n ps) n ≡ Some (f p)
+pub changed-own : (f : PlanView → PlanView) (ps : List PlanView) (n : ℕ) (p : PlanView) → n - 1 < length ps → plan_at ps n ≡ Some p → plan_at (changed_at f n ps) n ≡ Some (f p)
 unfolding changed_at
 changed-own f ps n p h there = rw there (set-there ps (n - 1) (f p) h)

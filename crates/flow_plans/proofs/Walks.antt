@@ -13,7 +13,7 @@ use Rattle.flow_plans.specs.declared.matching.Found.TheVariants as found
 use Rattle.flow_plans.specs.declared.plan.PlanState.{PlanState}
 use Rattle.flow_plans.specs.declared.plan.Key.{Key}
 use Rattle.flow_plans.specs.declared.plan.PlanState.TheVariants as state
-use Rattle.flow_plans.specs.Plans.{Plan, same_key, is_held, is_held_as, is_filed, is_departed, changed_at, with_state}
+use Rattle.flow_plans.specs.Plans.{PlanView, same_key, is_held, is_held_as, is_filed, is_departed, changed_at, with_state}
 use Rattle.flow_plans.specs.Matching.{agrees, is_on, is_candidate, is_gone}
 use Rattle.flow_plans.specs.Searching.{with_one_more, passes_at, IsCounted, IsFreeAt, IsHeldBeside}
 use Rattle.flow_plans.specs.Chains.{flight_named, flight_of_key, flight_of_parts, same_flight, is_held_under, is_held_there, newest_held, IsNewest}
@@ -23,7 +23,7 @@ use Rattle.flow_plans.proofs.ChainLemmas.{and-left, and-right, same_flight-refl}
 use Rattle.flow_plans.proofs.Matches.{counted-more, counted-here, neither-here, passes_at-past, any-none, any-one}
 
 -- the plan that passes at an index
-passing : (test : Plan → Bool) (ps : List Plan) (k : ℕ) → passes_at test ps k ≡ true → (p : Plan) × (slice_get ps k ≡ Some p) × (test p ≡ true)
+passing : (test : PlanView → Bool) (ps : List PlanView) (k : ℕ) → passes_at test ps k ≡ true → (p : PlanView) × (slice_get ps k ≡ Some p) × (test p ≡ true)
 passing test [] k t = absurd (cc)
 passing test (p ∷ ps) zero t = (p, refl, t)
 passing test (p ∷ ps) (suc k) t = passing test ps k t
@@ -54,7 +54,7 @@ same-flight k l h =
     named-equally k.ident k.dep k.dest l.ident l.dep l.dest t.0 t.1 t.2
 
 -- what is held under no name of a flight is no plan of it
-free-there : (test : Plan → Bool) (name : FlightName) (ps : List Plan) (k : ℕ) → ((p : Plan) → test p ≡ true → is_held_under name p ≡ true)
+free-there : (test : PlanView → Bool) (name : FlightName) (ps : List PlanView) (k : ℕ) → ((p : PlanView) → test p ≡ true → is_held_under name p ≡ true)
     → is_held_there name ps k ≡ false → passes_at test ps k ≡ false
 free-there test name [] k held f = refl
 free-there test name (p ∷ ps) zero held f = by (test p) refl where
@@ -73,10 +73,10 @@ departed-held state.Filed t = absurd (cc)
 departed-held state.Departed t = refl
 departed-held state.Cancelled t = absurd (cc)
 
-under-own : (name : FlightName) (p : Plan) → is_held p.state ≡ true → flight_of_key p.key ≡ name → is_held_under name p ≡ true
+under-own : (name : FlightName) (p : PlanView) → is_held p.state ≡ true → flight_of_key p.key ≡ name → is_held_under name p ≡ true
 under-own name p h e = rw h (subst (λ (n : FlightName). same_flight name n ≡ true) (sym e) (same_flight-refl name))
 
-module _ (parts : Parts) (ps : List Plan) (k : ℕ) (f : is_held_there (flight_of_parts parts) ps k ≡ false) where
+module _ (parts : Parts) (ps : List PlanView) (k : ℕ) (f : is_held_there (flight_of_parts parts) ps k ≡ false) where
   pub no-candidate : passes_at (is_candidate parts) ps k ≡ false
   no-candidate = free-there (is_candidate parts) (flight_of_parts parts) ps k (λ p t. under-own (flight_of_parts parts) p
       (filed-held p.state (and-left (is_filed p.state) (agrees parts p.key) t)) (agreed-flight parts p.key (and-right (is_filed p.state) (agrees parts p.key) t))) f
@@ -85,7 +85,7 @@ module _ (parts : Parts) (ps : List Plan) (k : ℕ) (f : is_held_there (flight_o
   no-gone = free-there (is_gone parts) (flight_of_parts parts) ps k (λ p t. under-own (flight_of_parts parts) p
       (departed-held p.state (and-left (is_departed p.state) (agrees parts p.key) t)) (agreed-flight parts p.key (and-right (is_departed p.state) (agrees parts p.key) t))) f
 
-pub no-holder : (key : Key) (ps : List Plan) (k : ℕ) → is_held_there (flight_of_key key) ps k ≡ false → passes_at (is_held_as key) ps k ≡ false
+pub no-holder : (key : Key) (ps : List PlanView) (k : ℕ) → is_held_there (flight_of_key key) ps k ≡ false → passes_at (is_held_as key) ps k ≡ false
 no-holder key ps k f = free-there (is_held_as key) (flight_of_key key) ps k (λ p t. under-own (flight_of_key key) p
     (and-left (is_held p.state) (same_key p.key key) t) (same-flight p.key key (and-right (is_held p.state) (same_key p.key key) t))) f
 
@@ -93,34 +93,34 @@ pub free-of : (place but : ℕ) (b : Bool) → (not (place == but) && b) ≡ fal
 free-of place but true h apart = absurd (apart (grind (arith, nat_tests, h)))
 free-of place but false h apart = refl
 
-pub held-beside : (key : Key) (ps : List Plan) (place but : ℕ) → (not (place == but) && passes_at (is_held_as key) ps place) ≡ true → IsHeldBeside key ps but
+pub held-beside : (key : Key) (ps : List PlanView) (place but : ℕ) → (not (place == but) && passes_at (is_held_as key) ps place) ≡ true → IsHeldBeside key ps but
 held-beside key ps place but h = (place, apart (place == but) refl (and-left (not (place == but)) _ h), and-right (not (place == but)) _ h) where
   apart : (b : Bool) → (place == but) ≡ b → not b ≡ true → place ≡ but → ⊥
   apart true e n same = absurd (cc)
   apart false e n same = absurd (grind (arith, nat_tests, e, same))
 
 -- what the search in a chain says of all plans
-pub held-searched : (key : Key) (ps : List Plan) (b : Bool) → (b ≡ true → IsHeldBeside key ps (length ps)) → (b ≡ false → (k : ℕ) → IsFreeAt key ps (length ps) k) → b ≡ list_any (is_held_as key) ps
+pub held-searched : (key : Key) (ps : List PlanView) (b : Bool) → (b ≡ true → IsHeldBeside key ps (length ps)) → (b ≡ false → (k : ℕ) → IsFreeAt key ps (length ps) k) → b ≡ list_any (is_held_as key) ps
 held-searched key ps true found free = sym (any-one (is_held_as key) ps (found refl).0 (found refl).2)
 held-searched key ps false found free = sym (any-none (is_held_as key) ps (λ k. split k (cases_eq k (length ps)))) where
   split : (k : ℕ) → (k ≡ length ps) ⊎ (k ≡ length ps → ⊥) → passes_at (is_held_as key) ps k ≡ false
   split k (inl same) = passes_at-past (is_held_as key) ps k (omega (arith, same))
   split k (inr apart) = free refl k apart
 
-pub passes_at-set-other : (test : Plan → Bool) (ps : List Plan) (i k : ℕ) (q : Plan) → (k ≡ i → ⊥) → passes_at test (slice_set ps i q) k ≡ passes_at test ps k
+pub passes_at-set-other : (test : PlanView → Bool) (ps : List PlanView) (i k : ℕ) (q : PlanView) → (k ≡ i → ⊥) → passes_at test (slice_set ps i q) k ≡ passes_at test ps k
 passes_at-set-other test [] i k q apart = refl
 passes_at-set-other test (p ∷ ps) zero zero q apart = absurd (apart refl)
 passes_at-set-other test (p ∷ ps) zero (suc k) q apart = refl
 passes_at-set-other test (p ∷ ps) (suc i) zero q apart = refl
 passes_at-set-other test (p ∷ ps) (suc i) (suc k) q apart = passes_at-set-other test ps i k q (λ e. apart (ap suc e))
 
-pub passes_at-set-same : (test : Plan → Bool) (ps : List Plan) (i : ℕ) (q : Plan) → test q ≡ false → passes_at test (slice_set ps i q) i ≡ false
+pub passes_at-set-same : (test : PlanView → Bool) (ps : List PlanView) (i : ℕ) (q : PlanView) → test q ≡ false → passes_at test (slice_set ps i q) i ≡ false
 passes_at-set-same test [] i q f = refl
 passes_at-set-same test (p ∷ ps) zero q f = f
 passes_at-set-same test (p ∷ ps) (suc i) q f = passes_at-set-same test ps i q f
 
 -- and of all plans but one
-beside-searched : (key : Key) (ps : List Plan) (i : ℕ) (q : Plan) (b : Bool) → is_held_as key q ≡ false → (b ≡ true → IsHeldBeside key ps i) → (b ≡ false → (k : ℕ) → IsFreeAt key ps i k) → b ≡ list_any (is_held_as key) (slice_set ps i q)
+beside-searched : (key : Key) (ps : List PlanView) (i : ℕ) (q : PlanView) (b : Bool) → is_held_as key q ≡ false → (b ≡ true → IsHeldBeside key ps i) → (b ≡ false → (k : ℕ) → IsFreeAt key ps i k) → b ≡ list_any (is_held_as key) (slice_set ps i q)
 beside-searched key ps i q true f found free =
     let h = found refl in
     sym (any-one (is_held_as key) (slice_set ps i q) h.0 (passes_at-set-other (is_held_as key) ps i h.0 q h.1 ∙ h.2))
@@ -129,7 +129,7 @@ beside-searched key ps i q false f found free = sym (any-none (is_held_as key) (
   split k (inl same) = rw same (passes_at-set-same (is_held_as key) ps i q f)
   split k (inr apart) = passes_at-set-other (is_held_as key) ps i k q apart ∙ free refl k apart
 
-pub others-searched : (key : Key) (n : ℕ) (ps : List Plan) (b : Bool) → 0 < n → n ≤ length ps → (b ≡ true → IsHeldBeside key ps (n - 1)) → (b ≡ false → (k : ℕ) → IsFreeAt key ps (n - 1) k) → b ≡ list_any (is_held_as key) (others n ps)
+pub others-searched : (key : Key) (n : ℕ) (ps : List PlanView) (b : Bool) → 0 < n → n ≤ length ps → (b ≡ true → IsHeldBeside key ps (n - 1)) → (b ≡ false → (k : ℕ) → IsFreeAt key ps (n - 1) k) → b ≡ list_any (is_held_as key) (others n ps)
 unfolding changed_at
 others-searched key n [] b some within found free = absurd (omega (arith, some, within))
 others-searched key n (p ∷ ps) b some within found free =
@@ -138,7 +138,7 @@ others-searched key n (p ∷ ps) b some within found free =
 
 -- A walk over the chain of a flight goes from each plan that is held under its name to the next
 -- older one, and passes by no other.
-module _ (name : FlightName) (ps : List Plan) where
+module _ (name : FlightName) (ps : List PlanView) where
   pub nothing-newer : (k : ℕ) → newest_held name ps (length ps) ≤ k → is_held_there name ps k ≡ false
   nothing-newer k a = by (cases_lt k (length ps)) where
     by : (k < length ps) ⊎ (length ps ≤ k) → is_held_there name ps k ≡ false
@@ -152,7 +152,7 @@ module _ (name : FlightName) (ps : List Plan) where
   newest-there n k e = last-passes (is_held_there name ps) n k e
 
 -- one more index is counted, and all between it and the next
-module _ (parts : Parts) (ps : List Plan) where
+module _ (parts : Parts) (ps : List PlanView) where
   pub counted-at-first : (k : ℕ) → newest_held (flight_of_parts parts) ps (length ps) ≤ k → IsCounted (is_candidate parts) (is_gone parts) ps found.Nothing k
   counted-at-first k a =
       let f : is_held_there (flight_of_parts parts) ps k ≡ false = nothing-newer (flight_of_parts parts) ps k a in
@@ -175,7 +175,7 @@ module _ (parts : Parts) (ps : List Plan) where
     by (inr above) (inr apart) = counted-more (is_candidate parts) (is_gone parts) ps f i k _ _ (counted k (omega (arith, above, apart)))
 
 -- and free
-module _ (key : Key) (ps : List Plan) (but : ℕ) where
+module _ (key : Key) (ps : List PlanView) (but : ℕ) where
   pub free-at-first : (k : ℕ) → newest_held (flight_of_key key) ps (length ps) ≤ k → IsFreeAt key ps but k
   free-at-first k a apart = no-holder key ps k (nothing-newer (flight_of_key key) ps k a)
 

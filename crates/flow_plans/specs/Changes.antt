@@ -12,23 +12,23 @@ use Rattle.fpl_message.specs.declared.refusal.Refusal.TheVariants as refusal
 use Rattle.fpl_message.specs.declared.short_message.Dla.{Dla}
 use Rattle.fpl_message.specs.declared.short_message.Cnl.{Cnl}
 use Rattle.fpl_message.specs.declared.short_message.Dep.{Dep}
-use Rattle.fpl_message.specs.Messages.{Fpl, Chg}
+use Rattle.fpl_message.specs.Messages.{FplView, ChgView}
 use Rattle.fpl_message.specs.Reads.{field}
 use Rattle.fpl_message.specs.Refusals.{◌>>=◌}
 use Rattle.flow_plans.specs.declared.plan.Key.{Key}
 use Rattle.flow_plans.specs.declared.plan.PlanState.TheVariants as state
 use Rattle.flow_plans.specs.declared.fault.PlanFault.{PlanFault}
 use Rattle.flow_plans.specs.declared.fault.PlanFault.TheVariants as fault
-use Rattle.flow_plans.specs.Plans.{Plan, Texts, is_held_as, plan_at, with_plan, changed_at, with_state, with_off_block}
+use Rattle.flow_plans.specs.Plans.{PlanView, TextsView, is_held_as, plan_at, with_plan, changed_at, with_state, with_off_block}
 use Rattle.flow_plans.specs.Times.{unless, off_block_of, unless_out_of_time, delayed_to}
 use Rattle.flow_plans.specs.Matching.{is_on, matching}
 
 -- the key of the plan that a flight plan message files
-abbrev pub key_of : ℕ → Fpl → Key
+abbrev pub key_of : ℕ → FplView → Key
 key_of moment m = record { ident = m.ident.name; dep = m.departure.place; dest = m.destination.place; day = moment / 1440 }
 
 -- the plan that a flight plan message files, with this off-block date and time
-unfoldable pub plan_of : ℕ → Fpl → Plan
+unfoldable pub plan_of : ℕ → FplView → PlanView
 plan_of moment m = record {
   key = key_of moment m;
   state = state.Filed;
@@ -47,28 +47,28 @@ plan_of moment m = record {
 }
 
 -- the off-block date and time that a flight plan message asks for
-abbrev pub moment_of : ℕ → Fpl → ℕ
-moment_of now m = off_block_of now (day_of_items m.items) m.departure.time
+abbrev pub asked_off_block : ℕ → FplView → ℕ
+asked_off_block now m = off_block_of now (day_of_items m.items) m.departure.time
 
 -- the plans with one more, or why it is refused
-unfoldable pub filed : ℕ → ℕ → List Plan → Fpl → Result (List Plan) Refusal
+unfoldable pub filed : ℕ → ℕ → List PlanView → FplView → Result (List PlanView) Refusal
 filed max now plans m =
-    let plan = plan_of (moment_of now m) m in
+    let plan = plan_of (asked_off_block now m) m in
     unless_out_of_time now plan.off_block
     (unless (list_any (is_held_as plan.key) plans) refusal.AlreadyHeld
     (unless (nat_le max (length plans)) refusal.PlansFull (Ok (plans ++ plan ∷ []))))
 
 -- the plans after a message, and the number of the plan that it is about
 pub record Changed : Type 0 where
-  pub plans : List Plan
+  pub plans : List PlanView
   pub number : ℕ
 
 -- what follows from the plan of this number
-abbrev pub about : {X : Type 0} → List Plan → ℕ → (Plan → Result X Refusal) → Result X Refusal
+abbrev pub about : {X : Type 0} → List PlanView → ℕ → (PlanView → Result X Refusal) → Result X Refusal
 about plans number next = option_map_or next (plan_at plans number) (Err refusal.NoPlan)
 
 -- DLA: the plan leaves its blocks later
-unfoldable pub delayed : ℕ → List Plan → Dla → Result Changed Refusal
+unfoldable pub delayed : ℕ → List PlanView → Dla → Result Changed Refusal
 delayed now plans m =
     matching plans m.parts >>= (λ number. about plans number (λ plan. delayed_to now plan.off_block m.time >>= (λ moment. Ok (record {
       plans = changed_at (with_off_block moment) number plans;
@@ -76,12 +76,12 @@ delayed now plans m =
     }))))
 
 -- CNL: the plan is cancelled, which frees its key
-unfoldable pub cancelled : List Plan → Cnl → Result Changed Refusal
+unfoldable pub cancelled : List PlanView → Cnl → Result Changed Refusal
 cancelled plans m =
     matching plans m.parts >>= (λ number. Ok (record { plans = changed_at (with_state state.Cancelled) number plans; number = number }))
 
 -- DEP: the plan has departed
-unfoldable pub departed : List Plan → Dep → Result Changed Refusal
+unfoldable pub departed : List PlanView → Dep → Result Changed Refusal
 departed plans m =
     matching plans m.parts >>= (λ number. Ok (record { plans = changed_at (with_state state.Departed) number plans; number = number }))
 
@@ -90,7 +90,7 @@ abbrev pub is_of_another : Option Departure → Option ℕ → Key → Bool
 is_of_another departure day key =
     option_map_or (λ named. not (bytes_eq named.place key.dep)) departure false || not (is_on day key.day)
 
-unfoldable pub changes_key : Chg → Key → Bool
+unfoldable pub changes_key : ChgView → Key → Bool
 changes_key m key = is_of_another m.departure (option_map_or day_of_items m.items None) key
 
 -- an amended field 13 moves the off-block date and time as a delay does
@@ -107,7 +107,7 @@ abbrev pub alternates_after : List (List ℕ) → Option Destination → List (L
 alternates_after held None = held
 alternates_after held (Some destination) = if is_some destination.elapsed then destination.alternates else held
 
-unfoldable pub texts_after : Texts → Chg → Texts
+unfoldable pub texts_after : TextsView → ChgView → TextsView
 texts_after held m = record {
   field8 = unwrap_or m.field8 held.field8;
   field9 = unwrap_or m.field9 held.field9;
@@ -117,11 +117,11 @@ texts_after held m = record {
 }
 
 -- the key keeps all but the destination
-unfoldable pub key_after : Key → Chg → Key
+unfoldable pub key_after : Key → ChgView → Key
 key_after held m = record held { dest = option_map_or (λ destination. destination.place) m.destination held.dest }
 
 -- the plan with all amendments made, and this off-block date and time
-unfoldable pub amended_plan : ℕ → Chg → Plan → Plan
+unfoldable pub amended_plan : ℕ → ChgView → PlanView → PlanView
 amended_plan moment m plan = record {
   key = key_after plan.key m;
   state = plan.state;
@@ -134,11 +134,11 @@ amended_plan moment m plan = record {
 }
 
 -- the plans but that one, which counts as cancelled
-abbrev pub others : ℕ → List Plan → List Plan
+abbrev pub others : ℕ → List PlanView → List PlanView
 others number plans = changed_at (with_state state.Cancelled) number plans
 
 -- CHG: each amended field replaces the one held
-unfoldable pub amended : ℕ → List Plan → Chg → Result Changed Refusal
+unfoldable pub amended : ℕ → List PlanView → ChgView → Result Changed Refusal
 amended now plans m =
     matching plans m.parts >>= (λ number. about plans number (λ plan. unless (changes_key m plan.key) refusal.KeyChange
     (moved_to now plan.off_block m.departure >>= (λ moment.
@@ -178,6 +178,6 @@ abbrev pub IsJustRefusal : {X : Type 0} → PlanFault → Result X Refusal → T
 IsJustRefusal e expected = IsRefused (refusal_of e) expected
 
 -- A call that doesn't allocate returns what the definition says.
-abbrev pub Answers : {X : Type 0} → Result X PlanFault → Result X Refusal → Type 0
-Answers (Ok x) expected = expected ≡ Ok x
-Answers (Err e) expected = IsJustRefusal e expected
+abbrev pub Returns : {X : Type 0} → Result X PlanFault → Result X Refusal → Type 0
+Returns (Ok x) expected = expected ≡ Ok x
+Returns (Err e) expected = IsJustRefusal e expected

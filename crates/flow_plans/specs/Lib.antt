@@ -6,7 +6,7 @@ pub mod Searching
 pub mod Chains
 pub mod Changes
 pub mod Entries
-pub mod Places
+pub mod Letters
 pub mod Near
 pub mod Outlines
 pub mod Stores

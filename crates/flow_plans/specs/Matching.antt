@@ -8,7 +8,7 @@ use Rattle.fpl_message.specs.declared.parts.Parts.{Parts}
 use Rattle.fpl_message.specs.declared.refusal.Refusal.{Refusal}
 use Rattle.fpl_message.specs.declared.refusal.Refusal.TheVariants as refusal
 use Rattle.flow_plans.specs.declared.plan.Key.{Key}
-use Rattle.flow_plans.specs.Plans.{Plan, is_filed, is_departed}
+use Rattle.flow_plans.specs.Plans.{PlanView, is_filed, is_departed}
 
 -- the day counts only if the message has one
 abbrev pub is_on : Option ℕ → ℕ → Bool
@@ -20,14 +20,14 @@ unfoldable pub agrees : Parts → Key → Bool
 agrees parts key =
     bytes_eq key.ident parts.ident && bytes_eq key.dep parts.dep && bytes_eq key.dest parts.dest && is_on parts.day key.day
 
-abbrev pub is_candidate : Parts → Plan → Bool
+abbrev pub is_candidate : Parts → PlanView → Bool
 is_candidate parts plan = is_filed plan.state && agrees parts plan.key
 
-abbrev pub is_gone : Parts → Plan → Bool
+abbrev pub is_gone : Parts → PlanView → Bool
 is_gone parts plan = is_departed plan.state && agrees parts plan.key
 
 -- the numbers, from this one on, of the plans that pass a test
-abbrev pub numbers : (Plan → Bool) → ℕ → List Plan → List ℕ
+abbrev pub numbers : (PlanView → Bool) → ℕ → List PlanView → List ℕ
 numbers test number [] = []
 numbers test number (plan ∷ plans) =
     if test plan then number ∷ numbers test (number + 1) plans else numbers test (number + 1) plans
@@ -40,5 +40,5 @@ the_one departed (number ∷ []) = Ok number
 the_one departed (number ∷ other ∷ more) = Err refusal.Ambiguous
 
 -- the number of the plan that a message with these parts is about
-unfoldable pub matching : List Plan → Parts → Result ℕ Refusal
+unfoldable pub matching : List PlanView → Parts → Result ℕ Refusal
 matching plans parts = the_one (list_any (is_gone parts) plans) (numbers (is_candidate parts) 1 plans)

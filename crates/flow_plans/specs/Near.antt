@@ -4,13 +4,13 @@ use Rattle.std.specs.Prelude.{◌≡◌, ℕ, ◌+◌, ◌<◌, List, slice_inde
 use Rattle.std.specs.Int.{bit_at}
 use Rattle.fpl_message.specs.declared.order.Spot.{Spot}
 use Rattle.fpl_message.specs.declared.order.Spot.TheVariants.{Dep, Arr, Via}
-use Rattle.fpl_items.specs.Places.{bit_of}
+use Rattle.fpl_items.specs.Points.{bit_of}
 
 -- the row of a point: departures, arrivals and route points have 64 rows each
-unfoldable pub row_of : Spot → ℕ
-row_of (Dep place) = bit_of place
-row_of (Arr place) = 64 + bit_of place
-row_of (Via place) = 128 + bit_of place
+unfoldable pub table_row : Spot → ℕ
+table_row (Dep place) = bit_of place
+table_row (Arr place) = 64 + bit_of place
+table_row (Via place) = 128 + bit_of place
 
 -- the word of a row; one that the table doesn't have has each bit
 abbrev pub word_at : List ℕ → ℕ → ℕ

@@ -4,22 +4,22 @@ use Rattle.fpl_message.specs.declared.refusal.Refusal.{Refusal}
 use Rattle.fpl_message.specs.declared.short_message.Dla.{Dla}
 use Rattle.fpl_message.specs.declared.short_message.Cnl.{Cnl}
 use Rattle.fpl_message.specs.declared.short_message.Dep.{Dep}
-use Rattle.fpl_message.specs.Messages.{Fpl, Chg}
+use Rattle.fpl_message.specs.Messages.{FplView, ChgView}
 use Rattle.fpl_message.specs.Refusals.{◌>>=◌}
-use Rattle.flow_plans.specs.Plans.{Plan}
+use Rattle.flow_plans.specs.Plans.{PlanView}
 use Rattle.flow_plans.specs.Changes.{filed, delayed, cancelled, departed, amended}
 
 -- a message, with the desk's time at which it comes and how many plans are accepted, if these
 -- matter
 pub data Change : Type 0 where
-  file : ℕ → ℕ → Fpl → Change
+  file : ℕ → ℕ → FplView → Change
   delay : ℕ → Dla → Change
-  amend : ℕ → Chg → Change
+  amend : ℕ → ChgView → Change
   cancel : Cnl → Change
   depart : Dep → Change
 
 -- the plans after it, or why it is refused
-abbrev pub change_of : List Plan → Change → Result (List Plan) Refusal
+abbrev pub change_of : List PlanView → Change → Result (List PlanView) Refusal
 change_of plans (file max now m) = filed max now plans m
 change_of plans (delay now m) = delayed now plans m >>= (λ later. Ok later.plans)
 change_of plans (amend now m) = amended now plans m >>= (λ later. Ok later.plans)
@@ -27,12 +27,12 @@ change_of plans (cancel m) = cancelled plans m >>= (λ later. Ok later.plans)
 change_of plans (depart m) = departed plans m >>= (λ later. Ok later.plans)
 
 -- a refused change leaves all unchanged
-abbrev pub or_same : List Plan → Result (List Plan) Refusal → List Plan
+abbrev pub or_same : List PlanView → Result (List PlanView) Refusal → List PlanView
 or_same plans (Ok later) = later
 or_same plans (Err refusal) = plans
 
 -- the plans after changes, one after the other
-abbrev pub changed_all : List Change → List Plan → List Plan
+abbrev pub changed_all : List Change → List PlanView → List PlanView
 changed_all [] plans = plans
 changed_all (change ∷ changes) plans = changed_all changes (or_same plans (change_of plans change))
 
@@ -43,14 +43,14 @@ pub data Turn : Type 0 where
 
 -- the plans, and those before the last accepted change, if that can be undone
 pub record Held : Type 0 where
-  pub plans : List Plan
-  pub before : Option (List Plan)
+  pub plans : List PlanView
+  pub before : Option (List PlanView)
 
-abbrev pub held_after : Held → Result (List Plan) Refusal → Held
+abbrev pub held_after : Held → Result (List PlanView) Refusal → Held
 held_after held (Ok later) = record { plans = later; before = Some held.plans }
 held_after held (Err refusal) = held
 
-abbrev pub held_before : Held → Option (List Plan) → Held
+abbrev pub held_before : Held → Option (List PlanView) → Held
 held_before held (Some plans) = record { plans = plans; before = None }
 held_before held None = held
 

@@ -1,8 +1,8 @@
 //! The values of a plan after a CHG.
 ghost use Rattle.std.specs.Prelude.{◌≡◌, ◌<◌, List, Option, IfSome, unwrap_or, option_copied};
 ghost use Rattle.std.specs.Option.{option_map_or};
-ghost use Rattle.fpl_items.specs.Items.{Item, is_exempt};
-ghost use Rattle.fpl_items.specs.Told.{TellsOfAny};
+ghost use Rattle.fpl_items.specs.Items.{ItemView, is_exempt};
+ghost use Rattle.fpl_items.specs.Other18.{TellsOfAny};
 ghost use Rattle.flow_plans.specs.Changes.{elapsed_after, alternates_after};
 ghost use Rattle.fpl_text.specs.declared.time.TheConstants.{ELAPSED_LIMIT};
 
@@ -30,7 +30,7 @@ pub(crate) fn rules_after(held: FlightRules, amended: Option<&Rules>) -> FlightR
 
 /// Whether an amended field 18 exempts the flight; `held` if it isn't amended.
 pub(crate) fn exempt_after<A: Allocator + Copy>(held: bool, amended: Option<&Other18<A>>) -> bool
-    ensures { (items : Option (List Item)) → TellsOfAny items (option_copied amended.entry)
+    ensures { (items : Option (List ItemView)) → TellsOfAny items (option_copied amended.entry)
         → result ≡ option_map_or is_exempt items held }
 {
     match amended {

@@ -6,7 +6,7 @@ ghost use Rattle.flow_plans.specs.Settings.{IsDeskTime};
 ghost use Rattle.flow_plans.specs.Plans.{is_held, plan_at, changed_at};
 ghost use Rattle.flow_plans.specs.Chains.{AreChained, flight_of_key, StayChained};
 ghost use Rattle.flow_plans.specs.Changes.{moved_to, key_after, amended_plan};
-ghost use Rattle.flow_plans.specs.Changes.{amended, Answers, IsRefusal};
+ghost use Rattle.flow_plans.specs.Changes.{amended, Returns, IsRefusal};
 ghost use Rattle.flow_plans.specs.Changes.{IsJustRefusal};
 ghost use Rattle.flow_plans.specs.Matching.{matching};
 ghost use Rattle.flow_plans.specs.Undoing.{undone, IsOf, CanReturn};
@@ -28,7 +28,7 @@ use std::alloc::Allocator;
 fn moved_to(now: Minute, held: Minute, departure: Option<&Departure>) -> Result<Minute, PlanFault>
     requires now { IsDeskTime now }
     requires held { held < off_blocks_end }
-    ensures answer { Answers result (moved_to now held (option_copied departure.entry)) }
+    ensures answer { Returns result (moved_to now held (option_copied departure.entry)) }
     ensures bound { IfOk result (λ moment. moment < off_blocks_end) }
 {
     match departure {

@@ -4,7 +4,7 @@ ghost use Rattle.std.specs.Prelude.{ℕ, Bool, true, false, None, OnOk};
 ghost use Rattle.std.specs.Prelude.{OnErr, IfSome, length, max, take, slice_index, fold, ◌*◌};
 ghost use Rattle.std.specs.Map.{lookup};
 ghost use Rattle.indexmap.specs.IndexMap.{spare};
-ghost use Rattle.flow_plans.specs.Plans.{Plan as Held, is_held, plan_at, with_plan};
+ghost use Rattle.flow_plans.specs.Plans.{PlanView, is_held, plan_at, with_plan};
 ghost use Rattle.flow_plans.specs.Chains.{base_256, flight_named, flight_of_key};
 ghost use Rattle.flow_plans.specs.Chains.{flight_of_parts, same_flight, newest};
 ghost use Rattle.flow_plans.specs.Chains.{GoDown, AreLinks, IsNewest, AreChained};
@@ -12,7 +12,7 @@ ghost use Rattle.flow_plans.specs.Chains.{HasRoomFor, IsUpdated, KeepNames};
 ghost use Rattle.flow_plans.specs.Chains.{IsForgotten, StayChained, IsApart, LeaveOut, TakeIn};
 ghost use Rattle.flow_plans.specs.declared.setup.TheConstants.{MAX_PLANS};
 
-use crate::places::letters_of;
+use crate::first_letters::letters_of;
 use crate::plan::{Key, Plan};
 use fpl_message::Parts;
 use fpl_text::Text;
@@ -95,9 +95,9 @@ type Heads<A> = IndexMap<FlightName, u32, BuildHasherDefault<FoldHasher>, A>;
 
 impl<A: Allocator + Copy> Model for Chains<A> {
     ghost use Rattle.indexmap.specs.IndexMap.{spare};
-    ghost use Rattle.flow_plans.specs.Chains.{Chained, GoDown};
+    ghost use Rattle.flow_plans.specs.Chains.{ChainsView, GoDown};
 
-    ghost Value = { Chained };
+    ghost Value = { ChainsView };
 
     ghost view = { λ c.
         record { heads = c.heads.entries; older = c.older.items; room = spare c.heads } };
@@ -217,7 +217,7 @@ impl<A: Allocator + Copy> Chains<A> {
         requires held { IfSome (plan_at plans.now number) (λ p. is_held p.state ≡ true) }
         requires room { HasRoomFor self.old name }
         requires chained { AreChained self.old plans.now }
-        ensures chained { (p : Held) → is_held p.state ≡ true → flight_of_key p.key ≡ name
+        ensures chained { (p : PlanView) → is_held p.state ≡ true → flight_of_key p.key ≡ name
             → AreChained self.new (with_plan plans.now number p) }
         ensures room { self.old.room ≤ self.new.room + 1 }
     {

@@ -7,12 +7,12 @@ ghost use Rattle.std.specs.Prelude.{List, [], ◌∷◌, length, Ok, Some, None}
 ghost use Rattle.fpl_message.specs.declared.short_message.Dla.{Dla};
 ghost use Rattle.fpl_message.specs.declared.short_message.Cnl.{Cnl};
 ghost use Rattle.fpl_message.specs.declared.short_message.Dep.{Dep};
-ghost use Rattle.fpl_message.specs.Messages.{Fpl, Chg};
+ghost use Rattle.fpl_message.specs.Messages.{FplView, ChgView};
 ghost use Rattle.flow_plans.specs.declared.chains.FlightName.{FlightName};
 ghost use Rattle.flow_plans.specs.declared.plan.Key.{Key};
-ghost use Rattle.flow_plans.specs.Chains.{Chained, newest, AreChained, chain_from, held_numbers};
-ghost use Rattle.flow_plans.specs.Plans.{Plan, is_held, same_key, plan_at};
-ghost use Rattle.flow_plans.specs.Changes.{Changed, plan_of, moment_of, filed};
+ghost use Rattle.flow_plans.specs.Chains.{ChainsView, newest, AreChained, chain_from, held_numbers};
+ghost use Rattle.flow_plans.specs.Plans.{PlanView, is_held, same_key, plan_at};
+ghost use Rattle.flow_plans.specs.Changes.{Changed, plan_of, asked_off_block, filed};
 ghost use Rattle.flow_plans.specs.Changes.{delayed, cancelled, departed, amended};
 ghost use Rattle.flow_plans.specs.Distinct.{AreDistinct, KeepKeys, KeepFlights};
 ghost use Rattle.flow_plans.specs.Runs.{Change, change_of, changed_all, Turn};
@@ -30,7 +30,8 @@ pub fn same_keys_are_equal()
 
 /// Held plans of different numbers have different keys.
 pub fn held_keys_differ()
-    ensures { (plans : List Plan) → AreDistinct plans → (m n : ℕ) (p q : Plan) → 0 < m → 0 < n
+    ensures { (plans : List PlanView) → AreDistinct plans → (m n : ℕ) (p q : PlanView) → 0 < m
+        → 0 < n
         → plan_at plans m ≡ Some p → plan_at plans n ≡ Some q → is_held p.state ≡ true
         → is_held q.state ≡ true
         → (m ≡ n → ⊥) → p.key ≡ q.key → ⊥ }
@@ -43,67 +44,71 @@ pub fn no_plans_are_distinct()
 
 /// A filed plan has a key that no held plan has, and the next number.
 pub fn filed_plans_stay_distinct()
-    ensures distinct { (max now : ℕ) (plans later : List Plan) (m : Fpl)
+    ensures distinct { (max now : ℕ) (plans later : List PlanView) (m : FplView)
         → filed max now plans m ≡ Ok later
         → AreDistinct plans → AreDistinct later }
-    ensures keys { (max now : ℕ) (plans later : List Plan) (m : Fpl)
+    ensures keys { (max now : ℕ) (plans later : List PlanView) (m : FplView)
         → filed max now plans m ≡ Ok later
         → KeepKeys plans later }
-    ensures count { (max now : ℕ) (plans later : List Plan) (m : Fpl)
+    ensures count { (max now : ℕ) (plans later : List PlanView) (m : FplView)
         → filed max now plans m ≡ Ok later
         → length later ≡ length plans + 1 }
-    ensures number { (max now : ℕ) (plans later : List Plan) (m : Fpl)
+    ensures number { (max now : ℕ) (plans later : List PlanView) (m : FplView)
         → filed max now plans m ≡ Ok later
-        → plan_at later (length plans + 1) ≡ Some (plan_of (moment_of now m) m) }
+        → plan_at later (length plans + 1) ≡ Some (plan_of (asked_off_block now m) m) }
 {}
 
 /// A delay leaves all keys and numbers unchanged.
 pub fn delayed_plans_stay_distinct()
-    ensures distinct { (now : ℕ) (plans : List Plan) (m : Dla) (later : Changed)
+    ensures distinct { (now : ℕ) (plans : List PlanView) (m : Dla) (later : Changed)
         → delayed now plans m ≡ Ok later
         → AreDistinct plans → AreDistinct later.plans }
-    ensures keys { (now : ℕ) (plans : List Plan) (m : Dla) (later : Changed)
+    ensures keys { (now : ℕ) (plans : List PlanView) (m : Dla) (later : Changed)
         → delayed now plans m ≡ Ok later
         → KeepKeys plans later.plans }
-    ensures count { (now : ℕ) (plans : List Plan) (m : Dla) (later : Changed)
+    ensures count { (now : ℕ) (plans : List PlanView) (m : Dla) (later : Changed)
         → delayed now plans m ≡ Ok later
         → length later.plans ≡ length plans }
 {}
 
 /// A cancelled plan keeps its number and its key, which it does not hold any more.
 pub fn cancelled_plans_stay_distinct()
-    ensures distinct { (plans : List Plan) (m : Cnl) (later : Changed)
+    ensures distinct { (plans : List PlanView) (m : Cnl) (later : Changed)
         → cancelled plans m ≡ Ok later
         → AreDistinct plans → AreDistinct later.plans }
-    ensures keys { (plans : List Plan) (m : Cnl) (later : Changed) → cancelled plans m ≡ Ok later
+    ensures keys { (plans : List PlanView) (m : Cnl) (later : Changed) → cancelled plans m
+        ≡ Ok later
         → KeepKeys plans later.plans }
-    ensures count { (plans : List Plan) (m : Cnl) (later : Changed) → cancelled plans m ≡ Ok later
+    ensures count { (plans : List PlanView) (m : Cnl) (later : Changed) → cancelled plans m
+        ≡ Ok later
         → length later.plans ≡ length plans }
 {}
 
 /// A departed plan holds its key as before: only a filed one departs.
 pub fn departed_plans_stay_distinct()
-    ensures distinct { (plans : List Plan) (m : Dep) (later : Changed) → departed plans m ≡ Ok later
+    ensures distinct { (plans : List PlanView) (m : Dep) (later : Changed) → departed plans m
+        ≡ Ok later
         → AreDistinct plans → AreDistinct later.plans }
-    ensures keys { (plans : List Plan) (m : Dep) (later : Changed) → departed plans m ≡ Ok later
+    ensures keys { (plans : List PlanView) (m : Dep) (later : Changed) → departed plans m ≡ Ok later
         → KeepKeys plans later.plans }
-    ensures count { (plans : List Plan) (m : Dep) (later : Changed) → departed plans m ≡ Ok later
+    ensures count { (plans : List PlanView) (m : Dep) (later : Changed) → departed plans m
+        ≡ Ok later
         → length later.plans ≡ length plans }
 {}
 
 /// An amended destination gives a key that no other held plan has; the rest of the key and all
 /// numbers are unchanged.
 pub fn amended_plans_stay_distinct()
-    ensures distinct { (now : ℕ) (plans : List Plan) (m : Chg) (later : Changed)
+    ensures distinct { (now : ℕ) (plans : List PlanView) (m : ChgView) (later : Changed)
         → amended now plans m ≡ Ok later
         → AreDistinct plans → AreDistinct later.plans }
-    ensures keys { (now : ℕ) (plans : List Plan) (m : Chg) (later : Changed)
+    ensures keys { (now : ℕ) (plans : List PlanView) (m : ChgView) (later : Changed)
         → amended now plans m ≡ Ok later
         → KeepFlights plans later.plans }
-    ensures count { (now : ℕ) (plans : List Plan) (m : Chg) (later : Changed)
+    ensures count { (now : ℕ) (plans : List PlanView) (m : ChgView) (later : Changed)
         → amended now plans m ≡ Ok later
         → length later.plans ≡ length plans }
-    ensures others { (now : ℕ) (plans : List Plan) (m : Chg) (later : Changed)
+    ensures others { (now : ℕ) (plans : List PlanView) (m : ChgView) (later : Changed)
         → amended now plans m ≡ Ok later
         → (number : ℕ) → 0 < number → (number ≡ later.number → ⊥)
         → plan_at later.plans number ≡ plan_at plans number }
@@ -118,17 +123,17 @@ pub fn held_keys_always_differ()
 /// After any messages a number names the flight that it was given to, and a plan filed later has a
 /// greater number.
 pub fn numbers_are_given_once()
-    ensures flights { (messages : List Change) (plans : List Plan)
+    ensures flights { (messages : List Change) (plans : List PlanView)
         → KeepFlights plans (changed_all messages plans) }
-    ensures greater { (messages : List Change) (plans : List Plan) (max now : ℕ) (m : Fpl)
-        (later : List Plan)
+    ensures greater { (messages : List Change) (plans : List PlanView) (max now : ℕ) (m : FplView)
+        (later : List PlanView)
         → filed max now (changed_all messages plans) m ≡ Ok later → length plans < length later }
 {}
 
 /// A change that was undone leaves no trace, except that nothing can be undone. The plans after any
 /// turns are those that changes alone make.
 pub fn what_is_taken_back_is_gone()
-    ensures at_once { (held : Held) (change : Change) (later : List Plan)
+    ensures at_once { (held : Held) (change : Change) (later : List PlanView)
         → change_of held.plans change ≡ Ok later
         → after_turns (changes change ∷ takes_back ∷ []) held
         ≡ record { plans = held.plans; before = None } }
@@ -141,7 +146,8 @@ pub fn what_is_taken_back_is_gone()
 /// name, the newest first, each once, and no others. So a message costs these, whatever was filed,
 /// amended and cancelled before.
 pub fn chains_have_held_plans_alone()
-    ensures { (chains : Chained) (plans : List Plan) (name : FlightName) → AreChained chains plans
+    ensures { (chains : ChainsView) (plans : List PlanView) (name : FlightName)
+        → AreChained chains plans
         → chain_from (length plans) chains.older (newest chains.heads name)
         ≡ held_numbers name plans (length plans) }
 {}

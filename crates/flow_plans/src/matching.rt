@@ -8,7 +8,7 @@ ghost use Rattle.flow_plans.specs.Searching.{with_candidate, with_gone, with_one
 ghost use Rattle.flow_plans.specs.Searching.{passes_at, IsSound, IsCounted};
 ghost use Rattle.flow_plans.specs.Searching.{IsFreeAt, IsHeldBeside};
 ghost use Rattle.flow_plans.specs.Chains.{AreChained, flight_of_key};
-ghost use Rattle.flow_plans.specs.Changes.{Answers, others};
+ghost use Rattle.flow_plans.specs.Changes.{Returns, others};
 ghost use Rattle.flow_plans.specs.declared.setup.TheConstants.{MAX_PLANS};
 
 use crate::chains::{Chains, FlightName};
@@ -104,7 +104,7 @@ pub(crate) fn matching<A: Allocator + Copy>(
 ) -> Result<u32, PlanFault>
     requires few { length plans.now ≤ MAX_PLANS }
     requires chained { AreChained chains.now plans.now }
-    ensures answer { Answers result (matching plans.now parts.now) }
+    ensures answer { Returns result (matching plans.now parts.now) }
     ensures within { IfOk result (λ n. (0 < n) × (n ≤ length plans.now)) }
     ensures filed { IfOk result (λ n.
         IfSome (plan_at plans.now n) (λ p. p.state ≡ PlanState.Filed)) }

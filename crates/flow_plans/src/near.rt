@@ -3,8 +3,8 @@
 //! The table has 64 rows each for departures, arrivals and route points, by a bit of the name.
 ghost use Rattle.std.specs.Prelude.{◌≡◌, ◌+◌, ◌<◌, ◌≤◌, ℕ};
 ghost use Rattle.std.specs.Int.{bit_at};
-ghost use Rattle.flow_plans.specs.Near.{row_of, word_at, HasBitsOf};
-ghost use Rattle.fpl_items.specs.Places.{bit_of};
+ghost use Rattle.flow_plans.specs.Near.{table_row, word_at, HasBitsOf};
+ghost use Rattle.fpl_items.specs.Points.{bit_of};
 
 use fpl_items::bit_of;
 use fpl_message::Spot;
@@ -13,9 +13,9 @@ use fpl_message::Spot;
 pub const ROWS: u32 = 192;
 
 /// Returns the row of an aerodrome or route point in a table of masks.
-#[tactic(auto, unfolding(crate::specs::Near::row_of))]
+#[tactic(auto, unfolding(crate::specs::Near::table_row))]
 pub fn row_of(spot: &Spot) -> usize
-    ensures value { result ≡ row_of spot.now }
+    ensures value { result ≡ table_row spot.now }
     ensures bound { result < ROWS }
 {
     match spot {

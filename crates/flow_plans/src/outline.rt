@@ -8,7 +8,7 @@ ghost use Rattle.flow_plans.specs.Outlines.{may_come, may_fly, outlined_moment};
 ghost use Rattle.flow_plans.specs.Outlines.{departure, IsOutlineOf};
 ghost use Rattle.flow_plans.specs.declared.setup.TheConstants.{MAX_TAXI};
 
-use crate::places::letters_of;
+use crate::first_letters::letters_of;
 use crate::plan::Plan;
 use fpl_items::may_have;
 use fpl_message::Spot;
@@ -17,7 +17,7 @@ use std::alloc::Allocator;
 
 /// The points at which a regulation may apply to a flight and when, and whether its plan is filed.
 #[derive(Clone, Copy, Debug)]
-pub(crate) struct Outline {
+pub(crate) struct PlanIndexEntry {
     /// The letters of the departure, as `letters_of` returns them.
     dep: u32,
     /// Those of the destination.
@@ -30,18 +30,18 @@ pub(crate) struct Outline {
     is_filed: bool,
 }
 
-const _: () = prove!(size_of::<Outline>() <= 24);
+const _: () = prove!(size_of::<PlanIndexEntry>() <= 24);
 
-impl Outline {
+impl PlanIndexEntry {
     /// The outline of a plan. If no regulation applies to the flight, wherever it is, the outline
     /// enters no point.
-    pub(crate) fn of<A: Allocator + Copy>(plan: &Plan<A>) -> Outline
+    pub(crate) fn of<A: Allocator + Copy>(plan: &Plan<A>) -> PlanIndexEntry
         ensures { IsOutlineOf result plan.now }
     {
         let off_block = plan.off_block();
         let is_filed = plan.is_filed();
         if !plan.may_be_subject() {
-            return Outline {
+            return PlanIndexEntry {
                 dep: 0,
                 dest: 0,
                 way: 0,
@@ -51,7 +51,7 @@ impl Outline {
             };
         }
         let key = plan.key();
-        Outline {
+        PlanIndexEntry {
             dep: letters_of(key.dep.as_bytes()),
             dest: letters_of(key.dest.as_bytes()),
             way: plan.way(),
@@ -108,6 +108,14 @@ impl Outline {
         } else {
             None
         }
+    }
+
+    /// The off-block date and time.
+    #[inline(always)]
+    pub(crate) fn off_block(&self) -> Minute
+        ensures { result ≡ self.now.off_block }
+    {
+        self.off_block
     }
 
     /// The minutes from take-off to the last point that the flight enters, or more.

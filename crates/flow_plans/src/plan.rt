@@ -1,13 +1,13 @@
 //! One flight plan.
 ghost use Rattle.std.specs.Prelude.{◌≡◌, ◌≤◌, ◌<◌, ℕ, List, Option, true, IfOk};
 ghost use Rattle.std.specs.Prelude.{IfSome, IsSome, None, option_copied};
-ghost use Rattle.fpl_items.specs.Items.{Item, day_of_items};
-ghost use Rattle.fpl_items.specs.Told.{TellsOfAny};
+ghost use Rattle.fpl_items.specs.Items.{ItemView, day_of_items};
+ghost use Rattle.fpl_items.specs.Other18.{TellsOfAny};
 ghost use Rattle.flow_plans.specs.Entries.{take_off, elapsed_at, entry_at, subject};
 ghost use Rattle.fpl_message.specs.declared.order.Spot.{Spot};
-ghost use Rattle.flow_plans.specs.Near.{row_of, word_at, HasBitsOf};
+ghost use Rattle.flow_plans.specs.Near.{table_row, word_at, HasBitsOf};
 ghost use Rattle.flow_plans.specs.Outlines.{may_be_subject};
-ghost use Rattle.fpl_items.specs.Places.{may_have};
+ghost use Rattle.fpl_items.specs.Points.{may_have};
 ghost use Rattle.flow_plans.specs.Plans.{is_held, is_filed, same_key};
 ghost use Rattle.flow_plans.specs.Plans.{is_held_as, text_of, status_of};
 ghost use Rattle.flow_plans.specs.Plans.{with_state, with_off_block, with_former, texts_or};
@@ -20,8 +20,8 @@ ghost use Rattle.flow_plans.specs.declared.setup.TheConstants.{MAX_TAXI};
 ghost use Rattle.flow_plans.specs.Times.{off_blocks_end};
 
 use crate::amended_values::{alternates_after, elapsed_after, exempt_after, rules_after};
+use crate::first_letters::letters_of;
 use crate::near::words_of_ends;
-use crate::places::letters_of;
 use crate::texts::{Texts, exchange_texts};
 use fpl_items::Other18;
 use fpl_message::{Chg, Fpl, Parts, Spot};
@@ -124,7 +124,7 @@ impl Key {
 
 /// The day of a DOF item in an amended field 18.
 fn day_of<A: Allocator + Copy>(amended: Option<&Other18<A>>) -> Option<Day>
-    ensures { (items : Option (List Item)) → TellsOfAny items (option_copied amended.entry)
+    ensures { (items : Option (List ItemView)) → TellsOfAny items (option_copied amended.entry)
         → result ≡ option_map_or day_of_items items None }
 {
     match amended {
@@ -172,11 +172,11 @@ pub struct Plan<A: Allocator + Copy = Global> {
 
 impl<A: Allocator + Copy> Model for Plan<A> {
     ghost use Rattle.std.specs.Prelude.{◌<◌};
-    ghost use Rattle.flow_plans.specs.Plans.{Plan as Held};
+    ghost use Rattle.flow_plans.specs.Plans.{PlanView};
     ghost use Rattle.flow_plans.specs.Times.{off_blocks_end};
     ghost use Rattle.fpl_text.specs.declared.time.TheConstants.{ELAPSED_LIMIT};
 
-    ghost Value = { Held };
+    ghost Value = { PlanView };
 
     ghost view = { λ p. record {
       key = p.key;
@@ -195,7 +195,7 @@ impl<A: Allocator + Copy> Model for Plan<A> {
 /// What a plan had before an amendment, except its state. It takes few bytes, since most messages
 /// amend no text.
 #[derive(Drop)]
-pub(crate) struct Former<A: Allocator + Copy = Global> {
+pub(crate) struct PreviousValues<A: Allocator + Copy = Global> {
     alternates: Alternates,
     key: Key,
     off_block: Minute,
@@ -207,14 +207,14 @@ pub(crate) struct Former<A: Allocator + Copy = Global> {
     texts: Option<Box<Texts<A>, A>>,
 }
 
-impl<A: Allocator + Copy> Model for Former<A> {
+impl<A: Allocator + Copy> Model for PreviousValues<A> {
     ghost use Rattle.std.specs.Prelude.{◌<◌};
     ghost use Rattle.std.specs.Option.{option_map};
-    ghost use Rattle.flow_plans.specs.Plans.{Former as Had};
+    ghost use Rattle.flow_plans.specs.Plans.{PreviousValuesView};
     ghost use Rattle.flow_plans.specs.Times.{off_blocks_end};
     ghost use Rattle.fpl_text.specs.declared.time.TheConstants.{ELAPSED_LIMIT};
 
-    ghost Value = { Had };
+    ghost Value = { PreviousValuesView };
 
     ghost view = { λ a. record {
       key = a.key;
@@ -229,7 +229,7 @@ impl<A: Allocator + Copy> Model for Former<A> {
     ghost invariant = { λ a. (a.off_block < off_blocks_end) × (a.elapsed < ELAPSED_LIMIT) };
 }
 
-impl<A: Allocator + Copy> Former<A> {
+impl<A: Allocator + Copy> PreviousValues<A> {
     pub(crate) fn key(&self) -> &Key
         ensures { result.now ≡ self.now.key }
     {
@@ -292,7 +292,7 @@ impl<A: Allocator + Copy> Plan<A> {
         message: &Chg<A>,
         off_block: Minute,
         mut texts: Option<Box<Texts<A>, A>>,
-    ) -> Former<A>
+    ) -> PreviousValues<A>
         requires off_block { off_block < off_blocks_end }
         requires texts { texts_or texts self.old.texts ≡ texts_after self.old.texts message.now }
         ensures changed { self.new ≡ amended_plan off_block message.now self.old }
@@ -304,7 +304,7 @@ impl<A: Allocator + Copy> Plan<A> {
         let rules = rules_after(self.rules, message.rules());
         let exempt = exempt_after(self.exempt, message.other());
         exchange_texts(&mut self.texts, &mut texts);
-        Former {
+        PreviousValues {
             alternates: mem::replace(&mut self.alternates, alternates),
             key: Key {
                 ident: self.key.ident,
@@ -321,7 +321,7 @@ impl<A: Allocator + Copy> Plan<A> {
     }
 
     /// Sets the former values of an amendment again.
-    pub(crate) fn restore(&mut self, mut former: Former<A>)
+    pub(crate) fn restore(&mut self, mut former: PreviousValues<A>)
         ensures { self.new ≡ with_former former self.old }
     {
         exchange_texts(&mut self.texts, &mut former.texts);
@@ -538,7 +538,7 @@ impl<A: Allocator + Copy> Plan<A> {
     #[inline]
     pub(crate) fn near(&self, table: &[u64]) -> u64
         ensures { (taxi start end : ℕ) (spot : Spot) → IsSome (subject taxi spot start end self.now)
-            → HasBitsOf result (word_at table.now (row_of spot)) }
+            → HasBitsOf result (word_at table.now (table_row spot)) }
     {
         if !self.is_filed() {
             return 0;

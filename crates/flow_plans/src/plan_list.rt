@@ -4,11 +4,13 @@
 //! reads little memory.
 ghost use Rattle.std.specs.Prelude.{◌≡◌, ◌+◌, ◌≤◌, ◌<◌, ◌-◌, ◌++◌, ◌∷◌, ℕ, []};
 ghost use Rattle.std.specs.Prelude.{None, true, false, length, take, OnOk};
-ghost use Rattle.std.specs.Prelude.{OnErr, IfSome};
+ghost use Rattle.std.specs.Prelude.{OnErr, IfSome, IfNone, IsSome, List, vec_capacity};
 ghost use Rattle.flow_plans.specs.Chains.{AreChained, StayChained};
-ghost use Rattle.flow_plans.specs.Entries.{subject};
+ghost use Rattle.flow_plans.specs.Entries.{subject, coming_into, entering, NoneEarlier};
 ghost use Rattle.fpl_message.specs.declared.order.Spot.{Spot};
-ghost use Rattle.flow_plans.specs.Places.{IsDepartureOf};
+ghost use Rattle.flow_plans.specs.Letters.{IsDepartureOf};
+ghost use Rattle.flow_plans.specs.Outlines.{AreOutlines};
+ghost use Rattle.flow_plans.specs.Plans.{PlanView};
 ghost use Rattle.flow_plans.specs.Plans.{is_held, plan_at, filed_off_block, changed_at, with_state};
 ghost use Rattle.flow_plans.specs.Plans.{with_off_block, with_former, texts_or};
 ghost use Rattle.flow_plans.specs.Changes.{amended_plan, texts_after};
@@ -16,10 +18,11 @@ ghost use Rattle.flow_plans.specs.declared.setup.TheConstants.{MAX_PLANS, MAX_TA
 ghost use Rattle.flow_plans.specs.Times.{off_blocks_end};
 
 use crate::chains::Chains;
-use crate::outline::Outline;
-use crate::places::letters_of;
-use crate::plan::{Former, Plan, PlanState};
+use crate::first_letters::letters_of;
+use crate::outline::PlanIndexEntry;
+use crate::plan::{Plan, PlanState, PreviousValues};
 use crate::texts::Texts;
+use flow_slots::Planned;
 use fpl_message::{Chg, Spot};
 use fpl_text::Minute;
 use std::alloc::{AllocError, Allocator, Global};
@@ -29,15 +32,15 @@ use std::marker::Model;
 #[derive(Drop)]
 pub(crate) struct PlanList<A: Allocator + Copy = Global> {
     plans: Vec<Plan<A>, A>,
-    outlines: Vec<Outline, A>,
+    outlines: Vec<PlanIndexEntry, A>,
 }
 
 impl<A: Allocator + Copy> Model for PlanList<A> {
     ghost use Rattle.std.specs.Prelude.{List};
-    ghost use Rattle.flow_plans.specs.Plans.{Plan as Held};
+    ghost use Rattle.flow_plans.specs.Plans.{PlanView};
     ghost use Rattle.flow_plans.specs.Outlines.{AreOutlines};
 
-    ghost Value = { List Held };
+    ghost Value = { List PlanView };
 
     ghost view = { λ l. l.plans.items };
 
@@ -79,17 +82,19 @@ impl<A: Allocator + Copy> PlanList<A> {
         }
     }
 
+    /// The off-block date and time of plan `number`, in minutes from 1970-01-01 00:00 UTC.
+    #[inline(always)]
+    fn off_block(&self, number: u32) -> u32
+        requires { (0 < number) × (number ≤ length self.now) }
+        ensures { IfSome (plan_at self.now number) (λ plan. result ≡ plan.off_block) }
+    {
+        self.plans[(number - 1) as usize].off_block().minutes()
+    }
+
     /// Whether the flight of plan `number` may enter a point in a period. If it may not, no
     /// regulation of that point and period applies to it.
     #[inline(always)]
-    pub(crate) fn may_come(
-        &self,
-        number: u32,
-        taxi: u32,
-        spot: &Spot,
-        start: Minute,
-        end: Minute,
-    ) -> bool
+    fn may_come(&self, number: u32, taxi: u32, spot: &Spot, start: Minute, end: Minute) -> bool
         requires { (0 < number) × (number ≤ length self.now) }
         ensures { result ≡ false → IfSome (plan_at self.now number)
             (λ plan. subject taxi spot.now start end plan ≡ None) }
@@ -101,7 +106,7 @@ impl<A: Allocator + Copy> PlanList<A> {
     /// The entry of plan `number` at its departure, if a regulation of an aerodrome of these
     /// letters and that period applies to its flight.
     #[inline(always)]
-    pub(crate) fn departure(
+    fn departure(
         &self,
         number: u32,
         taxi: u32,
@@ -142,32 +147,69 @@ impl<A: Allocator + Copy> PlanList<A> {
         self.plans[(number - 1) as usize].subject(taxi, spot, start, end)
     }
 
-    /// The first number from `from` on of a plan whose flight may enter a point in a period, or the
-    /// number of plans plus 1. To the flights of the plans before it no regulation of that point
-    /// and period applies.
+    /// The first number from `from` on of a plan whose flight may enter a point in a period. To the
+    /// flights of the plans before it no regulation of that point and period applies, and to none
+    /// from there on if it is `None`.
     #[inline(always)]
-    pub(crate) fn next_coming(
+    fn next_coming(
         &self,
         from: u32,
         taxi: u32,
         spot: &Spot,
         start: Minute,
         end: Minute,
-    ) -> u32
+    ) -> Option<u32>
         requires some { 0 < from }
         requires few { length self.now ≤ MAX_PLANS }
-        ensures from { from ≤ result }
-        ensures passed { (n : ℕ) → from ≤ n → n < result
-            → IfSome (plan_at self.now n) (λ plan. subject taxi spot.now start end plan ≡ None) }
-        ensures end { length self.now < from → result ≡ from }
-        ensures most { from ≤ length self.now → result ≤ length self.now + 1 }
+        ensures within { IfSome result (λ m. (from ≤ m) × (m ≤ length self.now)) }
+        ensures passed { IfSome result (λ m. (n : ℕ) → from ≤ n → n < m
+            → IfSome (plan_at self.now n) (λ plan. subject taxi spot.now start end plan ≡ None)) }
+        ensures none { IfNone result ((n : ℕ) → from ≤ n → n < length self.now + 1
+            → IfSome (plan_at self.now n) (λ plan. subject taxi spot.now start end plan ≡ None)) }
     {
         let count = self.plans.len() as u32;
         let mut number = from;
-        while number <= count && !self.may_come(number, taxi, spot, start, end) {
+        while number <= count {
+            if self.may_come(number, taxi, spot, start, end) {
+                return Some(number);
+            }
             number += 1;
         }
-        number
+        None
+    }
+
+    /// Collects the flights to which a regulation of that point and period applies, by number, and
+    /// returns the earliest of their off-block times. At a departure of four letters it reads the
+    /// outlines alone.
+    pub(crate) fn note_coming(
+        &self,
+        taxi: u32,
+        spot: &Spot,
+        start: Minute,
+        end: Minute,
+        coming: &mut Vec<Planned, A>,
+    ) -> u32
+        requires few { length self.now ≤ MAX_PLANS }
+        requires taxi { taxi ≤ MAX_TAXI }
+        requires none { coming.old.items ≡ [] }
+        requires room { length self.now ≤ vec_capacity coming.old }
+        ensures coming { coming.new.items ≡ coming_into taxi spot.now start end self.now }
+        ensures first { NoneEarlier result self.now coming.new.items }
+    {
+        if let Spot::Dep(place) = spot {
+            let letters = letters_of(place.as_bytes());
+            if letters != 0 {
+                return note_departing(&self.outlines, taxi, letters, start, end, coming);
+            }
+        }
+        let mut first = u32::MAX;
+        let mut from = 1;
+        while let Some(number) = self.next_coming(from, taxi, spot, start, end) {
+            let entry = self.subject(number, taxi, spot, start, end);
+            first = note_flight(coming, number, entry, self.off_block(number), first);
+            from = number + 1;
+        }
+        first
     }
 
     /// Appends a plan, also to the chain of its flight. After an `Err` the plans and all chains are
@@ -184,7 +226,7 @@ impl<A: Allocator + Copy> PlanList<A> {
         self.plans.reserve(1)?;
         self.outlines.reserve(1)?;
         chains.append(self.plans.as_slice(), &plan)?;
-        self.outlines.push_reserved(Outline::of(&plan));
+        self.outlines.push_reserved(PlanIndexEntry::of(&plan));
         self.plans.push_reserved(plan);
         Ok(())
     }
@@ -205,7 +247,7 @@ impl<A: Allocator + Copy> PlanList<A> {
         let place = (number - 1) as usize;
         let plan = &mut self.plans[place];
         plan.set_state(state);
-        self.outlines[place] = Outline::of(plan);
+        self.outlines[place] = PlanIndexEntry::of(plan);
     }
 
     #[tactic(auto, unfolding(crate::specs::Plans::changed_at))]
@@ -217,7 +259,7 @@ impl<A: Allocator + Copy> PlanList<A> {
         let place = (number - 1) as usize;
         let plan = &mut self.plans[place];
         plan.set_off_block(moment);
-        self.outlines[place] = Outline::of(plan);
+        self.outlines[place] = PlanIndexEntry::of(plan);
     }
 
     /// Makes the amendments of a message to plan `number`, with its off-block date and time and its
@@ -229,7 +271,7 @@ impl<A: Allocator + Copy> PlanList<A> {
         message: &Chg<A>,
         off_block: Minute,
         texts: Option<Box<Texts<A>, A>>,
-    ) -> Former<A>
+    ) -> PreviousValues<A>
         requires number { (0 < number) × (number ≤ length self.old) }
         requires off_block { off_block < off_blocks_end }
         requires texts { IfSome (plan_at self.old number)
@@ -242,19 +284,75 @@ impl<A: Allocator + Copy> PlanList<A> {
         let place = (number - 1) as usize;
         let plan = &mut self.plans[place];
         let former = plan.amend(message, off_block, texts);
-        self.outlines[place] = Outline::of(plan);
+        self.outlines[place] = PlanIndexEntry::of(plan);
         former
     }
 
     /// Sets the former values of plan `number` again.
     #[tactic(auto, unfolding(crate::specs::Plans::changed_at))]
-    pub(crate) fn restore(&mut self, number: u32, former: Former<A>)
+    pub(crate) fn restore(&mut self, number: u32, former: PreviousValues<A>)
         requires { (0 < number) × (number ≤ length self.old) }
         ensures { self.new ≡ changed_at (with_former former) number self.old }
     {
         let place = (number - 1) as usize;
         let plan = &mut self.plans[place];
         plan.restore(former);
-        self.outlines[place] = Outline::of(plan);
+        self.outlines[place] = PlanIndexEntry::of(plan);
     }
+}
+
+/// Collects the flights to which a regulation of that period applies at a departure aerodrome of
+/// these letters, by number, and returns the earliest of their off-block times. To read the plans
+/// takes over 40 % more instructions in 128 OPEN of 5,000 departures.
+#[inline(never)]
+fn note_departing<A: Allocator + Copy>(
+    outlines: &[PlanIndexEntry],
+    taxi: u32,
+    letters: u32,
+    start: Minute,
+    end: Minute,
+    coming: &mut Vec<Planned, A>,
+) -> u32
+    requires few { length outlines.now ≤ MAX_PLANS }
+    requires taxi { taxi ≤ MAX_TAXI }
+    requires none { coming.old.items ≡ [] }
+    requires room { length outlines.now ≤ vec_capacity coming.old }
+    ensures coming { (plans : List PlanView) (spot : Spot) → AreOutlines outlines.now plans
+        → IsDepartureOf letters spot
+        → coming.new.items ≡ coming_into taxi spot start end plans }
+    ensures first { (plans : List PlanView) → AreOutlines outlines.now plans
+        → NoneEarlier result plans coming.new.items }
+{
+    let mut first = u32::MAX;
+    for (index, outline) in outlines.iter().enumerate() {
+        let entry = outline.departure(taxi, letters, start, end);
+        let off_block = outline.off_block().minutes();
+        first = note_flight(coming, index as u32 + 1, entry, off_block, first);
+    }
+    first
+}
+
+/// Appends a flight with its entry, if it has one, and returns the earlier of its off-block time
+/// and of those before.
+#[inline(always)]
+fn note_flight<A: Allocator + Copy>(
+    coming: &mut Vec<Planned, A>,
+    flight: u32,
+    entry: Option<Minute>,
+    off_block: u32,
+    first: u32,
+) -> u32
+    requires { length coming.old.items < vec_capacity coming.old }
+    ensures items { coming.new.items ≡ coming.old.items ++ entering entry flight [] }
+    ensures few { length coming.new.items ≤ length coming.old.items + 1 }
+    ensures capacity { vec_capacity coming.new ≡ vec_capacity coming.old }
+    ensures first { result ≤ first }
+    ensures own { IsSome entry → result ≤ off_block }
+{
+    let Some(entry) = entry else {
+        return first;
+    };
+    let entry = entry.minutes();
+    coming.push_reserved(Planned { entry, flight });
+    first.min(off_block)
 }

@@ -23,9 +23,9 @@ pub struct Setup {
 }
 
 impl Model for Setup {
-    ghost use Rattle.flow_plans.specs.Settings.{Settings, IsWithinLimits};
+    ghost use Rattle.flow_plans.specs.Settings.{SetupView, IsWithinLimits};
 
-    ghost Value = { Settings };
+    ghost Value = { SetupView };
 
     ghost view = { λ s. record {
       start = s.start;

@@ -5,19 +5,18 @@ ghost use Rattle.std.specs.Prelude.{IfErr, IsOk, OnOk, OnErr, IfSome};
 ghost use Rattle.std.specs.Prelude.{IsSome, IsTrue, ◌↔◌, true, length};
 ghost use Rattle.std.specs.Prelude.{slice_get, option_copied};
 ghost use Rattle.flow_plans.specs.Settings.{IsDeskTime};
-ghost use Rattle.flow_plans.specs.Entries.{take_off, entry_at, subject};
+ghost use Rattle.flow_plans.specs.Entries.{take_off, entry_at, subject, coming_into, NoneEarlier};
 ghost use Rattle.flow_plans.specs.Undoing.{undone};
 ghost use Rattle.flow_plans.specs.Chains.{flight_of_key, AreChained, HasRoomFor};
-ghost use Rattle.flow_plans.specs.Places.{IsDepartureOf};
 ghost use Rattle.flow_plans.specs.Plans.{plan_at, filed_off_block, status_at};
 ghost use Rattle.flow_plans.specs.Plans.{changed_at, with_state, with_off_block};
 ghost use Rattle.fpl_message.specs.declared.order.Spot.{Spot};
-ghost use Rattle.flow_plans.specs.Near.{row_of, word_at, HasBitsOf};
+ghost use Rattle.flow_plans.specs.Near.{table_row, word_at, HasBitsOf};
 ghost use Rattle.flow_plans.specs.Matching.{matching};
 ghost use Rattle.flow_plans.specs.Times.{delayed_to, off_blocks_end};
-ghost use Rattle.flow_plans.specs.Changes.{plan_of, moment_of, filed, cancelled};
+ghost use Rattle.flow_plans.specs.Changes.{plan_of, asked_off_block, filed, cancelled};
 ghost use Rattle.flow_plans.specs.Changes.{departed, delayed, amended, IsRefusal};
-ghost use Rattle.flow_plans.specs.Changes.{IsJustRefusal, Answers};
+ghost use Rattle.flow_plans.specs.Changes.{IsJustRefusal, Returns};
 ghost use Rattle.flow_plans.specs.declared.setup.TheConstants.{MAX_PLANS};
 
 use crate::amending::amend_plan;
@@ -29,9 +28,10 @@ use crate::plan_list::PlanList;
 use crate::setup::Setup;
 use crate::times::{FURTHEST_AHEAD, delayed_to, moment_of};
 use crate::undo::{LastChange, previous, undo};
+use flow_slots::Planned;
 use fpl_message::{Chg, Cnl, Dep, Dla, Fpl, Parts, Spot};
 use fpl_text::Minute;
-use std::alloc::{Allocator, Global};
+use std::alloc::{AllocError, Allocator, Global};
 use std::marker::Model;
 use std::mem;
 
@@ -49,10 +49,10 @@ pub struct PlanStore<A: Allocator + Copy = Global> {
 
 impl<A: Allocator + Copy> Model for PlanStore<A> {
     ghost use Rattle.std.specs.Prelude.{◌≤◌, length};
-    ghost use Rattle.flow_plans.specs.Stores.{Store};
+    ghost use Rattle.flow_plans.specs.Stores.{PlanStoreView};
     ghost use Rattle.flow_plans.specs.Undoing.{undone, IsKept};
 
-    ghost Value = { Store };
+    ghost Value = { PlanStoreView };
 
     ghost view = { λ s. record {
       max_plans = s.max_plans;
@@ -158,7 +158,7 @@ impl<A: Allocator + Copy> PlanStore<A> {
     /// - `Ambiguous` if several such plans are filed.
     /// - `AlreadyDeparted` if none is filed and a departed plan matches, else `NoPlan`.
     pub fn find(&self, parts: &Parts) -> Result<u32, PlanFault>
-        ensures value { Answers result (matching self.now.plans parts.now) }
+        ensures value { Returns result (matching self.now.plans parts.now) }
         ensures within { IfOk result (λ n. (0 < n) × (n ≤ length self.now.plans)) }
     {
         matching(self.plans.as_slice(), &self.chains, parts)
@@ -355,34 +355,26 @@ impl<A: Allocator + Copy> PlanStore<A> {
         self.plans.subject(number, self.taxi, spot, start, end)
     }
 
-    /// Returns the entry of plan `number` at its departure, if a regulation of that period and of
-    /// an aerodrome of these letters, as `letters_of` returns them, applies to it. Reads only its
-    /// outline.
-    #[inline(always)]
-    pub fn departure(&self, number: u32, letters: u32, start: Minute, end: Minute) -> Option<Minute>
-        requires some { 0 < number }
-        requires within { number ≤ length self.now.plans }
-        ensures { (spot : Spot) → IsDepartureOf letters spot
-            → IfSome (plan_at self.now.plans number) (λ plan.
-            result ≡ subject self.now.taxi spot start end plan) }
+    /// Collects the flights to which a regulation of that point and period applies, by number, with
+    /// their entries, and returns the earliest of their off-block times, in minutes from 1970-01-01
+    /// 00:00 UTC. It mostly reads 24 bytes of each other plan. If allocation fails it collects
+    /// none.
+    pub fn coming_into(
+        &self,
+        spot: &Spot,
+        start: Minute,
+        end: Minute,
+        coming: &mut Vec<Planned, A>,
+    ) -> Result<u32, AllocError>
+        ensures coming { OnOk result (coming.new.items
+            ≡ coming_into self.now.taxi spot.now start end self.now.plans) }
+        ensures first { IfOk result (λ first.
+            NoneEarlier first self.now.plans coming.new.items) }
+        ensures err { OnErr result (coming.new.items ≡ []) }
     {
-        self.plans.departure(number, self.taxi, letters, start, end)
-    }
-
-    /// Returns the first number from `from` on of a plan to whose flight a regulation of that point
-    /// and period may apply; if there is none, the first number that no plan has, or `from` if that
-    /// is greater. To the flights of the plans before it none applies. Reads 24 bytes a plan.
-    #[inline(always)]
-    pub fn next_coming(&self, from: u32, spot: &Spot, start: Minute, end: Minute) -> u32
-        requires { 0 < from }
-        ensures from { from ≤ result }
-        ensures passed { (n : ℕ) → from ≤ n → n < result
-            → IfSome (plan_at self.now.plans n) (λ plan.
-            subject self.now.taxi spot.now start end plan ≡ None) }
-        ensures end { length self.now.plans < from → result ≡ from }
-        ensures most { from ≤ length self.now.plans → result ≤ length self.now.plans + 1 }
-    {
-        self.plans.next_coming(from, self.taxi, spot, start, end)
+        coming.clear();
+        coming.reserve(self.plans.len())?;
+        Ok(self.plans.note_coming(self.taxi, spot, start, end, coming))
     }
 
     /// Returns the bits in the table's rows of the points that the flight of plan `number` enters:
@@ -392,7 +384,7 @@ impl<A: Allocator + Copy> PlanStore<A> {
         requires within { number ≤ length self.now.plans }
         ensures { (start end : ℕ) (spot : Spot) → IfSome (plan_at self.now.plans number)
             (λ plan. IsSome (subject self.now.taxi spot start end plan)
-            → HasBitsOf result (word_at table.now (row_of spot))) }
+            → HasBitsOf result (word_at table.now (table_row spot))) }
     {
         self.plans.as_slice()[(number - 1) as usize].near(table)
     }
@@ -409,7 +401,7 @@ fn end_plan<A: Allocator + Copy>(
 ) -> Result<u32, PlanFault>
     requires few { length plans.old ≤ MAX_PLANS }
     requires chained { AreChained chains.old plans.old }
-    ensures found { Answers result (matching plans.old parts.now) }
+    ensures found { Returns result (matching plans.old parts.now) }
     ensures changed { IfOk result (λ n. plans.new ≡ changed_at (with_state state) n plans.old) }
     ensures within { IfOk result (λ n. (0 < n) × (n ≤ length plans.new)) }
     ensures back { IfOk result (λ n. changed_at (with_state PlanState.Filed) n plans.new

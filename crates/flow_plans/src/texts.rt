@@ -3,13 +3,13 @@ ghost use Rattle.std.specs.Prelude.{◌≡◌, ◌≤◌, ◌<◌, ◌+◌, ◌+
 ghost use Rattle.std.specs.Prelude.{List, ℕ, option_copied, MatchOption, IfOk};
 ghost use Rattle.std.specs.Prelude.{IfSome, IsSome, Option};
 ghost use Rattle.fpl_text.specs.Words.{words_of};
-ghost use Rattle.fpl_items.specs.Items.{Item, items_of, elapsed_to};
-ghost use Rattle.fpl_items.specs.Told.{TellsOfAny};
+ghost use Rattle.fpl_items.specs.Items.{ItemView, items_of, elapsed_to};
+ghost use Rattle.fpl_items.specs.Other18.{TellsOfAny};
 ghost use Rattle.fpl_items.specs.Estimates.{AreEstimatesOf};
 ghost use Rattle.flow_plans.specs.Changes.{texts_after};
-ghost use Rattle.flow_plans.specs.Plans.{Texts as Held, texts_or};
+ghost use Rattle.flow_plans.specs.Plans.{TextsView, texts_or};
 ghost use Rattle.flow_plans.specs.Near.{word_at, HasBitsOf};
-ghost use Rattle.fpl_items.specs.Places.{bit_of, may_have};
+ghost use Rattle.fpl_items.specs.Points.{bit_of, may_have};
 ghost use Rattle.fpl_text.specs.declared.time.TheConstants.{ELAPSED_LIMIT};
 
 use crate::amended_values::text_after;
@@ -34,12 +34,12 @@ pub(crate) struct Texts<A: Allocator + Copy = Global> {
 
 impl<A: Allocator + Copy> Model for Texts<A> {
     ghost use Rattle.std.specs.Prelude.{◌≤◌, length, slice_range};
-    ghost use Rattle.flow_plans.specs.Plans.{Texts as Held};
+    ghost use Rattle.flow_plans.specs.Plans.{TextsView};
     ghost use Rattle.fpl_text.specs.Words.{words_of};
     ghost use Rattle.fpl_items.specs.Items.{items_of};
     ghost use Rattle.fpl_items.specs.Estimates.{AreEstimatesOf};
 
-    ghost Value = { Held };
+    ghost Value = { TextsView };
 
     ghost view = { λ t. record {
       field8 = slice_range t.bytes.items 0 t.end8;
@@ -68,7 +68,7 @@ fn push_text<A: Allocator>(bytes: &mut Vec<u8, A>, text: &[u8]) -> Result<u16, A
 /// Whether a message amends none of these texts.
 #[tactic(auto, unfolding(crate::specs::Changes::texts_after))]
 fn keeps_texts<A: Allocator + Copy>(message: &Chg<A>) -> bool
-    ensures { result ≡ true → (held : Held) → texts_after held message.now ≡ held }
+    ensures { result ≡ true → (held : TextsView) → texts_after held message.now ≡ held }
 {
     message.field8().is_none()
         && message.field9().is_none()
@@ -83,7 +83,7 @@ fn estimates_after<A: Allocator + Copy>(
     held: &KeptEstimates<A>,
     amended: Option<&Other18<A>>,
 ) -> Result<KeptEstimates<A>, AllocError>
-    ensures { IfOk result (λ after. (items : Option (List Item))
+    ensures { IfOk result (λ after. (items : Option (List ItemView))
         → TellsOfAny items (option_copied amended.entry)
         → MatchOption items (after ≡ held.now) (λ items. AreEstimatesOf items after)) }
 {

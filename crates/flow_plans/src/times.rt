@@ -3,7 +3,7 @@ ghost use Rattle.std.specs.Prelude.{◌≡◌, ◌≤◌, ◌<◌, ◌+◌, ◌-
 ghost use Rattle.std.specs.Prelude.{Err, Some, None, IfOk, MatchOption};
 ghost use Rattle.flow_plans.specs.Settings.{IsDeskTime};
 ghost use Rattle.flow_plans.specs.Times.{first_from, delayed_to, off_blocks_end};
-ghost use Rattle.flow_plans.specs.Changes.{moment_of, Answers};
+ghost use Rattle.flow_plans.specs.Changes.{asked_off_block, Returns};
 ghost use Rattle.fpl_text.specs.declared.minute.TheConstants.{GREATEST_MINUTE};
 
 use crate::fault::PlanFault;
@@ -22,7 +22,7 @@ pub(crate) const FURTHEST_AHEAD: u32 = 7200;
 pub(crate) fn delayed_to(now: Minute, held: Minute, time: TimeOfDay) -> Result<Minute, PlanFault>
     requires now { IsDeskTime now }
     requires held { held < off_blocks_end }
-    ensures answer { Answers result (delayed_to now held time) }
+    ensures answer { Returns result (delayed_to now held time) }
     ensures bound { IfOk result (λ moment. moment < off_blocks_end) }
 {
     if held.time_of_day() == time {
@@ -77,8 +77,8 @@ fn moment_on(day: Day, time: TimeOfDay) -> Option<Minute>
 /// desk.
 pub(crate) fn moment_of<A: Allocator + Copy>(message: &Fpl<A>, now: Minute) -> Option<Minute>
     requires { IsDeskTime now }
-    ensures { MatchOption result (GREATEST_MINUTE < moment_of now message.now)
-        (λ moment. moment ≡ moment_of now message.now) }
+    ensures { MatchOption result (GREATEST_MINUTE < asked_off_block now message.now)
+        (λ moment. moment ≡ asked_off_block now message.now) }
 {
     let time = message.departure().time;
     match message.other().day() {

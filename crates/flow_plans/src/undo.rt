@@ -6,7 +6,7 @@ ghost use Rattle.flow_plans.specs.Plans.{is_held, plan_at, status_at, changed_at
 ghost use Rattle.flow_plans.specs.declared.setup.TheConstants.{MAX_PLANS};
 
 use crate::chains::{Chains, FlightName};
-use crate::plan::{Former, Plan, PlanState, Status};
+use crate::plan::{Plan, PlanState, PreviousValues, Status};
 use crate::plan_list::PlanList;
 use fpl_text::Minute;
 use std::alloc::{Allocator, Global};
@@ -19,11 +19,19 @@ pub(crate) enum LastChange<A: Allocator + Copy = Global> {
     /// The last plan was filed.
     Filed,
     /// The off-block date and time of plan `number` was this.
-    Delayed { number: u32, off_block: Minute },
+    Delayed {
+        number: u32,
+        off_block: Minute,
+    },
     /// Plan `number` was filed, and is now cancelled or departed.
-    Ended { number: u32 },
+    Ended {
+        number: u32,
+    },
     /// Plan `number` had these values before.
-    Amended { number: u32, former: Former<A> },
+    Amended {
+        number: u32,
+        former: PreviousValues<A>,
+    },
 }
 
 /// Undoes the last change of these plans. Doesn't allocate.

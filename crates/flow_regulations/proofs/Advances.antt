@@ -8,14 +8,14 @@ use Rattle.std.proofs.lemmas.Bool.{and_parts, and_from, leb-true, le-leb, lt-ltb
 use Rattle.std.proofs.lemmas.Bool.Decides.{nat_tests}
 use Rattle.std.proofs.lemmas.List.{take_more}
 use Rattle.flow_regulations.proofs.Others.{pairs-waiting}
-use Rattle.flow_plans.specs.Plans.{Plan, plan_at, is_filed, is_departed}
+use Rattle.flow_plans.specs.Plans.{PlanView, plan_at, is_filed, is_departed}
 use Rattle.flow_slots.specs.declared.cell.Planned.{Planned}
 use Rattle.flow_slots.specs.Assignment.{Placed, is_in}
 use Rattle.flow_slots.specs.Lineup.{Lineup, NoneIs, held_slot, fixed_slot}
 use Rattle.flow_slots.specs.ChangeList.{fixed_there}
 use Rattle.flow_regulations.specs.Regulations.{Regulation, subject_to, has_flight, waiting_from}
 use Rattle.flow_regulations.specs.Settling.{is_due, keeps, stays, settled, pairs_of}
-use Rattle.flow_regulations.specs.Listing.{Listed, regulation_of, IsListedIn, IsListed, is_due_flight, IsSettledIn, IsSettled, with_lineup, Walked, IsFixedWaiting, AreRenewed, HaveCapacity, AllStay, NoneDue, IsAdvanced, IsAdvancing, is_below, is_among, fixed_waiting, all_fixed_waiting, with_fixed_waiting, HoldNewlyDue, pairs_in}
+use Rattle.flow_regulations.specs.Listing.{RegulationView, regulation_of, IsListedIn, IsListed, is_due_flight, IsSettledIn, IsSettled, with_lineup, Walked, IsFixedWaiting, AreRenewed, HaveCapacity, AllStay, NoneDue, IsAdvanced, IsAdvancing, is_below, is_among, fixed_waiting, all_fixed_waiting, with_fixed_waiting, HoldNewlyDue, pairs_in}
 use Rattle.flow_regulations.specs.Marks.{IsOut}
 use Rattle.flow_regulations.proofs.Waiting.{all-with_entry, all-with_entry-back, waiting-from}
 use Rattle.flow_regulations.proofs.FixedOnes.{all-map, all-both}
@@ -25,7 +25,7 @@ use Rattle.flow_regulations.proofs.Looked.{plan-there}
 use Rattle.flow_slots.specs.Period.{slot_time}
 
 -- of no flight yet
-pub advancing-start : (done : ℕ → Bool) (taxi now : ℕ) (plans : List Plan) (l : Listed) → ((f : ℕ) → 0 < f → done f ≡ false) → IsAdvancing done taxi now plans l l
+pub advancing-start : (done : ℕ → Bool) (taxi now : ℕ) (plans : List PlanView) (l : RegulationView) → ((f : ℕ) → 0 < f → done f ≡ false) → IsAdvancing done taxi now plans l l
 advancing-start done taxi now plans l none = record {
   capacity = refl;
   advanced = λ max listed stay. record {
@@ -40,7 +40,7 @@ advancing-start done taxi now plans l none = record {
 }
 
 -- of any flights, if none with a provisional slot is due
-pub advancing-none : (done : ℕ → Bool) (taxi now : ℕ) (plans : List Plan) (l : Listed) → NoneDue now plans l → IsAdvancing done taxi now plans l l
+pub advancing-none : (done : ℕ → Bool) (taxi now : ℕ) (plans : List PlanView) (l : RegulationView) → NoneDue now plans l → IsAdvancing done taxi now plans l l
 advancing-none done taxi now plans l none = record {
   capacity = refl;
   advanced = λ max listed stay. record {
@@ -65,7 +65,7 @@ one-more n f done after e h = cases (done f) refl where
 pub below-more : (n : ℕ) → OneMore n (is_below n) (is_below (n + 1))
 below-more n f = grind (arith, nat_tests)
 
-pub advancing-past : (n : ℕ) (done more : ℕ → Bool) (taxi now : ℕ) (plans : List Plan) (l m : Listed) → OneMore n done more → is_due_flight now plans n ≡ false → IsAdvancing done taxi now plans l m → IsAdvancing more taxi now plans l m
+pub advancing-past : (n : ℕ) (done more : ℕ → Bool) (taxi now : ℕ) (plans : List PlanView) (l m : RegulationView) → OneMore n done more → is_due_flight now plans n ≡ false → IsAdvancing done taxi now plans l m → IsAdvancing more taxi now plans l m
 advancing-past n done more taxi now plans l m o e a = record {
   capacity = a.capacity;
   advanced = λ max listed stay.
@@ -88,7 +88,7 @@ none-between n k D (w ∷ ws) out h = (λ q. cases (ltb-true w.flight k q) (ltb 
   cases below true q = h.0 q
   cases below false q = absurd ((out w.flight (ltb-false w.flight n q) below).0 refl)
 
-pub advancing-out : (n k taxi now : ℕ) (plans : List Plan) (l m : Listed) → ((f : ℕ) → n ≤ f → f < k → IsOut f m) → IsAdvancing (is_below n) taxi now plans l m → IsAdvancing (is_below k) taxi now plans l m
+pub advancing-out : (n k taxi now : ℕ) (plans : List PlanView) (l m : RegulationView) → ((f : ℕ) → n ≤ f → f < k → IsOut f m) → IsAdvancing (is_below n) taxi now plans l m → IsAdvancing (is_below k) taxi now plans l m
 advancing-out n k taxi now plans l m out a = record {
   capacity = a.capacity;
   advanced = λ max listed stay.
@@ -103,10 +103,10 @@ advancing-out n k taxi now plans l m out a = record {
 }
 
 -- and fewer are asked of
-pub advancing-fewer : (n k taxi now : ℕ) (plans : List Plan) (l m : Listed) → k ≤ n → IsAdvancing (is_below n) taxi now plans l m → IsAdvancing (is_below k) taxi now plans l m
+pub advancing-fewer : (n k taxi now : ℕ) (plans : List PlanView) (l m : RegulationView) → k ≤ n → IsAdvancing (is_below n) taxi now plans l m → IsAdvancing (is_below k) taxi now plans l m
 advancing-fewer n k taxi now plans l m le a = advancing-out n k taxi now plans l m (λ f low high. absurd (omega (arith, le, low, high))) a
 
-module _ (n : ℕ) (done more_done : ℕ → Bool) (o : OneMore n done more_done) (taxi max now : ℕ) (plans : List Plan) (l m : Listed) (positive : 0 < n) (due : is_due_flight now plans n ≡ true) (b : IsAdvanced done taxi max now plans l m) where
+module _ (n : ℕ) (done more_done : ℕ → Bool) (o : OneMore n done more_done) (taxi max now : ℕ) (plans : List PlanView) (l m : RegulationView) (positive : 0 < n) (due : is_due_flight now plans n ≡ true) (b : IsAdvanced done taxi max now plans l m) where
   -- none of the other flights with provisional slots up to this one is due
   rest-waits : AllByRecursion (λ w. more_done w.flight ≡ true → is_due_flight now plans w.flight ≡ false) (others taxi max n plans m b.listed positive)
   rest-waits =
@@ -123,21 +123,21 @@ module _ (n : ℕ) (done more_done : ℕ → Bool) (o : OneMore n done more_done
       let ws = others taxi max n plans m b.listed positive in
       all-with_entry-back (λ w. is_due_flight earlier plans w.flight ≡ false) (own taxi max n plans m b.listed positive) (has_flight n m.lineup.fixed) n ws (subst Q (waiting-is taxi max n plans m b.listed positive) h)
 
-  advanced-by : (x : Listed) → IsFixedWaiting n m x → IsAdvanced more_done taxi max now plans l x
+  advanced-by : (x : RegulationView) → IsFixedWaiting n m x → IsAdvanced more_done taxi max now plans l x
   advanced-by x f = ⊎_elim not does (either taxi max n plans m b.listed positive) where
     not : DoesNot taxi max n plans m b.listed positive → IsAdvanced more_done taxi max now plans l x
     not d =
-        let A : Listed → Type 0 = IsAdvanced more_done taxi max now plans l in
+        let A : RegulationView → Type 0 = IsAdvanced more_done taxi max now plans l in
         let same : x ≡ m = f.same ∙ ap (λ v. with_lineup v m) d.same in
         let Q : List Planned → Type 0 = λ ws. AllByRecursion (λ w. more_done w.flight ≡ true → is_due_flight now plans w.flight ≡ false) ws in
         subst A (sym same) (record { regulation = b.regulation; listed = b.listed; stay = b.stay; waiting = subst Q (sym d.waiting) rest-waits; undue = b.undue })
 
     does : (e : ℕ) × (k : ℕ) × Does taxi max n plans m b.listed positive e k → IsAdvanced more_done taxi max now plans l x
     does (e, k, d) =
-        let A : Listed → Type 0 = IsAdvanced more_done taxi max now plans l in
+        let A : RegulationView → Type 0 = IsAdvanced more_done taxi max now plans l in
         let gs = more taxi max n plans m b.listed positive e k d in
         let ws = others taxi max n plans m b.listed positive in
-        let y : Listed = with_lineup (lined m.lineup ws gs) m in
+        let y : RegulationView = with_lineup (lined m.lineup ws gs) m in
         let same : x ≡ y = f.same ∙ ap (λ v. with_lineup v m) (is taxi max n plans m b.listed positive e k d) in
         let list = listed-more taxi max n plans m b.listed positive e k d in
         let held : IsSome (held_slot m.lineup n) = ap is_some d.held in
@@ -154,19 +154,19 @@ module _ (n : ℕ) (done more_done : ℕ → Bool) (o : OneMore n done more_done
           undue = λ earlier h. rest-undue earlier (b.undue earlier h);
         })
 
-pub advancing-step : (n : ℕ) (done more : ℕ → Bool) (taxi now : ℕ) (plans : List Plan) (l m x : Listed) → OneMore n done more → 0 < n → is_due_flight now plans n ≡ true → IsAdvancing done taxi now plans l m → IsFixedWaiting n m x → IsAdvancing more taxi now plans l x
+pub advancing-step : (n : ℕ) (done more : ℕ → Bool) (taxi now : ℕ) (plans : List PlanView) (l m x : RegulationView) → OneMore n done more → 0 < n → is_due_flight now plans n ≡ true → IsAdvancing done taxi now plans l m → IsFixedWaiting n m x → IsAdvancing more taxi now plans l x
 advancing-step n done more taxi now plans l m x o positive due a f = record {
   capacity = f.capacity ∙ a.capacity;
   advanced = λ max listed stay. advanced-by n done more o taxi max now plans l m positive due (a.advanced max listed stay) x f;
 }
 
-pub below : (k taxi : ℕ) (r : Regulation) (fs : List Placed) (ps : List Plan) (m : ℕ) → k + length ps ≤ m → AllByRecursion (λ w. w.flight < m) (waiting_from k taxi r fs ps)
+pub below : (k taxi : ℕ) (r : Regulation) (fs : List Placed) (ps : List PlanView) (m : ℕ) → k + length ps ≤ m → AllByRecursion (λ w. w.flight < m) (waiting_from k taxi r fs ps)
 below k taxi r fs [] m h = tt
 below k taxi r fs (p ∷ ps) m h =
     all-with_entry (λ w. w.flight < m) (subject_to taxi r p) (has_flight k fs) k (waiting_from (k + 1) taxi r fs ps) (λ _ _ _. omega (arith, h)) (below (k + 1) taxi r fs ps m (omega (arith, h)))
 
 -- past the last due flight, all is settled
-module _ (done : ℕ → Bool) (taxi max now : ℕ) (plans : List Plan) (l m : Listed) (b : IsAdvanced done taxi max now plans l m) (none-due : AllByRecursion (λ w. is_due_flight now plans w.flight ≡ false) m.lineup.waiting) where
+module _ (done : ℕ → Bool) (taxi max now : ℕ) (plans : List PlanView) (l m : RegulationView) (b : IsAdvanced done taxi max now plans l m) (none-due : AllByRecursion (λ w. is_due_flight now plans w.flight ≡ false) m.lineup.waiting) where
   pub advanced-settled : regulation_of m ≡ settled taxi now plans (regulation_of l)
   advanced-settled = sym (settled-done taxi max 1 plans m b.listed (omega arith) now b.stay none-due) ∙ b.regulation
 
@@ -174,40 +174,40 @@ module _ (done : ℕ → Bool) (taxi max now : ℕ) (plans : List Plan) (l m : L
   advanced-settled_in = record { fixed = b.stay; waiting = none-due }
 
 -- past the last plan
-pub none-due-below : (n taxi max now : ℕ) (plans : List Plan) (l m : Listed) → IsAdvanced (is_below n) taxi max now plans l m → 1 + length plans ≤ n → AllByRecursion (λ w. is_due_flight now plans w.flight ≡ false) m.lineup.waiting
+pub none-due-below : (n taxi max now : ℕ) (plans : List PlanView) (l m : RegulationView) → IsAdvanced (is_below n) taxi max now plans l m → 1 + length plans ≤ n → AllByRecursion (λ w. is_due_flight now plans w.flight ≡ false) m.lineup.waiting
 none-due-below n taxi max now plans l m b all =
     let Q : List Planned → Type 0 = λ ws. AllByRecursion (λ w. w.flight < n) ws in
     all-map (λ w. (is_below n w.flight ≡ true → is_due_flight now plans w.flight ≡ false) × (w.flight < n)) (λ w. is_due_flight now plans w.flight ≡ false) m.lineup.waiting (λ w h. h.0 (lt-ltb w.flight n h.1))
     (all-both (λ w. is_below n w.flight ≡ true → is_due_flight now plans w.flight ≡ false) (λ w. w.flight < n) m.lineup.waiting b.waiting (subst Q (sym (ap (λ v. v.waiting) b.listed)) (below 1 taxi (regulation_of m) m.lineup.fixed plans n all)))
 
 -- a flight's provisional slot is frozen if it is due
-pub advancing-due : (n : ℕ) (done more : ℕ → Bool) (taxi now : ℕ) (plans : List Plan) (l m x : Listed) → OneMore n done more → 0 < n → IsAdvancing done taxi now plans l m
+pub advancing-due : (n : ℕ) (done more : ℕ → Bool) (taxi now : ℕ) (plans : List PlanView) (l m x : RegulationView) → OneMore n done more → 0 < n → IsAdvancing done taxi now plans l m
     → (is_due_flight now plans n ≡ true → IsFixedWaiting n m x) → (is_due_flight now plans n ≡ false → x ≡ m) → IsAdvancing more taxi now plans l x
 advancing-due n done more taxi now plans l m x o positive a f same = cases (is_due_flight now plans n) refl where
   cases : (b : Bool) → is_due_flight now plans n ≡ b → IsAdvancing more taxi now plans l x
   cases true q = advancing-step n done more taxi now plans l m x o positive q a (f q)
   cases false q =
-      let A : Listed → Type 0 = λ v. IsAdvancing more taxi now plans l v in
+      let A : RegulationView → Type 0 = λ v. IsAdvancing more taxi now plans l v in
       subst A (sym (same q)) (advancing-past n done more taxi now plans l m o q a)
 
-pub due-is : (now n : ℕ) (plans : List Plan) (b : Bool) → 0 < n → n ≤ length plans → ((p : Plan) → plan_at plans n ≡ Some p → b ≡ is_due now p) → is_due_flight now plans n ≡ b
+pub due-is : (now n : ℕ) (plans : List PlanView) (b : Bool) → 0 < n → n ≤ length plans → ((p : PlanView) → plan_at plans n ≡ Some p → b ≡ is_due now p) → is_due_flight now plans n ≡ b
 due-is now n plans b h l f = (let p = plan-there plans n h l in ap (λ o. option_map_or (is_due now) o false) p.1 ∙ sym (f p.0 p.1))
 
-pub walk-step : (n : ℕ) (done more : ℕ → Bool) (taxi now i : ℕ) (plans : List Plan) (os ms xs : List Listed) → OneMore n done more → 0 < n → is_due_flight now plans n ≡ true → i ≡ length ms → Walked (IsAdvancing done taxi now plans) i os ms → Walked (IsFixedWaiting n) i ms xs → Walked (IsAdvancing more taxi now plans) i os xs
+pub walk-step : (n : ℕ) (done more : ℕ → Bool) (taxi now i : ℕ) (plans : List PlanView) (os ms xs : List RegulationView) → OneMore n done more → 0 < n → is_due_flight now plans n ≡ true → i ≡ length ms → Walked (IsAdvancing done taxi now plans) i os ms → Walked (IsFixedWaiting n) i ms xs → Walked (IsAdvancing more taxi now plans) i os xs
 walk-step n done more taxi now i plans os ms xs o h d e w v =
     walked-then (IsAdvancing done taxi now plans) (IsFixedWaiting n) (IsAdvancing more taxi now plans) (λ l m x a f. advancing-step n done more taxi now plans l m x o h d a f) i os ms xs e w v
 
-pub walk-start : (done : ℕ → Bool) (taxi now : ℕ) (plans : List Plan) (os : List Listed) → ((f : ℕ) → 0 < f → done f ≡ false) → Walked (IsAdvancing done taxi now plans) (length os) os os
+pub walk-start : (done : ℕ → Bool) (taxi now : ℕ) (plans : List PlanView) (os : List RegulationView) → ((f : ℕ) → 0 < f → done f ≡ false) → Walked (IsAdvancing done taxi now plans) (length os) os os
 walk-start done taxi now plans os none = walked-start (IsAdvancing done taxi now plans) (λ l. advancing-start done taxi now plans l none) (length os) os refl
 
 -- a flight that was due earlier is due now
-pub due-later : (earlier now : ℕ) (p : Plan) → earlier ≤ now → is_due earlier p ≡ true → is_due now p ≡ true
+pub due-later : (earlier now : ℕ) (p : PlanView) → earlier ≤ now → is_due earlier p ≡ true → is_due now p ≡ true
 due-later earlier now p h e =
     let parts = and_parts (is_filed p.state) (leb p.off_block (earlier + 120)) e in
     let bound = leb-true p.off_block (earlier + 120) parts.1 in
     and_from (is_filed p.state) (leb p.off_block (now + 120)) parts.0 (le-leb p.off_block (now + 120) (omega (arith, bound, h)))
 
-keeps-later : (taxi earlier now k : ℕ) (r : Regulation) (p : Plan) → earlier ≤ now → keeps taxi earlier r k p ≡ true → keeps taxi now r k p ≡ true
+keeps-later : (taxi earlier now k : ℕ) (r : Regulation) (p : PlanView) → earlier ≤ now → keeps taxi earlier r k p ≡ true → keeps taxi now r k p ≡ true
 keeps-later taxi earlier now k r p h e = cases (is_departed p.state) e where
   cases : (b : Bool) → (b || (is_due earlier p && option_map_or (λ entry. leb entry (slot_time r.period k)) (subject_to taxi r p) false)) ≡ true → (b || (is_due now p && option_map_or (λ entry. leb entry (slot_time r.period k)) (subject_to taxi r p) false)) ≡ true
   cases true e = refl
@@ -216,17 +216,17 @@ keeps-later taxi earlier now k r p h e = cases (is_departed p.state) e where
       let parts = and_parts (is_due earlier p) o e in
       and_from (is_due now p) o (due-later earlier now p h parts.0) parts.1
 
-pub stays-later : (taxi earlier now : ℕ) (plans : List Plan) (l : Listed) → earlier ≤ now → IsSettledIn taxi earlier plans l → AllStay taxi now plans l
+pub stays-later : (taxi earlier now : ℕ) (plans : List PlanView) (l : RegulationView) → earlier ≤ now → IsSettledIn taxi earlier plans l → AllStay taxi now plans l
 stays-later taxi earlier now plans l h s =
     all-map (λ a. (0 < a.flight) × (stays taxi earlier plans (regulation_of l) a ≡ true)) (λ a. (0 < a.flight) × (stays taxi now plans (regulation_of l) a ≡ true)) l.lineup.fixed
     (λ a q. (q.0, cases a (plan_at plans a.flight) q.1)) s.fixed
   where
-    cases : (a : Placed) (o : Option Plan) → option_map_or (keeps taxi earlier (regulation_of l) a.slot) o false ≡ true → option_map_or (keeps taxi now (regulation_of l) a.slot) o false ≡ true
+    cases : (a : Placed) (o : Option PlanView) → option_map_or (keeps taxi earlier (regulation_of l) a.slot) o false ≡ true → option_map_or (keeps taxi now (regulation_of l) a.slot) o false ≡ true
     cases a None e = e
     cases a (Some p) e = keeps-later taxi earlier now a.slot (regulation_of l) p h e
 
 -- none of the flights with provisional slots is due, once those that became due are frozen
-still-undue : (taxi earlier now max : ℕ) (plans : List Plan) (flights : List ℕ) (l m : Listed) → HoldNewlyDue earlier now plans flights → IsSettledIn taxi earlier plans l → IsAdvanced (is_among flights) taxi max now plans l m → NoneDue now plans m
+still-undue : (taxi earlier now max : ℕ) (plans : List PlanView) (flights : List ℕ) (l m : RegulationView) → HoldNewlyDue earlier now plans flights → IsSettledIn taxi earlier plans l → IsAdvanced (is_among flights) taxi max now plans l m → NoneDue now plans m
 still-undue taxi earlier now max plans flights l m holds was b =
     let P : Planned → Type 0 = λ w. is_among flights w.flight ≡ true → is_due_flight now plans w.flight ≡ false in
     let Q : Planned → Type 0 = λ w. is_due_flight earlier plans w.flight ≡ false in
@@ -240,13 +240,13 @@ still-undue taxi earlier now max plans flights l m holds was b =
     cases w h false e = e
     cases w h true e = h.0.0 (holds w.flight (omega (arith, h.1)) e h.0.1)
 
-pub all-advanced : (flights : List ℕ) (taxi now max earlier i : ℕ) (plans : List Plan) (os ns : List Listed) → HoldNewlyDue earlier now plans flights → earlier ≤ now → i ≡ length ns → Walked (IsAdvancing (is_among flights) taxi now plans) i os ns → IsListed taxi max plans os → IsSettled taxi earlier plans os → AreRenewed taxi max now plans os ns
+pub all-advanced : (flights : List ℕ) (taxi now max earlier i : ℕ) (plans : List PlanView) (os ns : List RegulationView) → HoldNewlyDue earlier now plans flights → earlier ≤ now → i ≡ length ns → Walked (IsAdvancing (is_among flights) taxi now plans) i os ns → IsListed taxi max plans os → IsSettled taxi earlier plans os → AreRenewed taxi max now plans os ns
 all-advanced flights taxi now max earlier i plans os ns holds late e w listed settled_then =
-    let R : Listed → Listed → Type 0 = IsAdvancing (is_among flights) taxi now plans in
-    let P : Listed → Type 0 = λ l. IsListedIn taxi max plans l × IsSettledIn taxi earlier plans l in
+    let R : RegulationView → RegulationView → Type 0 = IsAdvancing (is_among flights) taxi now plans in
+    let P : RegulationView → Type 0 = λ l. IsListedIn taxi max plans l × IsSettledIn taxi earlier plans l in
     let both : AllByRecursion P os = all-both (IsListedIn taxi max plans) (IsSettledIn taxi earlier plans) os listed settled_then in
-    let advanced : (o m : Listed) → P o → R o m → IsAdvanced (is_among flights) taxi max now plans o m = λ o m h r. r.advanced max h.0 (stays-later taxi earlier now plans o late h.1) in
-    let none : (o m : Listed) → (h : P o) → (r : R o m) → NoneDue now plans m = λ o m h r. still-undue taxi earlier now max plans flights o m holds h.1 (advanced o m h r) in
+    let advanced : (o m : RegulationView) → P o → R o m → IsAdvanced (is_among flights) taxi max now plans o m = λ o m h r. r.advanced max h.0 (stays-later taxi earlier now plans o late h.1) in
+    let none : (o m : RegulationView) → (h : P o) → (r : R o m) → NoneDue now plans m = λ o m h r. still-undue taxi earlier now max plans flights o m holds h.1 (advanced o m h r) in
     record {
       regulations = walked-map R P regulation_of (λ l. settled taxi now plans (regulation_of l)) (λ o m h r. advanced-settled (is_among flights) taxi max now plans o m (advanced o m h r) (none o m h r)) i os ns e w both ∙ map-map regulation_of (settled taxi now plans) os;
       listed = walked-all R P (IsListedIn taxi max plans) (λ o m h r. (advanced o m h r).listed) i os ns e w both;
@@ -272,19 +272,19 @@ all_fixed-last [] n l = refl
 all_fixed-last (m ∷ ns) n l = all_fixed-last ns n (fixed_waiting m l)
 
 -- each was fixed in one more
-pub fixed-more : (j n : ℕ) (flights : List ℕ) (os ms xs : List Listed) → j < length flights → n ≡ get_or flights j 0 → ms ≡ map (with_fixed_waiting (take j flights)) os → Walked (IsFixedWaiting n) (length xs) ms xs → xs ≡ map (with_fixed_waiting (take (j + 1) flights)) os
+pub fixed-more : (j n : ℕ) (flights : List ℕ) (os ms xs : List RegulationView) → j < length flights → n ≡ get_or flights j 0 → ms ≡ map (with_fixed_waiting (take j flights)) os → Walked (IsFixedWaiting n) (length xs) ms xs → xs ≡ map (with_fixed_waiting (take (j + 1) flights)) os
 fixed-more j n flights os ms xs within at e w =
-    let one : Listed → Listed = λ l. with_lineup (fixed_waiting n l.lineup) l in
+    let one : RegulationView → RegulationView = λ l. with_lineup (fixed_waiting n l.lineup) l in
     let more : take (j + 1) flights ≡ take j flights ++ n ∷ [] = take_more flights j 0 within ∙ ap (λ v. take j flights ++ v ∷ []) (sym at) in
     walked-is (IsFixedWaiting n) one (λ x y r. r.same) (length xs) ms xs refl w
     ∙ (ap (map one) e ∙ (sym (map-map (with_fixed_waiting (take j flights)) one os)
     ∙ (each os ∙ ap (λ ns. map (with_fixed_waiting ns) os) (sym more))))
   where
-    each : (os : List Listed) → map (λ l. with_lineup (fixed_waiting n (with_fixed_waiting (take j flights) l).lineup) (with_fixed_waiting (take j flights) l)) os ≡ map (with_fixed_waiting (take j flights ++ n ∷ [])) os
+    each : (os : List RegulationView) → map (λ l. with_lineup (fixed_waiting n (with_fixed_waiting (take j flights) l).lineup) (with_fixed_waiting (take j flights) l)) os ≡ map (with_fixed_waiting (take j flights ++ n ∷ [])) os
     each [] = refl
     each (l ∷ ls) = ap (λ v. with_lineup v l ∷ map (λ l. with_lineup (fixed_waiting n (with_fixed_waiting (take j flights) l).lineup) (with_fixed_waiting (take j flights) l)) ls) (sym (all_fixed-last (take j flights) n l.lineup)) ∙ ap (λ vs. with_fixed_waiting (take j flights ++ n ∷ []) l ∷ vs) (each ls)
 
-pub fixed-start : (os : List Listed) → os ≡ map (with_fixed_waiting []) os
+pub fixed-start : (os : List RegulationView) → os ≡ map (with_fixed_waiting []) os
 fixed-start [] = refl
 fixed-start (l ∷ ls) = ap (λ vs. l ∷ vs) (fixed-start ls)
 
@@ -296,7 +296,7 @@ capacity-fixed (n ∷ ns) l = capacity-fixed ns (fixed_waiting n l) ∙ cases (i
   cases false None = refl
   cases false (Some k) = refl
 
-pub capacity-advanced : (max : ℕ) (flights : List ℕ) (os : List Listed) → HaveCapacity max os → HaveCapacity max (map (with_fixed_waiting flights) os)
+pub capacity-advanced : (max : ℕ) (flights : List ℕ) (os : List RegulationView) → HaveCapacity max os → HaveCapacity max (map (with_fixed_waiting flights) os)
 capacity-advanced max flights [] h = tt
 capacity-advanced max flights (l ∷ ls) h = (capacity-fixed flights l.lineup ∙ h.0, capacity-advanced max flights ls h.1)
 
@@ -307,7 +307,7 @@ pairs-advanced f (n ∷ ns) l out =
     let parts = or_parts (eqb n f) (is_in f ns) out in
     pairs-advanced f ns (fixed_waiting n l) parts.1 ∙ pairs-waiting f n l (λ e. eqb-false n f parts.0 (sym e))
 
-pub others-advanced : (f : ℕ) (flights : List ℕ) (os : List Listed) → is_in f flights ≡ false → pairs_in f (map (with_fixed_waiting flights) os) ≡ pairs_in f os
+pub others-advanced : (f : ℕ) (flights : List ℕ) (os : List RegulationView) → is_in f flights ≡ false → pairs_in f (map (with_fixed_waiting flights) os) ≡ pairs_in f os
 others-advanced f flights [] out = refl
 others-advanced f flights (l ∷ ls) out =
     ap (λ v. v ∷ pairs_in f (map (with_fixed_waiting flights) ls)) (pairs-advanced f flights l.lineup out) ∙ ap (λ vs. pairs_of f l.lineup.fixed ∷ vs) (others-advanced f flights ls out)

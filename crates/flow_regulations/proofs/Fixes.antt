@@ -4,7 +4,7 @@ use Rattle.std.specs.List.{AllByRecursion, filter}
 use mathlib.Core.Logic.{⊎_elim}
 use Rattle.std.specs.Option.{option_and_then, option_map_or, is_some}
 use Rattle.std.proofs.lemmas.Bool.{le-leb, and_from, or_right, eq-eqb, ne_eqb}
-use Rattle.flow_plans.specs.Plans.{Plan, plan_at, is_departed}
+use Rattle.flow_plans.specs.Plans.{PlanView, plan_at, is_departed}
 use Rattle.flow_slots.specs.declared.cell.Planned.{Planned}
 use Rattle.flow_slots.specs.Period.{IsRegular, first_slot, slot_time}
 use Rattle.flow_slots.specs.Order.{insert, without}
@@ -14,7 +14,7 @@ use Rattle.flow_slots.specs.ChangeList.{fixed_there}
 use Rattle.flow_slots.proofs.Periods.{first_slot-first, slot_time-later}
 use Rattle.flow_regulations.specs.Regulations.{Regulation, subject_to, has_flight, with_entry, waiting_from, lineup_of}
 use Rattle.flow_regulations.specs.Settling.{is_due, keeps, stays, kept, is_due_at, insert_all, settled, pairs_of, frozen_at_departure}
-use Rattle.flow_regulations.specs.Listing.{Listed, regulation_of, IsListedIn, is_due_flight, with_lineup, fixed_waiting, IsFrozen}
+use Rattle.flow_regulations.specs.Listing.{RegulationView, regulation_of, IsListedIn, is_due_flight, with_lineup, fixed_waiting, IsFrozen}
 use Rattle.flow_regulations.proofs.Waiting.{mark, with_entry-kept, waiting-fixed, waiting-like, waiting-apart, waiting-none, without-insert, all-with_entry-back}
 use Rattle.flow_regulations.proofs.FixedOnes.{all-map, has-none, has-insert, all-insert_fixed, slot_in-none, has-some, filter-all}
 use Rattle.flow_regulations.proofs.Subjects.{subject-within}
@@ -41,7 +41,7 @@ slot-none first taken n (w ∷ ws) h =
     let k = first_free taken (first w.entry) in
     slot_in-other n (record { flight = w.flight; slot = k }) (greedy first (k ∷ taken) ws) h.0 ∙ slot-none first (k ∷ taken) n ws h.1
 
-module _ (taxi max n : ℕ) (plans : List Plan) (l : Listed) (listed : IsListedIn taxi max plans l) (positive : 0 < n) where
+module _ (taxi max n : ℕ) (plans : List PlanView) (l : RegulationView) (listed : IsListedIn taxi max plans l) (positive : 0 < n) where
   abbrev pub r : Regulation
   r = regulation_of l
 
@@ -215,7 +215,7 @@ module _ (taxi max n : ℕ) (plans : List Plan) (l : Listed) (listed : IsListedI
     module _ (e k : ℕ) (d : Does e k) (due : is_due_flight now plans n ≡ true) (apart : IsLineup l.lineup) (regular : IsRegular l.lineup.period) where
       stays-pair : stays taxi now plans r (pair e k d) ≡ true
       stays-pair = cases (plan_at plans n) refl d.entry due where
-        cases : (o : Option Plan) → plan_at plans n ≡ o → option_and_then (subject_to taxi r) o ≡ Some e → option_map_or (is_due now) o false ≡ true → stays taxi now plans r (pair e k d) ≡ true
+        cases : (o : Option PlanView) → plan_at plans n ≡ o → option_and_then (subject_to taxi r) o ≡ Some e → option_map_or (is_due now) o false ≡ true → stays taxi now plans r (pair e k d) ≡ true
         cases None at s q = absurd cc
         cases (Some p) at s q =
             let within = subject-within taxi l.spot l.lineup.period.start l.lineup.period.end e p s in

@@ -1,7 +1,7 @@
 -- Frozen pairs stay.
 use Rattle.std.proofs.Common.{◌≡◌, ℕ, inl, inr, Bool, true, false, cond, ltb, List, [], ◌∷◌, sym, ap, subst, ◌∙◌}
 use Rattle.std.specs.List.{filter}
-use Rattle.flow_plans.specs.Plans.{Plan}
+use Rattle.flow_plans.specs.Plans.{PlanView}
 use Rattle.flow_slots.specs.Assignment.{Placed}
 use Rattle.flow_slots.specs.Lineup.{insert_fixed, assigned}
 use Rattle.flow_regulations.specs.Regulations.{Regulation, has_flight, lineup_of}
@@ -30,12 +30,12 @@ has-insert_all : (a : Placed) (ys xs : List Placed) → HasPair a xs → HasPair
 has-insert_all a [] xs h = h
 has-insert_all a (y ∷ ys) xs h = has-insert_all a ys (insert_fixed y xs) (has-insert_fixed a y xs h)
 
-pub settling-keeps : (taxi now : ℕ) (plans : List Plan) (r : Regulation) (a : Placed) → stays taxi now plans r a ≡ true → HasPair a r.fixed → HasPair a (settled taxi now plans r).fixed
+pub settling-keeps : (taxi now : ℕ) (plans : List PlanView) (r : Regulation) (a : Placed) → stays taxi now plans r a ≡ true → HasPair a r.fixed → HasPair a (settled taxi now plans r).fixed
 unfolding settled
 settling-keeps taxi now plans r a t h =
     has-insert_all a (filter (is_due_at now plans) (assigned_around taxi plans r (kept taxi now plans r))) (kept taxi now plans r) (has-filter (stays taxi now plans r) a r.fixed t h)
 
-pub departing-keeps : (taxi max flight : ℕ) (before : List Plan) (r : Regulation) (a : Placed) → HasPair a r.fixed → HasPair a (frozen_at_departure taxi max before flight r).fixed
+pub departing-keeps : (taxi max flight : ℕ) (before : List PlanView) (r : Regulation) (a : Placed) → HasPair a r.fixed → HasPair a (frozen_at_departure taxi max before flight r).fixed
 unfolding frozen_at_departure
 departing-keeps taxi max flight before r a h = cases (has_flight flight r.fixed) where
   cases : (b : Bool) → HasPair a (cond b r (record r { fixed = insert_all (pairs_of flight (assigned (lineup_of taxi max before r))) r.fixed })).fixed

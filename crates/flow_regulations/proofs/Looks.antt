@@ -1,6 +1,6 @@
 -- What reads of a slot list find.
-use Rattle.std.proofs.Common.{◌≡◌, ℕ, ◌++◌, ◌⊎◌, inl, inr, Bool, true, false, List, [], ◌∷◌, Option, Some, None, refl, sym, subst, ◌∙◌}
-use Rattle.std.specs.Prelude.{IsSome, IfSome}
+use Rattle.std.proofs.Common.{◌≡◌, ℕ, ◌++◌, ◌⊎◌, inl, inr, Bool, true, false, List, [], ◌∷◌, Option, Some, None, refl, sym, ◌∙◌}
+use Rattle.std.specs.Prelude.{IsSome}
 use Rattle.std.proofs.lemmas.Bool.{cases_eq, false≢true}
 use Rattle.flow_slots.specs.Assignment.{Placed}
 use Rattle.flow_slots.specs.Lineup.{Lineup, slot_in, held_slot, fixed_slot}
@@ -25,6 +25,3 @@ fixed-none l f b h e = cases (fixed_slot l f) h.1 where
   cases : (o : Option ℕ) → (IsSome o → b ≡ true) → o ≡ None
   cases None k = refl
   cases (Some k) q = absurd (false≢true (sym e ∙ q refl))
-
-pub if_some : {X : Type 0} (Q : X → Type 0) (o : Option X) (x : X) → o ≡ Some x → IfSome o Q → Q x
-if_some Q o x e h = (let R : Option _ → Type 0 = λ v. IfSome v Q in subst R e h)

@@ -6,7 +6,7 @@ use Rattle.std.proofs.lemmas.Nat.{pow_pos, one_shl}
 use Rattle.std.proofs.lemmas.Bool.{eq-eqb, eqb-true, lt-ltb, le-ltb, ltb-true, ltb-false}
 use Rattle.std.proofs.lemmas.Nat.Bits.{bit_at-lt, bit_at-suc, bit_at_or, bit_at_ones, bit_at_set_same, bit_at_cat_high}
 use Rattle.flow_plans.proofs.NextBits.{low-bit, high-bit, next-bit, next-within, none-later as bits-none-later, next-later as bits-next-later}
-use Rattle.flow_regulations.specs.Marks.{may_stand, Keeps, KeepsBelow, MovesUp}
+use Rattle.flow_regulations.specs.Marks.{may_stand, KeepsMask, KeepsBelow, MaskMovesUp}
 
 pub stands-bit : (w i : ℕ) → i < 64 → bit_at w i ≡ 1 → may_stand w i ≡ true
 unfolding may_stand
@@ -31,10 +31,10 @@ by-place w i f = cases (ltb i 64) refl where
 pub ones-stand : (i : ℕ) → may_stand 18_446_744_073_709_551_615 i ≡ true
 ones-stand i = by-place 18_446_744_073_709_551_615 i (λ h. stands-bit 18_446_744_073_709_551_615 i h (bit_at_ones 64 i h))
 
-pub or-first : (a b : ℕ) → Keeps a (bit_or a b)
+pub or-first : (a b : ℕ) → KeepsMask a (bit_or a b)
 or-first a b i s = by-place (bit_or a b) i (λ h. stands-bit (bit_or a b) i h (let e = bit-stands a i h s in omega (arith, bit_at_or a b i, bit_at-lt b i, e)))
 
-pub or-second : (a b : ℕ) → Keeps b (bit_or a b)
+pub or-second : (a b : ℕ) → KeepsMask b (bit_or a b)
 or-second a b i s = by-place (bit_or a b) i (λ h. stands-bit (bit_or a b) i h (let e = bit-stands b i h s in omega (arith, bit_at_or a b i, bit_at-lt a i, e)))
 
 pub set-stands : (w k : ℕ) → k < 64 → may_stand (bit_or w (1 * 2 ^ k % 18_446_744_073_709_551_616)) k ≡ true
@@ -63,7 +63,7 @@ pub cut-stands : (w k : ℕ) → k < 64 → KeepsBelow k w (w % (1 * 2 ^ k % 18_
 cut-stands w k h = low-stands w k (1 * 2 ^ k % 18_446_744_073_709_551_616) h (one_shl k 64 h)
 
 -- an index that is gone
-pub moved-up : (w k r : ℕ) → k < 64 → Keeps (bit_or ((w / 2 / 2 ^ k) * 2 ^ k % 18_446_744_073_709_551_616) (w % (1 * 2 ^ k % 18_446_744_073_709_551_616))) r → may_stand r 63 ≡ true → MovesUp k w r
+pub moved-up : (w k r : ℕ) → k < 64 → KeepsMask (bit_or ((w / 2 / 2 ^ k) * 2 ^ k % 18_446_744_073_709_551_616) (w % (1 * 2 ^ k % 18_446_744_073_709_551_616))) r → may_stand r 63 ≡ true → MaskMovesUp k w r
 moved-up w k r h keeps last =
     let high : ℕ = (w / 2 / 2 ^ k) * 2 ^ k % 18_446_744_073_709_551_616 in
     let low : ℕ = w % (1 * 2 ^ k % 18_446_744_073_709_551_616) in
@@ -79,7 +79,7 @@ moved-up w k r h keeps last =
           let M : ℕ → Type 0 = λ p. may_stand r p ≡ true in
           subst M same last
 
-pub late-moves : (w k : ℕ) → 64 ≤ k → MovesUp k w w
+pub late-moves : (w k : ℕ) → 64 ≤ k → MaskMovesUp k w w
 late-moves w k h = (λ i l s. s, λ i l s. stands-late w i (let past : k ≤ i = ltb-false i k l in omega arith))
 
 clear-stands : (w i : ℕ) → i < 64 → bit_at w i ≡ 0 → may_stand w i ≡ false

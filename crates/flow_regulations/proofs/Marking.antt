@@ -8,8 +8,8 @@ use Rattle.flow_slots.specs.declared.cell.Planned.{Planned}
 use Rattle.flow_slots.specs.Order.{without}
 use Rattle.flow_slots.specs.Assignment.{Placed}
 use Rattle.flow_slots.specs.Lineup.{NoneIs, NoneFixed, without_fixed}
-use Rattle.flow_regulations.specs.Listing.{Listed, Walked, without_in}
-use Rattle.flow_regulations.specs.Marks.{may_stand, word_of, IsOut, IsMarked, AreMarked, Keeps, KeepsBelow, MovesUp, IsOpenedTo}
+use Rattle.flow_regulations.specs.Listing.{RegulationView, Walked, without_in}
+use Rattle.flow_regulations.specs.Marks.{may_stand, mask_of, IsOut, IsMarked, AreMarked, KeepsMask, KeepsBelow, MaskMovesUp, IsOpenedTo}
 use Rattle.flow_regulations.proofs.MarkBits.{ones-stand}
 use Rattle.flow_regulations.proofs.Walks.{written-back}
 
@@ -43,10 +43,10 @@ back-waiting f n (w ∷ ws) ne h = cases (λ k. back-waiting f n ws ne k) (eqb w
   cases again false q k = (k.0, again k.1)
 
 -- if another flight alone was changed
-pub out-alone : (f n : ℕ) (l m : Listed) → (f ≡ n → ⊥) → without_in n m ≡ without_in n l → IsOut f l → IsOut f m
+pub out-alone : (f n : ℕ) (l m : RegulationView) → (f ≡ n → ⊥) → without_in n m ≡ without_in n l → IsOut f l → IsOut f m
 out-alone f n l m ne e h =
-    let F : Listed → Type 0 = λ v. NoneFixed f v.lineup.fixed in
-    let W : Listed → Type 0 = λ v. NoneIs f v.lineup.waiting in
+    let F : RegulationView → Type 0 = λ v. NoneFixed f v.lineup.fixed in
+    let W : RegulationView → Type 0 = λ v. NoneIs f v.lineup.waiting in
     (back-fixed f n m.lineup.fixed ne (subst F (sym e) (kept-fixed f n l.lineup.fixed h.0)), back-waiting f n m.lineup.waiting ne (subst W (sym e) (kept-waiting f n l.lineup.waiting h.1)))
 
 -- a bit that isn't set wasn't set before
@@ -62,11 +62,11 @@ falls-to w v i j k e = cases (may_stand w j) refl where
   cases false q = refl
   cases true q = absurd (true≢false (sym (k q) ∙ e))
 
-pub covers-more : (w v f i : ℕ) (ls : List Listed) → Keeps w v → IsMarked w f i ls → IsMarked v f i ls
+pub covers-more : (w v f i : ℕ) (ls : List RegulationView) → KeepsMask w v → IsMarked w f i ls → IsMarked v f i ls
 covers-more w v f i [] k c = tt
 covers-more w v f i (l ∷ ls) k c = (λ e. c.0 (falls w v i (k i) e), covers-more w v f (suc i) ls k c.1)
 
-at : (w f i j k : ℕ) (ls : List Listed) (d : Listed) → k ≡ i + j → j < length ls → IsMarked w f i ls → may_stand w k ≡ false → IsOut f (get_or ls j d)
+at : (w f i j k : ℕ) (ls : List RegulationView) (d : RegulationView) → k ≡ i + j → j < length ls → IsMarked w f i ls → may_stand w k ≡ false → IsOut f (get_or ls j d)
 at w f i j k [] d e h c m = absurd (omega arith)
 at w f i zero k (l ∷ ls) d e h c m =
     let M : ℕ → Type 0 = λ p. may_stand w p ≡ false in
@@ -75,10 +75,10 @@ at w f i zero k (l ∷ ls) d e h c m =
 at w f i (suc j) k (l ∷ ls) d e h c m = at w f (suc i) j k ls d (omega arith) (omega arith) c.1 m
 
 -- what a mask says of the regulation at an index
-pub covers-at : (w f j : ℕ) (ls : List Listed) (d : Listed) → j < length ls → IsMarked w f 0 ls → may_stand w j ≡ false → IsOut f (get_or ls j d)
+pub covers-at : (w f j : ℕ) (ls : List RegulationView) (d : RegulationView) → j < length ls → IsMarked w f 0 ls → may_stand w j ≡ false → IsOut f (get_or ls j d)
 covers-at w f j ls d h c m = at w f 0 j j ls d (omega arith) h c m
 
-put : (w v f i j k : ℕ) (ls : List Listed) (z : Listed) → k ≡ i + j → Keeps w v → (may_stand v k ≡ false → IsOut f z) → IsMarked w f i ls → IsMarked v f i (slice_set ls j z)
+put : (w v f i j k : ℕ) (ls : List RegulationView) (z : RegulationView) → k ≡ i + j → KeepsMask w v → (may_stand v k ≡ false → IsOut f z) → IsMarked w f i ls → IsMarked v f i (slice_set ls j z)
 put w v f i j k [] z e s o c = tt
 put w v f i zero k (l ∷ ls) z e s o c =
     let M : ℕ → Type 0 = λ p. may_stand v p ≡ false in
@@ -87,10 +87,10 @@ put w v f i zero k (l ∷ ls) z e s o c =
 put w v f i (suc j) k (l ∷ ls) z e s o c = (λ m. c.0 (falls w v i (s i) m), put w v f (suc i) j k ls z (omega arith) s o c.1)
 
 -- a regulation is replaced, and the mask has more bits
-pub covers-set : (w v f j : ℕ) (ls : List Listed) (z : Listed) → Keeps w v → (may_stand v j ≡ false → IsOut f z) → IsMarked w f 0 ls → IsMarked v f 0 (slice_set ls j z)
+pub covers-set : (w v f j : ℕ) (ls : List RegulationView) (z : RegulationView) → KeepsMask w v → (may_stand v j ≡ false → IsOut f z) → IsMarked w f 0 ls → IsMarked v f 0 (slice_set ls j z)
 covers-set w v f j ls z s o c = put w v f 0 j j ls z (omega arith) s o c
 
-covers-alone : (n w f i : ℕ) (os ns : List Listed) → (f ≡ n → ⊥) → map (without_in n) ns ≡ map (without_in n) os → IsMarked w f i os → IsMarked w f i ns
+covers-alone : (n w f i : ℕ) (os ns : List RegulationView) → (f ≡ n → ⊥) → map (without_in n) ns ≡ map (without_in n) os → IsMarked w f i os → IsMarked w f i ns
 covers-alone n w f i [] [] ne e c = tt
 covers-alone n w f i (o ∷ os) [] ne e c = tt
 covers-alone n w f i [] (m ∷ ms) ne e c = absurd cc
@@ -100,39 +100,39 @@ covers-alone n w f i (o ∷ os) (m ∷ ms) ne e c =
     (λ k. out-alone f n o m ne here (c.0 k), covers-alone n w f (suc i) os ms ne rest c.1)
 
 -- one flight changes in each regulation, and has another mask
-pub marked-one : (n w : ℕ) (olds news : List ℕ) (os ns : List Listed) → ((f : ℕ) → (f ≡ n → ⊥) → word_of news f ≡ word_of olds f) → Keeps w (word_of news n)
+pub marked-one : (n w : ℕ) (olds news : List ℕ) (os ns : List RegulationView) → ((f : ℕ) → (f ≡ n → ⊥) → mask_of news f ≡ mask_of olds f) → KeepsMask w (mask_of news n)
     → map (without_in n) ns ≡ map (without_in n) os → IsMarked w n 0 ns → AreMarked olds os → AreMarked news ns
 marked-one n w olds news os ns others one alone covers a f = cases (cases_eq f n) where
-  cases : (f ≡ n) ⊎ (f ≡ n → ⊥) → IsMarked (word_of news f) f 0 ns
+  cases : (f ≡ n) ⊎ (f ≡ n → ⊥) → IsMarked (mask_of news f) f 0 ns
   cases (inl e) =
-      let C : ℕ → Type 0 = λ g. IsMarked (word_of news g) g 0 ns in
-      subst C (sym e) (covers-more w (word_of news n) n 0 ns one covers)
+      let C : ℕ → Type 0 = λ g. IsMarked (mask_of news g) g 0 ns in
+      subst C (sym e) (covers-more w (mask_of news n) n 0 ns one covers)
   cases (inr ne) =
       let C : ℕ → Type 0 = λ v. IsMarked v f 0 ns in
-      subst C (sym (others f ne)) (covers-alone n (word_of olds f) f 0 os ns ne alone (a f))
+      subst C (sym (others f ne)) (covers-alone n (mask_of olds f) f 0 os ns ne alone (a f))
 
-covers-walked : (R : Listed → Listed → Type 0) (w f i n : ℕ) (os ns : List Listed) → ((l m : Listed) → R l m → IsOut f l → IsOut f m) → n ≡ length ns → Walked R n os ns → IsMarked w f i os → IsMarked w f i ns
+covers-walked : (R : RegulationView → RegulationView → Type 0) (w f i n : ℕ) (os ns : List RegulationView) → ((l m : RegulationView) → R l m → IsOut f l → IsOut f m) → n ≡ length ns → Walked R n os ns → IsMarked w f i os → IsMarked w f i ns
 covers-walked R w f i n os [] s e r c = tt
 covers-walked R w f i zero os (m ∷ ms) s e r c = absurd (omega arith)
 covers-walked R w f i (suc n) [] (m ∷ ms) s e r c = absurd r
 covers-walked R w f i (suc n) (o ∷ os) (m ∷ ms) s e r c = (λ k. s o m r.0 (c.0 k), covers-walked R w f (suc i) n os ms s (omega arith) r.1 c.1)
 
 -- each regulation is replaced, by one that holds no other flight
-pub marked-walked : (R : Listed → Listed → Type 0) (words : List ℕ) (n : ℕ) (os ns : List Listed) → ((f : ℕ) (l m : Listed) → R l m → IsOut f l → IsOut f m) → n ≡ length ns → Walked R n os ns → AreMarked words os → AreMarked words ns
-marked-walked R words n os ns s e r a f = covers-walked R (word_of words f) f 0 n os ns (s f) e r (a f)
+pub marked-walked : (R : RegulationView → RegulationView → Type 0) (words : List ℕ) (n : ℕ) (os ns : List RegulationView) → ((f : ℕ) (l m : RegulationView) → R l m → IsOut f l → IsOut f m) → n ≡ length ns → Walked R n os ns → AreMarked words os → AreMarked words ns
+marked-walked R words n os ns s e r a f = covers-walked R (mask_of words f) f 0 n os ns (s f) e r (a f)
 
-pub covers-ones : (f i : ℕ) (ls : List Listed) → IsMarked 18_446_744_073_709_551_615 f i ls
+pub covers-ones : (f i : ℕ) (ls : List RegulationView) → IsMarked 18_446_744_073_709_551_615 f i ls
 covers-ones f i [] = tt
 covers-ones f i (l ∷ ls) = (λ e. absurd (true≢false (sym (ones-stand i) ∙ e)), covers-ones f (suc i) ls)
 
 -- without masks nothing is said
-pub marked-none : (ls : List Listed) → AreMarked [] ls
+pub marked-none : (ls : List RegulationView) → AreMarked [] ls
 marked-none ls f = covers-ones f 0 ls
 
-pub marked-as : (olds news : List ℕ) (ls : List Listed) → ((f : ℕ) → word_of news f ≡ word_of olds f) → AreMarked olds ls → AreMarked news ls
+pub marked-as : (olds news : List ℕ) (ls : List RegulationView) → ((f : ℕ) → mask_of news f ≡ mask_of olds f) → AreMarked olds ls → AreMarked news ls
 marked-as olds news ls e a f = (let C : ℕ → Type 0 = λ w. IsMarked w f 0 ls in subst C (sym (e f)) (a f))
 
-covers-last : (w v f i k : ℕ) (ls : List Listed) (x : Listed) → k ≡ i + length ls → KeepsBelow k w v → (may_stand v k ≡ false → IsOut f x) → IsMarked w f i ls → IsMarked v f i (ls ++ x ∷ [])
+covers-last : (w v f i k : ℕ) (ls : List RegulationView) (x : RegulationView) → k ≡ i + length ls → KeepsBelow k w v → (may_stand v k ≡ false → IsOut f x) → IsMarked w f i ls → IsMarked v f i (ls ++ x ∷ [])
 covers-last w v f i k [] x e s o c =
     let M : ℕ → Type 0 = λ p. may_stand v p ≡ false in
     let same : i ≡ k = omega arith in
@@ -140,74 +140,74 @@ covers-last w v f i k [] x e s o c =
 covers-last w v f i k (l ∷ ls) x e s o c = (λ m. c.0 (falls w v i (s i (lt-ltb i k (omega arith))) m), covers-last w v f (suc i) k ls x (omega arith) s o c.1)
 
 -- one more regulation is opened
-pub marked-last : (olds news : List ℕ) (k : ℕ) (ls : List Listed) (x : Listed) → k ≡ length ls → ((f : ℕ) → IsOpenedTo k x f (word_of olds f) (word_of news f)) → AreMarked olds ls → AreMarked news (ls ++ x ∷ [])
-marked-last olds news k ls x e o a f = covers-last (word_of olds f) (word_of news f) f 0 k ls x (omega (arith, e)) (o f).0 (o f).1 (a f)
+pub marked-last : (olds news : List ℕ) (k : ℕ) (ls : List RegulationView) (x : RegulationView) → k ≡ length ls → ((f : ℕ) → IsOpenedTo k x f (mask_of olds f) (mask_of news f)) → AreMarked olds ls → AreMarked news (ls ++ x ∷ [])
+marked-last olds news k ls x e o a f = covers-last (mask_of olds f) (mask_of news f) f 0 k ls x (omega (arith, e)) (o f).0 (o f).1 (a f)
 
-covers-front : (w f i : ℕ) (xs ys : List Listed) → IsMarked w f i (xs ++ ys) → IsMarked w f i xs
+covers-front : (w f i : ℕ) (xs ys : List RegulationView) → IsMarked w f i (xs ++ ys) → IsMarked w f i xs
 covers-front w f i [] ys c = tt
 covers-front w f i (x ∷ xs) ys c = (c.0, covers-front w f (suc i) xs ys c.1)
 
 -- the last one is removed again
-pub marked-front : (words : List ℕ) (xs ys : List Listed) → AreMarked words (xs ++ ys) → AreMarked words xs
-marked-front words xs ys a f = covers-front (word_of words f) f 0 xs ys (a f)
+pub marked-front : (words : List ℕ) (xs ys : List RegulationView) → AreMarked words (xs ++ ys) → AreMarked words xs
+marked-front words xs ys a f = covers-front (mask_of words f) f 0 xs ys (a f)
 
-covers-up : (w v f i k : ℕ) (ls : List Listed) → k ≤ i → MovesUp k w v → IsMarked w f (suc i) ls → IsMarked v f i ls
+covers-up : (w v f i k : ℕ) (ls : List RegulationView) → k ≤ i → MaskMovesUp k w v → IsMarked w f (suc i) ls → IsMarked v f i ls
 covers-up w v f i k [] h s c = tt
 covers-up w v f i k (l ∷ ls) h s c = (λ m. c.0 (falls-to w v i (suc i) (s.1 i (le-ltb i k h)) m), covers-up w v f (suc i) k ls (omega arith) s c.1)
 
-covers-removed : (w v f i j k : ℕ) (ls : List Listed) → k ≡ i + j → MovesUp k w v → IsMarked w f i ls → IsMarked v f i (remove ls j)
+covers-removed : (w v f i j k : ℕ) (ls : List RegulationView) → k ≡ i + j → MaskMovesUp k w v → IsMarked w f i ls → IsMarked v f i (remove ls j)
 covers-removed w v f i zero k [] e s c = tt
 covers-removed w v f i (suc j) k [] e s c = tt
 covers-removed w v f i zero k (l ∷ ls) e s c = covers-up w v f i k ls (omega arith) s c.1
 covers-removed w v f i (suc j) k (l ∷ ls) e s c = (λ m. c.0 (falls w v i (s.0 i (lt-ltb i k (omega arith))) m), covers-removed w v f (suc i) j k ls (omega arith) s c.1)
 
 -- a regulation is closed
-pub marked-removed : (olds news : List ℕ) (k : ℕ) (ls : List Listed) → ((f : ℕ) → MovesUp k (word_of olds f) (word_of news f)) → AreMarked olds ls → AreMarked news (remove ls k)
-marked-removed olds news k ls m a f = covers-removed (word_of olds f) (word_of news f) f 0 k k ls (omega arith) (m f) (a f)
+pub marked-removed : (olds news : List ℕ) (k : ℕ) (ls : List RegulationView) → ((f : ℕ) → MaskMovesUp k (mask_of olds f) (mask_of news f)) → AreMarked olds ls → AreMarked news (remove ls k)
+marked-removed olds news k ls m a f = covers-removed (mask_of olds f) (mask_of news f) f 0 k k ls (omega arith) (m f) (a f)
 
 -- the masks are replaced in turn
-module _ (R : ℕ → ℕ → ℕ → Type 0) (olds news : List ℕ) (j : ℕ) (done : (f : ℕ) → f < j → R f (word_of olds f) (word_of news f)) (rest : (f : ℕ) → j ≤ f → word_of news f ≡ word_of olds f) where
-  pub words-done : (w v : ℕ) → j < length news → w ≡ word_of news j → R j w v → (f : ℕ) → f < j + 1 → R f (word_of olds f) (word_of (slice_set news j v) f)
+module _ (R : ℕ → ℕ → ℕ → Type 0) (olds news : List ℕ) (j : ℕ) (done : (f : ℕ) → f < j → R f (mask_of olds f) (mask_of news f)) (rest : (f : ℕ) → j ≤ f → mask_of news f ≡ mask_of olds f) where
+  pub words-done : (w v : ℕ) → j < length news → w ≡ mask_of news j → R j w v → (f : ℕ) → f < j + 1 → R f (mask_of olds f) (mask_of (slice_set news j v) f)
   words-done w v h e r f l = cases (cases_eq f j) where
-    cases : (f ≡ j) ⊎ (f ≡ j → ⊥) → R f (word_of olds f) (word_of (slice_set news j v) f)
+    cases : (f ≡ j) ⊎ (f ≡ j → ⊥) → R f (mask_of olds f) (mask_of (slice_set news j v) f)
     cases (inl q) =
         let O : ℕ → Type 0 = λ x. R j x v in
-        let N : ℕ → Type 0 = λ x. R j (word_of olds j) x in
-        let G : ℕ → Type 0 = λ g. R g (word_of olds g) (word_of (slice_set news j v) g) in
+        let N : ℕ → Type 0 = λ x. R j (mask_of olds j) x in
+        let G : ℕ → Type 0 = λ g. R g (mask_of olds g) (mask_of (slice_set news j v) g) in
         subst G (sym q) (subst N (sym (get_or-set_same news j v 18_446_744_073_709_551_615 h)) (subst O (e ∙ rest j (omega arith)) r))
     cases (inr ne) =
-        let N : ℕ → Type 0 = λ x. R f (word_of olds f) x in
+        let N : ℕ → Type 0 = λ x. R f (mask_of olds f) x in
         subst N (sym (get_or-set_other news j f v 18_446_744_073_709_551_615 ne)) (done f (omega arith))
 
-  pub words-rest : (v f : ℕ) → j + 1 ≤ f → word_of (slice_set news j v) f ≡ word_of olds f
+  pub words-rest : (v f : ℕ) → j + 1 ≤ f → mask_of (slice_set news j v) f ≡ mask_of olds f
   words-rest v f l = get_or-set_other news j f v 18_446_744_073_709_551_615 (λ e. absurd (omega arith)) ∙ rest f (omega arith)
 
-  pub words-all : length olds ≤ j → ((f : ℕ) → R f 18_446_744_073_709_551_615 18_446_744_073_709_551_615) → (f : ℕ) → R f (word_of olds f) (word_of news f)
+  pub words-all : length olds ≤ j → ((f : ℕ) → R f 18_446_744_073_709_551_615 18_446_744_073_709_551_615) → (f : ℕ) → R f (mask_of olds f) (mask_of news f)
   words-all h ones f = cases (ltb f j) refl where
-    cases : (b : Bool) → ltb f j ≡ b → R f (word_of olds f) (word_of news f)
+    cases : (b : Bool) → ltb f j ≡ b → R f (mask_of olds f) (mask_of news f)
     cases true q = done f (ltb-true f j q)
     cases false q =
         let past : j ≤ f = ltb-false f j q in
-        let none : word_of olds f ≡ 18_446_744_073_709_551_615 = get_or_past olds f 18_446_744_073_709_551_615 (omega arith) in
+        let none : mask_of olds f ≡ 18_446_744_073_709_551_615 = get_or_past olds f 18_446_744_073_709_551_615 (omega arith) in
         let O : ℕ → Type 0 = λ x. R f x x in
-        let N : ℕ → Type 0 = λ x. R f (word_of olds f) x in
+        let N : ℕ → Type 0 = λ x. R f (mask_of olds f) x in
         subst N (sym (rest f past)) (subst O (sym none) (ones f))
 
 -- the mask of one flight is replaced
-module _ (n v : ℕ) (olds news : List ℕ) (others : (f : ℕ) → (f ≡ n → ⊥) → word_of news f ≡ word_of olds f) (one : Keeps v (word_of news n)) where
-  pub one-keeps : Keeps (word_of olds n) v → (f : ℕ) → Keeps (word_of olds f) (word_of news f)
+module _ (n v : ℕ) (olds news : List ℕ) (others : (f : ℕ) → (f ≡ n → ⊥) → mask_of news f ≡ mask_of olds f) (one : KeepsMask v (mask_of news n)) where
+  pub one-keeps : KeepsMask (mask_of olds n) v → (f : ℕ) → KeepsMask (mask_of olds f) (mask_of news f)
   one-keeps more f i s = cases (cases_eq f n) where
-    cases : (f ≡ n) ⊎ (f ≡ n → ⊥) → may_stand (word_of news f) i ≡ true
+    cases : (f ≡ n) ⊎ (f ≡ n → ⊥) → may_stand (mask_of news f) i ≡ true
     cases (inl e) =
-        let M : ℕ → Type 0 = λ g. may_stand (word_of news g) i ≡ true in
-        let O : ℕ → Type 0 = λ g. may_stand (word_of olds g) i ≡ true in
+        let M : ℕ → Type 0 = λ g. may_stand (mask_of news g) i ≡ true in
+        let O : ℕ → Type 0 = λ g. may_stand (mask_of olds g) i ≡ true in
         subst M (sym e) (one i (more i (subst O e s)))
     cases (inr ne) =
         let M : ℕ → Type 0 = λ w. may_stand w i ≡ true in
         subst M (sym (others f ne)) s
 
-  pub one-marked : (k m : ℕ) (l : Listed) → may_stand v k ≡ true → ((f : ℕ) → n + 1 ≤ f → f < m → IsOut f l)
-      → ((f : ℕ) → f < n → may_stand (word_of olds f) k ≡ false → IsOut f l) → (f : ℕ) → f < m → may_stand (word_of news f) k ≡ false → IsOut f l
+  pub one-marked : (k m : ℕ) (l : RegulationView) → may_stand v k ≡ true → ((f : ℕ) → n + 1 ≤ f → f < m → IsOut f l)
+      → ((f : ℕ) → f < n → may_stand (mask_of olds f) k ≡ false → IsOut f l) → (f : ℕ) → f < m → may_stand (mask_of news f) k ≡ false → IsOut f l
   one-marked k m l stands out before f high unset = by (cases_eq f n) where
     apart : (f ≡ n → ⊥) → (f < n) ⊎ (n ≤ f) → IsOut f l
     apart ne (inl below) =
@@ -217,36 +217,36 @@ module _ (n v : ℕ) (olds news : List ℕ) (others : (f : ℕ) → (f ≡ n →
 
     by : (f ≡ n) ⊎ (f ≡ n → ⊥) → IsOut f l
     by (inl e) =
-        let M : ℕ → Type 0 = λ g. may_stand (word_of news g) k ≡ false in
+        let M : ℕ → Type 0 = λ g. may_stand (mask_of news g) k ≡ false in
         absurd (true≢false (sym (one k stands) ∙ subst M e unset))
     by (inr ne) = apart ne (cases_lt f n)
 
 pub ones-below : (k f : ℕ) → KeepsBelow k 18_446_744_073_709_551_615 18_446_744_073_709_551_615
 ones-below k f = λ i l s. s
 
-pub ones-move : (k f : ℕ) → MovesUp k 18_446_744_073_709_551_615 18_446_744_073_709_551_615
+pub ones-move : (k f : ℕ) → MaskMovesUp k 18_446_744_073_709_551_615 18_446_744_073_709_551_615
 ones-move k f = (λ i l s. s, λ i l s. ones-stand i)
 
 -- a vector of masks and one of regulations that were written back whole
-pub written-marked : (i j : ℕ) (ws vs : List ℕ) (ns ls : List Listed) → i ≡ length ws → j ≡ length ns → AreMarked ws ns → AreMarked (take i (ws ++ vs)) (take j (ns ++ ls))
+pub written-marked : (i j : ℕ) (ws vs : List ℕ) (ns ls : List RegulationView) → i ≡ length ws → j ≡ length ns → AreMarked ws ns → AreMarked (take i (ws ++ vs)) (take j (ns ++ ls))
 written-marked i j ws vs ns ls a b h =
-    let M : List Listed → Type 0 = λ ms. AreMarked (take i (ws ++ vs)) ms in
+    let M : List RegulationView → Type 0 = λ ms. AreMarked (take i (ws ++ vs)) ms in
     let V : List ℕ → Type 0 = λ us. AreMarked us ns in
     subst M (sym (written-back j ns ls b)) (subst V (sym (written-back i ws vs a)) h)
 
-pub written-words : (i : ℕ) (ws vs : List ℕ) (ls : List Listed) → i ≡ length ws → AreMarked ws ls → AreMarked (take i (ws ++ vs)) ls
+pub written-words : (i : ℕ) (ws vs : List ℕ) (ls : List RegulationView) → i ≡ length ws → AreMarked ws ls → AreMarked (take i (ws ++ vs)) ls
 written-words i ws vs ls a h = (let V : List ℕ → Type 0 = λ us. AreMarked us ls in subst V (sym (written-back i ws vs a)) h)
 
 -- the mask of a flight covers it
-pub marked-word : (n w : ℕ) (us ws : List ℕ) (ls ms : List Listed) → us ≡ ws → ms ≡ ls → w ≡ word_of us n → AreMarked ws ls → IsMarked w n 0 ms
+pub marked-word : (n w : ℕ) (us ws : List ℕ) (ls ms : List RegulationView) → us ≡ ws → ms ≡ ls → w ≡ mask_of us n → AreMarked ws ls → IsMarked w n 0 ms
 marked-word n w us ws ls ms a b e h =
     let C : ℕ → Type 0 = λ v. IsMarked v n 0 ms in
-    let L : List Listed → Type 0 = λ xs. IsMarked (word_of us n) n 0 xs in
-    let V : List ℕ → Type 0 = λ vs. IsMarked (word_of vs n) n 0 ls in
+    let L : List RegulationView → Type 0 = λ xs. IsMarked (mask_of us n) n 0 xs in
+    let V : List ℕ → Type 0 = λ vs. IsMarked (mask_of vs n) n 0 ls in
     subst C (sym e) (subst L (sym b) (subst V (sym a) (h n)))
 
-pub marked-both : (us ws : List ℕ) (ls ms : List Listed) → us ≡ ws → ms ≡ ls → AreMarked ws ls → AreMarked us ms
+pub marked-both : (us ws : List ℕ) (ls ms : List RegulationView) → us ≡ ws → ms ≡ ls → AreMarked ws ls → AreMarked us ms
 marked-both us ws ls ms a b h =
-    let L : List Listed → Type 0 = λ xs. AreMarked us xs in
+    let L : List RegulationView → Type 0 = λ xs. AreMarked us xs in
     let V : List ℕ → Type 0 = λ vs. AreMarked vs ls in
     subst L (sym b) (subst V (sym a) h)

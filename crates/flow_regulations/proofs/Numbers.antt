@@ -3,37 +3,37 @@
 use Rattle.std.proofs.Common.{◌≡◌, ℕ, zero, suc, ◌+◌, ◌<◌, List, [], ◌∷◌, ◌++◌, length, Option, Some, IfSome, refl, sym, ap, ◌∙◌, subst, arith}
 use Rattle.std.proofs.Math.ListN.{set}
 use Rattle.std.specs.List.{slice_get}
-use Rattle.flow_plans.specs.Plans.{Plan}
+use Rattle.flow_plans.specs.Plans.{PlanView}
 use Rattle.flow_regulations.specs.declared.notice.Told.{Told}
 use Rattle.flow_regulations.specs.declared.notice.Notice.{Notice}
 
 -- what is said to the plans numbered from n
-abbrev pub said_along : (ℕ → Plan → Option Told → List Notice) → ℕ → List Plan → List (Option Told) → List Notice
+abbrev pub said_along : (ℕ → PlanView → Option Told → List Notice) → ℕ → List PlanView → List (Option Told) → List Notice
 said_along f n [] ts = []
 said_along f n (p ∷ ps) [] = []
 said_along f n (p ∷ ps) (t ∷ ts) = f n p t ++ said_along f (n + 1) ps ts
 
 -- and what is issued to them
-abbrev pub told_along : (ℕ → Plan → Option Told → Option Told) → ℕ → List Plan → List (Option Told) → List (Option Told)
+abbrev pub told_along : (ℕ → PlanView → Option Told → Option Told) → ℕ → List PlanView → List (Option Told) → List (Option Told)
 told_along g n [] ts = []
 told_along g n (p ∷ ps) [] = []
 told_along g n (p ∷ ps) (t ∷ ts) = g n p t ∷ told_along g (n + 1) ps ts
 
 -- the plan at this index gets no notice
-abbrev pub QuietPlace : (ℕ → Plan → Option Told → List Notice) → ℕ → List Plan → List (Option Told) → ℕ → Type 0
+abbrev pub QuietPlace : (ℕ → PlanView → Option Told → List Notice) → ℕ → List PlanView → List (Option Told) → ℕ → Type 0
 QuietPlace f n ps ts k = IfSome (slice_get ps k) (λ p. IfSome (slice_get ts k) (λ t. f (n + k) p t ≡ []))
 
-quiet-next : (f : ℕ → Plan → Option Told → List Notice) (n k : ℕ) (p : Plan) (ps : List Plan) (t : Option Told) (ts : List (Option Told))
+quiet-next : (f : ℕ → PlanView → Option Told → List Notice) (n k : ℕ) (p : PlanView) (ps : List PlanView) (t : Option Told) (ts : List (Option Told))
     → QuietPlace f n (p ∷ ps) (t ∷ ts) (suc k) → QuietPlace f (n + 1) ps ts k
 quiet-next f n k p ps t ts h =
     let e : n + suc k ≡ n + 1 + k = omega arith in
     subst (λ (m : ℕ). IfSome (slice_get ps k) (λ p. IfSome (slice_get ts k) (λ t. f m p t ≡ []))) e h
 
-quiet-first : (f : ℕ → Plan → Option Told → List Notice) (n : ℕ) (p : Plan) (t : Option Told) → f (n + zero) p t ≡ [] → f n p t ≡ []
+quiet-first : (f : ℕ → PlanView → Option Told → List Notice) (n : ℕ) (p : PlanView) (t : Option Told) → f (n + zero) p t ≡ [] → f n p t ≡ []
 quiet-first f n p t h = let e : n + zero ≡ n = omega arith in subst (λ (m : ℕ). f m p t ≡ []) e h
 
 -- nothing is said to quiet plans
-pub said-quiet : (f : ℕ → Plan → Option Told → List Notice) (n : ℕ) (ps : List Plan) (ts : List (Option Told))
+pub said-quiet : (f : ℕ → PlanView → Option Told → List Notice) (n : ℕ) (ps : List PlanView) (ts : List (Option Told))
     → ((k : ℕ) → QuietPlace f n ps ts k) → said_along f n ps ts ≡ []
 said-quiet f n [] ts h = refl
 said-quiet f n (p ∷ ps) [] h = refl
@@ -41,8 +41,8 @@ said-quiet f n (p ∷ ps) (t ∷ ts) h =
     ap (λ xs. xs ++ said_along f (n + 1) ps ts) (quiet-first f n p t (h zero)) ∙ said-quiet f (n + 1) ps ts (λ k. quiet-next f n k p ps t ts (h (suc k)))
 
 -- and what was issued to them stays
-pub told-quiet : (f : ℕ → Plan → Option Told → List Notice) (g : ℕ → Plan → Option Told → Option Told) (n : ℕ) (ps : List Plan) (ts : List (Option Told))
-    → ((m : ℕ) (p : Plan) (t : Option Told) → f m p t ≡ [] → g m p t ≡ t) → length ts ≡ length ps → ((k : ℕ) → QuietPlace f n ps ts k)
+pub told-quiet : (f : ℕ → PlanView → Option Told → List Notice) (g : ℕ → PlanView → Option Told → Option Told) (n : ℕ) (ps : List PlanView) (ts : List (Option Told))
+    → ((m : ℕ) (p : PlanView) (t : Option Told) → f m p t ≡ [] → g m p t ≡ t) → length ts ≡ length ps → ((k : ℕ) → QuietPlace f n ps ts k)
     → told_along g n ps ts ≡ ts
 told-quiet f g n [] [] stays e h = refl
 told-quiet f g n [] (t ∷ ts) stays e h = absurd (omega arith)
@@ -53,7 +53,7 @@ told-quiet f g n (p ∷ ps) (t ∷ ts) stays e h =
     ∙ ap (λ (us : List (Option Told)). t ∷ us) (told-quiet f g (n + 1) ps ts stays e' (λ k. quiet-next f n k p ps t ts (h (suc k))))
 
 -- one plan is issued its advice, and those before it are quiet
-pub said-one : (f : ℕ → Plan → Option Told → List Notice) (n m i : ℕ) (ps : List Plan) (ts : List (Option Told)) (p : Plan) (t new : Option Told)
+pub said-one : (f : ℕ → PlanView → Option Told → List Notice) (n m i : ℕ) (ps : List PlanView) (ts : List (Option Told)) (p : PlanView) (t new : Option Told)
     → m ≡ n + i → slice_get ps i ≡ Some p → slice_get ts i ≡ Some t → f m p new ≡ [] → ((k : ℕ) → k < i → QuietPlace f n ps ts k)
     → said_along f n ps ts ≡ f m p t ++ said_along f n ps (set ts i new)
 said-one f n m i [] ts p t new e at was after h = cc
@@ -71,7 +71,7 @@ said-one f n m (suc i) (q ∷ ps) (u ∷ ts) p t new e at was after h =
     ∙ ap (λ xs. f m p t ++ (xs ++ said_along f (n + 1) ps (set ts i new))) (sym first)
 
 -- which changes nothing when it is issued again
-pub told-one : (g : ℕ → Plan → Option Told → Option Told) (n m i : ℕ) (ps : List Plan) (ts : List (Option Told)) (p : Plan) (t new : Option Told)
+pub told-one : (g : ℕ → PlanView → Option Told → Option Told) (n m i : ℕ) (ps : List PlanView) (ts : List (Option Told)) (p : PlanView) (t new : Option Told)
     → m ≡ n + i → slice_get ps i ≡ Some p → slice_get ts i ≡ Some t → g m p new ≡ g m p t
     → told_along g n ps (set ts i new) ≡ told_along g n ps ts
 told-one g n m i [] ts p t new e at was again = cc

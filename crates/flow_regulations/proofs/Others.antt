@@ -6,7 +6,7 @@ use Rattle.flow_slots.specs.Assignment.{Placed}
 use Rattle.flow_slots.specs.Lineup.{Lineup, held_slot, fixed_slot, without_fixed, insert_fixed, with_waiting, without_flight}
 use Rattle.flow_slots.specs.ChangeList.{fixed_there}
 use Rattle.flow_regulations.specs.Settling.{pairs_of}
-use Rattle.flow_regulations.specs.Listing.{Listed, with_lineup, placed, fixed_waiting}
+use Rattle.flow_regulations.specs.Listing.{RegulationView, with_lineup, placed, fixed_waiting}
 use Rattle.flow_regulations.proofs.FixedOnes.{without_fixed-here, without_fixed-other}
 
 pairs-other : (f : ℕ) (a : Placed) (xs : List Placed) → (a.flight ≡ f → ⊥) → pairs_of f (a ∷ xs) ≡ pairs_of f xs
@@ -36,10 +36,10 @@ pairs-placed f n (Some e) false l ne = refl
 pairs-placed f n (Some e) true l ne = pairs-there f n (held_slot (with_waiting (record { entry = e; flight = n }) l) n) (with_waiting (record { entry = e; flight = n }) l) ne
 
 -- removed, and inserted again
-pub pairs-out : (f n : ℕ) (l t : Listed) → (f ≡ n → ⊥) → t ≡ with_lineup (without_flight n l.lineup) l → pairs_of f t.lineup.fixed ≡ pairs_of f l.lineup.fixed
+pub pairs-out : (f n : ℕ) (l t : RegulationView) → (f ≡ n → ⊥) → t ≡ with_lineup (without_flight n l.lineup) l → pairs_of f t.lineup.fixed ≡ pairs_of f l.lineup.fixed
 pairs-out f n l t ne e = ap (λ v. pairs_of f v.lineup.fixed) e ∙ pairs-without f n l.lineup.fixed ne
 
-pub pairs-in : (f n : ℕ) (o : Option ℕ) (d : Bool) (l t : Listed) → (f ≡ n → ⊥) → t ≡ with_lineup (placed o d n l.lineup) l → pairs_of f t.lineup.fixed ≡ pairs_of f l.lineup.fixed
+pub pairs-in : (f n : ℕ) (o : Option ℕ) (d : Bool) (l t : RegulationView) → (f ≡ n → ⊥) → t ≡ with_lineup (placed o d n l.lineup) l → pairs_of f t.lineup.fixed ≡ pairs_of f l.lineup.fixed
 pairs-in f n o d l t ne e = ap (λ v. pairs_of f v.lineup.fixed) e ∙ pairs-placed f n o d l.lineup ne
 
 pub pairs-waiting : (f n : ℕ) (l : Lineup) → (f ≡ n → ⊥) → pairs_of f (fixed_waiting n l).fixed ≡ pairs_of f l.fixed
@@ -48,5 +48,5 @@ pairs-waiting f n l ne = cases (is_some (fixed_slot l n)) where
   cases true = refl
   cases false = pairs-there f n (held_slot l n) l ne
 
-pub pairs-fixed : (f n : ℕ) (l m : Listed) → (f ≡ n → ⊥) → m ≡ with_lineup (fixed_waiting n l.lineup) l → pairs_of f m.lineup.fixed ≡ pairs_of f l.lineup.fixed
+pub pairs-fixed : (f n : ℕ) (l m : RegulationView) → (f ≡ n → ⊥) → m ≡ with_lineup (fixed_waiting n l.lineup) l → pairs_of f m.lineup.fixed ≡ pairs_of f l.lineup.fixed
 pairs-fixed f n l m ne e = ap (λ v. pairs_of f v.lineup.fixed) e ∙ pairs-waiting f n l.lineup ne

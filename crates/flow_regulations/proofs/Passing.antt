@@ -3,14 +3,14 @@ use Rattle.std.proofs.Common.{◌≡◌, ℕ, zero, suc, ◌+◌, ◌-◌, ◌<�
 use Rattle.std.specs.Prelude.{bit_or, replicate}
 use Rattle.std.proofs.lemmas.List.{drop_all, drop_more, length-append, length-replicate, append-nil, append_assoc}
 use Rattle.std.proofs.lemmas.Bool.{ltb-true, ltb-false}
-use Rattle.flow_plans.specs.Plans.{Plan, plan_at}
+use Rattle.flow_plans.specs.Plans.{PlanView, plan_at}
 use Rattle.flow_regulations.specs.declared.advice.Delay.{Delay}
-use Rattle.flow_regulations.specs.declared.places.Place.{Place}
-use Rattle.flow_regulations.specs.declared.places.Place.TheVariants as place
+use Rattle.flow_regulations.specs.declared.slot_state.Place.{Place}
+use Rattle.flow_regulations.specs.declared.slot_state.Place.TheVariants as place
 use Rattle.flow_regulations.specs.Advice.{worse, worst}
-use Rattle.flow_regulations.specs.Listing.{Listed, Walked, regulation_of, IsFixedWaiting, IsLookedAgain}
+use Rattle.flow_regulations.specs.Listing.{RegulationView, Walked, regulation_of, IsFixedWaiting, IsLookedAgain}
 use Rattle.flow_regulations.specs.Marks.{may_stand, IsOut, IsMarked, MarksNear}
-use Rattle.flow_regulations.specs.Places.{IsPlaceOf, ArePlaces}
+use Rattle.flow_regulations.specs.SlotStates.{IsPlaceOf, ArePlaces}
 use Rattle.flow_regulations.proofs.Advised.{IsWorstSoFar}
 use Rattle.flow_regulations.proofs.MarkBits.{or-first, or-second}
 use Rattle.flow_regulations.proofs.Marking.{covers-at, falls}
@@ -23,17 +23,17 @@ abbrev pub AreUnmarked : ℕ → ℕ → ℕ → Type 0
 AreUnmarked word i j = (k : ℕ) → i ≤ k → k < j → may_stand word k ≡ false
 
 -- the worst of the regulations from one index on is that from a later one on
-worst-later : (taxi n m i : ℕ) (p : Plan) (ls : List Listed) → ((k : ℕ) (d : Listed) → i ≤ k → k < i + m → k < length ls → IsOut n (get_or ls k d))
+worst-later : (taxi n m i : ℕ) (p : PlanView) (ls : List RegulationView) → ((k : ℕ) (d : RegulationView) → i ≤ k → k < i + m → k < length ls → IsOut n (get_or ls k d))
     → worst taxi n p (map regulation_of (drop i ls)) ≡ worst taxi n p (map regulation_of (drop (i + m) ls))
 worst-later taxi n zero i p ls f =
     let same : i ≡ i + 0 = omega arith in
     ap (λ k. worst taxi n p (map regulation_of (drop k ls))) same
 worst-later taxi n (suc m) i p [] f = ap (λ rs. worst taxi n p (map regulation_of rs)) (drop_all i [] (omega arith) ∙ sym (drop_all (i + suc m) [] (omega arith)))
 worst-later taxi n (suc m) i p (l ∷ rest) f = cases (λ below. worst-later taxi n m (i + 1) p (l ∷ rest) (λ k d h b. f k d (omega (arith, h)) (omega (arith, b)))) (ltb i (length (l ∷ rest))) refl where
-  ls : List Listed
+  ls : List RegulationView
   ls = l ∷ rest
 
-  W : List Listed → Option Delay
+  W : List RegulationView → Option Delay
   W rs = worst taxi n p (map regulation_of rs)
 
   cases : (i < length (l ∷ rest) → W (drop (i + 1) ls) ≡ W (drop (i + 1 + m) ls)) → (b : Bool) → ltb i (length (l ∷ rest)) ≡ b → worst taxi n p (map regulation_of (drop i (l ∷ rest))) ≡ worst taxi n p (map regulation_of (drop (i + suc m) (l ∷ rest)))
@@ -46,7 +46,7 @@ worst-later taxi n (suc m) i p (l ∷ rest) f = cases (λ below. worst-later tax
       let past : length (l ∷ rest) ≤ i = ltb-false i (length (l ∷ rest)) q in
       ap W (drop_all i ls past ∙ sym (drop_all (i + suc m) ls (omega (arith, past))))
 
-pub worst-past : (taxi n w i j : ℕ) (o : Option Plan) (ls : List Listed) (d : Option Delay) → IsMarked w n 0 ls → i ≤ j → AreUnmarked w i j → IsWorstSoFar taxi n o (drop i ls) ls d → IsWorstSoFar taxi n o (drop j ls) ls d
+pub worst-past : (taxi n w i j : ℕ) (o : Option PlanView) (ls : List RegulationView) (d : Option Delay) → IsMarked w n 0 ls → i ≤ j → AreUnmarked w i j → IsWorstSoFar taxi n o (drop i ls) ls d → IsWorstSoFar taxi n o (drop j ls) ls d
 worst-past taxi n w i j None ls d c h u was = tt
 worst-past taxi n w i j (Some p) ls d c h u was =
     let next : i + (j - i) ≡ j = omega (arith, h) in
@@ -54,12 +54,12 @@ worst-past taxi n w i j (Some p) ls d c h u was =
     ap (λ k. worse d (worst taxi n p (map regulation_of (drop k ls)))) (sym next) ∙ (ap (worse d) (sym later) ∙ was)
 
 -- no flight has a provisional slot there to be frozen
-pub fixes-past : (n w i j : ℕ) (os ns : List Listed) → IsMarked w n 0 os → i ≤ j → AreUnmarked w i j → Walked (IsFixedWaiting n) i os ns → Walked (IsFixedWaiting n) j os ns
+pub fixes-past : (n w i j : ℕ) (os ns : List RegulationView) → IsMarked w n 0 os → i ≤ j → AreUnmarked w i j → Walked (IsFixedWaiting n) i os ns → Walked (IsFixedWaiting n) j os ns
 fixes-past n w i j os ns c h u walked = walked-past (IsFixedWaiting n) i j os ns (λ k d a b l. out-fixes n (get_or os k d) (covers-at w n k os d l c (u k a b))) h walked
 
 -- reallocating a flight changes nothing if the regulation doesn't hold it and doesn't apply to it
-pub looks-past : (n taxi now w near i j : ℕ) (plans : List Plan) (os ns : List Listed) → 0 < n → n ≤ length plans → IsMarked w n 0 os
-    → ((p : Plan) → plan_at plans n ≡ Some p → MarksNear near taxi p os) → i ≤ j → AreUnmarked (bit_or w near) i j → Walked (IsLookedAgain n taxi now plans) i os ns → Walked (IsLookedAgain n taxi now plans) j os ns
+pub looks-past : (n taxi now w near i j : ℕ) (plans : List PlanView) (os ns : List RegulationView) → 0 < n → n ≤ length plans → IsMarked w n 0 os
+    → ((p : PlanView) → plan_at plans n ≡ Some p → MarksNear near taxi p os) → i ≤ j → AreUnmarked (bit_or w near) i j → Walked (IsLookedAgain n taxi now plans) i os ns → Walked (IsLookedAgain n taxi now plans) j os ns
 looks-past n taxi now w near i j plans os ns some within c m h u walked =
     walked-past (IsLookedAgain n taxi now plans) i j os ns (λ k d a b l.
     (let out = u k a b in
@@ -85,7 +85,7 @@ pub unmarked-from : (word i j k : ℕ) → j ≡ i → AreUnmarked word i k → 
 unmarked-from word i j k e u = (let U : ℕ → Type 0 = λ m. AreUnmarked word m k in subst U (sym e) u)
 
 -- none of them holds it
-absent-run : (n m j : ℕ) (ps : List Place) (ls : List Listed) → ((k : ℕ) (d : Listed) → j ≤ k → k < j + m → k < length ls → IsPlaceOf n place.Absent (get_or ls k d)) → j + m ≤ length ls → ArePlaces n ps (take j ls) → ArePlaces n (ps ++ replicate m place.Absent) (take (j + m) ls)
+absent-run : (n m j : ℕ) (ps : List Place) (ls : List RegulationView) → ((k : ℕ) (d : RegulationView) → j ≤ k → k < j + m → k < length ls → IsPlaceOf n place.Absent (get_or ls k d)) → j + m ≤ length ls → ArePlaces n ps (take j ls) → ArePlaces n (ps ++ replicate m place.Absent) (take (j + m) ls)
 absent-run n zero j ps ls f h a =
     let same : j ≡ j + 0 = omega arith in
     let P : List Place → Type 0 = λ qs. ArePlaces n qs (take (j + 0) ls) in
@@ -93,7 +93,7 @@ absent-run n zero j ps ls f h a =
     subst P (sym (append-nil ps)) (subst T same a)
 absent-run n (suc m) j ps [] f h a = absurd (omega (arith, h))
 absent-run n (suc m) j ps (l ∷ rest) f h a =
-    let ls : List Listed = l ∷ rest in
+    let ls : List RegulationView = l ∷ rest in
     let below : j < length ls = omega (arith, h) in
     let next : j + 1 + m ≡ j + suc m = omega arith in
     let one = places-more n j ps ls l place.Absent below (f j l (omega arith) (omega arith) below) a in
@@ -102,7 +102,7 @@ absent-run n (suc m) j ps (l ∷ rest) f h a =
     let T : ℕ → Type 0 = λ k. ArePlaces n ((ps ++ place.Absent ∷ []) ++ replicate m place.Absent) (take k ls) in
     subst P (append_assoc ps (place.Absent ∷ []) (replicate m place.Absent)) (subst T next all)
 
-pub absent-past : (n w i j : ℕ) (ps : List Place) (ls : List Listed) → IsMarked w n 0 ls → i ≤ j → j ≤ length ls → AreUnmarked w i j → ArePlaces n ps (take i ls) → ArePlaces n (ps ++ replicate (j - i) place.Absent) (take j ls)
+pub absent-past : (n w i j : ℕ) (ps : List Place) (ls : List RegulationView) → IsMarked w n 0 ls → i ≤ j → j ≤ length ls → AreUnmarked w i j → ArePlaces n ps (take i ls) → ArePlaces n (ps ++ replicate (j - i) place.Absent) (take j ls)
 absent-past n w i j ps ls c h l u a =
     let next : i + (j - i) ≡ j = omega (arith, h) in
     let T : ℕ → Type 0 = λ k. ArePlaces n (ps ++ replicate (j - i) place.Absent) (take k ls) in

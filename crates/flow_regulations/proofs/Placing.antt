@@ -10,7 +10,7 @@ use Rattle.flow_slots.specs.Assignment.{Placed, first_free, greedy, slots}
 use Rattle.flow_slots.specs.Lineup.{Lineup, slot_in, held_slot, fixed_slot, without_fixed, with_waiting, without_flight, fixed_at}
 use Rattle.flow_slots.specs.ChangeList.{fixed_there}
 use Rattle.flow_slots.proofs.Absent.{absent-fixed, absent-waiting}
-use Rattle.flow_regulations.specs.Listing.{Listed, with_lineup, placed, fixed_waiting}
+use Rattle.flow_regulations.specs.Listing.{RegulationView, with_lineup, placed, fixed_waiting}
 use Rattle.flow_regulations.proofs.Waiting.{without-none}
 use Rattle.flow_regulations.proofs.FixedOnes.{without_fixed-none}
 use Rattle.flow_regulations.proofs.Served.{slot_in-here, slot_in-other}
@@ -55,7 +55,7 @@ without-absent f l h =
     ap (λ ws. let m : Lineup = record { period = l.period; capacity = l.capacity; waiting = ws; fixed = without_fixed f l.fixed } in m) (without-none f l.waiting (absent-waiting l f h))
     ∙ ap (λ fs. let m : Lineup = record { period = l.period; capacity = l.capacity; waiting = l.waiting; fixed = fs } in m) (without_fixed-none f l.fixed (absent-fixed l f h))
 
-pub placed-fixed : (m : Listed) (e n : ℕ) (d : Bool) (waits fixes : Lineup) → d ≡ true → waits ≡ with_waiting (record { entry = e; flight = n }) m.lineup → fixes ≡ fixed_there (held_slot waits n) n waits → with_lineup fixes m ≡ with_lineup (placed (Some e) d n m.lineup) m
+pub placed-fixed : (m : RegulationView) (e n : ℕ) (d : Bool) (waits fixes : Lineup) → d ≡ true → waits ≡ with_waiting (record { entry = e; flight = n }) m.lineup → fixes ≡ fixed_there (held_slot waits n) n waits → with_lineup fixes m ≡ with_lineup (placed (Some e) d n m.lineup) m
 placed-fixed m e n d waits fixes de w f =
     ap (λ v. with_lineup v m) (f ∙ (ap (λ v. fixed_there (held_slot v n) n v) w ∙ sym (ap (λ b. placed (Some e) b n m.lineup) de)))
 

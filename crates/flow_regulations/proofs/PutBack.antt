@@ -11,10 +11,10 @@ use Rattle.flow_slots.specs.Order.{without}
 use Rattle.flow_slots.specs.Assignment.{Placed, first_free, greedy, slots}
 use Rattle.flow_slots.specs.Lineup.{Lineup, IsLineup, len_of, NoneIs, NoneFixed, BySlot, WaitingApart, slot_in, flight_in, held_flight, fixed_slot, entry_in, waiting_entry, without_fixed, without_flight}
 use Rattle.flow_slots.proofs.TakenBack.{removed-inserted, removed-put_fixed}
-use Rattle.flow_regulations.specs.declared.places.Place.{Place}
-use Rattle.flow_regulations.specs.declared.places.Place.TheVariants as place
-use Rattle.flow_regulations.specs.Listing.{Listed, with_lineup, without_in, HaveCapacity}
-use Rattle.flow_regulations.specs.Places.{stood, IsPlaceOf, ArePlaces}
+use Rattle.flow_regulations.specs.declared.slot_state.Place.{Place}
+use Rattle.flow_regulations.specs.declared.slot_state.Place.TheVariants as place
+use Rattle.flow_regulations.specs.Listing.{RegulationView, with_lineup, without_in, HaveCapacity}
+use Rattle.flow_regulations.specs.SlotStates.{stood, IsPlaceOf, ArePlaces}
 use Rattle.flow_regulations.proofs.FixedOnes.{slot_in-none, without_fixed-none}
 use Rattle.flow_regulations.proofs.Looks.{slot_in-before}
 use Rattle.flow_regulations.proofs.Standing.{none-slot}
@@ -34,13 +34,13 @@ out-already f l a b =
     ∙ ap (λ fs. let m : Lineup = record { period = l.period; capacity = l.capacity; waiting = l.waiting; fixed = fs } in m) (without_fixed-none f l.fixed (slot_in-none f l.fixed a))
 
 -- two slot lists in which a flight, and the others too, have the same state are the same
-pub same-place : (f : ℕ) (p : Place) (l m : Listed) → IsPlaceOf f p l → IsPlaceOf f p m → without_in f l ≡ without_in f m → l ≡ m
+pub same-place : (f : ℕ) (p : Place) (l m : RegulationView) → IsPlaceOf f p l → IsPlaceOf f p m → without_in f l ≡ without_in f m → l ≡ m
 same-place f p l m a b e =
-    let s : Listed → Listed = λ v. with_lineup (stood p f v.lineup) v in
-    let back : (v : Listed) → IsPlaceOf f p v → s (without_in f v) ≡ v = λ v h. ap (λ u. with_lineup u v) h.back in
+    let s : RegulationView → RegulationView = λ v. with_lineup (stood p f v.lineup) v in
+    let back : (v : RegulationView) → IsPlaceOf f p v → s (without_in f v) ≡ v = λ v h. ap (λ u. with_lineup u v) h.back in
     sym (back l a) ∙ (ap s e ∙ back m b)
 
-pub stood-there : (f : ℕ) (p : Place) (l t m before : Listed) → IsPlaceOf f p before → without_in f l ≡ without_in f before → t ≡ without_in f l → m ≡ with_lineup (stood p f t.lineup) t → m ≡ before
+pub stood-there : (f : ℕ) (p : Place) (l t m before : RegulationView) → IsPlaceOf f p before → without_in f l ≡ without_in f before → t ≡ without_in f l → m ≡ with_lineup (stood p f t.lineup) t → m ≡ before
 stood-there f p l t m before b e out made =
     made ∙ (ap (λ v. with_lineup (stood p f v.lineup) v) (out ∙ e) ∙ ap (λ u. with_lineup u before) b.back)
 
@@ -113,21 +113,21 @@ open-there f k l lined e =
 abbrev place-by : Option ℕ → Option ℕ → Place
 place-by slot entry = option_map_or (λ slot. place.Fixed slot) slot (option_map_or (λ entry. place.Waiting entry) entry place.Absent)
 
-pub stands-fixed : (f k : ℕ) (l : Listed) → fixed_slot l.lineup f ≡ Some k → IsLineup l.lineup → k < len_of l.lineup → IsPlaceOf f (place.Fixed k) l
+pub stands-fixed : (f k : ℕ) (l : RegulationView) → fixed_slot l.lineup f ≡ Some k → IsLineup l.lineup → k < len_of l.lineup → IsPlaceOf f (place.Fixed k) l
 stands-fixed f k l e lined below = record {
   is = sym (ap (λ o. place-by o (waiting_entry l.lineup f)) e);
   may = (below, open-there f k l.lineup lined e);
   back = removed-put_fixed l.lineup (record { flight = f; slot = k }) lined (slot_in-before f k l.lineup.fixed _ e) (let S : Option ℕ → Type 0 = λ o. IsSome o in subst S (sym e) refl);
 }
 
-pub stands-waiting : (f t : ℕ) (l : Listed) → fixed_slot l.lineup f ≡ None → waiting_entry l.lineup f ≡ Some t → IsLineup l.lineup → IsWithin l.lineup.period t → IsPlaceOf f (place.Waiting t) l
+pub stands-waiting : (f t : ℕ) (l : RegulationView) → fixed_slot l.lineup f ≡ None → waiting_entry l.lineup f ≡ Some t → IsLineup l.lineup → IsWithin l.lineup.period t → IsPlaceOf f (place.Waiting t) l
 stands-waiting f t l a e lined within = record {
   is = sym (ap (λ o. place-by o (waiting_entry l.lineup f)) a ∙ ap (place-by None) e);
   may = within;
   back = removed-inserted l.lineup (record { entry = t; flight = f }) lined e;
 }
 
-pub stands-nowhere : (f : ℕ) (l : Listed) → fixed_slot l.lineup f ≡ None → waiting_entry l.lineup f ≡ None → IsPlaceOf f place.Absent l
+pub stands-nowhere : (f : ℕ) (l : RegulationView) → fixed_slot l.lineup f ≡ None → waiting_entry l.lineup f ≡ None → IsPlaceOf f place.Absent l
 stands-nowhere f l a e = record {
   is = sym (ap (λ o. place-by o (waiting_entry l.lineup f)) a ∙ ap (place-by None) e);
   may = tt;
@@ -135,12 +135,12 @@ stands-nowhere f l a e = record {
 }
 
 -- its state in one more regulation
-pub places-more : (f j : ℕ) (ps : List Place) (ls : List Listed) (d : Listed) (p : Place) → j < length ls → IsPlaceOf f p (get_or ls j d) → ArePlaces f ps (take j ls) → ArePlaces f (ps ++ p ∷ []) (take (j + 1) ls)
+pub places-more : (f j : ℕ) (ps : List Place) (ls : List RegulationView) (d : RegulationView) (p : Place) → j < length ls → IsPlaceOf f p (get_or ls j d) → ArePlaces f ps (take j ls) → ArePlaces f (ps ++ p ∷ []) (take (j + 1) ls)
 places-more f j ps ls d p h i a =
-    let A : List Listed → Type 0 = λ xs. ArePlaces f (ps ++ p ∷ []) xs in
+    let A : List RegulationView → Type 0 = λ xs. ArePlaces f (ps ++ p ∷ []) xs in
     subst A (sym (take_more ls j d h)) (last ps (take j ls) a)
   where
-    last : (ps : List Place) (xs : List Listed) → ArePlaces f ps xs → ArePlaces f (ps ++ p ∷ []) (xs ++ get_or ls j d ∷ [])
+    last : (ps : List Place) (xs : List RegulationView) → ArePlaces f ps xs → ArePlaces f (ps ++ p ∷ []) (xs ++ get_or ls j d ∷ [])
     last [] [] a = (i, tt)
     last [] (x ∷ xs) a = absurd a
     last (q ∷ qs) [] a = absurd a
@@ -155,8 +155,8 @@ WalkedBy R (suc i) (y ∷ ys) (x ∷ xs) [] = ⊥
 WalkedBy R (suc i) (y ∷ ys) (x ∷ xs) (z ∷ zs) = R y x z × WalkedBy R i ys xs zs
 
 -- what the flight's regulation is after it was put back
-abbrev pub IsBack : ℕ → Place → Listed → Listed → Type 0
-IsBack f p o n = (before : Listed) → IsPlaceOf f p before → without_in f o ≡ without_in f before → n ≡ before
+abbrev pub IsBack : ℕ → Place → RegulationView → RegulationView → Type 0
+IsBack f p o n = (before : RegulationView) → IsPlaceOf f p before → without_in f o ≡ without_in f before → n ≡ before
 
 walk-suc : {X Y : Type 0} (R : Y → X → X → Type 0) (i : ℕ) (ys : List Y) (xs zs : List X) (dy : Y) (d z : X) → i < length ys → i < length zs → R (get_or ys i dy) (get_or zs i d) z → WalkedBy R i ys xs zs → WalkedBy R (suc i) ys xs (slice_set zs i z)
 walk-suc R i [] xs zs dy d z h k r w = absurd (omega arith)
@@ -180,25 +180,25 @@ walk-rest R (suc i) (y ∷ ys) (x ∷ xs) [] d w = absurd w
 walk-rest R (suc i) (y ∷ ys) (x ∷ xs) (z ∷ zs) d w = walk-rest R i ys xs zs d w.1
 
 -- there are as many recorded states as regulations
-pub places-length : (f : ℕ) (ps : List Place) (bs : List Listed) → ArePlaces f ps bs → length bs ≡ length ps
+pub places-length : (f : ℕ) (ps : List Place) (bs : List RegulationView) → ArePlaces f ps bs → length bs ≡ length ps
 places-length f [] [] a = refl
 places-length f [] (b ∷ bs) a = absurd a
 places-length f (p ∷ ps) [] a = absurd a
 places-length f (p ∷ ps) (b ∷ bs) a = (let again = places-length f ps bs a.1 in omega arith)
 
-pub place-at : (f i : ℕ) (ps : List Place) (bs : List Listed) (dp : Place) (db : Listed) → i < length ps → ArePlaces f ps bs → IsPlaceOf f (get_or ps i dp) (get_or bs i db)
+pub place-at : (f i : ℕ) (ps : List Place) (bs : List RegulationView) (dp : Place) (db : RegulationView) → i < length ps → ArePlaces f ps bs → IsPlaceOf f (get_or ps i dp) (get_or bs i db)
 place-at f i [] bs dp db h a = absurd (omega arith)
 place-at f i (p ∷ ps) [] dp db h a = absurd a
 place-at f zero (p ∷ ps) (b ∷ bs) dp db h a = a.0
 place-at f (suc i) (p ∷ ps) (b ∷ bs) dp db h a = place-at f i ps bs dp db (omega (arith, h)) a.1
 
-pub map-at : (f i : ℕ) (os bs : List Listed) (d e : Listed) → i < length os → map (without_in f) os ≡ map (without_in f) bs → without_in f (get_or os i d) ≡ without_in f (get_or bs i e)
+pub map-at : (f i : ℕ) (os bs : List RegulationView) (d e : RegulationView) → i < length os → map (without_in f) os ≡ map (without_in f) bs → without_in f (get_or os i d) ≡ without_in f (get_or bs i e)
 map-at f i [] bs d e h q = absurd (omega arith)
 map-at f i (o ∷ os) [] d e h q = absurd cc
 map-at f zero (o ∷ os) (b ∷ bs) d e h q = cc
 map-at f (suc i) (o ∷ os) (b ∷ bs) d e h q = (let rest : map (without_in f) os ≡ map (without_in f) bs = cc in map-at f i os bs d e (omega (arith, h)) rest)
 
-pub all-back : (f n : ℕ) (ps : List Place) (os ns bs : List Listed) → n ≡ length ps → WalkedBy (IsBack f) n ps os ns → ArePlaces f ps bs → map (without_in f) os ≡ map (without_in f) bs → ns ≡ bs
+pub all-back : (f n : ℕ) (ps : List Place) (os ns bs : List RegulationView) → n ≡ length ps → WalkedBy (IsBack f) n ps os ns → ArePlaces f ps bs → map (without_in f) os ≡ map (without_in f) bs → ns ≡ bs
 all-back f zero [] [] ns [] e w a q = w
 all-back f zero [] (o ∷ os) ns [] e w a q = absurd cc
 all-back f zero [] os ns (b ∷ bs) e w a q = absurd a
@@ -212,10 +212,10 @@ all-back f (suc n) (p ∷ ps) (o ∷ os) (v ∷ ns) (b ∷ bs) e w a q =
     let rest : map (without_in f) os ≡ map (without_in f) bs = cc in
     ap (λ u. u ∷ ns) (w.0 b a.0 here) ∙ ap (λ us. b ∷ us) (all-back f n ps os ns bs (omega (arith, e)) w.1 a.1 rest)
 
-pub same-count : (f : ℕ) (os bs : List Listed) → map (without_in f) os ≡ map (without_in f) bs → length os ≡ length bs
+pub same-count : (f : ℕ) (os bs : List RegulationView) → map (without_in f) os ≡ map (without_in f) bs → length os ≡ length bs
 same-count f os bs q = sym (length-map os (without_in f)) ∙ (ap length q ∙ length-map bs (without_in f))
 
-pub capacity-back : (f max : ℕ) (os bs : List Listed) → map (without_in f) os ≡ map (without_in f) bs → HaveCapacity max os → HaveCapacity max bs
+pub capacity-back : (f max : ℕ) (os bs : List RegulationView) → map (without_in f) os ≡ map (without_in f) bs → HaveCapacity max os → HaveCapacity max bs
 capacity-back f max os [] q h = tt
 capacity-back f max [] (b ∷ bs) q h = absurd cc
 capacity-back f max (o ∷ os) (b ∷ bs) q h =

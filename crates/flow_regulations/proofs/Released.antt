@@ -7,14 +7,14 @@ use Rattle.std.proofs.lemmas.Bool.{eq-eqb, eqb-false}
 use Rattle.std.proofs.lemmas.List.{take_more, get_or-take, length-take-le}
 use Rattle.std.proofs.lemmas.List.Elements.{All-take, recursion_from_All}
 use Rattle.std.proofs.lemmas.List.Kept.{AllPairs-from_increasing}
-use Rattle.flow_plans.specs.Plans.{Plan, plan_at}
+use Rattle.flow_plans.specs.Plans.{PlanView, plan_at}
 use Rattle.flow_slots.specs.declared.cell.Planned.{Planned}
 use Rattle.flow_slots.specs.Order.{insert}
 use Rattle.flow_slots.specs.Assignment.{Placed, is_in}
 use Rattle.flow_slots.specs.Lineup.{Lineup, NoneFixed, slot_in, without_fixed, insert_fixed, with_waiting, without_flight}
 use Rattle.flow_regulations.specs.Regulations.{subject_to}
 use Rattle.flow_regulations.specs.Settling.{pairs_of}
-use Rattle.flow_regulations.specs.Listing.{Listed, regulation_of, with_lineup, IsListedIn, IsListed, Walked, HaveCapacity, fixed_waiting, with_fixed_waiting, released, released_in, IsReleased}
+use Rattle.flow_regulations.specs.Listing.{RegulationView, regulation_of, with_lineup, IsListedIn, IsListed, Walked, HaveCapacity, fixed_waiting, with_fixed_waiting, released, released_in, IsReleased}
 use Rattle.flow_regulations.specs.Awaiting.{BecameDue, HaveBecomeDue}
 use Rattle.flow_regulations.proofs.Advances.{pairs-advanced, all_fixed-last}
 use Rattle.flow_regulations.proofs.FixedOnes.{without_fixed-none}
@@ -44,7 +44,7 @@ slot-inserted a (x ∷ xs) = cases (slot-inserted a xs) (ltb x.slot a.slot) wher
   cases again true = here (eqb x.flight a.flight) (slot_in a.flight (insert_fixed a xs)) again
   cases again false = ap (λ b. is_some (cond b (Some a.slot) (slot_in a.flight (x ∷ xs)))) (eq-eqb a.flight a.flight refl)
 
-module _ (taxi max n : ℕ) (plans : List Plan) (l : Listed) (listed : IsListedIn taxi max plans l) (positive : 0 < n) where
+module _ (taxi max n : ℕ) (plans : List PlanView) (l : RegulationView) (listed : IsListedIn taxi max plans l) (positive : 0 < n) where
   -- it is fixed, and the slot list is still that of its regulation
   pub listed-fixed : IsListedIn taxi max plans (with_lineup (fixed_waiting n l.lineup) l)
   listed-fixed = ⊎_elim not does (either taxi max n plans l listed positive) where
@@ -55,7 +55,7 @@ module _ (taxi max n : ℕ) (plans : List Plan) (l : Listed) (listed : IsListedI
     does (e, k, d) = let P : Lineup → Type 0 = λ v. IsListedIn taxi max plans (with_lineup v l) in subst P (sym (is taxi max n plans l listed positive e k d)) (listed-more taxi max n plans l listed positive e k d)
 
   -- and has a provisional slot again
-  pub released-fixed : (p : Plan) → plan_at plans n ≡ Some p → NoneFixed n l.lineup.fixed → released_in taxi p n (with_lineup (fixed_waiting n l.lineup) l) ≡ l
+  pub released-fixed : (p : PlanView) → plan_at plans n ≡ Some p → NoneFixed n l.lineup.fixed → released_in taxi p n (with_lineup (fixed_waiting n l.lineup) l) ≡ l
   released-fixed p at unfixed = ⊎_elim not does (either taxi max n plans l listed positive) where
     stays : (o : Option ℕ) → released o n l.lineup ≡ l.lineup
     stays None = refl
@@ -80,16 +80,16 @@ module _ (taxi max n : ℕ) (plans : List Plan) (l : Listed) (listed : IsListedI
         ∙ (ap (λ hs. with_lineup (lined l.lineup (insert x ws) hs) l) (without_fixed-comes a fs ∙ without_fixed-none n fs unfixed)
         ∙ ap (λ us. with_lineup (lined l.lineup us fs) l) (sym d.waiting)))))
 
-listed-all : (taxi max : ℕ) (plans : List Plan) (ns : List ℕ) (l : Listed) → AllByRecursion (λ n. 0 < n) ns → IsListedIn taxi max plans l → IsListedIn taxi max plans (with_fixed_waiting ns l)
+listed-all : (taxi max : ℕ) (plans : List PlanView) (ns : List ℕ) (l : RegulationView) → AllByRecursion (λ n. 0 < n) ns → IsListedIn taxi max plans l → IsListedIn taxi max plans (with_fixed_waiting ns l)
 listed-all taxi max plans [] l a h = h
 listed-all taxi max plans (n ∷ ns) l a h = listed-all taxi max plans ns (with_lineup (fixed_waiting n l.lineup) l) a.1 (listed-fixed taxi max n plans l h a.0)
 
 -- the last of them has a provisional slot again in each regulation
-released-each : (taxi max n : ℕ) (plans : List Plan) (p : Plan) (ns : List ℕ) (ls : List Listed) → plan_at plans n ≡ Some p → 0 < n → AllByRecursion (λ m. 0 < m) ns → is_in n ns ≡ false → IsListed taxi max plans ls → AllByRecursion (λ l. pairs_of n l.lineup.fixed ≡ []) ls
+released-each : (taxi max n : ℕ) (plans : List PlanView) (p : PlanView) (ns : List ℕ) (ls : List RegulationView) → plan_at plans n ≡ Some p → 0 < n → AllByRecursion (λ m. 0 < m) ns → is_in n ns ≡ false → IsListed taxi max plans ls → AllByRecursion (λ l. pairs_of n l.lineup.fixed ≡ []) ls
     → map (released_in taxi p n) (map (with_fixed_waiting (ns ++ n ∷ [])) ls) ≡ map (with_fixed_waiting ns) ls
 released-each taxi max n plans p ns [] at some all out h unpaired_all = refl
 released-each taxi max n plans p ns (l ∷ ls) at some all out h unpaired_all =
-    let x : Listed = with_fixed_waiting ns l in
+    let x : RegulationView = with_fixed_waiting ns l in
     let unfixed : NoneFixed n x.lineup.fixed = unpaired n x.lineup.fixed (pairs-advanced n ns l.lineup out ∙ unpaired_all.0) in
     let here : released_in taxi p n (with_fixed_waiting (ns ++ n ∷ []) l) ≡ x =
     ap (λ v. released_in taxi p n (with_lineup v l)) (all_fixed-last ns n l.lineup) ∙ released-fixed taxi max n plans x (listed-all taxi max plans ns l all h.0) some p at unfixed in
@@ -113,10 +113,10 @@ unmap-all : {X Y : Type 0} (P : Y → Type 0) (g : X → Y) (xs : List X) → Al
 unmap-all P g [] a = tt
 unmap-all P g (x ∷ xs) a = (a.0, unmap-all P g xs a.1)
 
-positive-first : (earlier now : ℕ) (plans : List Plan) (j : ℕ) (due : List ℕ) → All (BecameDue earlier now plans) due → AllByRecursion (λ m. 0 < m) (take j due)
+positive-first : (earlier now : ℕ) (plans : List PlanView) (j : ℕ) (due : List ℕ) → All (BecameDue earlier now plans) due → AllByRecursion (λ m. 0 < m) (take j due)
 positive-first earlier now plans j due all = recursion_from_All (λ m. 0 < m) (take j due) (All-take (λ m. 0 < m) j due (λ k d h. (all k d h).0))
 
-pub release-step : (taxi max earlier now j : ℕ) (plans : List Plan) (due : List ℕ) (before ms xs : List Listed) → HaveBecomeDue taxi max earlier now plans due before → j < length due → ms ≡ map (with_fixed_waiting (take (j + 1) due)) before
+pub release-step : (taxi max earlier now j : ℕ) (plans : List PlanView) (due : List ℕ) (before ms xs : List RegulationView) → HaveBecomeDue taxi max earlier now plans due before → j < length due → ms ≡ map (with_fixed_waiting (take (j + 1) due)) before
     → Walked (IsReleased (get_or due j 0) taxi plans) (length xs) ms xs → xs ≡ map (with_fixed_waiting (take j due)) before
 release-step taxi max earlier now j plans due before ms xs h within e w =
     let n : ℕ = get_or due j 0 in
@@ -128,5 +128,5 @@ release-step taxi max earlier now j plans due before ms xs h within e w =
     ∙ (ap (map (released_in taxi p.0 n)) (e ∙ ap (λ ns. map (with_fixed_waiting ns) before) (take_more due j 0 within))
     ∙ released-each taxi max n plans p.0 (take j due) before p.1 b.0 (positive-first earlier now plans j due h.became) out h.listed none)
 
-pub capacity-released : (n taxi max i : ℕ) (plans : List Plan) (os ns : List Listed) → i ≡ length ns → Walked (IsReleased n taxi plans) i os ns → HaveCapacity max os → HaveCapacity max ns
+pub capacity-released : (n taxi max i : ℕ) (plans : List PlanView) (os ns : List RegulationView) → i ≡ length ns → Walked (IsReleased n taxi plans) i os ns → HaveCapacity max os → HaveCapacity max ns
 capacity-released n taxi max i plans os ns e w a = walked-all (IsReleased n taxi plans) (λ l. l.lineup.capacity ≡ max) (λ l. l.lineup.capacity ≡ max) (λ o m h r. r.capacity ∙ h) i os ns e w a

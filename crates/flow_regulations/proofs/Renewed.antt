@@ -4,7 +4,7 @@ use Rattle.std.specs.List.{AllByRecursion, filter, slice_get}
 use mathlib.Core.Logic.{⊎_elim}
 use Rattle.std.specs.Option.{option_and_then, option_map_or}
 use Rattle.std.proofs.lemmas.Bool.{le-leb, and_from, or_right, eq-eqb, cases_eq}
-use Rattle.flow_plans.specs.Plans.{Plan, plan_at, is_departed}
+use Rattle.flow_plans.specs.Plans.{PlanView, plan_at, is_departed}
 use Rattle.flow_slots.specs.declared.cell.Planned.{Planned}
 use Rattle.flow_slots.specs.Period.{IsRegular, first_slot, slot_time}
 use Rattle.flow_slots.specs.Order.{insert, without}
@@ -14,7 +14,7 @@ use Rattle.flow_slots.specs.ChangeList.{fixed_there}
 use Rattle.flow_slots.proofs.Periods.{first_slot-first, slot_time-later}
 use Rattle.flow_regulations.specs.Regulations.{Regulation, subject_to, has_flight, with_entry, waiting_from}
 use Rattle.flow_regulations.specs.Settling.{is_due, keeps, stays, kept, is_due_at, insert_all, assigned_around, settled}
-use Rattle.flow_regulations.specs.Listing.{Listed, regulation_of, IsListedIn, is_due_flight, IsSettledBut, with_lineup, IsRenewed, AreSameBut, keeps_slot, placed, looked_again}
+use Rattle.flow_regulations.specs.Listing.{RegulationView, regulation_of, IsListedIn, is_due_flight, IsSettledBut, with_lineup, IsRenewed, AreSameBut, keeps_slot, placed, looked_again}
 use Rattle.flow_regulations.proofs.Waiting.{mark, with_entry-kept, waiting-fixed, waiting-like, waiting-apart, waiting-others, waiting-none, waiting-from, without-with_entry, without-insert, all-insert, all-with_entry-back}
 use Rattle.flow_regulations.proofs.FixedOnes.{all-map, all-both, all-without, none-without, has-none, has-mark_without, has-insert, all-insert_fixed, slot_in-none, has-some, one-slot, filter-all, filter-without}
 use Rattle.flow_regulations.proofs.Subjects.{subject-within}
@@ -25,13 +25,13 @@ abbrev lined : Lineup → List Planned → List Placed → Lineup
 lined l ws fs = record { period = l.period; capacity = l.capacity; waiting = ws; fixed = fs }
 
 -- what has to be shown of them
-record IsMade (taxi max now : ℕ) (plans : List Plan) (l : Listed) (ws : List Planned) (fs : List Placed) : Type 0 where
+record IsMade (taxi max now : ℕ) (plans : List PlanView) (l : RegulationView) (ws : List Planned) (fs : List Placed) : Type 0 where
   waits : ws ≡ waiting_from 1 taxi (regulation_of l) fs plans
   keeps_them : insert_all (filter (is_due_at now plans) (assigned_around taxi plans (regulation_of l) (kept taxi now plans (regulation_of l)))) (kept taxi now plans (regulation_of l)) ≡ fs
   fixed : AllByRecursion (λ a. (0 < a.flight) × (stays taxi now plans (regulation_of l) a ≡ true)) fs
   waiting : AllByRecursion (λ w. is_due_flight now plans w.flight ≡ false) ws
 
-renewed-made : (taxi max now : ℕ) (plans : List Plan) (l : Listed) (ws : List Planned) (fs : List Placed) → l.lineup.capacity ≡ max → IsMade taxi max now plans l ws fs → IsRenewed taxi max now plans l (lined l.lineup ws fs)
+renewed-made : (taxi max now : ℕ) (plans : List PlanView) (l : RegulationView) (ws : List Planned) (fs : List Placed) → l.lineup.capacity ≡ max → IsMade taxi max now plans l ws fs → IsRenewed taxi max now plans l (lined l.lineup ws fs)
 unfolding settled
 renewed-made taxi max now plans l ws fs c m = record {
   regulation = sym (ap (λ v. let r : Regulation = record { id = l.id; spot = l.spot; period = l.lineup.period; fixed = v } in r) m.keeps_them);
@@ -42,7 +42,7 @@ renewed-made taxi max now plans l ws fs c m = record {
 }
 
 -- what is known of a regulation when the plan of one of its flights has changed
-pub record IsChanged (taxi max now n : ℕ) (before plans : List Plan) (l : Listed) (p : Plan) : Type 0 where
+pub record IsChanged (taxi max now n : ℕ) (before plans : List PlanView) (l : RegulationView) (p : PlanView) : Type 0 where
   pub number : 0 < n
   pub plan : plan_at plans n ≡ Some p
   pub same : AreSameBut n before plans
@@ -53,7 +53,7 @@ pub record IsChanged (taxi max now n : ℕ) (before plans : List Plan) (l : List
   pub apart : (k : ℕ) → fixed_slot l.lineup n ≡ Some k → FixedApart l.lineup.fixed
   pub regular : (e : ℕ) → subject_to taxi (regulation_of l) p ≡ Some e → IsRegular l.lineup.period
 
-module _ (taxi max now n : ℕ) (before plans : List Plan) (l : Listed) (p : Plan) (h : IsChanged taxi max now n before plans l p) where
+module _ (taxi max now n : ℕ) (before plans : List PlanView) (l : RegulationView) (p : PlanView) (h : IsChanged taxi max now n before plans l p) where
   abbrev r : Regulation
   r = regulation_of l
 

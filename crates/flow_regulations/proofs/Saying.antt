@@ -1,7 +1,7 @@
 -- What one plan is issued, and that it is then quiet.
 use Rattle.std.proofs.Common.{◌≡◌, cond, Bool, eqb, true, false, [], Option, None, Some, refl, ap}
 use Rattle.std.proofs.lemmas.Bool.{eq-eqb}
-use Rattle.flow_plans.specs.Plans.{Plan, is_departed}
+use Rattle.flow_plans.specs.Plans.{PlanView, is_departed}
 use Rattle.flow_regulations.specs.declared.notice.Told.{Told}
 use Rattle.flow_regulations.specs.declared.notice.Said.{Said}
 use Rattle.flow_regulations.specs.declared.notice.Said.TheVariants.{Srm}
@@ -34,17 +34,17 @@ says-again (Some old) (Some new) = by (eqb old.ctot new.ctot) refl
     by true e = ap (λ b. cond b None (Some (Srm new))) e
     by false e = ap (λ b. cond b None (Some (Srm new))) (eq-eqb new.ctot new.ctot refl)
 
-notice-none : (p : Plan) (s : Option Said) → notice_of p s ≡ [] → s ≡ None
+notice-none : (p : PlanView) (s : Option Said) → notice_of p s ≡ [] → s ≡ None
 notice-none p None e = refl
 notice-none p (Some s) e = cc
 
 -- a plan that was issued its advice is quiet
-pub quiet-after : (p : Plan) (t a : Option Told) → notices_to p (told_to_plan p t a) a ≡ []
+pub quiet-after : (p : PlanView) (t a : Option Told) → notices_to p (told_to_plan p t a) a ≡ []
 quiet-after p t a =
     elim (is_departed p.state) as (λ b. cond b [] (notice_of p (says (cond b t (told_then t a)) a)) ≡ []) [ true ↦ refl | false ↦ ap (λ s. notice_of p s) (says-again t a) ]
 
 -- and what was issued to a quiet plan stays
-pub quiet-told : (p : Plan) (t a : Option Told) → notices_to p t a ≡ [] → told_to_plan p t a ≡ t
+pub quiet-told : (p : PlanView) (t a : Option Told) → notices_to p t a ≡ [] → told_to_plan p t a ≡ t
 quiet-told p t a =
     elim (is_departed p.state) as (λ b. cond b [] (notice_of p (says t a)) ≡ [] → cond b t (told_then t a) ≡ t)
     [ true ↦ (λ e. refl) | false ↦ (λ e. says-none t a (notice-none p (says t a) e)) ]

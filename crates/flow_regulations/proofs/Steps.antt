@@ -4,19 +4,19 @@ use Rattle.std.proofs.Common.{◌≡◌, ℕ, zero, suc, ◌+◌, ◌-◌, ◌<�
 use Rattle.std.specs.List.{slice_get}
 use Rattle.std.specs.Prelude.{slice_set}
 use Rattle.std.specs.Option.{option_map_or}
-use Rattle.flow_plans.specs.Plans.{Plan, plan_at, with_plan, changed_at}
+use Rattle.flow_plans.specs.Plans.{PlanView, plan_at, with_plan, changed_at}
 use Rattle.flow_regulations.specs.Settling.{stays}
-use Rattle.flow_regulations.specs.Listing.{Listed, regulation_of, IsListedIn, IsListed, IsSettledIn, IsSettled, IsSettledBut, AreSettledBut, AreSameBut, is_due_flight, without_named}
+use Rattle.flow_regulations.specs.Listing.{RegulationView, regulation_of, IsListedIn, IsListed, IsSettledIn, IsSettled, IsSettledBut, AreSettledBut, AreSameBut, is_due_flight, without_named}
 use Rattle.flow_regulations.proofs.FixedOnes.{all-map}
 use Rattle.flow_regulations.proofs.Closings.{all-named}
 
-get-append : (xs : List Plan) (x : Plan) (i : ℕ) → (i ≡ length xs → ⊥) → slice_get (xs ++ x ∷ []) i ≡ slice_get xs i
+get-append : (xs : List PlanView) (x : PlanView) (i : ℕ) → (i ≡ length xs → ⊥) → slice_get (xs ++ x ∷ []) i ≡ slice_get xs i
 get-append [] x zero ne = absurd (ne refl)
 get-append [] x (suc i) ne = refl
 get-append (y ∷ xs) x zero ne = refl
 get-append (y ∷ xs) x (suc i) ne = get-append xs x i (λ e. ne (omega (arith, e)))
 
-get-set : (xs : List Plan) (x : Plan) (i j : ℕ) → (i ≡ j → ⊥) → slice_get (slice_set xs j x) i ≡ slice_get xs i
+get-set : (xs : List PlanView) (x : PlanView) (i j : ℕ) → (i ≡ j → ⊥) → slice_get (slice_set xs j x) i ≡ slice_get xs i
 get-set [] x i j ne = refl
 get-set (y ∷ xs) x zero zero ne = absurd (ne refl)
 get-set (y ∷ xs) x (suc i) zero ne = refl
@@ -24,22 +24,22 @@ get-set (y ∷ xs) x zero (suc j) ne = refl
 get-set (y ∷ xs) x (suc i) (suc j) ne = get-set xs x i j (λ e. ne (omega (arith, e)))
 
 -- one more plan is the last
-pub same-filed : (before : List Plan) (p : Plan) (n : ℕ) → n ≡ length before + 1 → AreSameBut n before (before ++ p ∷ [])
+pub same-filed : (before : List PlanView) (p : PlanView) (n : ℕ) → n ≡ length before + 1 → AreSameBut n before (before ++ p ∷ [])
 same-filed before p n e = λ f positive ne. get-append before p (f - 1) (λ q. ne (omega (arith, e, q, positive)))
 
 -- the plan of one number is changed
-pub same-with : (before : List Plan) (p : Plan) (n : ℕ) → 0 < n → AreSameBut n before (with_plan before n p)
+pub same-with : (before : List PlanView) (p : PlanView) (n : ℕ) → 0 < n → AreSameBut n before (with_plan before n p)
 same-with before p n h = λ f positive ne. get-set before p (f - 1) (n - 1) (λ q. ne (omega (arith, h, q, positive)))
 
-pub same-changed : (change : Plan → Plan) (before : List Plan) (n : ℕ) → 0 < n → AreSameBut n before (changed_at change n before)
+pub same-changed : (change : PlanView → PlanView) (before : List PlanView) (n : ℕ) → 0 < n → AreSameBut n before (changed_at change n before)
 unfolding changed_at
 same-changed change before n h = cases (plan_at before n) where
-  cases : (o : Option Plan) → AreSameBut n before (option_map_or (λ plan. with_plan before n (change plan)) o before)
+  cases : (o : Option PlanView) → AreSameBut n before (option_map_or (λ plan. with_plan before n (change plan)) o before)
   cases None = λ f positive ne. refl
   cases (Some p) = same-with before (change p) n h
 
 -- settled regulations are settled but for any flight
-pub settled-but : (n taxi now : ℕ) (plans : List Plan) (ls : List Listed) → IsSettled taxi now plans ls → AreSettledBut n taxi now plans ls
+pub settled-but : (n taxi now : ℕ) (plans : List PlanView) (ls : List RegulationView) → IsSettled taxi now plans ls → AreSettledBut n taxi now plans ls
 settled-but n taxi now plans ls s =
     all-map (IsSettledIn taxi now plans) (IsSettledBut n taxi now plans) ls
     (λ l h. record {
@@ -48,8 +48,8 @@ settled-but n taxi now plans ls s =
     }) s
 
 -- closing a regulation leaves the others listed and settled
-pub shut-listed : (taxi max : ℕ) (plans : List Plan) (id : List ℕ) (ls : List Listed) → IsListed taxi max plans ls → IsListed taxi max plans (without_named id ls)
+pub shut-listed : (taxi max : ℕ) (plans : List PlanView) (id : List ℕ) (ls : List RegulationView) → IsListed taxi max plans ls → IsListed taxi max plans (without_named id ls)
 shut-listed taxi max plans id ls h = all-named (IsListedIn taxi max plans) id ls h
 
-pub shut-settled : (taxi now : ℕ) (plans : List Plan) (id : List ℕ) (ls : List Listed) → IsSettled taxi now plans ls → IsSettled taxi now plans (without_named id ls)
+pub shut-settled : (taxi now : ℕ) (plans : List PlanView) (id : List ℕ) (ls : List RegulationView) → IsSettled taxi now plans ls → IsSettled taxi now plans (without_named id ls)
 shut-settled taxi now plans id ls h = all-named (IsSettledIn taxi now plans) id ls h

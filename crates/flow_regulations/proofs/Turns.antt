@@ -9,7 +9,7 @@ use Rattle.std.proofs.lemmas.Bool.Decides.{eqb_tells}
 use Rattle.std.proofs.lemmas.List.Sorted.{IsNonDecreasingBy-drop}
 use Rattle.std.specs.List.{slice_get}
 use Rattle.std.specs.List.Sorted.{IsNonDecreasing}
-use Rattle.flow_plans.specs.Plans.{Plan, plan_at}
+use Rattle.flow_plans.specs.Plans.{PlanView, plan_at}
 use Rattle.flow_slots.specs.Assignment.{is_in}
 use Rattle.flow_regulations.specs.declared.notice.Told.{Told}
 use Rattle.flow_regulations.specs.declared.notice.Notice.{Notice}
@@ -22,36 +22,36 @@ use Rattle.flow_regulations.proofs.Saying.{quiet-after, quiet-told}
 use Rattle.flow_regulations.proofs.Numbers.{said_along, told_along, QuietPlace, said-quiet, told-quiet, said-one, told-one, slice_get-set, slice_get-set_same}
 
 -- the notice to a plan by these regulations, and what is issued to it
-abbrev pub say : ℕ → List Regulation → ℕ → Plan → Option Told → List Notice
+abbrev pub say : ℕ → List Regulation → ℕ → PlanView → Option Told → List Notice
 say taxi rs n p t = notices_to p t (advice taxi n p rs)
 
-abbrev pub keep : ℕ → List Regulation → ℕ → Plan → Option Told → Option Told
+abbrev pub keep : ℕ → List Regulation → ℕ → PlanView → Option Told → Option Told
 keep taxi rs n p t = told_to_plan p t (advice taxi n p rs)
 
-notices_from-is : (n taxi : ℕ) (rs : List Regulation) (ps : List Plan) (ts : List (Option Told))
+notices_from-is : (n taxi : ℕ) (rs : List Regulation) (ps : List PlanView) (ts : List (Option Told))
     → notices_from n taxi rs ps ts ≡ said_along (say taxi rs) n ps ts
 notices_from-is n taxi rs [] ts = refl
 notices_from-is n taxi rs (p ∷ ps) [] = refl
 notices_from-is n taxi rs (p ∷ ps) (t ∷ ts) = ap (λ xs. say taxi rs n p t ++ xs) (notices_from-is (n + 1) taxi rs ps ts)
 
-told_from-is : (n taxi : ℕ) (rs : List Regulation) (ps : List Plan) (ts : List (Option Told))
+told_from-is : (n taxi : ℕ) (rs : List Regulation) (ps : List PlanView) (ts : List (Option Told))
     → told_from n taxi rs ps ts ≡ told_along (keep taxi rs) n ps ts
 told_from-is n taxi rs [] ts = refl
 told_from-is n taxi rs (p ∷ ps) [] = refl
 told_from-is n taxi rs (p ∷ ps) (t ∷ ts) = ap (λ (xs : List (Option Told)). keep taxi rs n p t ∷ xs) (told_from-is (n + 1) taxi rs ps ts)
 
-quiet-place : (taxi k : ℕ) (rs : List Regulation) (ps : List Plan) (ts : List (Option Told)) → IsQuietAt taxi rs ps ts (1 + k) → QuietPlace (say taxi rs) 1 ps ts k
+quiet-place : (taxi k : ℕ) (rs : List Regulation) (ps : List PlanView) (ts : List (Option Told)) → IsQuietAt taxi rs ps ts (1 + k) → QuietPlace (say taxi rs) 1 ps ts k
 quiet-place taxi k rs ps ts h =
     let e : 1 + k - 1 ≡ k = omega arith in
     subst (λ (j : ℕ). IfSome (slice_get ps j) (λ p. IfSome (slice_get ts j) (λ t. say taxi rs (1 + k) p t ≡ []))) e h
 
 -- if every plan is quiet, there is no notice
-pub AllQuiet-said : (taxi : ℕ) (rs : List Regulation) (ps : List Plan) (ts : List (Option Told)) → AllQuiet taxi rs ps ts → notices_from 1 taxi rs ps ts ≡ []
+pub AllQuiet-said : (taxi : ℕ) (rs : List Regulation) (ps : List PlanView) (ts : List (Option Told)) → AllQuiet taxi rs ps ts → notices_from 1 taxi rs ps ts ≡ []
 AllQuiet-said taxi rs ps ts h =
     notices_from-is 1 taxi rs ps ts ∙ said-quiet (say taxi rs) 1 ps ts (λ k. quiet-place taxi k rs ps ts (h (1 + k) (omega arith)))
 
 -- and what was issued stays
-pub AllQuiet-told : (taxi : ℕ) (rs : List Regulation) (ps : List Plan) (ts : List (Option Told)) → length ts ≡ length ps → AllQuiet taxi rs ps ts
+pub AllQuiet-told : (taxi : ℕ) (rs : List Regulation) (ps : List PlanView) (ts : List (Option Told)) → length ts ≡ length ps → AllQuiet taxi rs ps ts
     → told_from 1 taxi rs ps ts ≡ ts
 AllQuiet-told taxi rs ps ts e h =
     told_from-is 1 taxi rs ps ts
@@ -70,20 +70,20 @@ absent-before x m rest rises lt =
 
 -- slots are issued so far: the notices that are left, and what is issued from here, are those that
 -- were left at first, and only the rest may not be quiet
-pub record IsTelling (taxi : ℕ) (rs : List Regulation) (ps : List Plan) (first : List (Option Told)) (begun : List Notice) (told : List (Option Told)) (notices : List Notice) (rest : List ℕ) : Type 0 where
+pub record IsTelling (taxi : ℕ) (rs : List Regulation) (ps : List PlanView) (first : List (Option Told)) (begun : List Notice) (told : List (Option Told)) (notices : List Notice) (rest : List ℕ) : Type 0 where
   pub told_on : told_from 1 taxi rs ps told ≡ told_from 1 taxi rs ps first
   pub said_on : notices ++ notices_from 1 taxi rs ps told ≡ begun ++ notices_from 1 taxi rs ps first
   pub quiet : AreQuietBut rest taxi rs ps told
   pub each : length told ≡ length ps
 
-said-new : (taxi m : ℕ) (rs : List Regulation) (p : Plan) (t new : Option Told) → new ≡ keep taxi rs m p t → say taxi rs m p new ≡ []
+said-new : (taxi m : ℕ) (rs : List Regulation) (p : PlanView) (t new : Option Told) → new ≡ keep taxi rs m p t → say taxi rs m p new ≡ []
 said-new taxi m rs p t new is = ap (λ v. say taxi rs m p v) is ∙ quiet-after p t (advice taxi m p rs)
 
-told-again : (taxi m : ℕ) (rs : List Regulation) (p : Plan) (t new : Option Told) → new ≡ keep taxi rs m p t → keep taxi rs m p new ≡ keep taxi rs m p t
+told-again : (taxi m : ℕ) (rs : List Regulation) (p : PlanView) (t new : Option Told) → new ≡ keep taxi rs m p t → keep taxi rs m p new ≡ keep taxi rs m p t
 told-again taxi m rs p t new is = quiet-told p new (advice taxi m p rs) (said-new taxi m rs p t new is) ∙ is
 
 -- the plan that was issued its advice is quiet from then on, and the others as before
-quiet-but : (taxi m : ℕ) (rs : List Regulation) (ps : List Plan) (told : List (Option Told)) (rest : List ℕ) (p : Plan) (t new : Option Told)
+quiet-but : (taxi m : ℕ) (rs : List Regulation) (ps : List PlanView) (told : List (Option Told)) (rest : List ℕ) (p : PlanView) (t new : Option Told)
     → 0 < m → slice_get ps (m - 1) ≡ Some p → slice_get told (m - 1) ≡ Some t → say taxi rs m p new ≡ [] → AreQuietBut (m ∷ rest) taxi rs ps told
     → AreQuietBut rest taxi rs ps (set told (m - 1) new)
 quiet-but taxi m rs ps told rest p t new some at was after quiet number above out =
@@ -93,8 +93,8 @@ quiet-but taxi m rs ps told rest p t new some at was after quiet number above ou
     rw (slice_get-set told (m - 1) (number - 1) new (λ e. ne (sym e))) (quiet number above (ap (λ b. b || is_in number rest) apart.0 ∙ out))))
     (eqb_tells m number)
 
-telling-one : (taxi m : ℕ) (rs : List Regulation) (ps : List Plan) (first : List (Option Told)) (begun : List Notice) (told : List (Option Told)) (notices : List Notice) (rest : List ℕ)
-    (p : Plan) (t new : Option Told) (made : List Notice)
+telling-one : (taxi m : ℕ) (rs : List Regulation) (ps : List PlanView) (first : List (Option Told)) (begun : List Notice) (told : List (Option Told)) (notices : List Notice) (rest : List ℕ)
+    (p : PlanView) (t new : Option Told) (made : List Notice)
     → IsTelling taxi rs ps first begun told notices (m ∷ rest) → IsNonDecreasing (m ∷ rest) → 0 < m → slice_get ps (m - 1) ≡ Some p → slice_get told (m - 1) ≡ Some t
     → new ≡ keep taxi rs m p t → made ≡ notices ++ say taxi rs m p t
     → IsTelling taxi rs ps first begun (set told (m - 1) new) made rest
@@ -117,8 +117,8 @@ telling-one taxi m rs ps first begun told notices rest p t new made k rises some
       each = length-set told (m - 1) new ∙ k.each;
     }
 
-telling-goes : (taxi j m : ℕ) (rs : List Regulation) (ps : List Plan) (first : List (Option Told)) (begun : List Notice) (told : List (Option Told)) (notices : List Notice) (changed : List ℕ)
-    (p : Plan) (t new : Option Told) (made : List Notice)
+telling-goes : (taxi j m : ℕ) (rs : List Regulation) (ps : List PlanView) (first : List (Option Told)) (begun : List Notice) (told : List (Option Told)) (notices : List Notice) (changed : List ℕ)
+    (p : PlanView) (t new : Option Told) (made : List Notice)
     → IsTelling taxi rs ps first begun told notices (drop j changed) → IsNonDecreasing changed → j < length changed → m ≡ get_or changed j 0 → 0 < m
     → slice_get ps (m - 1) ≡ Some p → slice_get told (m - 1) ≡ Some t
     → new ≡ keep taxi rs m p t → made ≡ notices ++ say taxi rs m p t
@@ -130,7 +130,7 @@ telling-goes taxi j m rs ps first begun told notices changed p t new made k rise
     rw add-one (telling-one taxi m rs ps first begun told notices (drop (suc j) changed) p t new made k' rises' some at was isnew ismade)
 
 -- one turn of a loop over the numbers
-pub telling-turn : (taxi j m : ℕ) (rs : List Regulation) (ps : List Plan) (first : List (Option Told)) (begun : List Notice) (told : List (Option Told)) (notices : List Notice) (changed : List ℕ)
+pub telling-turn : (taxi j m : ℕ) (rs : List Regulation) (ps : List PlanView) (first : List (Option Told)) (begun : List Notice) (told : List (Option Told)) (notices : List Notice) (changed : List ℕ)
     (t new : Option Told) (made : List Notice)
     → IsTelling taxi rs ps first begun told notices (drop j changed) → IsNonDecreasing changed → j < length changed → m ≡ get_or changed j 0 → 0 < m → m ≤ length ps
     → t ≡ get_or told (m - 1) t
@@ -142,21 +142,21 @@ telling-turn taxi j m rs ps first begun told notices changed t new made k rises 
     telling-goes taxi j m rs ps first begun told notices changed there.0 t new made k rises lt at-m some there.1
     (slice_get_read told (length told) (m - 1) t refl long at-t) (rw there.1 at isnew) (rw there.1 at ismade)
 
-past : {taxi : ℕ} {rs : List Regulation} {ps : List Plan} {first : List (Option Told)} {begun : List Notice} {told : List (Option Told)} {notices : List Notice} (i : ℕ) (changed : List ℕ)
+past : {taxi : ℕ} {rs : List Regulation} {ps : List PlanView} {first : List (Option Told)} {begun : List Notice} {told : List (Option Told)} {notices : List Notice} (i : ℕ) (changed : List ℕ)
     → length changed ≤ i → IsTelling taxi rs ps first begun told notices (drop i changed) → IsTelling taxi rs ps first begun told notices []
 past {taxi} {rs} {ps} {first} {begun} {told} {notices} i changed le k =
     subst (λ (xs : List ℕ). IsTelling taxi rs ps first begun told notices xs) (drop_all i changed le) k
 
-pub telling-ends : (taxi : ℕ) (rs : List Regulation) (ps : List Plan) (first : List (Option Told)) (begun : List Notice) (told : List (Option Told)) (notices : List Notice)
+pub telling-ends : (taxi : ℕ) (rs : List Regulation) (ps : List PlanView) (first : List (Option Told)) (begun : List Notice) (told : List (Option Told)) (notices : List Notice)
     (i : ℕ) (changed : List ℕ) → length changed ≤ i → IsTelling taxi rs ps first begun told notices (drop i changed) → AllQuiet taxi rs ps told
 telling-ends taxi rs ps first begun told notices i changed le k = λ number some. (past i changed le k).quiet number some refl
 
-pub telling-told : (taxi : ℕ) (rs : List Regulation) (ps : List Plan) (first : List (Option Told)) (begun : List Notice) (told : List (Option Told)) (notices : List Notice)
+pub telling-told : (taxi : ℕ) (rs : List Regulation) (ps : List PlanView) (first : List (Option Told)) (begun : List Notice) (told : List (Option Told)) (notices : List Notice)
     (i : ℕ) (changed : List ℕ) → length changed ≤ i → IsTelling taxi rs ps first begun told notices (drop i changed) → told ≡ told_from 1 taxi rs ps first
 telling-told taxi rs ps first begun told notices i changed le k =
     sym (AllQuiet-told taxi rs ps told k.each (telling-ends taxi rs ps first begun told notices i changed le k)) ∙ k.told_on
 
-pub telling-said : (taxi : ℕ) (rs : List Regulation) (ps : List Plan) (first : List (Option Told)) (begun : List Notice) (told : List (Option Told)) (notices : List Notice)
+pub telling-said : (taxi : ℕ) (rs : List Regulation) (ps : List PlanView) (first : List (Option Told)) (begun : List Notice) (told : List (Option Told)) (notices : List Notice)
     (i : ℕ) (changed : List ℕ) → length changed ≤ i → IsTelling taxi rs ps first begun told notices (drop i changed) → notices ≡ begun ++ notices_from 1 taxi rs ps first
 telling-said taxi rs ps first begun told notices i changed le k =
     sym (append-nil notices)

@@ -4,7 +4,7 @@ use Rattle.std.specs.List.{AllByRecursion, slice_get}
 use Rattle.std.specs.Option.{option_and_then}
 use Rattle.std.proofs.lemmas.Bool.{eq-eqb, ne_eqb, cases_eq, true≢false}
 use Rattle.std.proofs.lemmas.Bool.Decides.{nat_tests}
-use Rattle.flow_plans.specs.Plans.{Plan}
+use Rattle.flow_plans.specs.Plans.{PlanView}
 use Rattle.flow_slots.specs.declared.cell.Planned.{Planned}
 use Rattle.flow_slots.specs.Order.{stands_before, insert, without}
 use Rattle.flow_slots.specs.Assignment.{Placed}
@@ -84,14 +84,14 @@ pub has-here : (f n : ℕ) (fs : List Placed) → n ≡ f → has_flight f (mark
 has-here f n fs e = ap (λ b. b || has_flight f fs) (eq-eqb n f e)
 
 -- the flights with provisional slots depend only on which flights are frozen
-pub waiting-fixed : (k taxi : ℕ) (r : Regulation) (fs gs : List Placed) (ps : List Plan) → ((f : ℕ) → k ≤ f → has_flight f fs ≡ has_flight f gs) → waiting_from k taxi r fs ps ≡ waiting_from k taxi r gs ps
+pub waiting-fixed : (k taxi : ℕ) (r : Regulation) (fs gs : List Placed) (ps : List PlanView) → ((f : ℕ) → k ≤ f → has_flight f fs ≡ has_flight f gs) → waiting_from k taxi r fs ps ≡ waiting_from k taxi r gs ps
 waiting-fixed k taxi r fs gs [] h = refl
 waiting-fixed k taxi r fs gs (p ∷ ps) h =
     ap (λ b. with_entry (subject_to taxi r p) b k (waiting_from (k + 1) taxi r fs ps)) (h k (omega arith))
     ∙ ap (λ ws. with_entry (subject_to taxi r p) (has_flight k gs) k ws) (waiting-fixed (k + 1) taxi r fs gs ps (λ f l. h f (omega arith)))
 
 -- one flight, apart from the others
-pub waiting-apart : (i n k taxi : ℕ) (r : Regulation) (fs : List Placed) (ps : List Plan) → n ≡ k + i → waiting_from k taxi r fs ps ≡ with_entry (option_and_then (subject_to taxi r) (slice_get ps i)) (has_flight n fs) n (waiting_from k taxi r (mark n ∷ fs) ps)
+pub waiting-apart : (i n k taxi : ℕ) (r : Regulation) (fs : List Placed) (ps : List PlanView) → n ≡ k + i → waiting_from k taxi r fs ps ≡ with_entry (option_and_then (subject_to taxi r) (slice_get ps i)) (has_flight n fs) n (waiting_from k taxi r (mark n ∷ fs) ps)
 waiting-apart i n k taxi r fs [] e = refl
 waiting-apart zero n k taxi r fs (p ∷ ps) e =
     let same : n ≡ k = omega (arith, e) in
@@ -110,7 +110,7 @@ waiting-apart (suc i) n k taxi r fs (p ∷ ps) e =
     ∙ ap (λ b. with_entry q (has_flight n fs) n (with_entry o b k (waiting_from (k + 1) taxi r (mark n ∷ fs) ps))) other)
 
 -- the other flights depend on the other plans alone
-pub waiting-others : (n k taxi : ℕ) (r : Regulation) (fs : List Placed) (ps qs : List Plan) → ((i : ℕ) → (k + i ≡ n → ⊥) → slice_get ps i ≡ slice_get qs i) → waiting_from k taxi r (mark n ∷ fs) ps ≡ waiting_from k taxi r (mark n ∷ fs) qs
+pub waiting-others : (n k taxi : ℕ) (r : Regulation) (fs : List Placed) (ps qs : List PlanView) → ((i : ℕ) → (k + i ≡ n → ⊥) → slice_get ps i ≡ slice_get qs i) → waiting_from k taxi r (mark n ∷ fs) ps ≡ waiting_from k taxi r (mark n ∷ fs) qs
 waiting-others n k taxi r fs [] [] h = refl
 waiting-others n k taxi r fs [] (q ∷ qs) h = cases (waiting-others n (k + 1) taxi r fs [] qs (λ i ne. h (suc i) (λ e. ne (omega (arith, e))))) (cases_eq n k) where
   cases : [] ≡ waiting_from (k + 1) taxi r (mark n ∷ fs) qs → (n ≡ k) ⊎ (n ≡ k → ⊥) → [] ≡ with_entry (subject_to taxi r q) (has_flight k (mark n ∷ fs)) k (waiting_from (k + 1) taxi r (mark n ∷ fs) qs)
@@ -121,7 +121,7 @@ waiting-others n k taxi r fs (p ∷ ps) [] h = cases (waiting-others n (k + 1) t
   cases again (inl e) = ap (λ b. with_entry (subject_to taxi r p) b k (waiting_from (k + 1) taxi r (mark n ∷ fs) ps)) (has-here k n fs e) ∙ (with_entry-kept (subject_to taxi r p) k (waiting_from (k + 1) taxi r (mark n ∷ fs) ps) ∙ again)
   cases again (inr e) = (let no : Some p ≡ None = h zero (λ s. e (omega (arith, s))) in absurd cc)
 waiting-others n k taxi r fs (p ∷ ps) (q ∷ qs) h = cases (waiting-others n (k + 1) taxi r fs ps qs (λ i ne. h (suc i) (λ e. ne (omega (arith, e))))) (cases_eq n k) where
-  kept : (p : Plan) (ps : List Plan) → n ≡ k → waiting_from k taxi r (mark n ∷ fs) (p ∷ ps) ≡ waiting_from (k + 1) taxi r (mark n ∷ fs) ps
+  kept : (p : PlanView) (ps : List PlanView) → n ≡ k → waiting_from k taxi r (mark n ∷ fs) (p ∷ ps) ≡ waiting_from (k + 1) taxi r (mark n ∷ fs) ps
   kept p ps e = ap (λ b. with_entry (subject_to taxi r p) b k (waiting_from (k + 1) taxi r (mark n ∷ fs) ps)) (has-here k n fs e) ∙ with_entry-kept (subject_to taxi r p) k (waiting_from (k + 1) taxi r (mark n ∷ fs) ps)
 
   cases : waiting_from (k + 1) taxi r (mark n ∷ fs) ps ≡ waiting_from (k + 1) taxi r (mark n ∷ fs) qs → (n ≡ k) ⊎ (n ≡ k → ⊥) → waiting_from k taxi r (mark n ∷ fs) (p ∷ ps) ≡ waiting_from k taxi r (mark n ∷ fs) (q ∷ qs)
@@ -132,7 +132,7 @@ waiting-others n k taxi r fs (p ∷ ps) (q ∷ qs) h = cases (waiting-others n (
       ap (λ v. with_entry (subject_to taxi r v) (has_flight k (mark n ∷ fs)) k (waiting_from (k + 1) taxi r (mark n ∷ fs) ps)) plan ∙ ap (with_entry (subject_to taxi r q) (has_flight k (mark n ∷ fs)) k) again
 
 -- and the flight itself is none of them
-pub waiting-none : (n k taxi : ℕ) (r : Regulation) (fs : List Placed) (ps : List Plan) → NoneIs n (waiting_from k taxi r (mark n ∷ fs) ps)
+pub waiting-none : (n k taxi : ℕ) (r : Regulation) (fs : List Placed) (ps : List PlanView) → NoneIs n (waiting_from k taxi r (mark n ∷ fs) ps)
 waiting-none n k taxi r fs [] = tt
 waiting-none n k taxi r fs (p ∷ ps) =
     all-with_entry (λ w. w.flight ≡ n → ⊥) (subject_to taxi r p) (has_flight k (mark n ∷ fs)) k (waiting_from (k + 1) taxi r (mark n ∷ fs) ps)
@@ -151,13 +151,13 @@ all-with_entry-back P None b f ws a = a
 all-with_entry-back P (Some e) true f ws a = a
 all-with_entry-back P (Some e) false f ws a = all-insert-back P (record { entry = e; flight = f }) ws a
 
-pub waiting-from : (j k taxi : ℕ) (r : Regulation) (fs : List Placed) (ps : List Plan) → j ≤ k → AllByRecursion (λ w. j ≤ w.flight) (waiting_from k taxi r fs ps)
+pub waiting-from : (j k taxi : ℕ) (r : Regulation) (fs : List Placed) (ps : List PlanView) → j ≤ k → AllByRecursion (λ w. j ≤ w.flight) (waiting_from k taxi r fs ps)
 waiting-from j k taxi r fs [] h = tt
 waiting-from j k taxi r fs (p ∷ ps) h =
     all-with_entry (λ w. j ≤ w.flight) (subject_to taxi r p) (has_flight k fs) k (waiting_from (k + 1) taxi r fs ps) (λ _ _ _. h) (waiting-from j (k + 1) taxi r fs ps (omega arith))
 
 -- only the flights to which the regulation applies matter
-pub waiting-like : (k taxi : ℕ) (r s : Regulation) (fs : List Placed) (ps : List Plan) → ((p : Plan) → subject_to taxi r p ≡ subject_to taxi s p) → waiting_from k taxi r fs ps ≡ waiting_from k taxi s fs ps
+pub waiting-like : (k taxi : ℕ) (r s : Regulation) (fs : List Placed) (ps : List PlanView) → ((p : PlanView) → subject_to taxi r p ≡ subject_to taxi s p) → waiting_from k taxi r fs ps ≡ waiting_from k taxi s fs ps
 waiting-like k taxi r s fs [] h = refl
 waiting-like k taxi r s fs (p ∷ ps) h =
     ap (λ o. with_entry o (has_flight k fs) k (waiting_from (k + 1) taxi r fs ps)) (h p)

@@ -5,5 +5,5 @@ pub mod Marks
 pub mod Advice
 pub mod Awaiting
 pub mod Notices
-pub mod Places
+pub mod SlotStates
 pub mod Quiet

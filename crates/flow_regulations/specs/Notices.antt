@@ -1,7 +1,7 @@
 -- Slot notices: the slot allocation message (SAM), its revision (SRM) and its cancellation (SLC),
 -- and the window of a departure (ATFCM Users Manual).
 use Rattle.std.specs.Prelude.{ℕ, ◌+◌, ◌-◌, ◌%◌, ◌==◌, nat_lt, if◌then◌else◌, List, [], ◌∷◌, ◌++◌, Option, Some, None}
-use Rattle.flow_plans.specs.Plans.{Plan, is_departed}
+use Rattle.flow_plans.specs.Plans.{PlanView, is_departed}
 use Rattle.flow_regulations.specs.declared.notice.Told.{Told}
 use Rattle.flow_regulations.specs.declared.notice.Said.{Said}
 use Rattle.flow_regulations.specs.declared.notice.Said.TheVariants.{Sam, Srm, Slc}
@@ -25,27 +25,27 @@ told_then old None = None
 told_then None (Some new) = Some new
 told_then (Some old) (Some new) = if old.ctot == new.ctot then Some old else Some new
 
-abbrev pub notice_of : Plan → Option Said → List Notice
+abbrev pub notice_of : PlanView → Option Said → List Notice
 notice_of p None = []
 notice_of p (Some said) =
     record { ident = p.key.ident; dep = p.key.dep; dest = p.key.dest; off_block = p.off_block; says = said } ∷ []
 
 -- a departed plan is issued nothing more, and keeps the CTOT last issued
-abbrev pub notices_to : Plan → Option Told → Option Told → List Notice
+abbrev pub notices_to : PlanView → Option Told → Option Told → List Notice
 notices_to p told new = if is_departed p.state then [] else notice_of p (says told new)
 
-abbrev pub told_to_plan : Plan → Option Told → Option Told → Option Told
+abbrev pub told_to_plan : PlanView → Option Told → Option Told → Option Told
 told_to_plan p told new = if is_departed p.state then told else told_then told new
 
 -- the notices to plans numbered from n, with these CTOTs last issued
-abbrev pub notices_from : ℕ → ℕ → List Regulation → List Plan → List (Option Told) → List Notice
+abbrev pub notices_from : ℕ → ℕ → List Regulation → List PlanView → List (Option Told) → List Notice
 notices_from n taxi regulations [] told = []
 notices_from n taxi regulations (p ∷ ps) [] = []
 notices_from n taxi regulations (p ∷ ps) (t ∷ ts) =
     notices_to p t (advice taxi n p regulations) ++ notices_from (n + 1) taxi regulations ps ts
 
 -- and the CTOTs last issued from then on
-abbrev pub told_from : ℕ → ℕ → List Regulation → List Plan → List (Option Told) → List (Option Told)
+abbrev pub told_from : ℕ → ℕ → List Regulation → List PlanView → List (Option Told) → List (Option Told)
 told_from n taxi regulations [] told = []
 told_from n taxi regulations (p ∷ ps) [] = []
 told_from n taxi regulations (p ∷ ps) (t ∷ ts) =

@@ -2,7 +2,7 @@
 -- Users Manual, slot issue).
 use Rattle.std.specs.Prelude.{ℕ, ◌+◌, Bool, false, ◌&&◌, ◌||◌, ◌==◌, if◌then◌else◌, nat_le, List, [], ◌∷◌, filter}
 use Rattle.std.specs.Option.{option_map_or}
-use Rattle.flow_plans.specs.Plans.{Plan, plan_at, is_filed, is_departed}
+use Rattle.flow_plans.specs.Plans.{PlanView, plan_at, is_filed, is_departed}
 use Rattle.flow_slots.specs.Period.{slot_time, first_slot}
 use Rattle.flow_slots.specs.Assignment.{Placed, greedy, slots}
 use Rattle.flow_slots.specs.Lineup.{insert_fixed, assigned}
@@ -10,23 +10,23 @@ use Rattle.flow_regulations.specs.Regulations.{Regulation, subject_to, has_fligh
 use Rattle.flow_regulations.specs.declared.due.TheConstants.{ISSUE_LEAD}
 
 -- a filed flight is due from two hours before its off-block time on
-abbrev pub is_due : ℕ → Plan → Bool
+abbrev pub is_due : ℕ → PlanView → Bool
 is_due now p = is_filed p.state && nat_le p.off_block (now + ISSUE_LEAD)
 
 -- a flight keeps its slot when it has departed, or while it is subject and due and its slot is not
 -- before its entry
-abbrev pub keeps : ℕ → ℕ → Regulation → ℕ → Plan → Bool
+abbrev pub keeps : ℕ → ℕ → Regulation → ℕ → PlanView → Bool
 keeps taxi now r slot p =
     is_departed p.state
     || (is_due now p && option_map_or (λ entry. nat_le entry (slot_time r.period slot)) (subject_to taxi r p) false)
 
-abbrev pub stays : ℕ → ℕ → List Plan → Regulation → Placed → Bool
+abbrev pub stays : ℕ → ℕ → List PlanView → Regulation → Placed → Bool
 stays taxi now plans r a = option_map_or (keeps taxi now r a.slot) (plan_at plans a.flight) false
 
-abbrev pub kept : ℕ → ℕ → List Plan → Regulation → List Placed
+abbrev pub kept : ℕ → ℕ → List PlanView → Regulation → List Placed
 kept taxi now plans r = filter (stays taxi now plans r) r.fixed
 
-abbrev pub is_due_at : ℕ → List Plan → Placed → Bool
+abbrev pub is_due_at : ℕ → List PlanView → Placed → Bool
 is_due_at now plans a = option_map_or (is_due now) (plan_at plans a.flight) false
 
 -- more frozen flights, each inserted by its slot
@@ -35,11 +35,11 @@ insert_all [] fixed = fixed
 insert_all (a ∷ others) fixed = insert_all others (insert_fixed a fixed)
 
 -- the slots of the other subject flights, around those that are kept
-abbrev pub assigned_around : ℕ → List Plan → Regulation → List Placed → List Placed
+abbrev pub assigned_around : ℕ → List PlanView → Regulation → List Placed → List Placed
 assigned_around taxi plans r fixed = greedy (λ e. first_slot r.period e) (slots fixed) (waiting_from 1 taxi r fixed plans)
 
 -- the regulation after all its flights were reallocated: of those assigned, the due ones are frozen
-unfoldable pub settled : ℕ → ℕ → List Plan → Regulation → Regulation
+unfoldable pub settled : ℕ → ℕ → List PlanView → Regulation → Regulation
 settled taxi now plans r =
     let fixed = kept taxi now plans r in
     record r { fixed = insert_all (filter (is_due_at now plans) (assigned_around taxi plans r fixed)) fixed }
@@ -49,7 +49,7 @@ abbrev pub pairs_of : ℕ → List Placed → List Placed
 pairs_of flight placed = filter (λ a. a.flight == flight) placed
 
 -- the regulation with the slot that a departing flight holds by the plans before, frozen or not
-unfoldable pub frozen_at_departure : ℕ → ℕ → List Plan → ℕ → Regulation → Regulation
+unfoldable pub frozen_at_departure : ℕ → ℕ → List PlanView → ℕ → Regulation → Regulation
 frozen_at_departure taxi max before flight r =
     if has_flight flight r.fixed then r
     else record r { fixed = insert_all (pairs_of flight (assigned (lineup_of taxi max before r))) r.fixed }

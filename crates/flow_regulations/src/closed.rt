@@ -13,9 +13,9 @@ pub struct Closed<A: Allocator + Copy = Global> {
 }
 
 impl<A: Allocator + Copy> Model for Closed<A> {
-    ghost use Rattle.flow_regulations.specs.Listing.{Closing};
+    ghost use Rattle.flow_regulations.specs.Listing.{ClosedView};
 
-    ghost Value = { Closing };
+    ghost Value = { ClosedView };
 
     ghost view = { λ c. record { index = c.index; listed = c.regulation } };
 }

@@ -1,7 +1,7 @@
 //! When a flight is due: its slot is issued two hours before its off-block time, and kept from then
 //! on (ATFCM Users Manual, slot issue).
 ghost use Rattle.std.specs.Prelude.{◌≡◌, ◌<◌, ◌+◌, nat_le, Some};
-ghost use Rattle.flow_plans.specs.Plans.{Plan as Held, plan_at};
+ghost use Rattle.flow_plans.specs.Plans.{PlanView, plan_at};
 ghost use Rattle.flow_regulations.specs.Settling.{is_due};
 
 use flow_plans::PlanStore;
@@ -24,7 +24,15 @@ pub(crate) fn due_until(now: Minute) -> u32
 pub fn is_due_by(off_block: Minute, now: Minute) -> bool
     ensures { result ≡ nat_le off_block (now + ISSUE_LEAD) }
 {
-    off_block.minutes() <= due_until(now)
+    is_due_from(off_block.minutes(), now)
+}
+
+/// The same of a time in minutes since 1970-01-01 00:00 UTC.
+#[inline(always)]
+pub(crate) fn is_due_from(off_block: u32, now: Minute) -> bool
+    ensures { result ≡ nat_le off_block (now + ISSUE_LEAD) }
+{
+    off_block <= due_until(now)
 }
 
 /// Whether the flight of plan `number` is due: filed, and at most two hours before its off-block
@@ -32,7 +40,7 @@ pub fn is_due_by(off_block: Minute, now: Minute) -> bool
 #[inline(always)]
 pub(crate) fn is_due<A: Allocator + Copy>(plans: &PlanStore<A>, number: u32, now: Minute) -> bool
     requires { 0 < number }
-    ensures { (p : Held) → plan_at plans.now.plans number ≡ Some p → result ≡ is_due now p }
+    ensures { (p : PlanView) → plan_at plans.now.plans number ≡ Some p → result ≡ is_due now p }
 {
     match plans.filed_off_block(number) {
         Some(off_block) => is_due_by(off_block, now),

@@ -6,7 +6,7 @@ ghost use Rattle.std.specs.List.{All, AllByRecursion, Contains};
 ghost use Rattle.std.specs.List.Sorted.{IsPermutation, IsStrictlyIncreasing};
 ghost use Rattle.std.specs.BinaryHeap.{IsHeap, heap_items, heap_len, heap_capacity};
 ghost use Rattle.std.specs.declared.cmp.Reverse.{Reverse};
-ghost use Rattle.flow_plans.specs.Plans.{Plan as Held, plan_at};
+ghost use Rattle.flow_plans.specs.Plans.{PlanView, plan_at};
 ghost use Rattle.flow_regulations.specs.Awaiting.{Covers, awaits, BecameDue};
 ghost use Rattle.flow_regulations.specs.Awaiting.{AreHeld, earlier_first};
 ghost use Rattle.flow_regulations.specs.Listing.{HoldNewlyDue};
@@ -23,7 +23,7 @@ use std::marker::Model;
 /// A flight that isn't due yet, with the off-block time that its plan had when it was put in the
 /// queue, in minutes since 1970-01-01 00:00 UTC.
 #[derive(Clone, Copy, Debug, PartialEq, Eq, PartialOrd, Ord)]
-pub struct Awaited {
+pub struct PendingFlight {
     pub off_block: u32,
     pub number: u32,
 }
@@ -33,16 +33,16 @@ pub struct Awaited {
 /// their turn comes.
 #[derive(Drop)]
 pub struct DueQueue<A: Allocator + Copy = Global> {
-    heap: BinaryHeap<Reverse<Awaited>, A>,
+    heap: BinaryHeap<Reverse<PendingFlight>, A>,
 }
 
 impl<A: Allocator + Copy> Model for DueQueue<A> {
     ghost use Rattle.std.specs.Prelude.{◌<◌, map};
     ghost use Rattle.std.specs.List.{All};
     ghost use Rattle.std.specs.BinaryHeap.{IsHeap, heap_items, heap_capacity};
-    ghost use Rattle.flow_regulations.specs.Awaiting.{Awaiting, earlier_first};
+    ghost use Rattle.flow_regulations.specs.Awaiting.{DueQueueView, earlier_first};
 
-    ghost Value = { Awaiting };
+    ghost Value = { DueQueueView };
 
     ghost view = { λ q. record {
       flights = map (λ x. x.0) (heap_items q.heap);
@@ -92,7 +92,7 @@ impl<A: Allocator + Copy> DueQueue<A> {
         ensures room { self.old.room ≤ self.new.room }
     {
         let off_block = off_block.minutes();
-        push_reserved(&mut self.heap, Awaited { off_block, number });
+        push_reserved(&mut self.heap, PendingFlight { off_block, number });
     }
 
     /// Takes out the flights that have become due from `earlier` to `now`, by rising number and
@@ -111,7 +111,8 @@ impl<A: Allocator + Copy> DueQueue<A> {
             → HoldNewlyDue earlier now plans.now.plans due.new.items }
         ensures covers { earlier ≤ now → Covers earlier plans.now.plans self.old.flights
             → Covers now plans.now.plans self.new.flights }
-        ensures left { length self.new.flights + length due.new.items ≤ length self.old.flights }
+        ensures remaining { length self.new.flights + length due.new.items ≤ length
+            self.old.flights }
         ensures fits { length self.new.flights + length due.new.items ≤ self.new.room }
         ensures room { self.new.room ≡ self.old.room }
         ensures capacity { vec_capacity due.new ≡ vec_capacity due.old }
@@ -130,7 +131,8 @@ impl<A: Allocator + Copy> DueQueue<A> {
         ensures covers { (earlier now : ℕ) → HoldNewlyDue earlier now plans.now.plans due.now
             → Covers now plans.now.plans self.old.flights
             → Covers earlier plans.now.plans self.new.flights }
-        ensures kept { (a : Awaited) → Contains self.old.flights a → Contains self.new.flights a }
+        ensures kept { (a : PendingFlight) → Contains self.old.flights a
+            → Contains self.new.flights a }
         ensures few { length self.new.flights ≤ length self.old.flights + length due.now }
         ensures room { self.old.room ≤ self.new.room }
     {
@@ -139,7 +141,10 @@ impl<A: Allocator + Copy> DueQueue<A> {
 }
 
 /// Puts in a flight, within the capacity.
-fn push_reserved<A: Allocator + Copy>(heap: &mut BinaryHeap<Reverse<Awaited>, A>, flight: Awaited)
+fn push_reserved<A: Allocator + Copy>(
+    heap: &mut BinaryHeap<Reverse<PendingFlight>, A>,
+    flight: PendingFlight,
+)
     requires room { heap_len heap.old < heap_capacity heap.old }
     requires order { IsHeap earlier_first (heap_items heap.old) }
     requires some { 0 < flight.number }
@@ -156,9 +161,9 @@ fn push_reserved<A: Allocator + Copy>(heap: &mut BinaryHeap<Reverse<Awaited>, A>
 
 /// Takes out the flight of the earliest off-block time, if that is at most `limit`.
 fn pop_until<A: Allocator + Copy>(
-    heap: &mut BinaryHeap<Reverse<Awaited>, A>,
+    heap: &mut BinaryHeap<Reverse<PendingFlight>, A>,
     limit: u32,
-) -> Option<Awaited>
+) -> Option<PendingFlight>
     requires { IsHeap earlier_first (heap_items heap.old) }
     ensures order { IsHeap earlier_first (heap_items heap.new) }
     ensures first { IfSome result
@@ -180,7 +185,11 @@ fn pop_until<A: Allocator + Copy>(
 }
 
 /// Whether the plan of this flight is filed, still has this off-block time, and wasn't due earlier.
-fn awaits<A: Allocator + Copy>(plans: &PlanStore<A>, flight: &Awaited, earlier: Minute) -> bool
+fn awaits<A: Allocator + Copy>(
+    plans: &PlanStore<A>,
+    flight: &PendingFlight,
+    earlier: Minute,
+) -> bool
     requires { 0 < flight.now.number }
     ensures { result ≡ awaits earlier plans.now.plans flight.now }
 {
@@ -193,7 +202,7 @@ fn awaits<A: Allocator + Copy>(plans: &PlanStore<A>, flight: &Awaited, earlier: 
 /// Takes out all flights whose off-block time is at most two hours after `now`, and appends those
 /// that have become due.
 fn take_from<A: Allocator + Copy>(
-    heap: &mut BinaryHeap<Reverse<Awaited>, A>,
+    heap: &mut BinaryHeap<Reverse<PendingFlight>, A>,
     plans: &PlanStore<A>,
     earlier: Minute,
     now: Minute,
@@ -206,10 +215,10 @@ fn take_from<A: Allocator + Copy>(
     ensures order { IsHeap earlier_first (heap_items heap.new) }
     ensures numbers { All (λ x. 0 < x.0.number) (heap_items heap.new) }
     ensures became { All (BecameDue earlier now plans.now.plans) due.new.items }
-    ensures taken { (x : Reverse Awaited) → Contains (heap_items heap.old) x
+    ensures taken { (x : Reverse PendingFlight) → Contains (heap_items heap.old) x
         → x.0.off_block ≤ now + ISSUE_LEAD
         → awaits earlier plans.now.plans x.0 ≡ true → Contains due.new.items x.0.number }
-    ensures left { (x : Reverse Awaited) → Contains (heap_items heap.old) x
+    ensures remaining { (x : Reverse PendingFlight) → Contains (heap_items heap.old) x
         → now + ISSUE_LEAD < x.0.off_block
         → Contains (heap_items heap.new) x }
     ensures fewer { heap_len heap.new + length due.new.items ≤ heap_len heap.old }
@@ -226,7 +235,7 @@ fn take_from<A: Allocator + Copy>(
 
 /// Puts in flights with the off-block times of their plans, within the capacity.
 fn put_all<A: Allocator + Copy>(
-    heap: &mut BinaryHeap<Reverse<Awaited>, A>,
+    heap: &mut BinaryHeap<Reverse<PendingFlight>, A>,
     plans: &PlanStore<A>,
     due: &[u32],
 )
@@ -237,7 +246,7 @@ fn put_all<A: Allocator + Copy>(
     ensures order { IsHeap earlier_first (heap_items heap.new) }
     ensures numbers { All (λ x. 0 < x.0.number) (heap_items heap.new) }
     ensures held { AreHeld plans.now.plans (length due.now) due.now (heap_items heap.new) }
-    ensures kept { (x : Reverse Awaited) → Contains (heap_items heap.old) x
+    ensures kept { (x : Reverse PendingFlight) → Contains (heap_items heap.old) x
         → Contains (heap_items heap.new) x }
     ensures len { heap_len heap.new ≤ heap_len heap.old + length due.now }
     ensures capacity { heap_capacity heap.old ≤ heap_capacity heap.new }
@@ -249,7 +258,7 @@ fn put_all<A: Allocator + Copy>(
 
 /// Puts in a flight with the off-block time of its plan, within the capacity.
 fn put_plan<A: Allocator + Copy>(
-    heap: &mut BinaryHeap<Reverse<Awaited>, A>,
+    heap: &mut BinaryHeap<Reverse<PendingFlight>, A>,
     plans: &PlanStore<A>,
     number: u32,
 )
@@ -259,10 +268,10 @@ fn put_plan<A: Allocator + Copy>(
     requires room { heap_len heap.old < heap_capacity heap.old }
     ensures order { IsHeap earlier_first (heap_items heap.new) }
     ensures numbers { All (λ x. 0 < x.0.number) (heap_items heap.new) }
-    ensures held { (p : Held) → plan_at plans.now.plans number ≡ Some p
+    ensures held { (p : PlanView) → plan_at plans.now.plans number ≡ Some p
         → Contains (heap_items heap.new)
         (record { 0 = record { off_block = p.off_block; number = number } }) }
-    ensures kept { (x : Reverse Awaited) → Contains (heap_items heap.old) x
+    ensures kept { (x : Reverse PendingFlight) → Contains (heap_items heap.old) x
         → Contains (heap_items heap.new) x }
     ensures len { heap_len heap.new ≤ heap_len heap.old + 1 }
     ensures capacity { heap_capacity heap.old ≤ heap_capacity heap.new }
@@ -271,5 +280,5 @@ fn put_plan<A: Allocator + Copy>(
         return;
     };
     let off_block = plan.off_block().minutes();
-    push_reserved(heap, Awaited { off_block, number });
+    push_reserved(heap, PendingFlight { off_block, number });
 }

@@ -3,9 +3,9 @@
 //! need not be searched.
 ghost use Rattle.std.specs.Prelude.{◌≡◌, ◌<◌, ◌++◌, ◌∷◌, [], ℕ, List, false, map};
 ghost use Rattle.std.specs.List.{remove};
-ghost use Rattle.flow_regulations.specs.Listing.{Listed, without_in};
-ghost use Rattle.flow_regulations.specs.Marks.{may_stand, word_of, IsMarked, AreMarked};
-ghost use Rattle.flow_regulations.specs.Marks.{Keeps, KeepsBelow, IsOut};
+ghost use Rattle.flow_regulations.specs.Listing.{RegulationView, without_in};
+ghost use Rattle.flow_regulations.specs.Marks.{may_stand, mask_of, IsMarked, AreMarked};
+ghost use Rattle.flow_regulations.specs.Marks.{KeepsMask, KeepsBelow, IsOut};
 ghost use Rattle.flow_regulations.specs.Marks.{IsOpenedTo};
 
 use crate::mask::{close_place, make_room, may_stand, with_mark, word_of};
@@ -31,7 +31,7 @@ impl<A: Allocator + Copy> Model for HeldMarks<A> {
 impl<A: Allocator + Copy> HeldMarks<A> {
     /// No masks: each flight may be held in each regulation. Allocates nothing.
     pub(crate) fn new(alloc: A) -> Self
-        ensures { (lists : List Listed) → AreMarked result lists }
+        ensures { (lists : List RegulationView) → AreMarked result lists }
     {
         HeldMarks {
             words: Vec::new(alloc),
@@ -41,7 +41,7 @@ impl<A: Allocator + Copy> HeldMarks<A> {
     /// The mask of a flight.
     #[inline]
     pub(crate) fn of(&self, flight: u32) -> u64
-        ensures { (lists : List Listed) → AreMarked self.now lists
+        ensures { (lists : List RegulationView) → AreMarked self.now lists
             → IsMarked result flight 0 lists }
     {
         word_of(&self.words, flight)
@@ -50,14 +50,15 @@ impl<A: Allocator + Copy> HeldMarks<A> {
     /// Makes the masks of the flights up to number `last`, if there are none. Returns `Err` if
     /// allocation fails.
     pub(crate) fn make(&mut self, alloc: A, last: u32) -> Result<(), AllocError>
-        ensures { (lists : List Listed) → AreMarked self.old lists → AreMarked self.new lists }
+        ensures { (lists : List RegulationView) → AreMarked self.old lists
+            → AreMarked self.new lists }
     {
         make_room(&mut self.words, alloc, last)
     }
 
     /// Sets the mask of a flight, the only one that the regulations changed since.
     pub(crate) fn set(&mut self, flight: u32, word: u64)
-        ensures { (before lists : List Listed)
+        ensures { (before lists : List RegulationView)
             → map (without_in flight) lists ≡ map (without_in flight) before
             → IsMarked word flight 0 lists → AreMarked self.old before → AreMarked self.new lists }
     {
@@ -74,7 +75,7 @@ impl<A: Allocator + Copy> HeldMarks<A> {
 
     /// Removes the bits of the regulation at this index, which is closed.
     pub(crate) fn close(&mut self, index: usize)
-        ensures { (lists : List Listed) → AreMarked self.old lists
+        ensures { (lists : List RegulationView) → AreMarked self.old lists
             → AreMarked self.new (remove lists index) }
     {
         close_place(&mut self.words, index);
@@ -82,7 +83,7 @@ impl<A: Allocator + Copy> HeldMarks<A> {
 
     /// Discards the masks: each flight may be held in each regulation.
     pub(crate) fn clear(&mut self)
-        ensures { (lists : List Listed) → AreMarked self.new lists }
+        ensures { (lists : List RegulationView) → AreMarked self.new lists }
     {
         self.words.clear();
     }
@@ -90,8 +91,8 @@ impl<A: Allocator + Copy> HeldMarks<A> {
 
 /// Sets the mask of a flight, if it has one.
 pub(crate) fn set_word(words: &mut [u64], flight: u32, word: u64)
-    ensures others { (f : ℕ) → (f ≡ flight → ⊥) → word_of words.new f ≡ word_of words.old f }
-    ensures one { Keeps word (word_of words.new flight) }
+    ensures others { (f : ℕ) → (f ≡ flight → ⊥) → mask_of words.new f ≡ mask_of words.old f }
+    ensures one { KeepsMask word (mask_of words.new flight) }
 {
     let place = flight as usize;
     if place < words.len() {
@@ -101,8 +102,8 @@ pub(crate) fn set_word(words: &mut [u64], flight: u32, word: u64)
 
 /// Sets the bits for a regulation that is opened at this index, the last.
 fn open_place<A: Allocator + Copy>(words: &mut [u64], index: usize, regulation: &Regulation<A>)
-    ensures { (f : ℕ) → IsOpenedTo index regulation.now f (word_of words.old f)
-        (word_of words.new f) }
+    ensures { (f : ℕ) → IsOpenedTo index regulation.now f (mask_of words.old f)
+        (mask_of words.new f) }
 {
     if index >= 64 {
         return;
@@ -116,7 +117,7 @@ fn open_place<A: Allocator + Copy>(words: &mut [u64], index: usize, regulation: 
 /// were made or a regulation was closed, and no others.
 fn clear_from(words: &mut [u64], index: usize)
     requires { index < 64 }
-    ensures { (f : ℕ) → KeepsBelow index (word_of words.old f) (word_of words.new f) }
+    ensures { (f : ℕ) → KeepsBelow index (mask_of words.old f) (mask_of words.new f) }
 {
     if !may_stand(word_of(words, 0), index) {
         return;
@@ -128,8 +129,8 @@ fn clear_from(words: &mut [u64], index: usize)
 
 /// Sets the bit of the regulation at this index in the masks of the flights that it holds.
 fn mark_held<A: Allocator + Copy>(words: &mut [u64], index: usize, regulation: &Regulation<A>)
-    ensures kept { (f : ℕ) → Keeps (word_of words.old f) (word_of words.new f) }
-    ensures marked { (f : ℕ) → may_stand (word_of words.new f) index ≡ false
+    ensures kept { (f : ℕ) → KeepsMask (mask_of words.old f) (mask_of words.new f) }
+    ensures marked { (f : ℕ) → may_stand (mask_of words.new f) index ≡ false
         → IsOut f regulation.now }
 {
     let last = regulation.last();

@@ -6,7 +6,7 @@
 //! (`notices_from`). The code reads only what a filing can have changed, and its contracts say that
 //! the result is the same.
 //!
-//! - *One flight* (`look_again`). A message changes one plan. Whether another flight is subject or
+//! - *One flight* (`reallocate`). A message changes one plan. Whether another flight is subject or
 //!   due, or may keep its slot, depends on its own plan and the time. So each slot list reallocates
 //!   that one flight alone: if its slot or its entry has changed it is removed and inserted again,
 //!   and frozen if it is due. Those that it displaces move by the chain of that slot list.
@@ -46,17 +46,17 @@ pub mod laws;
 mod mask;
 mod notice;
 mod place_table;
-mod places;
 mod regulation;
 mod regulations;
+mod slot_state;
 mod telling;
 mod window;
 
 pub use closed::Closed;
 pub use due::{ISSUE_LEAD, is_due_by};
-pub use due_queue::{Awaited, DueQueue};
+pub use due_queue::{DueQueue, PendingFlight};
 pub use notice::{Notice, Said, Told, Window};
-pub use places::Place;
 pub use regulation::Regulation;
 pub use regulations::Regulations;
+pub use slot_state::Place;
 pub use window::window_of;

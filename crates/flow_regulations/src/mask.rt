@@ -5,14 +5,15 @@
 //! and nothing is said of the regulations from the 65th on. A list of masks says nothing at an
 //! index that it doesn't have.
 ghost use Rattle.std.specs.Prelude.{◌≡◌, ◌<◌, ◌≤◌, ℕ, true, false};
-ghost use Rattle.flow_regulations.specs.Marks.{may_stand, word_of, Keeps, KeepsBelow, MovesUp};
+ghost use Rattle.flow_regulations.specs.Marks.{may_stand, mask_of, KeepsMask, KeepsBelow};
+ghost use Rattle.flow_regulations.specs.Marks.{MaskMovesUp};
 
 use std::alloc::{AllocError, Allocator};
 
 /// The mask at an index.
 #[inline]
 pub(crate) fn word_of(words: &[u64], index: u32) -> u64
-    ensures { result ≡ word_of words.now index }
+    ensures { result ≡ mask_of words.now index }
 {
     match words.get(index as usize) {
         Some(word) => *word,
@@ -54,7 +55,7 @@ pub(crate) fn next_marked(word: u64, index: usize) -> usize
 #[inline]
 pub(crate) fn with_mark(word: u64, index: usize) -> u64
     ensures marked { may_stand result index ≡ true }
-    ensures kept { Keeps word result }
+    ensures kept { KeepsMask word result }
 {
     if index < 64 { word | 1 << index } else { word }
 }
@@ -63,7 +64,7 @@ pub(crate) fn with_mark(word: u64, index: usize) -> u64
 #[inline]
 pub(crate) fn mark_where(word: u64, index: usize, is_held: bool) -> u64
     ensures marked { is_held ≡ true → may_stand result index ≡ true }
-    ensures kept { Keeps word result }
+    ensures kept { KeepsMask word result }
 {
     if is_held {
         with_mark(word, index)
@@ -89,7 +90,7 @@ pub(crate) fn with_place(word: u64, index: usize, is_held: bool) -> u64
 #[inline]
 fn without_place(word: u64, index: usize) -> u64
     requires { index < 64 }
-    ensures { MovesUp index word result }
+    ensures { MaskMovesUp index word result }
 {
     let before = word % (1 << index);
     let after = word / 2 >> index;
@@ -103,7 +104,7 @@ pub(crate) fn make_room<A: Allocator + Copy>(
     alloc: A,
     last: u32,
 ) -> Result<(), AllocError>
-    ensures { (f : ℕ) → word_of words.new.items f ≡ word_of words.old.items f }
+    ensures { (f : ℕ) → mask_of words.new.items f ≡ mask_of words.old.items f }
 {
     if words.is_empty() {
         *words = vec![in alloc; u64::MAX; last as usize + 1]?;
@@ -113,7 +114,7 @@ pub(crate) fn make_room<A: Allocator + Copy>(
 
 /// Moves the later bits of all masks down by one, after the regulation at `index` was closed.
 pub(crate) fn close_place(words: &mut [u64], index: usize)
-    ensures { (f : ℕ) → MovesUp index (word_of words.old f) (word_of words.new f) }
+    ensures { (f : ℕ) → MaskMovesUp index (mask_of words.old f) (mask_of words.new f) }
 {
     if index >= 64 {
         return;

@@ -2,9 +2,9 @@
 //! that may be there. If a bit isn't set, the regulation isn't at a point of that row.
 ghost use Rattle.std.specs.Prelude.{◌≡◌, ◌<◌, ◌≤◌, ◌++◌, ◌∷◌, [], ℕ, List, Some, length};
 ghost use Rattle.std.specs.List.{remove};
-ghost use Rattle.flow_plans.specs.Plans.{Plan, plan_at};
-ghost use Rattle.flow_regulations.specs.Listing.{Listed};
-ghost use Rattle.flow_regulations.specs.Marks.{word_of, AreInRows, MarksNear, IsOpenedIn};
+ghost use Rattle.flow_plans.specs.Plans.{PlanView, plan_at};
+ghost use Rattle.flow_regulations.specs.Listing.{RegulationView};
+ghost use Rattle.flow_regulations.specs.Marks.{mask_of, AreInRows, MarksNear, IsOpenedIn};
 
 use crate::mask::{close_place, make_room, with_place};
 use crate::regulation::Regulation;
@@ -33,7 +33,7 @@ impl<A: Allocator + Copy> Model for PlaceTable<A> {
 impl<A: Allocator + Copy> PlaceTable<A> {
     /// No rows: each regulation may be at each point. Allocates nothing.
     pub(crate) fn new(alloc: A) -> Self
-        ensures { (lists : List Listed) → AreInRows result 0 lists }
+        ensures { (lists : List RegulationView) → AreInRows result 0 lists }
     {
         PlaceTable {
             rows: Vec::new(alloc),
@@ -42,7 +42,8 @@ impl<A: Allocator + Copy> PlaceTable<A> {
 
     /// Makes the rows, if there are none. Returns `Err` if allocation fails.
     pub(crate) fn make(&mut self, alloc: A) -> Result<(), AllocError>
-        ensures { (lists : List Listed) → AreInRows self.old 0 lists → AreInRows self.new 0 lists }
+        ensures { (lists : List RegulationView) → AreInRows self.old 0 lists
+            → AreInRows self.new 0 lists }
     {
         make_room(&mut self.rows, alloc, LAST_ROW)
     }
@@ -51,8 +52,8 @@ impl<A: Allocator + Copy> PlaceTable<A> {
     pub(crate) fn near(&self, plans: &PlanStore<A>, number: u32) -> u64
         requires some { 0 < number }
         requires within { number ≤ length plans.now.plans }
-        ensures { (lists : List Listed) → AreInRows self.now 0 lists
-            → (p : Plan) → plan_at plans.now.plans number ≡ Some p
+        ensures { (lists : List RegulationView) → AreInRows self.now 0 lists
+            → (p : PlanView) → plan_at plans.now.plans number ≡ Some p
             → MarksNear result plans.now.taxi p lists }
     {
         plans.near(number, &self.rows)
@@ -68,7 +69,7 @@ impl<A: Allocator + Copy> PlaceTable<A> {
 
     /// Removes the bits of the regulation at this index, which is closed.
     pub(crate) fn close(&mut self, index: usize)
-        ensures { (lists : List Listed) → AreInRows self.old 0 lists
+        ensures { (lists : List RegulationView) → AreInRows self.old 0 lists
             → AreInRows self.new 0 (remove lists index) }
     {
         close_place(&mut self.rows, index);
@@ -76,7 +77,7 @@ impl<A: Allocator + Copy> PlaceTable<A> {
 
     /// Discards the rows: each regulation may be at each point.
     pub(crate) fn clear(&mut self)
-        ensures { (lists : List Listed) → AreInRows self.new 0 lists }
+        ensures { (lists : List RegulationView) → AreInRows self.new 0 lists }
     {
         self.rows.clear();
     }
@@ -84,7 +85,7 @@ impl<A: Allocator + Copy> PlaceTable<A> {
 
 /// Sets the bit of a regulation of row `own` that is opened at `index`, the last.
 fn open_row(table: &mut [u64], index: usize, own: usize)
-    ensures { (row : ℕ) → IsOpenedIn own index row (word_of table.old row) (word_of table.new row) }
+    ensures { (row : ℕ) → IsOpenedIn own index row (mask_of table.old row) (mask_of table.new row) }
 {
     for (row, word) in table.iter_mut().enumerate() {
         *word = with_place(*word, index, row == own);

@@ -1,19 +1,19 @@
 //! An open regulation.
 ghost use Rattle.std.specs.Prelude.{◌≡◌, ◌<◌, ◌≤◌, ℕ, List, None, Some};
 ghost use Rattle.std.specs.Prelude.{true, false, IfSome, IsSome, IfOk, OnOk};
-ghost use Rattle.std.specs.Prelude.{IfNone, IsTrue, ◌+◌, ◌↔◌, length};
-ghost use Rattle.flow_plans.specs.Plans.{Plan as Held, plan_at, is_departed};
-ghost use Rattle.flow_plans.specs.Near.{row_of};
-ghost use Rattle.flow_plans.specs.Places.{IsDepartureOf};
+ghost use Rattle.std.specs.Prelude.{IsTrue, ◌+◌, ◌↔◌, length};
+ghost use Rattle.flow_plans.specs.Plans.{PlanView, plan_at, is_departed};
+ghost use Rattle.flow_plans.specs.Near.{table_row};
+ghost use Rattle.flow_plans.specs.Entries.{NoneEarlier};
 ghost use Rattle.flow_slots.specs.Lineup.{held_slot, fixed_slot, without_flight};
 ghost use Rattle.flow_slots.specs.Lineup.{waiting_entry, len_of};
 ghost use Rattle.flow_slots.specs.Lineup.{with_all_waiting, MayFill, IsLineup};
 ghost use Rattle.flow_slots.specs.Period.{IsWithin, IsRegular};
-ghost use Rattle.flow_regulations.specs.Places.{IsPlaceOf, MayStand, stood};
+ghost use Rattle.flow_regulations.specs.SlotStates.{IsPlaceOf, MayStand, stood};
 ghost use Rattle.flow_regulations.specs.Marks.{IsOut, IsInOrder};
-ghost use Rattle.flow_regulations.specs.Regulations.{subject_to, AppliesToNone};
+ghost use Rattle.flow_regulations.specs.Regulations.{subject_to, coming_from};
 ghost use Rattle.flow_regulations.specs.Settling.{is_due, pairs_of};
-ghost use Rattle.flow_regulations.specs.Listing.{Listed, regulation_of, with_lineup};
+ghost use Rattle.flow_regulations.specs.Listing.{RegulationView, regulation_of, with_lineup};
 ghost use Rattle.flow_regulations.specs.Listing.{without_in, released_in};
 ghost use Rattle.flow_regulations.specs.Listing.{keeps_slot, placed, with_no_flights};
 ghost use Rattle.flow_regulations.specs.Listing.{is_named, fixed_waiting};
@@ -24,8 +24,8 @@ ghost use Rattle.flow_plans.specs.declared.setup.TheConstants.{MAX_PLANS};
 ghost use Rattle.flow_slots.specs.Period.{most_slots};
 
 use crate::due::is_due;
-use crate::places::Place;
-use flow_plans::{PlanState, PlanStore, letters_of, row_of};
+use crate::slot_state::Place;
+use flow_plans::{PlanState, PlanStore, row_of};
 use flow_slots::{Planned, Shape, SlotList};
 use fpl_message::Spot;
 use fpl_text::{Minute, Text};
@@ -43,10 +43,10 @@ pub struct Regulation<A: Allocator + Copy = Global> {
 impl<A: Allocator + Copy> Model for Regulation<A> {
     ghost use Rattle.std.specs.Prelude.{◌≤◌};
     ghost use Rattle.flow_slots.specs.Period.{IsRegular};
-    ghost use Rattle.flow_regulations.specs.Listing.{Listed};
+    ghost use Rattle.flow_regulations.specs.Listing.{RegulationView};
     ghost use Rattle.flow_plans.specs.declared.setup.TheConstants.{MAX_PLANS};
 
-    ghost Value = { Listed };
+    ghost Value = { RegulationView };
 
     ghost view = { λ r. record { id = r.id; spot = r.spot; lineup = r.list.lineup } };
 
@@ -88,7 +88,7 @@ impl<A: Allocator + Copy> Regulation<A> {
 
     /// The row of its point in a table of masks by points.
     pub(crate) fn row(&self) -> usize
-        ensures { result ≡ row_of self.now.spot }
+        ensures { result ≡ table_row self.now.spot }
     {
         row_of(&self.spot)
     }
@@ -134,38 +134,20 @@ impl<A: Allocator + Copy> Regulation<A> {
         self.list.next_held(from)
     }
 
-    /// The letters of its point, if that is a departure aerodrome of four letters.
-    pub(crate) fn departure(&self) -> Option<u32>
-        ensures { IfSome result (λ letters. IsDepartureOf letters self.now.spot) }
-    {
-        let Spot::Dep(place) = &self.spot else {
-            return None;
-        };
-        let letters = letters_of(place.as_bytes());
-        if letters != 0 { Some(letters) } else { None }
-    }
-
-    /// The first number from `from` on of a plan to whose flight the regulation may apply. The
-    /// regulation doesn't apply to the flights of the plans before it, and to none from there on if
-    /// it is `None`.
-    #[inline(always)]
-    pub(crate) fn next_coming(&self, plans: &PlanStore<A>, from: u32) -> Option<u32>
-        requires { 0 < from }
-        ensures from { IfSome result
-            (λ number. (from ≤ number) × (number ≤ length plans.now.plans)) }
-        ensures passed { IfSome result (λ number. AppliesToNone from number plans.now.taxi
-            (regulation_of self.now) plans.now.plans) }
-        ensures most { IfSome result (λ number. number ≤ MAX_PLANS) }
-        ensures none { IfNone result (AppliesToNone from (length plans.now.plans + 1) plans.now.taxi
-            (regulation_of self.now) plans.now.plans) }
+    /// Collects the flights to which the regulation applies, by number, and returns the earliest of
+    /// their off-block times, in minutes from 1970-01-01 00:00 UTC.
+    pub(crate) fn note_coming(
+        &self,
+        plans: &PlanStore<A>,
+        coming: &mut Vec<Planned, A>,
+    ) -> Result<u32, AllocError>
+        ensures coming { OnOk result (coming.new.items
+            ≡ coming_from 1 plans.now.taxi (regulation_of self.now) plans.now.plans) }
+        ensures first { IfOk result (λ first.
+            NoneEarlier first plans.now.plans coming.new.items) }
     {
         let (start, end) = self.list.shape().period();
-        let number = plans.next_coming(from, &self.spot, start, end);
-        if number <= plans.count() {
-            Some(number)
-        } else {
-            None
-        }
+        plans.coming_into(&self.spot, start, end, coming)
     }
 
     /// Inserts flights into the slot list, which has none yet.
@@ -181,7 +163,7 @@ impl<A: Allocator + Copy> Regulation<A> {
     pub(crate) fn subject(&self, plans: &PlanStore<A>, number: u32) -> Option<Minute>
         requires some { 0 < number }
         requires within { number ≤ length plans.now.plans }
-        ensures { (p : Held) → plan_at plans.now.plans number ≡ Some p
+        ensures { (p : PlanView) → plan_at plans.now.plans number ≡ Some p
             → result ≡ subject_to plans.now.taxi (regulation_of self.now) p }
     {
         let (start, end) = self.list.shape().period();
@@ -209,9 +191,9 @@ impl<A: Allocator + Copy> Regulation<A> {
     fn keeps(&self, plans: &PlanStore<A>, number: u32, now: Minute, entry: &Option<Minute>) -> bool
         requires some { 0 < number }
         requires within { number ≤ length plans.now.plans }
-        requires entry { (p : Held) → plan_at plans.now.plans number ≡ Some p
+        requires entry { (p : PlanView) → plan_at plans.now.plans number ≡ Some p
             → entry.now ≡ subject_to plans.now.taxi (regulation_of self.now) p }
-        ensures kept { (p : Held) → plan_at plans.now.plans number ≡ Some p
+        ensures kept { (p : PlanView) → plan_at plans.now.plans number ≡ Some p
             → result ≡ keeps_slot plans.now.taxi now
             (regulation_of self.now) number p self.now.lineup }
         ensures order { IsInOrder self.now }
@@ -316,9 +298,9 @@ impl<A: Allocator + Copy> Regulation<A> {
     pub(crate) fn put_back(&mut self, number: u32, place: Place)
         requires first { 0 < number }
         requires last { number ≤ self.old.lineup.capacity }
-        requires before { (before : Listed) × IsPlaceOf number place before
+        requires before { (before : RegulationView) × IsPlaceOf number place before
             × (without_in number self.old ≡ without_in number before) }
-        ensures { (before : Listed) → IsPlaceOf number place before
+        ensures { (before : RegulationView) → IsPlaceOf number place before
             → without_in number self.old ≡ without_in number before → self.new ≡ before }
     {
         if self.place_of(number).is(&place) {
@@ -361,7 +343,7 @@ impl<A: Allocator + Copy> Regulation<A> {
     pub(crate) fn release(&mut self, plans: &PlanStore<A>, number: u32)
         requires some { 0 < number }
         requires within { number ≤ length plans.now.plans }
-        ensures released { (p : Held) → plan_at plans.now.plans number ≡ Some p
+        ensures released { (p : PlanView) → plan_at plans.now.plans number ≡ Some p
             → self.new ≡ released_in plans.now.taxi p number self.old }
         ensures id { self.new.id ≡ self.old.id }
         ensures capacity { self.new.lineup.capacity ≡ self.old.lineup.capacity }
@@ -394,21 +376,21 @@ impl<A: Allocator + Copy> Regulation<A> {
     {
         let entry = self.subject(plans, number);
         if may_stand {
-            self.look_again(plans, number, now, &entry);
+            self.reallocate(plans, number, now, &entry);
             return true;
         }
         if entry.is_none() {
             return false;
         }
-        self.look_again(plans, number, now, &entry);
+        self.reallocate(plans, number, now, &entry);
         true
     }
 
     /// Settles the regulation after a message about one flight, which changes that flight alone.
-    fn look_again(&mut self, plans: &PlanStore<A>, number: u32, now: Minute, entry: &Option<Minute>)
+    fn reallocate(&mut self, plans: &PlanStore<A>, number: u32, now: Minute, entry: &Option<Minute>)
         requires some { 0 < number }
         requires within { number ≤ length plans.now.plans }
-        requires entry { (p : Held) → plan_at plans.now.plans number ≡ Some p
+        requires entry { (p : PlanView) → plan_at plans.now.plans number ≡ Some p
             → entry.now ≡ subject_to plans.now.taxi (regulation_of self.old) p }
         requires room { number ≤ self.old.lineup.capacity }
         ensures same { self.new ≡ with_lineup self.new.lineup self.old }
@@ -416,7 +398,7 @@ impl<A: Allocator + Copy> Regulation<A> {
         ensures others { (f : ℕ) → (f ≡ number → ⊥)
             → pairs_of f self.new.lineup.fixed ≡ pairs_of f self.old.lineup.fixed }
         ensures alone { without_in number self.new ≡ without_in number self.old }
-        ensures renewed { (max : ℕ) (before : List Held)
+        ensures renewed { (max : ℕ) (before : List PlanView)
             → IsListedIn plans.now.taxi max before self.old
             → IsSettledBut number plans.now.taxi now before self.old
             → AreSameBut number before plans.now.plans
@@ -435,7 +417,8 @@ impl<A: Allocator + Copy> Regulation<A> {
 /// Whether the flight of plan `number` has departed.
 fn has_departed<A: Allocator + Copy>(plans: &PlanStore<A>, number: u32) -> bool
     requires { 0 < number }
-    ensures { (p : Held) → plan_at plans.now.plans number ≡ Some p → result ≡ is_departed p.state }
+    ensures { (p : PlanView) → plan_at plans.now.plans number ≡ Some p → result
+        ≡ is_departed p.state }
 {
     match plans.plan(number) {
         Some(plan) => matches!(plan.state(), PlanState::Departed),

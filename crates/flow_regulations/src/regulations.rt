@@ -6,42 +6,40 @@ ghost use Rattle.std.specs.Prelude.{OnOk, OnErr, length, map, replicate};
 ghost use Rattle.std.specs.Prelude.{vec_capacity};
 ghost use Rattle.std.specs.List.{All, AllByRecursion, insert, list_any};
 ghost use Rattle.std.specs.List.Sorted.{IsNonDecreasing, IsStrictlyIncreasing};
-ghost use Rattle.flow_plans.specs.Places.{IsDepartureOf};
-ghost use Rattle.flow_plans.specs.Plans.{Plan, plan_at};
+ghost use Rattle.flow_plans.specs.Plans.{PlanView, plan_at};
 ghost use Rattle.flow_slots.specs.Assignment.{is_in};
 ghost use Rattle.flow_regulations.specs.Advice.{advice};
 ghost use Rattle.flow_regulations.specs.Awaiting.{HaveBecomeDue};
-ghost use Rattle.flow_regulations.specs.Listing.{Listed, Walked, without_in};
+ghost use Rattle.flow_regulations.specs.Listing.{RegulationView, Walked, without_in};
 ghost use Rattle.flow_regulations.specs.Listing.{IsLookedAgain, IsListed, AreSettledBut};
 ghost use Rattle.flow_regulations.specs.Listing.{AreSameBut, AreRenewed, IsFixedWaiting};
 ghost use Rattle.flow_regulations.specs.Listing.{AreFrozen, IsSettled};
 ghost use Rattle.flow_regulations.specs.Listing.{IsAdvancing, is_below, is_among};
 ghost use Rattle.flow_regulations.specs.Listing.{with_fixed_waiting, AreDue};
-ghost use Rattle.flow_regulations.specs.Listing.{AreUndue, NoneDue};
+ghost use Rattle.flow_regulations.specs.Listing.{NoneDue};
 ghost use Rattle.flow_regulations.specs.Listing.{HoldNewlyDue, HaveCapacity, names_in};
 ghost use Rattle.flow_regulations.specs.Listing.{IsReleased, IsOpened, opened};
 ghost use Rattle.flow_regulations.specs.Listing.{is_named, without_named, lineup_named};
 ghost use Rattle.flow_regulations.specs.Listing.{keeps_slot_in, IsNamedAt};
 ghost use Rattle.flow_regulations.specs.Listing.{MayReopen, pairs_in, regulation_of};
 ghost use Rattle.flow_regulations.specs.Marks.{IsMarked, AreMarked, AreInRows, MarksNear};
-ghost use Rattle.flow_regulations.specs.Regulations.{coming_from};
 ghost use Rattle.flow_regulations.specs.Settling.{pairs_of};
 ghost use Rattle.flow_regulations.specs.Notices.{notices_from, told_from};
-ghost use Rattle.flow_regulations.specs.Places.{ArePlaces};
+ghost use Rattle.flow_regulations.specs.SlotStates.{ArePlaces};
 ghost use Rattle.flow_regulations.specs.Quiet.{AreQuietBut, AllQuiet};
 ghost use Rattle.flow_plans.specs.declared.setup.TheConstants.{MAX_PLANS};
 
 use crate::advice::advice_of;
 use crate::closed::Closed;
-use crate::due::is_due;
+use crate::due::is_due_from;
 use crate::fixed_flights::note_fixed;
 use crate::held_marks::HeldMarks;
 use crate::in_order::put_in_order;
 use crate::mask::{mark_where, may_stand, next_marked};
 use crate::notice::{Notice, Told};
 use crate::place_table::PlaceTable;
-use crate::places::Place;
 use crate::regulation::Regulation;
+use crate::slot_state::Place;
 use crate::telling::tell;
 use flow_plans::PlanStore;
 use flow_slots::{Planned, Shape, SlotList};
@@ -68,11 +66,12 @@ pub struct Regulations<A: Allocator + Copy = Global> {
 
 impl<A: Allocator + Copy> Model for Regulations<A> {
     ghost use Rattle.std.specs.Prelude.{◌<◌, ◌≤◌, vec_capacity};
-    ghost use Rattle.flow_regulations.specs.Listing.{Listing, HaveCapacity, AreApart, names_in};
+    ghost use Rattle.flow_regulations.specs.Listing.{RegulationsView, HaveCapacity, AreApart};
+    ghost use Rattle.flow_regulations.specs.Listing.{names_in};
     ghost use Rattle.flow_regulations.specs.Marks.{AreMarked, AreInRows};
     ghost use Rattle.flow_plans.specs.declared.setup.TheConstants.{MAX_PLANS};
 
-    ghost Value = { Listing };
+    ghost Value = { RegulationsView };
 
     ghost view = { λ r. record {
       max_plans = r.max_plans;
@@ -182,7 +181,7 @@ impl<A: Allocator + Copy> Regulations<A> {
         ensures each { OnOk result
             (All (λ n. keeps_slot_in id.now self.now.lists n ≡ true) flights.new.items) }
         ensures numbers { OnOk result
-            ((taxi now : ℕ) (plans : List Plan) → IsSettled taxi now plans self.now.lists
+            ((taxi now : ℕ) (plans : List PlanView) → IsSettled taxi now plans self.now.lists
             → All (λ n. (0 < n) × (n ≤ length plans)) flights.new.items) }
         ensures others { OnOk result ((f : ℕ) → is_in f flights.new.items ≡ false
             → AllByRecursion
@@ -232,7 +231,8 @@ impl<A: Allocator + Copy> Regulations<A> {
     /// Removes the regulation that was opened last, if there is one.
     pub fn take_last(&mut self)
         ensures limit { self.new.max_plans ≡ self.old.max_plans }
-        ensures lists { (before : List Listed) (l : Listed) → self.old.lists ≡ before ++ l ∷ []
+        ensures lists { (before : List RegulationView) (l : RegulationView) → self.old.lists
+            ≡ before ++ l ∷ []
             → self.new.lists ≡ before }
         ensures none { self.old.lists ≡ [] → self.new.lists ≡ [] }
     {
@@ -243,7 +243,7 @@ impl<A: Allocator + Copy> Regulations<A> {
     /// the last. If the flight's frozen slot may not stay, or its entry has changed, it is removed
     /// and inserted again, and it is frozen if it is due. Each slot list changes for this one
     /// flight.
-    pub fn look_again(&mut self, plans: &PlanStore<A>, number: u32, now: Minute)
+    pub fn reallocate(&mut self, plans: &PlanStore<A>, number: u32, now: Minute)
         requires some { 0 < number }
         requires within { number ≤ length plans.now.plans }
         requires room { number ≤ self.old.max_plans }
@@ -252,7 +252,7 @@ impl<A: Allocator + Copy> Regulations<A> {
             → pairs_in f self.new.lists ≡ pairs_in f self.old.lists }
         ensures alone { map (without_in number) self.new.lists
             ≡ map (without_in number) self.old.lists }
-        ensures renewed { (before : List Plan)
+        ensures renewed { (before : List PlanView)
             → IsListed plans.now.taxi self.old.max_plans before self.old.lists
             → AreSettledBut number plans.now.taxi now before self.old.lists
             → AreSameBut number before plans.now.plans
@@ -261,7 +261,7 @@ impl<A: Allocator + Copy> Regulations<A> {
     {
         let word = self.marks.of(number);
         let near = self.table.near(plans, number);
-        let word = look_again_in(&mut self.regulations, plans, number, now, word, near);
+        let word = reallocate_in(&mut self.regulations, plans, number, now, word, near);
         self.marks.set(number, word);
     }
 
@@ -273,7 +273,7 @@ impl<A: Allocator + Copy> Regulations<A> {
         ensures lists { self.new.lists ≡ map (with_fixed_waiting due.now) self.old.lists }
         ensures others { (f : ℕ) → is_in f due.now ≡ false
             → pairs_in f self.new.lists ≡ pairs_in f self.old.lists }
-        ensures renewed { (taxi earlier now : ℕ) (plans : List Plan) → earlier ≤ now
+        ensures renewed { (taxi earlier now : ℕ) (plans : List PlanView) → earlier ≤ now
             → AreDue now plans due.now
             → HoldNewlyDue earlier now plans due.now
             → IsListed taxi self.old.max_plans plans self.old.lists
@@ -288,7 +288,7 @@ impl<A: Allocator + Copy> Regulations<A> {
     pub fn release_all(&mut self, plans: &PlanStore<A>, due: &[u32])
         requires { All (λ n. (0 < n) × (n ≤ length plans.now.plans)) due.now }
         ensures limit { self.new.max_plans ≡ self.old.max_plans }
-        ensures lists { (max earlier now : ℕ) (before : List Listed)
+        ensures lists { (max earlier now : ℕ) (before : List RegulationView)
             → HaveBecomeDue plans.now.taxi max earlier now plans.now.plans due.now before
             → self.old.lists ≡ map (with_fixed_waiting due.now) before → self.new.lists ≡ before }
     {
@@ -304,7 +304,7 @@ impl<A: Allocator + Copy> Regulations<A> {
             → pairs_in f self.new.lists ≡ pairs_in f self.old.lists }
         ensures alone { map (without_in number) self.new.lists
             ≡ map (without_in number) self.old.lists }
-        ensures frozen { (taxi : ℕ) (before : List Plan)
+        ensures frozen { (taxi : ℕ) (before : List PlanView)
             → IsListed taxi self.old.max_plans before self.old.lists
             → AreFrozen taxi self.old.max_plans number before self.old.lists self.new.lists }
     {
@@ -323,16 +323,16 @@ impl<A: Allocator + Copy> Regulations<A> {
         note_places_in(&self.regulations, number, word, places);
     }
 
-    /// Undoes `look_again` and `freeze_departing` for a flight: restores its state in each
+    /// Undoes `reallocate` and `freeze_departing` for a flight: restores its state in each
     /// regulation, as it was recorded then. The regulations are those of that time. Allocates
     /// nothing.
     pub fn put_back(&mut self, number: u32, places: &[Place])
         requires some { 0 < number }
         requires room { number ≤ self.old.max_plans }
-        requires before { (before : List Listed) × ArePlaces number places.now before
+        requires before { (before : List RegulationView) × ArePlaces number places.now before
             × (map (without_in number) self.old.lists ≡ map (without_in number) before) }
         ensures limit { self.new.max_plans ≡ self.old.max_plans }
-        ensures lists { (before : List Listed) → ArePlaces number places.now before
+        ensures lists { (before : List RegulationView) → ArePlaces number places.now before
             → map (without_in number) self.old.lists ≡ map (without_in number) before
             → self.new.lists ≡ before }
     {
@@ -408,7 +408,7 @@ fn are_same<A: Allocator + Copy>(regulations: &[Regulation<A>], others: &[Regula
 
 /// Each regulation that is in the mask `word` or `near` reallocates one flight. Returns the mask of
 /// those that may hold it then. No other regulation than those in `near` applies to the flight.
-fn look_again_in<A: Allocator + Copy>(
+fn reallocate_in<A: Allocator + Copy>(
     regulations: &mut [Regulation<A>],
     plans: &PlanStore<A>,
     number: u32,
@@ -420,7 +420,7 @@ fn look_again_in<A: Allocator + Copy>(
     requires within { number ≤ length plans.now.plans }
     requires room { AllByRecursion (λ l. number ≤ l.lineup.capacity) regulations.old }
     requires covers { IsMarked word number 0 regulations.old }
-    requires near { (p : Plan) → plan_at plans.now.plans number ≡ Some p
+    requires near { (p : PlanView) → plan_at plans.now.plans number ≡ Some p
         → MarksNear near plans.now.taxi p regulations.old }
     ensures walked { Walked (IsLookedAgain number plans.now.taxi now plans.now.plans)
         (length regulations.new) regulations.old regulations.new }
@@ -481,9 +481,9 @@ fn put_back_in<A: Allocator + Copy>(
 )
     requires some { 0 < number }
     requires room { AllByRecursion (λ l. number ≤ l.lineup.capacity) regulations.old }
-    requires before { (before : List Listed) × ArePlaces number places.now before
+    requires before { (before : List RegulationView) × ArePlaces number places.now before
         × (map (without_in number) regulations.old ≡ map (without_in number) before) }
-    ensures { (before : List Listed) → ArePlaces number places.now before
+    ensures { (before : List RegulationView) → ArePlaces number places.now before
         → map (without_in number) regulations.old ≡ map (without_in number) before
         → regulations.new ≡ before }
 {
@@ -516,7 +516,7 @@ fn advance_in<A: Allocator + Copy>(
     requires { AreMarked marks.now regulations.old }
     ensures lists { regulations.new ≡ map (with_fixed_waiting due.now) regulations.old }
     ensures marked { AreMarked marks.now regulations.new }
-    ensures walked { (taxi now : ℕ) (plans : List Plan) → AreDue now plans due.now
+    ensures walked { (taxi now : ℕ) (plans : List PlanView) → AreDue now plans due.now
         → Walked (IsAdvancing (is_among due.now) taxi now plans)
         (length regulations.new) regulations.old regulations.new }
 {
@@ -539,7 +539,7 @@ fn release_all_in<A: Allocator + Copy>(
         → AreMarked words regulations.new }
     ensures rows { (table : List ℕ) → AreInRows table 0 regulations.old
         → AreInRows table 0 regulations.new }
-    ensures lists { (max earlier now : ℕ) (before : List Listed)
+    ensures lists { (max earlier now : ℕ) (before : List RegulationView)
         → HaveBecomeDue plans.now.taxi max earlier now plans.now.plans due.now before
         → regulations.old ≡ map (with_fixed_waiting due.now) before → regulations.new ≡ before }
 {
@@ -582,98 +582,13 @@ fn let_all_in<A: Allocator + Copy>(
         (regulation.new ≡ opened plans.now.taxi plans.now.plans regulation.old) }
     ensures due { IfOk result (λ due. due ≡ false → NoneDue now plans.now.plans regulation.new) }
 {
-    coming.clear();
-    coming.reserve(plans.count() as usize)?;
+    let first = regulation.note_coming(plans, coming)?;
     targets.reserve((plans.count() as usize).saturating_sub(targets.len()))?;
-    let due = note_coming(regulation, plans, now, coming);
     let (start, _end) = regulation.list().shape().period();
     put_in_order(coming, start, targets);
     regulation.fill(coming);
+    let due = is_due_from(first, now);
     Ok(due)
-}
-
-/// Collects the flights to which a regulation applies, by number, and returns whether one of them
-/// is due.
-fn note_coming<A: Allocator + Copy>(
-    regulation: &Regulation<A>,
-    plans: &PlanStore<A>,
-    now: Minute,
-    coming: &mut Vec<Planned, A>,
-) -> bool
-    requires none { coming.old.items ≡ [] }
-    requires room { length plans.now.plans ≤ vec_capacity coming.old }
-    ensures coming { coming.new.items
-        ≡ coming_from 1 plans.now.taxi (regulation_of regulation.now) plans.now.plans }
-    ensures due { result ≡ false → AreUndue now plans.now.plans coming.new.items }
-{
-    match regulation.departure() {
-        Some(letters) => note_departing(regulation, plans, letters, now, coming),
-        None => note_entering(regulation, plans, now, coming),
-    }
-}
-
-/// Collects them for a regulation at any point, from their plans.
-fn note_entering<A: Allocator + Copy>(
-    regulation: &Regulation<A>,
-    plans: &PlanStore<A>,
-    now: Minute,
-    coming: &mut Vec<Planned, A>,
-) -> bool
-    requires none { coming.old.items ≡ [] }
-    requires room { length plans.now.plans ≤ vec_capacity coming.old }
-    ensures coming { coming.new.items
-        ≡ coming_from 1 plans.now.taxi (regulation_of regulation.now) plans.now.plans }
-    ensures due { result ≡ false → AreUndue now plans.now.plans coming.new.items }
-{
-    let mut due = false;
-    let mut from = 1;
-    while let Some(number) = regulation.next_coming(plans, from) {
-        if let Some(entry) = regulation.subject(plans, number) {
-            let entry = entry.minutes();
-            coming.push_reserved(Planned {
-                entry,
-                flight: number,
-            });
-            due |= is_due(plans, number, now);
-        }
-        from = number + 1;
-    }
-    due
-}
-
-/// Collects them for a regulation at a departure aerodrome of these letters, from the index entries
-/// of the plans. To read the plans takes over 40 % more instructions in 128 OPEN of 5,000
-/// departures.
-fn note_departing<A: Allocator + Copy>(
-    regulation: &Regulation<A>,
-    plans: &PlanStore<A>,
-    letters: u32,
-    now: Minute,
-    coming: &mut Vec<Planned, A>,
-) -> bool
-    requires departure { IsDepartureOf letters regulation.now.spot }
-    requires none { coming.old.items ≡ [] }
-    requires room { length plans.now.plans ≤ vec_capacity coming.old }
-    ensures coming { coming.new.items
-        ≡ coming_from 1 plans.now.taxi (regulation_of regulation.now) plans.now.plans }
-    ensures due { result ≡ false → AreUndue now plans.now.plans coming.new.items }
-{
-    let (start, end) = regulation.list().shape().period();
-    let count = plans.count();
-    let mut due = false;
-    let mut number = 1;
-    while number <= count {
-        if let Some(entry) = plans.departure(number, letters, start, end) {
-            let entry = entry.minutes();
-            coming.push_reserved(Planned {
-                entry,
-                flight: number,
-            });
-            due |= is_due(plans, number, now);
-        }
-        number += 1;
-    }
-    due
 }
 
 /// Freezes the provisional slots of the flights that are due. Reads none if the caller knows that

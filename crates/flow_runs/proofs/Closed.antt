@@ -7,17 +7,17 @@ use Rattle.std.proofs.lemmas.Bool.Decides.{nat_tests}
 use Rattle.std.proofs.lemmas.Option.{slice_get_within, slice_get-get_or, get_or_from_slice_get}
 use mathlib.Core.List.{IsPrefix}
 use lib.ListN.{get_or}
-use Rattle.fpl_message.specs.Filings.{FilingText}
-use Rattle.flow_plans.specs.Settings.{Settings}
+use Rattle.fpl_message.specs.Filings.{FilingView}
+use Rattle.flow_plans.specs.Settings.{SetupView}
 use Rattle.flow_core.specs.declared.receipt.StepFault.TheVariants as step
-use Rattle.flow_core.specs.State.{Record}
+use Rattle.flow_core.specs.State.{EntryView}
 use Rattle.flow_core.specs.History.{History, state_of}
 use Rattle.flow_desk.specs.declared.feeders.End.{End}
 use Rattle.flow_desk.specs.declared.feeders.End.TheVariants.{Stopped}
 use Rattle.flow_desk.specs.Desks.{AreOpened, IsMissing, has_pass}
 use Rattle.flow_desk.specs.Histories.{own, after}
-use Rattle.flow_desk.specs.Locks.{Agrees}
-use Rattle.flow_desk.specs.Passes.{PassView}
+use Rattle.flow_desk.specs.Locks.{AgreesWithPass}
+use Rattle.flow_desk.specs.FeederPasses.{PassView}
 use Rattle.flow_desk.proofs.Fronts.{prefix_trans, prefix_length}
 use Rattle.flow_desk.proofs.Owning.{own-append}
 use Rattle.flow_runs.specs.declared.fault.RunFault.{RunFault}
@@ -25,10 +25,10 @@ use Rattle.flow_runs.specs.Ends.{EndsWell, EndsFeed}
 use Rattle.flow_runs.specs.Filing.{texts, HasFiled, RanFeed, RanFeeds}
 
 -- how one feed of many has run, by which pass, and what is true of that pass and of its end
-record RunAt (s : Settings) (Q : PassView → Type 0) (E : End → Type 0) (ps : List PassView) (qs : List PassView) (k : ℕ) (feed : List FilingText) : Type 0 where
+record RunAt (s : SetupView) (Q : PassView → Type 0) (E : End → Type 0) (ps : List PassView) (qs : List PassView) (k : ℕ) (feed : List FilingView) : Type 0 where
   p : PassView
   q : PassView
-  left : List FilingText
+  left : List FilingView
   end : End
   at_p : slice_get ps k ≡ Some p
   at_q : slice_get qs k ≡ Some q
@@ -39,8 +39,8 @@ record RunAt (s : Settings) (Q : PassView → Type 0) (E : End → Type 0) (ps :
 all-tail : {X : Type 0} (P : X → Type 0) (x : X) (xs : List X) → All P (x ∷ xs) → All P xs
 all-tail P x xs all = λ k d lt. all (suc k) d (omega (arith, lt))
 
-run-at : (s : Settings) (Q : PassView → Type 0) (E : End → Type 0) (ps : List PassView) (fs : List (List FilingText)) (qs : List PassView) (ls : List (List FilingText)) (es : List End)
-    → RanFeeds s ps fs qs ls es → All Q qs → All E es → (k : ℕ) (feed : List FilingText) → slice_get fs k ≡ Some feed → RunAt s Q E ps qs k feed
+run-at : (s : SetupView) (Q : PassView → Type 0) (E : End → Type 0) (ps : List PassView) (fs : List (List FilingView)) (qs : List PassView) (ls : List (List FilingView)) (es : List End)
+    → RanFeeds s ps fs qs ls es → All Q qs → All E es → (k : ℕ) (feed : List FilingView) → slice_get fs k ≡ Some feed → RunAt s Q E ps qs k feed
 run-at s Q E ps [] qs ls es h all ends k feed at = absurd (omega (arith, slice_get_within [] k feed at))
 run-at s Q E [] (f ∷ fs) qs ls es h all ends k feed at = absurd h
 run-at s Q E (p ∷ ps) (f ∷ fs) [] ls es h all ends k feed at = absurd h
@@ -55,7 +55,7 @@ run-at s Q E (p ∷ ps) (f ∷ fs) (q ∷ qs) (l ∷ ls) (e ∷ es) h all ends z
       end = e;
       at_p = refl;
       at_q = refl;
-      ran = subst (λ (t : List FilingText). RanFeed s p t q l e) same h.0;
+      ran = subst (λ (t : List FilingView). RanFeed s p t q l e) same h.0;
       is_q = all 0 q (omega arith);
       is_end = ends 0 e (omega arith);
     }
@@ -74,7 +74,7 @@ run-at s Q E (p ∷ ps) (f ∷ fs) (q ∷ qs) (l ∷ ls) (e ∷ es) h all ends (
     }
 
 -- of the entries after those read, this feeder's are its feed up to what is left
-filed-at : (s : Settings) (E : End → Type 0) (n : ℕ) (read entries : List Record) (ps qs : List PassView) (k : ℕ) (feed : List FilingText) (r : RunAt s (Agrees (read ++ entries)) E ps qs k feed)
+filed-at : (s : SetupView) (E : End → Type 0) (n : ℕ) (read entries : List EntryView) (ps qs : List PassView) (k : ℕ) (feed : List FilingView) (r : RunAt s (AgreesWithPass (read ++ entries)) E ps qs k feed)
     → AreOpened n read ps → texts (own k entries) ++ r.left ≡ feed
 filed-at s E n read entries ps qs k feed r opened =
     let ran = r.ran.filed.ran in
@@ -82,19 +82,19 @@ filed-at s E n read entries ps qs k feed r opened =
     let feeder_p : r.p.feeder ≡ k = ap (λ (v : PassView). v.feeder) opened_p in
     let seen_p : r.p.seen ≡ read = ap (λ (v : PassView). v.seen) opened_p in
     let feeder_q : r.q.feeder ≡ k = ran.feeder ∙ feeder_p in
-    let journal : List Record = read ++ entries in
+    let journal : List EntryView = read ++ entries in
     let all_own : own k journal ≡ own k read ++ ran.entries =
-    ap (λ (j : ℕ). own j journal) (sym feeder_q) ∙ (r.is_q.none_own ∙ (ran.own_are ∙ (ap (λ (j : ℕ). own j r.p.seen ++ ran.entries) feeder_p ∙ ap (λ (es : List Record). own k es ++ ran.entries) seen_p))) in
+    ap (λ (j : ℕ). own j journal) (sym feeder_q) ∙ (r.is_q.none_own ∙ (ran.own_are ∙ (ap (λ (j : ℕ). own j r.p.seen ++ ran.entries) feeder_p ∙ ap (λ (es : List EntryView). own k es ++ ran.entries) seen_p))) in
     let mine : own k entries ≡ ran.entries = append_cancel_left (own k read) (own k entries) ran.entries (sym (own-append k read entries) ∙ all_own) in
-    ap (λ (es : List Record). texts es ++ r.left) mine ∙ ran.texts
+    ap (λ (es : List EntryView). texts es ++ r.left) mine ∙ ran.texts
 
 -- where the journal isn't full, a feed that ended well is filed whole
-whole-at : (s : Settings) (read entries : List Record) (ps qs : List PassView) (k : ℕ) (feed : List FilingText) (r : RunAt s (Agrees (read ++ entries)) EndsWell ps qs k feed)
+whole-at : (s : SetupView) (read entries : List EntryView) (ps qs : List PassView) (k : ℕ) (feed : List FilingView) (r : RunAt s (AgreesWithPass (read ++ entries)) EndsWell ps qs k feed)
     → length (read ++ entries) < s.max_entries → texts (own k entries) ++ r.left ≡ feed → texts (own k entries) ≡ feed
 whole-at s read entries ps qs k feed r room filed = elim r.is_end [
   | inl done ↦
       let none : r.left ≡ [] = subst (λ (e : End). EndsFeed s e r.q r.left) done r.ran.ends in
-      sym (append-nil (texts (own k entries))) ∙ (ap (λ (ts : List FilingText). texts (own k entries) ++ ts) (sym none) ∙ filed)
+      sym (append-nil (texts (own k entries))) ∙ (ap (λ (ts : List FilingView). texts (own k entries) ++ ts) (sym none) ∙ filed)
   | inr full ↦
       let ends : EndsFeed s (Stopped step.JournalFull) r.q r.left = subst (λ (e : End). EndsFeed s e r.q r.left) full r.ran.ends in
       absurd (omega (arith, ends.1 refl, prefix_length r.q.seen (read ++ entries) r.is_q.later, room))
@@ -107,39 +107,39 @@ all-behind P xs ys all = λ k d lt.
     subst P there (all (length xs + k) d (omega (arith, length-append xs ys, lt)))
 
 -- the first feed's pass saw the entries read, and the journal begins with what it saw at last
-read-first : (s : Settings) (E : End → Type 0) (n : ℕ) (read journal : List Record) (ps qs : List PassView) (k : ℕ) (feed : List FilingText)
-    → RunAt s (Agrees journal) E ps qs k feed → AreOpened n read ps → IsPrefix read journal
+read-first : (s : SetupView) (E : End → Type 0) (n : ℕ) (read journal : List EntryView) (ps qs : List PassView) (k : ℕ) (feed : List FilingView)
+    → RunAt s (AgreesWithPass journal) E ps qs k feed → AreOpened n read ps → IsPrefix read journal
 read-first s E n read journal ps qs k feed r opened =
     let seen_p : r.p.seen ≡ read = ap (λ (v : PassView). v.seen) (opened.1 k r.p r.at_p) in
-    subst (λ (es : List Record). IsPrefix es journal) seen_p (prefix_trans r.p.seen r.q.seen journal r.ran.filed.ran.later r.is_q.later)
+    subst (λ (es : List EntryView). IsPrefix es journal) seen_p (prefix_trans r.p.seen r.q.seen journal r.ran.filed.ran.later r.is_q.later)
 
 -- the feeders have filed what the closed desk has
-pub closed : (s : Settings) (n : ℕ) (read : List Record) (ps : List PassView) (fs : List (List FilingText)) (qs qs' : List PassView) (ls : List (List FilingText)) (es : List End) (core : History) (stop : Option RunFault)
+pub closed : (s : SetupView) (n : ℕ) (read : List EntryView) (ps : List PassView) (fs : List (List FilingView)) (qs qs' : List PassView) (ls : List (List FilingView)) (es : List End) (core : History) (stop : Option RunFault)
     → 0 < n → length fs ≡ n → AreOpened n read ps → RanFeeds s ps fs qs ls es → (stop ≡ None → length (state_of core).journal < s.max_entries → All EndsWell es) → (stop ≢ None → length (state_of core).journal < s.max_entries) → qs' ≡ qs
-    → core.setup ≡ s → state_of core ≡ after s (state_of core).journal → All (λ (e : Record). e.input.feeder < n) (state_of core).journal → All (Agrees (state_of core).journal) qs'
+    → core.setup ≡ s → state_of core ≡ after s (state_of core).journal → All (λ (e : EntryView). e.input.feeder < n) (state_of core).journal → All (AgreesWithPass (state_of core).journal) qs'
     → HasFiled s read n fs core stop
 closed s n read ps fs qs qs' ls es core stop some wide opened ran well few same setup_is one below agree' =
-    let journal : List Record = (state_of core).journal in
-    let agree : All (Agrees journal) qs = subst (λ (v : List PassView). All (Agrees journal) v) same agree' in
+    let journal : List EntryView = (state_of core).journal in
+    let agree : All (AgreesWithPass journal) qs = subst (λ (v : List PassView). All (AgreesWithPass journal) v) same agree' in
     let any : End → Type 0 = λ e. Unit {0} in
-    let first : List FilingText = get_or fs 0 [] in
-    let front : IsPrefix read journal = read-first s any n read journal ps qs 0 first (run-at s (Agrees journal) any ps fs qs ls es ran agree (λ k d lt. tt) 0 first (slice_get-get_or fs 0 [] (omega (arith, some, wide)))) opened in
-    let entries : List Record = front.0 in
+    let first : List FilingView = get_or fs 0 [] in
+    let front : IsPrefix read journal = read-first s any n read journal ps qs 0 first (run-at s (AgreesWithPass journal) any ps fs qs ls es ran agree (λ k d lt. tt) 0 first (slice_get-get_or fs 0 [] (omega (arith, some, wide)))) opened in
+    let entries : List EntryView = front.0 in
     let is : journal ≡ read ++ entries = sym front.1 in
-    let agrees : All (Agrees (read ++ entries)) qs = subst (λ (j : List Record). All (Agrees j) qs) is agree in
+    let agrees : All (AgreesWithPass (read ++ entries)) qs = subst (λ (j : List EntryView). All (AgreesWithPass j) qs) is agree in
     record {
       entries = entries;
       setup_is = setup_is;
       journal = is;
       one_thread = one ∙ ap (after s) is;
-      below = all-behind (λ (e : Record). e.input.feeder < n) read entries (subst (λ (j : List Record). All (λ (e : Record). e.input.feeder < n) j) is below);
-      fronts = λ k feed at. (let r = run-at s (Agrees (read ++ entries)) any ps fs qs ls es ran agrees (λ k d lt. tt) k feed at in (r.left, filed-at s any n read entries ps qs k feed r opened));
-      room = λ stopped. subst (λ (j : List Record). length j < s.max_entries) is (few stopped);
-      whole = λ none room k feed at. (let r = run-at s (Agrees (read ++ entries)) EndsWell ps fs qs ls es ran agrees (well none (subst (λ (j : List Record). length j < s.max_entries) front.1 room)) k feed at in whole-at s read entries ps qs k feed r room (filed-at s EndsWell n read entries ps qs k feed r opened));
+      below = all-behind (λ (e : EntryView). e.input.feeder < n) read entries (subst (λ (j : List EntryView). All (λ (e : EntryView). e.input.feeder < n) j) is below);
+      fronts = λ k feed at. (let r = run-at s (AgreesWithPass (read ++ entries)) any ps fs qs ls es ran agrees (λ k d lt. tt) k feed at in (r.left, filed-at s any n read entries ps qs k feed r opened));
+      room = λ stopped. subst (λ (j : List EntryView). length j < s.max_entries) is (few stopped);
+      whole = λ none room k feed at. (let r = run-at s (AgreesWithPass (read ++ entries)) EndsWell ps fs qs ls es ran agrees (well none (subst (λ (j : List EntryView). length j < s.max_entries) front.1 room)) k feed at in whole-at s read entries ps qs k feed r room (filed-at s EndsWell n read entries ps qs k feed r opened));
     }
 
 -- all passes are returned
-pub as-many : (s : Settings) (ps : List PassView) (fs : List (List FilingText)) (qs : List PassView) (ls : List (List FilingText)) (es : List End) → RanFeeds s ps fs qs ls es → length qs ≡ length ps
+pub as-many : (s : SetupView) (ps : List PassView) (fs : List (List FilingView)) (qs : List PassView) (ls : List (List FilingView)) (es : List End) → RanFeeds s ps fs qs ls es → length qs ≡ length ps
 as-many s [] [] [] ls es h = refl
 as-many s [] (f ∷ fs) qs ls es h = absurd h
 as-many s [] [] (q ∷ qs) ls es h = absurd h
@@ -150,11 +150,11 @@ as-many s (p ∷ ps) (f ∷ fs) (q ∷ qs) (l ∷ ls) [] h = absurd h
 as-many s (p ∷ ps) (f ∷ fs) (q ∷ qs) (l ∷ ls) (e ∷ es) h = ap suc (as-many s ps fs qs ls es h.1)
 
 -- no feeder's pass is missing when all have run
-pub none-missing : (s : Settings) (n : ℕ) (read : List Record) (ps : List PassView) (fs : List (List FilingText)) (qs : List PassView) (ls : List (List FilingText)) (es : List End)
+pub none-missing : (s : SetupView) (n : ℕ) (read : List EntryView) (ps : List PassView) (fs : List (List FilingView)) (qs : List PassView) (ls : List (List FilingView)) (es : List End)
     → length fs ≡ n → AreOpened n read ps → RanFeeds s ps fs qs ls es → IsMissing n qs → ⊥
 none-missing s n read ps fs qs ls es wide opened ran missing =
     let k : ℕ = missing.0 in
-    let feed : List FilingText = get_or fs k [] in
+    let feed : List FilingView = get_or fs k [] in
     let any_pass : PassView → Type 0 = λ q. Unit {0} in
     let any_end : End → Type 0 = λ e. Unit {0} in
     let r = run-at s any_pass any_end ps fs qs ls es ran (λ i d lt. tt) (λ i d lt. tt) k feed (slice_get-get_or fs k [] (omega (arith, missing.1, wide))) in

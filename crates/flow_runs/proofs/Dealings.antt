@@ -6,40 +6,40 @@ use Rattle.std.proofs.lemmas.Option.{slice_get-get_or, slice_get-map}
 use Rattle.std.specs.Option.{option_map}
 use Rattle.std.proofs.lemmas.Bool.Decides.{nat_tests}
 use native.Mathlib.Decide.{ℕ_discrete}
-use Rattle.fpl_message.specs.Filings.{FilingText}
+use Rattle.fpl_message.specs.Filings.{FilingView}
 use Rattle.flow_runs.specs.Dealing.{dealt_from, dealt, AreDealt}
 
 -- ---- one feed
 
-either-way : (b : Bool) (x : FilingText) (xs ys zs : List FilingText) → xs ≡ ys ++ zs → cond b (x ∷ xs) xs ≡ cond b (x ∷ ys) ys ++ zs
-either-way true x xs ys zs e = ap (λ (q : List FilingText). x ∷ q) e
+either-way : (b : Bool) (x : FilingView) (xs ys zs : List FilingView) → xs ≡ ys ++ zs → cond b (x ∷ xs) xs ≡ cond b (x ∷ ys) ys ++ zs
+either-way true x xs ys zs e = ap (λ (q : List FilingView). x ∷ q) e
 either-way false x xs ys zs e = e
 
-dealt_from-append : (n k i : ℕ) (xs ys : List FilingText) → dealt_from n k i (xs ++ ys) ≡ dealt_from n k i xs ++ dealt_from n k (i + length xs) ys
+dealt_from-append : (n k i : ℕ) (xs ys : List FilingView) → dealt_from n k i (xs ++ ys) ≡ dealt_from n k i xs ++ dealt_from n k (i + length xs) ys
 dealt_from-append n k i [] ys = let e : i ≡ i + 0 = omega arith in ap (λ (j : ℕ). dealt_from n k j ys) e
 dealt_from-append n k i (x ∷ xs) ys =
     let e : i + 1 + length xs ≡ i + suc (length xs) = omega arith in
     either-way (i % n == k) x (dealt_from n k (i + 1) (xs ++ ys)) (dealt_from n k (i + 1) xs) (dealt_from n k (i + suc (length xs)) ys)
     (dealt_from-append n k (i + 1) xs ys ∙ ap (λ (j : ℕ). dealt_from n k (i + 1) xs ++ dealt_from n k j ys) e)
 
-dealt-one : (n k i : ℕ) (f : FilingText) → i % n ≡ k → dealt_from n k i (f ∷ []) ≡ f ∷ []
+dealt-one : (n k i : ℕ) (f : FilingView) → i % n ≡ k → dealt_from n k i (f ∷ []) ≡ f ∷ []
 dealt-one n k i f is = let t : (i % n == k) ≡ true = grind (arith, nat_tests) in rw t refl
 
-dealt-other : (n k i : ℕ) (f : FilingText) → i % n ≢ k → dealt_from n k i (f ∷ []) ≡ []
+dealt-other : (n k i : ℕ) (f : FilingView) → i % n ≢ k → dealt_from n k i (f ∷ []) ≡ []
 dealt-other n k i f not_is = let t : (i % n == k) ≡ false = grind (arith, nat_tests) in rw t refl
 
-dealt-turn : (n k : ℕ) (fs : List FilingText) (f : FilingText) → length fs % n ≡ k → dealt n k (fs ++ f ∷ []) ≡ dealt n k fs ++ f ∷ []
+dealt-turn : (n k : ℕ) (fs : List FilingView) (f : FilingView) → length fs % n ≡ k → dealt n k (fs ++ f ∷ []) ≡ dealt n k fs ++ f ∷ []
 unfolding dealt
 dealt-turn n k fs f is =
     let e : 0 + length fs ≡ length fs = omega arith in
-    dealt_from-append n k 0 fs (f ∷ []) ∙ ap (λ (q : List FilingText). dealt_from n k 0 fs ++ q) (ap (λ (j : ℕ). dealt_from n k j (f ∷ [])) e ∙ dealt-one n k (length fs) f is)
+    dealt_from-append n k 0 fs (f ∷ []) ∙ ap (λ (q : List FilingView). dealt_from n k 0 fs ++ q) (ap (λ (j : ℕ). dealt_from n k j (f ∷ [])) e ∙ dealt-one n k (length fs) f is)
 
-dealt-later : (n k : ℕ) (fs : List FilingText) (f : FilingText) → length fs % n ≢ k → dealt n k (fs ++ f ∷ []) ≡ dealt n k fs
+dealt-later : (n k : ℕ) (fs : List FilingView) (f : FilingView) → length fs % n ≢ k → dealt n k (fs ++ f ∷ []) ≡ dealt n k fs
 unfolding dealt
 dealt-later n k fs f not_is =
     let e : 0 + length fs ≡ length fs = omega arith in
     dealt_from-append n k 0 fs (f ∷ [])
-    ∙ (ap (λ (q : List FilingText). dealt_from n k 0 fs ++ q) (ap (λ (j : ℕ). dealt_from n k j (f ∷ [])) e ∙ dealt-other n k (length fs) f not_is) ∙ append-nil (dealt_from n k 0 fs))
+    ∙ (ap (λ (q : List FilingView). dealt_from n k 0 fs ++ q) (ap (λ (j : ℕ). dealt_from n k j (f ∷ [])) e ∙ dealt-other n k (length fs) f not_is) ∙ append-nil (dealt_from n k 0 fs))
 
 -- ---- all feeds
 
@@ -60,19 +60,19 @@ set-map v [] i x = refl
 set-map v (y ∷ ys) zero x = refl
 set-map v (y ∷ ys) (suc i) x = ap (λ q. v y ∷ q) (set-map v ys i x)
 
-next-feed : (n : ℕ) (fs : List FilingText) (f : FilingText) (feeds : List (List FilingText)) (turn : ℕ) → AreDealt n fs feeds → turn ≡ length fs % n → turn < n
+next-feed : (n : ℕ) (fs : List FilingView) (f : FilingView) (feeds : List (List FilingView)) (turn : ℕ) → AreDealt n fs feeds → turn ≡ length fs % n → turn < n
     → (k : ℕ) → k < n → Dec (turn ≡ k) → slice_get (slice_set feeds turn (dealt n turn fs ++ f ∷ [])) k ≡ Some (dealt n k (fs ++ f ∷ []))
 next-feed n fs f feeds turn a is in_turn k in_k (yes same) =
     let h : turn < length feeds = omega (arith, a.wide) in
     subst (λ (j : ℕ). slice_get (slice_set feeds turn (dealt n turn fs ++ f ∷ [])) j ≡ Some (dealt n j (fs ++ f ∷ []))) same
-    (get-same feeds turn (dealt n turn fs ++ f ∷ []) h ∙ ap (λ (q : List FilingText). Some q) (sym (dealt-turn n turn fs f (sym is))))
+    (get-same feeds turn (dealt n turn fs ++ f ∷ []) h ∙ ap (λ (q : List FilingView). Some q) (sym (dealt-turn n turn fs f (sym is))))
 next-feed n fs f feeds turn a is in_turn k in_k (no other) =
     let h : k < length feeds = omega (arith, a.wide) in
     get-other feeds turn k (dealt n turn fs ++ f ∷ []) h (λ (e : k ≡ turn). other (sym e))
-    ∙ (a.each k in_k ∙ ap (λ (q : List FilingText). Some q) (sym (dealt-later n k fs f (λ (e : length fs % n ≡ k). other (is ∙ e)))))
+    ∙ (a.each k in_k ∙ ap (λ (q : List FilingView). Some q) (sym (dealt-later n k fs f (λ (e : length fs % n ≡ k). other (is ∙ e)))))
 
 -- the next filing was appended to the feed whose turn it is
-pub AreDealt-next : {V : Type 0} (v : V → List FilingText) (n : ℕ) (fs : List FilingText) (f : FilingText) (feeds : List V) (turn : ℕ) (feed longer : V)
+pub AreDealt-next : {V : Type 0} (v : V → List FilingView) (n : ℕ) (fs : List FilingView) (f : FilingView) (feeds : List V) (turn : ℕ) (feed longer : V)
     → AreDealt n fs (map v feeds) → turn ≡ length fs % n → turn < length feeds → feed ≡ get_or feeds turn feed → v longer ≡ v feed ++ f ∷ [] → AreDealt n (fs ++ f ∷ []) (map v (slice_set feeds turn longer))
 AreDealt-next v n fs f feeds turn feed longer a is in_turn at longer_is =
     let len : length (map v feeds) ≡ length feeds = length-map v feeds in
@@ -80,21 +80,21 @@ AreDealt-next v n fs f feeds turn feed longer a is in_turn at longer_is =
     let was : slice_get (map v feeds) turn ≡ Some (v feed) = slice_get-map v feeds turn ∙ ap (option_map v) (slice_get-get_or feeds turn feed in_turn ∙ ap (λ y. Some y) (sym at)) in
     let same : v feed ≡ dealt n turn fs = some-same (sym was ∙ a.each turn in_n) in
     let e : map v (slice_set feeds turn longer) ≡ slice_set (map v feeds) turn (dealt n turn fs ++ f ∷ []) =
-    set-map v feeds turn longer ∙ ap (λ (q : List FilingText). slice_set (map v feeds) turn q) (longer_is ∙ ap (λ (q : List FilingText). q ++ f ∷ []) same) in
-    subst (λ (q : List (List FilingText)). AreDealt n (fs ++ f ∷ []) q) (sym e) (record {
+    set-map v feeds turn longer ∙ ap (λ (q : List FilingView). slice_set (map v feeds) turn q) (longer_is ∙ ap (λ (q : List FilingView). q ++ f ∷ []) same) in
+    subst (λ (q : List (List FilingView)). AreDealt n (fs ++ f ∷ []) q) (sym e) (record {
       wide = length-set (map v feeds) turn (dealt n turn fs ++ f ∷ []) ∙ a.wide;
       each = λ k in_k. next-feed n fs f (map v feeds) turn a is in_n k in_k (ℕ_discrete turn k);
     })
   where
-    some-same : {xs ys : List FilingText} → Some xs ≡ Some ys → xs ≡ ys
+    some-same : {xs ys : List FilingView} → Some xs ≡ Some ys → xs ≡ ys
     some-same e = cc
 
 -- whose turn it is
-pub turn-of : {V : Type 0} (v : V → List FilingText) (n : ℕ) (fs : List FilingText) (feeds : List V) (count len : ℕ) → AreDealt n fs (map v feeds) → count ≡ length fs → len ≡ length feeds → count % len ≡ length fs % n
+pub turn-of : {V : Type 0} (v : V → List FilingView) (n : ℕ) (fs : List FilingView) (feeds : List V) (count len : ℕ) → AreDealt n fs (map v feeds) → count ≡ length fs → len ≡ length feeds → count % len ≡ length fs % n
 turn-of v n fs feeds count len a counted is = ap (λ (c : ℕ). c % len) counted ∙ ap (λ (m : ℕ). length fs % m) (is ∙ (sym (length-map v feeds) ∙ a.wide))
 
 -- how many feeds these are
-pub wide-feeds : {V : Type 0} (v : V → List FilingText) (n : ℕ) (fs : List FilingText) (feeds : List V) → AreDealt n fs (map v feeds) → length feeds ≡ n
+pub wide-feeds : {V : Type 0} (v : V → List FilingView) (n : ℕ) (fs : List FilingView) (feeds : List V) → AreDealt n fs (map v feeds) → length feeds ≡ n
 wide-feeds v n fs feeds a = sym (length-map v feeds) ∙ a.wide
 
 -- ---- no filing yet
@@ -109,9 +109,9 @@ replicate-length zero x = refl
 replicate-length (suc n) x = ap suc (replicate-length n x)
 
 -- all feeds are empty
-pub AreDealt-none : (n : ℕ) (feeds : List (List FilingText)) → feeds ≡ replicate n [] → AreDealt n [] feeds
+pub AreDealt-none : (n : ℕ) (feeds : List (List FilingView)) → feeds ≡ replicate n [] → AreDealt n [] feeds
 unfolding dealt
-AreDealt-none n feeds e = subst (λ (q : List (List FilingText)). AreDealt n [] q) (sym e) (record { wide = replicate-length n []; each = λ k in_k. replicate-get n k [] in_k })
+AreDealt-none n feeds e = subst (λ (q : List (List FilingView)). AreDealt n [] q) (sym e) (record { wide = replicate-length n []; each = λ k in_k. replicate-get n k [] in_k })
 
 -- one more at the end
 pub map-snoc : {V W : Type 0} (v : V → W) (xs : List V) (x : V) → map v (xs ++ x ∷ []) ≡ map v xs ++ v x ∷ []
@@ -119,9 +119,9 @@ map-snoc v [] x = refl
 map-snoc v (y ∷ ys) x = ap (λ q. v y ∷ q) (map-snoc v ys x)
 
 -- one more feed that is empty
-pub replicate-next : {V : Type 0} (v : V → List FilingText) (feeds : List V) (n : ℕ) (x : V) → map v feeds ≡ replicate n [] → v x ≡ [] → map v (feeds ++ x ∷ []) ≡ replicate (n + 1) []
-replicate-next v feeds n x e empty = rw (add-one n) (map-snoc v feeds x ∙ (ap (λ (q : List (List FilingText)). q ++ v x ∷ []) e ∙ (ap (λ (q : List FilingText). replicate n [] ++ q ∷ []) empty ∙ more n)))
+pub replicate-next : {V : Type 0} (v : V → List FilingView) (feeds : List V) (n : ℕ) (x : V) → map v feeds ≡ replicate n [] → v x ≡ [] → map v (feeds ++ x ∷ []) ≡ replicate (n + 1) []
+replicate-next v feeds n x e empty = rw (add-one n) (map-snoc v feeds x ∙ (ap (λ (q : List (List FilingView)). q ++ v x ∷ []) e ∙ (ap (λ (q : List FilingView). replicate n [] ++ q ∷ []) empty ∙ more n)))
   where
-    more : (n : ℕ) → replicate n [] ++ [] ∷ [] ≡ replicate {A = List FilingText} (suc n) []
+    more : (n : ℕ) → replicate n [] ++ [] ∷ [] ≡ replicate {A = List FilingView} (suc n) []
     more zero = refl
-    more (suc n) = ap (λ (q : List (List FilingText)). [] ∷ q) (more n)
+    more (suc n) = ap (λ (q : List (List FilingView)). [] ∷ q) (more n)

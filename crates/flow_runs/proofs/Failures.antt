@@ -113,12 +113,12 @@ beyond desk.OutOfMemory e is bad = absurd (cc)
 
 -- a call that writes alone
 pub writer-failed : {T : Type 0} (r : Result T RunFault) (old new : ℕ) → OnOk r (new ≡ old) → OnErr r (new ≡ counted_up old) → IfErr r (λ e. e ≡ fault.Write) → new ≡ writer_failures r old
-writer-failed (Ok x) old new calm failed kind = calm
-writer-failed (Err e) old new calm failed kind = subst (λ (k : RunFault). new ≡ writer_failures_with k old) (sym kind) failed
+writer-failed (Ok x) old new no_failure failed kind = no_failure
+writer-failed (Err e) old new no_failure failed kind = subst (λ (k : RunFault). new ≡ writer_failures_with k old) (sym kind) failed
 
 -- what follows the answers
 pub replay-writer : {D : Type 0} (contents : D → Option (List ℕ)) (r : Result (Unit {0}) RunFault) (old new : Counted D) (text : List ℕ) → WritesWithReplay contents r old new text → new.failures ≡ writer_failures r old.failures
-replay-writer contents (Ok x) old new text w = w.calm
+replay-writer contents (Ok x) old new text w = w.no_failure
 replay-writer contents (Err fault.Write) old new text w = w.failed
-replay-writer contents (Err fault.OutOfMemory) old new text w = w.calm
+replay-writer contents (Err fault.OutOfMemory) old new text w = w.no_failure
 replay-writer contents (Err _) old new text w = absurd w

@@ -1,27 +1,27 @@
 -- Feeds that were filed, whatever their receipts are.
 use Rattle.std.proofs.Common.{◌≡◌, ◌≢◌, ℕ, suc, ◌<◌, List, [], ◌∷◌, ◌++◌, length, map, slice_index_or, refl, sym, subst, arith}
-use Rattle.fpl_message.specs.Filings.{FilingText}
-use Rattle.flow_plans.specs.Settings.{Settings}
+use Rattle.fpl_message.specs.Filings.{FilingView}
+use Rattle.flow_plans.specs.Settings.{SetupView}
 use Rattle.flow_desk.specs.declared.feeders.End.{End}
-use Rattle.flow_desk.specs.Passes.{PassView, FiledFront}
+use Rattle.flow_desk.specs.FeederPasses.{PassView, FiledFront}
 use Rattle.flow_desk.specs.Feeds.{Ran}
 use Rattle.flow_desk.proofs.Turns.{ran-front}
 use Rattle.flow_runs.specs.Filing.{FiledTo, RanFeed, RanFeeds}
 
 -- some more texts of a feed were filed at once, and the others put back
-pub filed-front : (s : Settings) (p q q' : PassView) (feed texts left rest before after : List FilingText)
+pub filed-front : (s : SetupView) (p q q' : PassView) (feed texts left rest before after : List FilingView)
     → FiledFront s q texts q' left → texts ++ rest ≡ before → after ≡ left ++ rest → FiledTo p feed q before → FiledTo p feed q' after
 filed-front s p q q' feed texts left rest before after f were are h =
-    let more = ran-front s p q q' feed h.receipts texts left rest f (subst (λ (ls : List FilingText). Ran p feed q h.receipts ls) (sym were) h.ran) in
-    record { receipts = more.0; ran = subst (λ (ls : List FilingText). Ran p feed q' more.0 ls) (sym are) more.1 }
+    let more = ran-front s p q q' feed h.receipts texts left rest f (subst (λ (ls : List FilingView). Ran p feed q h.receipts ls) (sym were) h.ran) in
+    record { receipts = more.0; ran = subst (λ (ls : List FilingView). Ran p feed q' more.0 ls) (sym are) more.1 }
 
 -- where some were put back, something is left
-pub some-left : (left rest after : List FilingText) → left ≢ [] → after ≡ left ++ rest → after ≢ []
+pub some-left : (left rest after : List FilingView) → left ≢ [] → after ≡ left ++ rest → after ≢ []
 some-left [] rest after some are none = some refl
 some-left (t ∷ ts) rest after some are none = absurd (cc (are, none))
 
 -- what holds feed by feed holds of all
-feeds-ran : {X : Type 0} (s : Settings) (pass : X → PassView) (left : X → List FilingText) (end : X → End) (olds news : List X) → length news ≡ length olds
+feeds-ran : {X : Type 0} (s : SetupView) (pass : X → PassView) (left : X → List FilingView) (end : X → End) (olds news : List X) → length news ≡ length olds
     → ((i : ℕ) (d : X) → i < length olds → RanFeed s (pass (slice_index_or olds i d)) (left (slice_index_or olds i d)) (pass (slice_index_or news i d)) (left (slice_index_or news i d)) (end (slice_index_or news i d)))
     → RanFeeds s (map pass olds) (map left olds) (map pass news) (map left news) (map end news)
 feeds-ran s pass left end [] [] same each = tt
@@ -31,7 +31,7 @@ feeds-ran s pass left end (x ∷ xs) (y ∷ ys) same each =
     (each 0 x (omega arith), feeds-ran s pass left end xs ys (omega (arith, same)) (λ i d lt. each (suc i) d (omega (arith, lt))))
 
 -- feeds that were made of these passes and texts, where there was none
-pub texts-ran : {X : Type 0} (s : Settings) (pass : X → PassView) (left : X → List FilingText) (end : X → End) (none olds news : List X) (ps : List PassView) (fs : List (List FilingText))
+pub texts-ran : {X : Type 0} (s : SetupView) (pass : X → PassView) (left : X → List FilingView) (end : X → End) (none olds news : List X) (ps : List PassView) (fs : List (List FilingView))
     → none ≡ [] → map pass olds ≡ map pass none ++ ps → map left olds ≡ map left none ++ fs → length news ≡ length olds
     → ((i : ℕ) (d : X) → i < length olds → RanFeed s (pass (slice_index_or olds i d)) (left (slice_index_or olds i d)) (pass (slice_index_or news i d)) (left (slice_index_or news i d)) (end (slice_index_or news i d)))
     → RanFeeds s ps fs (map pass news) (map left news) (map end news)

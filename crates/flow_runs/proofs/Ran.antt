@@ -2,13 +2,13 @@
 use Rattle.std.proofs.Common.{◌≡◌, ◌≢◌, ◌⊎◌, inl, inr, ℕ, ◌-◌, ◌≤◌, Bool, List, [], ◌∷◌, ◌++◌, length, drop, refl, ap, sym, ◌∙◌, subst, arith, Option, Some, None, IfSome, Result, Ok, Err, OnOk, IfErr, IsErrOf, length-append}
 use Rattle.std.specs.Io.KnownBytes.{Appends}
 use Rattle.std.proofs.KnownBytes.{Keeps-refl}
-use Rattle.flow_plans.specs.Settings.{Settings}
+use Rattle.flow_plans.specs.Settings.{SetupView}
 use Rattle.flow_input.specs.Frames.{frames}
 use Rattle.flow_input.specs.Writes.{AppendsFront, Writes}
 use Rattle.flow_input.specs.declared.counted.Counted.{Counted}
 use Rattle.flow_input.proofs.Written.{Appends-both, AppendsFront-both, Writes-then}
-use Rattle.fpl_message.specs.Filings.{FilingText}
-use Rattle.flow_core.specs.State.{State, Input, Record}
+use Rattle.fpl_message.specs.Filings.{FilingView}
+use Rattle.flow_core.specs.State.{State, Input, EntryView}
 use Rattle.flow_core.specs.Steps.{run}
 use Rattle.flow_core.specs.Journal.{HoldsJournal}
 use Rattle.flow_input.specs.Cutting.{Overrun}
@@ -30,7 +30,7 @@ drop-length : {X : Type 0} (xs ys : List X) → drop (length xs) (xs ++ ys) ≡ 
 drop-length [] ys = refl
 drop-length (x ∷ xs) ys = drop-length xs ys
 
-module _ (setup : Settings) (read : List Record) (feeders : ℕ) (journal : Bool) (input : List (List ℕ)) (feeds : List (List FilingText)) (count : ℕ) (begun mid written : Option (List ℕ)) (core : History) (stop : Option RunFault) (r : ℕ)
+module _ (setup : SetupView) (read : List EntryView) (feeders : ℕ) (journal : Bool) (input : List (List ℕ)) (feeds : List (List FilingView)) (count : ℕ) (begun mid written : Option (List ℕ)) (core : History) (stop : Option RunFault) (r : ℕ)
     (h : HasRead feeders input feeds count begun mid) (f : HasFiled setup read feeders feeds core stop) (start : r ≡ length read) where
   behind : drop r (state_of core).journal ≡ f.entries
   behind = ap (λ (n : ℕ). drop n (state_of core).journal) start ∙ (ap (drop (length read)) f.journal ∙ drop-length read f.entries)
@@ -41,7 +41,7 @@ module _ (setup : Settings) (read : List Record) (feeders : ℕ) (journal : Bool
   pub same-ended : long_lines input ++ answers_and_end (state_of core) r count journal
       ≡ long_lines input ++ (answers (after setup (read ++ f.entries)) f.entries ++ end_lines (after setup (read ++ f.entries)) (length (filings input) - length f.entries) journal)
   same-ended =
-      ap (λ (q : List Record). long_lines input ++ (answers (state_of core) q ++ end_lines (state_of core) (count - (length (state_of core).journal - r)) journal)) behind
+      ap (λ (q : List EntryView). long_lines input ++ (answers (state_of core) q ++ end_lines (state_of core) (count - (length (state_of core).journal - r)) journal)) behind
       ∙ (ap (λ (n : ℕ). long_lines input ++ (answers (state_of core) f.entries ++ end_lines (state_of core) n journal)) left
       ∙ ap (λ (q : State). long_lines input ++ (answers q f.entries ++ end_lines q (length (filings input) - length f.entries) journal)) f.one_thread)
 
@@ -61,16 +61,16 @@ module _ (setup : Settings) (read : List Record) (feeders : ℕ) (journal : Bool
   -- so are the answers alone, and what precedes the replay
   same-answered : long_lines input ++ answers (state_of core) (drop r (state_of core).journal) ≡ answered setup read input f.entries
   same-answered =
-      ap (λ (q : List Record). long_lines input ++ answers (state_of core) q) behind ∙ ap (λ (q : State). long_lines input ++ answers q f.entries) f.one_thread
+      ap (λ (q : List EntryView). long_lines input ++ answers (state_of core) q) behind ∙ ap (λ (q : State). long_lines input ++ answers q f.entries) f.one_thread
 
   same-before : long_lines input ++ (answers (state_of core) (drop r (state_of core).journal) ++ end_before_replay (state_of core) (count - (length (state_of core).journal - r)) journal) ≡ ended_before_replay setup read journal input f.entries
   same-before =
-      ap (λ (q : List Record). long_lines input ++ (answers (state_of core) q ++ end_before_replay (state_of core) (count - (length (state_of core).journal - r)) journal)) behind
+      ap (λ (q : List EntryView). long_lines input ++ (answers (state_of core) q ++ end_before_replay (state_of core) (count - (length (state_of core).journal - r)) journal)) behind
       ∙ (ap (λ (n : ℕ). long_lines input ++ (answers (state_of core) f.entries ++ end_before_replay (state_of core) n journal)) left
       ∙ ap (λ (q : State). long_lines input ++ (answers q f.entries ++ end_before_replay q (length (filings input) - length f.entries) journal)) f.one_thread)
 
   -- all was read and filed, and this is so of the entries
-  pub filed-so : (Is : List Record → Type 0) → Is f.entries → HaveFiled setup read feeders input Is
+  pub filed-so : (Is : List EntryView → Type 0) → Is f.entries → HaveFiled setup read feeders input Is
   filed-so Is is =
       record {
         entries = f.entries;
@@ -106,7 +106,7 @@ module _ (setup : Settings) (read : List Record) (feeders : ℕ) (journal : Bool
       )))
 
 -- whatever the input was
-pub RanMany-all : (setup : Settings) (read : List Record) (feeders : ℕ) (journal : Bool) (input : Option (List ℕ)) (feeds : List (List FilingText)) (count : ℕ) (begun mid written : Option (List ℕ)) (core : History) (stop : Option RunFault) (r : ℕ)
+pub RanMany-all : (setup : SetupView) (read : List EntryView) (feeders : ℕ) (journal : Bool) (input : Option (List ℕ)) (feeds : List (List FilingView)) (count : ℕ) (begun mid written : Option (List ℕ)) (core : History) (stop : Option RunFault) (r : ℕ)
     → IfSome input (λ bytes. HasRead feeders (frames bytes) feeds count begun mid) → HasFiled setup read feeders feeds core stop → stop ≡ None → r ≡ length read → Appends mid written (answers_and_end (state_of core) r count journal)
     → IfSome input (λ bytes. RanMany setup read feeders journal (frames bytes) begun written)
 RanMany-all setup read feeders journal None feeds count begun mid written core stop r h f none start a = tt
@@ -137,7 +137,7 @@ pub if-some : {X : Type 0} {P Q : X → Type 0} (o : Option X) → ((x : X) → 
 if-some None f p = p
 if-some (Some x) f p = f x p
 
-module _ (setup : Settings) (read : List Record) (feeders : ℕ) (journal : Bool) where
+module _ (setup : SetupView) (read : List EntryView) (feeders : ℕ) (journal : Bool) where
   -- while its frames were read
   ended-told : (e : RunFault) (begun written input rest : Option (List ℕ)) → ToldUntil e begun written input rest → EndedBy e setup read feeders journal begun written input rest
   ended-told fault.Read begun written input rest t = t
@@ -163,7 +163,7 @@ module _ (setup : Settings) (read : List Record) (feeders : ℕ) (journal : Bool
       (inr (if-some {P = λ bytes. Appends begun written (long_lines (frames bytes))} {Q = λ bytes. EndedByMemory setup read feeders journal (frames bytes) begun written} input (λ bytes told. inl told) memory.1))
 
   -- when the feeders had filed
-  pub ended-filed : (e : RunFault) (input rest : Option (List ℕ)) (feeds : List (List FilingText)) (count : ℕ) (begun mid written : Option (List ℕ)) (core : History) (stop : Option RunFault) (r : ℕ)
+  pub ended-filed : (e : RunFault) (input rest : Option (List ℕ)) (feeds : List (List FilingView)) (count : ℕ) (begun mid written : Option (List ℕ)) (core : History) (stop : Option RunFault) (r : ℕ)
       → IfSome input (λ bytes. HasRead feeders (frames bytes) feeds count begun mid) → HasFiled setup read feeders feeds core stop → r ≡ length read
       → AnsweredUntil e stop (state_of core) r count journal mid written → EndedBy e setup read feeders journal begun written input rest
   ended-filed fault.Write None rest feeds count begun mid written core stop r h f start a = inr tt
@@ -196,22 +196,22 @@ ended-on _ feeders journal begun written input rest others b = b
 -- ---- after a journal text
 
 -- the journal text was read, and the run resumed there
-pub RanOn-made : (setup : Settings) (filed : List Input) (feeders : ℕ) (journal : Bool) (input mid begun written : Option (List ℕ)) → HoldsJournal setup filed input mid → first_beyond feeders 1 (run setup filed).journal ≡ None
+pub RanOn-made : (setup : SetupView) (filed : List Input) (feeders : ℕ) (journal : Bool) (input mid begun written : Option (List ℕ)) → HoldsJournal setup filed input mid → first_beyond feeders 1 (run setup filed).journal ≡ None
     → IfSome mid (λ bytes. length bytes ≤ MAX_INPUT) → IfSome mid (λ bytes. RanMany setup (run setup filed).journal feeders journal (frames bytes) begun written) → IfSome input (λ bytes. RanOn bytes feeders journal begun written)
 RanOn-made setup filed feeders journal None mid begun written h within most ran = tt
 RanOn-made setup filed feeders journal (Some bytes) None begun written h within most ran = absurd h
 RanOn-made setup filed feeders journal (Some bytes) (Some rest) begun written h within most ran =
     record { setup = setup; filed = filed; text = h.0; rest = rest; is = h.1; most = most; holds = h.2; within = within; ran = ran }
 
-pub EndedBehind-made : (setup : Settings) (filed : List Input) (e : RunFault) (feeders : ℕ) (journal : Bool) (begun written input mid rest : Option (List ℕ)) → (e ≢ fault.BadJournal) × (e ≢ fault.BadFeeders) × (e ≢ fault.NoReader)
+pub EndedBehind-made : (setup : SetupView) (filed : List Input) (e : RunFault) (feeders : ℕ) (journal : Bool) (begun written input mid rest : Option (List ℕ)) → (e ≢ fault.BadJournal) × (e ≢ fault.BadFeeders) × (e ≢ fault.NoReader)
     → HoldsJournal setup filed input mid → first_beyond feeders 1 (run setup filed).journal ≡ None → EndedBy e setup (run setup filed).journal feeders journal begun written mid rest → EndedOnBy e feeders journal begun written input rest
 EndedBehind-made setup filed e feeders journal begun written input mid rest others h within ended =
     ended-on e feeders journal begun written input rest others (record { setup = setup; filed = filed; mid = mid; holds = h; within = within; ended = ended })
 
-pub OverrunAfter-made : (setup : Settings) (filed : List Input) (input mid rest : Option (List ℕ)) → HoldsJournal setup filed input mid → Overrun mid rest → OverrunAfter input rest
+pub OverrunAfter-made : (setup : SetupView) (filed : List Input) (input mid rest : Option (List ℕ)) → HoldsJournal setup filed input mid → Overrun mid rest → OverrunAfter input rest
 OverrunAfter-made setup filed input mid rest h o = record { setup = setup; filed = filed; mid = mid; holds = h; overrun = o }
 
-pub HoldsBeyond-made : (setup : Settings) (filed : List Input) (feeders number : ℕ) (input rest : Option (List ℕ)) → HoldsJournal setup filed input rest → first_beyond feeders 1 (run setup filed).journal ≡ Some number → HoldsBeyond feeders input rest
+pub HoldsBeyond-made : (setup : SetupView) (filed : List Input) (feeders number : ℕ) (input rest : Option (List ℕ)) → HoldsJournal setup filed input rest → first_beyond feeders 1 (run setup filed).journal ≡ Some number → HoldsBeyond feeders input rest
 HoldsBeyond-made setup filed feeders number input rest h b = record { setup = setup; filed = filed; holds = h; number = number; beyond = b }
 
 -- ---- results of calls
@@ -235,20 +235,20 @@ if_err_both (Err e) f p q = f e p q
 -- ---- a run at the desk that was just made
 
 -- of its setup and its entries
-pub ended-at : {T : Type 0} (r : Result T RunFault) (s t : Settings) (es fs : List Record) (feeders : ℕ) (journal : Bool) (begun written input rest : Option (List ℕ)) → s ≡ t → es ≡ fs
+pub ended-at : {T : Type 0} (r : Result T RunFault) (s t : SetupView) (es fs : List EntryView) (feeders : ℕ) (journal : Bool) (begun written input rest : Option (List ℕ)) → s ≡ t → es ≡ fs
     → IfErr r (λ e. EndedBy e s es feeders journal begun written input rest) → IfErr r (λ e. EndedBy e t fs feeders journal begun written input rest)
 ended-at (Ok x) s t es fs feeders journal begun written input rest same equal h = tt
 ended-at (Err e) s t es fs feeders journal begun written input rest same equal h =
-    subst (λ (q : Settings). EndedBy e q fs feeders journal begun written input rest) same (subst (λ (q : List Record). EndedBy e s q feeders journal begun written input rest) equal h)
+    subst (λ (q : SetupView). EndedBy e q fs feeders journal begun written input rest) same (subst (λ (q : List EntryView). EndedBy e s q feeders journal begun written input rest) equal h)
 
 -- and after a journal text
-pub ended-behind : {T : Type 0} (r : Result T RunFault) (setup s : Settings) (filed : List Input) (es : List Record) (feeders : ℕ) (journal : Bool) (begun written input mid rest : Option (List ℕ)) → HoldsJournal setup filed input mid
+pub ended-behind : {T : Type 0} (r : Result T RunFault) (setup s : SetupView) (filed : List Input) (es : List EntryView) (feeders : ℕ) (journal : Bool) (begun written input mid rest : Option (List ℕ)) → HoldsJournal setup filed input mid
     → first_beyond feeders 1 (run setup filed).journal ≡ None → s ≡ setup → es ≡ (run setup filed).journal → IfErr r (λ e. (e ≢ fault.BadJournal) × (e ≢ fault.BadFeeders) × (e ≢ fault.NoReader))
     → IfErr r (λ e. EndedBy e s es feeders journal begun written mid rest) → IfErr r (λ e. EndedOnBy e feeders journal begun written input rest)
 ended-behind (Ok x) setup s filed es feeders journal begun written input mid rest h within same equal others ended = tt
 ended-behind (Err e) setup s filed es feeders journal begun written input mid rest h within same equal others ended =
     EndedBehind-made setup filed e feeders journal begun written input mid rest others h within
-    (subst (λ (q : Settings). EndedBy e q (run setup filed).journal feeders journal begun written mid rest) same (subst (λ (q : List Record). EndedBy e s q feeders journal begun written mid rest) equal ended))
+    (subst (λ (q : SetupView). EndedBy e q (run setup filed).journal feeders journal begun written mid rest) same (subst (λ (q : List EntryView). EndedBy e s q feeders journal begun written mid rest) equal ended))
 
 -- an allocation failure is none of these
 pub memory-others : (e : RunFault) → e ≡ fault.OutOfMemory → (e ≢ fault.BadJournal) × (e ≢ fault.BadFeeders) × (e ≢ fault.NoReader)
@@ -259,5 +259,5 @@ pub no-reader : {T : Type 0} (r : Result T RunFault) → IfErr r (λ e. (e ≢ f
 no-reader (Ok x) others is = absurd (cc)
 no-reader (Err e) others is = others.2 (cc)
 
-pub HoldsSome-made : (setup : Settings) (filed : List Input) (input rest : Option (List ℕ)) → HoldsJournal setup filed input rest → HoldsSome input rest
+pub HoldsSome-made : (setup : SetupView) (filed : List Input) (input rest : Option (List ℕ)) → HoldsJournal setup filed input rest → HoldsSome input rest
 HoldsSome-made setup filed input rest h = record { setup = setup; filed = filed; holds = h }

@@ -3,12 +3,12 @@ use Rattle.std.proofs.Common.{◌≡◌, ◌≢◌, ℕ, ◌+◌, Bool, true, fa
 use Rattle.std.proofs.lemmas.List.{append-nil}
 use Rattle.std.specs.Io.KnownBytes.{Appends}
 use Rattle.std.proofs.KnownBytes.{Appends-nil, Consumes-nil}
-use Rattle.fpl_message.specs.Filings.{FilingText}
+use Rattle.fpl_message.specs.Filings.{FilingView}
 use Rattle.flow_input.specs.NextFrame.{second, filing_of, filing_kept}
 use Rattle.flow_input.specs.Writes.{AppendsFront}
 use Rattle.flow_input.proofs.Written.{Appends-both, Appends-none, AppendsFront-both, AppendsFront-more}
 use Rattle.flow_runs.specs.Dealing.{AreDealt}
-use Rattle.flow_input.specs.Reader.{Ahead, Agrees, Came, CameTooMuch}
+use Rattle.flow_input.specs.Reader.{InputView, Agrees, Came, CameTooMuch}
 use Rattle.flow_input.specs.NextFrame.{GaveFirst, GaveNone, Starves}
 use Rattle.flow_input.specs.Cutting.{Overrun, CutFront}
 use Rattle.flow_input.specs.Frames.{frames, ended_frames, ended_in}
@@ -40,47 +40,47 @@ unfolding long_lines
 line-long x e = rw e (append-nil (codes "- NO 90 TooLong\n"))
 
 -- the line of a frame that is too long was written
-pub ReadsNext-long : (kept : Option (List ℕ)) (feeds : List (List FilingText)) (count : ℕ) (before after : Option (List ℕ)) → kept ≡ None → Appends before after (codes "- NO 90 TooLong\n") → ReadsNext (filing_kept kept) feeds count feeds count before after
+pub ReadsNext-long : (kept : Option (List ℕ)) (feeds : List (List FilingView)) (count : ℕ) (before after : Option (List ℕ)) → kept ≡ None → Appends before after (codes "- NO 90 TooLong\n") → ReadsNext (filing_kept kept) feeds count feeds count before after
 ReadsNext-long kept feeds count before after none a feeders frames frame begun is h =
     let long : leb (length frame) 2000 ≡ false = is-long frame (ap filing_kept (sym none) ∙ is) in
-    let same : filings frames ≡ filings (frames ++ frame ∷ []) = sym (filings-append frames (frame ∷ []) ∙ (ap (λ (q : List FilingText). filings frames ++ q) (one-long frame long) ∙ append-nil (filings frames))) in
+    let same : filings frames ≡ filings (frames ++ frame ∷ []) = sym (filings-append frames (frame ∷ []) ∙ (ap (λ (q : List FilingView). filings frames ++ q) (one-long frame long) ∙ append-nil (filings frames))) in
     let more : long_lines frames ++ codes "- NO 90 TooLong\n" ≡ long_lines (frames ++ frame ∷ []) = sym (lines-append frames (frame ∷ []) ∙ ap (λ (q : List ℕ). long_lines frames ++ q) (line-long frame long)) in
     record {
-      dealt = subst (λ (q : List FilingText). AreDealt feeders q feeds) same h.dealt;
+      dealt = subst (λ (q : List FilingView). AreDealt feeders q feeds) same h.dealt;
       counted = h.counted ∙ ap length same;
       told = Appends-both begun before after (long_lines frames) (codes "- NO 90 TooLong\n") (long_lines (frames ++ frame ∷ [])) h.told a more;
     }
 
 -- the filing of a frame was dealt
-pub ReadsNext-whole : (kept : Option (List ℕ)) (bytes : List ℕ) (filing : FilingText) (old new : List (List FilingText)) (count longer : ℕ) (before : Option (List ℕ)) → kept ≡ Some bytes → filing ≡ second bytes
-    → ((feeders : ℕ) (fs : List FilingText) → AreDealt feeders fs old → count ≡ length fs → AreDealt feeders (fs ++ filing ∷ []) new) → longer ≡ count + 1 → ReadsNext (filing_kept kept) old count new longer before before
+pub ReadsNext-whole : (kept : Option (List ℕ)) (bytes : List ℕ) (filing : FilingView) (old new : List (List FilingView)) (count longer : ℕ) (before : Option (List ℕ)) → kept ≡ Some bytes → filing ≡ second bytes
+    → ((feeders : ℕ) (fs : List FilingView) → AreDealt feeders fs old → count ≡ length fs → AreDealt feeders (fs ++ filing ∷ []) new) → longer ≡ count + 1 → ReadsNext (filing_kept kept) old count new longer before before
 ReadsNext-whole kept bytes filing old new count longer before some is-second deals one feeders frames frame begun is h =
     let given : Some (second bytes) ≡ filing_of frame = ap filing_kept (sym some) ∙ is in
     let whole : leb (length frame) 2000 ≡ true = is-whole frame (second bytes) given in
     let it : filing ≡ second frame = is-second ∙ whole-is frame (second bytes) given in
     let next : filings frames ++ filing ∷ [] ≡ filings (frames ++ frame ∷ []) =
-    ap (λ (f : FilingText). filings frames ++ f ∷ []) it ∙ sym (filings-append frames (frame ∷ []) ∙ ap (λ (q : List FilingText). filings frames ++ q) (one-whole frame whole)) in
+    ap (λ (f : FilingView). filings frames ++ f ∷ []) it ∙ sym (filings-append frames (frame ∷ []) ∙ ap (λ (q : List FilingView). filings frames ++ q) (one-whole frame whole)) in
     let same : long_lines frames ++ [] ≡ long_lines (frames ++ frame ∷ []) = sym (lines-append frames (frame ∷ []) ∙ ap (λ (q : List ℕ). long_lines frames ++ q) (line-whole frame whole)) in
     record {
-      dealt = subst (λ (q : List FilingText). AreDealt feeders q new) next (deals feeders (filings frames) h.dealt h.counted);
+      dealt = subst (λ (q : List FilingView). AreDealt feeders q new) next (deals feeders (filings frames) h.dealt h.counted);
       counted = omega (arith, h.counted, one, ap length next, length-append (filings frames) (filing ∷ []));
       told = Appends-both begun before before (long_lines frames) [] (long_lines (frames ++ frame ∷ [])) h.told (Appends-none before) same;
     }
 
 -- nothing was read yet
-pub Reading-start : (n : ℕ) (feeds : List (List FilingText)) (count : ℕ) (begun : Option (List ℕ)) (ahead : Ahead) (input : Option (List ℕ)) → AreDealt n [] feeds → count ≡ 0 → ahead ≡ record { unread = []; taken = 0; ended = false; item = Some [] } → Reading n feeds count begun begun ahead input input
+pub Reading-start : (n : ℕ) (feeds : List (List FilingView)) (count : ℕ) (begun : Option (List ℕ)) (ahead : InputView) (input : Option (List ℕ)) → AreDealt n [] feeds → count ≡ 0 → ahead ≡ record { unread = []; taken = 0; ended = false; item = Some [] } → Reading n feeds count begun begun ahead input input
 unfolding filings long_lines
 Reading-start n feeds count begun ahead input none zero fresh =
     record { done = []; cutting = Cutting-start ahead input fresh; has = record { dealt = none; counted = zero; told = Appends-none begun } }
 
-module _ (n : ℕ) (feeds : List (List FilingText)) (count : ℕ) (begun written : Option (List ℕ)) (old : Ahead) (input mid : Option (List ℕ)) (r : Reading n feeds count begun written old input mid) where
+module _ (n : ℕ) (feeds : List (List FilingView)) (count : ℕ) (begun written : Option (List ℕ)) (old : InputView) (input mid : Option (List ℕ)) (r : Reading n feeds count begun written old input mid) where
   -- one more frame was read
-  pub Reading-one : (new : Ahead) (rest : Option (List ℕ)) (filing : Option FilingText) → GaveFirst filing old new mid rest → (longer : List (List FilingText)) (more : ℕ) (now : Option (List ℕ)) → ReadsNext filing feeds count longer more written now → Reading n longer more begun now new input rest
+  pub Reading-one : (new : InputView) (rest : Option (List ℕ)) (filing : Option FilingView) → GaveFirst filing old new mid rest → (longer : List (List FilingView)) (more : ℕ) (now : Option (List ℕ)) → ReadsNext filing feeds count longer more written now → Reading n longer more begun now new input rest
   Reading-one new rest filing f longer more now next =
       record { done = r.done ++ f.whole.frame ∷ []; cutting = Cutting-one r.done old input mid r.cutting new rest filing f; has = next n r.done f.whole.frame begun f.filed r.has }
 
   -- all frames were read
-  pub HasRead-end : (new : Ahead) (rest : Option (List ℕ)) → GaveNone old new mid rest → Agrees new rest → IfSome input (λ bytes. HasRead n (frames bytes) feeds count begun written)
+  pub HasRead-end : (new : InputView) (rest : Option (List ℕ)) → GaveNone old new mid rest → Agrees new rest → IfSome input (λ bytes. HasRead n (frames bytes) feeds count begun written)
   HasRead-end new rest f agrees = Cutting-end r.done old input mid r.cutting new rest (λ fs. HasRead n fs feeds count begun written) f agrees r.has
 
   -- more came than may
@@ -132,7 +132,7 @@ told-no_frame intake.Read begun written input rest starved first = starved refl
 told-no_frame intake.TooMuch begun written input rest starved first = first
 told-no_frame intake.OutOfMemory begun written input rest starved first = first
 
-module _ (n : ℕ) (feeds : List (List FilingText)) (count : ℕ) (begun written : Option (List ℕ)) (old : Ahead) (input mid : Option (List ℕ)) (r : Reading n feeds count begun written old input mid) where
+module _ (n : ℕ) (feeds : List (List FilingView)) (count : ℕ) (begun written : Option (List ℕ)) (old : InputView) (input mid : Option (List ℕ)) (r : Reading n feeds count begun written old input mid) where
   -- the lines that were written are those of the first frames of what was read
   pub ToldFirst-came : (rest : Option (List ℕ)) → old.ended ≡ false → Came mid rest → ToldFirst begun written input rest
   ToldFirst-came rest going m =
@@ -151,7 +151,7 @@ module _ (n : ℕ) (feeds : List (List FilingText)) (count : ℕ) (begun written
       record { read = cut.read; consumed = cut.consumed; told = subst (λ (fs : List (List ℕ)). Appends begun written (long_lines fs)) (sym cut.whole) r.has.told }
 
   -- a frame came, with a fault
-  module _ (new : Ahead) (rest : Option (List ℕ)) (filing : Option FilingText) (f : GaveFirst filing old new mid rest) where
+  module _ (new : InputView) (rest : Option (List ℕ)) (filing : Option FilingView) (f : GaveFirst filing old new mid rest) where
     pub told-part : (e : RunFault) (now : Option (List ℕ)) → LeavesNext e filing written now → ToldUntil e begun now input rest
     told-part fault.OutOfMemory now l =
         let cut : CutFront (r.done ++ f.whole.frame ∷ []) input rest = CutFront-one r.done old input mid r.cutting new rest filing f in

@@ -1,11 +1,11 @@
 -- How feeds end, and with which fault a run.
 use Rattle.std.specs.Prelude.{◌≡◌, ◌≢◌, ◌⊎◌, List, [], length, Option, None, Some, IfSome}
-use Rattle.fpl_message.specs.Filings.{FilingText}
-use Rattle.flow_plans.specs.Settings.{Settings}
+use Rattle.fpl_message.specs.Filings.{FilingView}
+use Rattle.flow_plans.specs.Settings.{SetupView}
 use Rattle.flow_core.specs.declared.receipt.StepFault.TheVariants as step
 use Rattle.flow_desk.specs.declared.feeders.End.{End}
 use Rattle.flow_desk.specs.declared.feeders.End.TheVariants.{Finished, Stopped, NotStarted}
-use Rattle.flow_desk.specs.Passes.{PassView}
+use Rattle.flow_desk.specs.FeederPasses.{PassView}
 use Rattle.flow_runs.specs.declared.fault.RunFault.{RunFault}
 use Rattle.flow_runs.specs.declared.fault.RunFault.TheVariants as fault
 
@@ -15,7 +15,7 @@ EndsWell end = (end ≡ Finished) ⊎ (end ≡ Stopped step.JournalFull)
 
 -- how a feed ended whose texts are read just before they are filed: with nothing left; or with the
 -- first text of what is left refused, as full only if the journal was
-abbrev pub EndsFeed : Settings → End → PassView → List FilingText → Type 0
+abbrev pub EndsFeed : SetupView → End → PassView → List FilingView → Type 0
 EndsFeed s Finished q left = left ≡ []
 EndsFeed s (Stopped why) q left = (left ≢ []) × (why ≡ step.JournalFull → length q.seen ≡ s.max_entries)
 EndsFeed s NotStarted q left = ⊥

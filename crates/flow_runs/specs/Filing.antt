@@ -2,34 +2,34 @@
 use Rattle.std.specs.Prelude.{◌≡◌, ◌≢◌, ℕ, ◌<◌, List, [], ◌∷◌, ◌++◌, length, map, Option, Some, None, slice_get}
 use Rattle.std.specs.List.{All}
 use mathlib.Core.List.{IsPrefix}
-use Rattle.fpl_message.specs.Filings.{FilingText}
-use Rattle.flow_plans.specs.Settings.{Settings}
-use Rattle.flow_core.specs.State.{Record}
+use Rattle.fpl_message.specs.Filings.{FilingView}
+use Rattle.flow_plans.specs.Settings.{SetupView}
+use Rattle.flow_core.specs.State.{EntryView}
 use Rattle.flow_core.specs.History.{History, state_of}
 use Rattle.flow_core.specs.declared.receipt.Receipt.{Receipt}
 use Rattle.flow_desk.specs.declared.feeders.End.{End}
 use Rattle.flow_desk.specs.Feeds.{Ran}
 use Rattle.flow_desk.specs.Histories.{own, after}
-use Rattle.flow_desk.specs.Passes.{PassView}
+use Rattle.flow_desk.specs.FeederPasses.{PassView}
 use Rattle.flow_runs.specs.Ends.{EndsFeed}
 use Rattle.flow_runs.specs.declared.fault.RunFault.{RunFault}
 
 -- the texts of entries
-abbrev pub texts : List Record → List FilingText
-texts es = map (λ (e : Record). e.input.text) es
+abbrev pub texts : List EntryView → List FilingView
+texts es = map (λ (e : EntryView). e.input.text) es
 
 -- from p to q a feed was filed up to what is left
-pub record FiledTo (p : PassView) (feed : List FilingText) (q : PassView) (left : List FilingText) : Type 0 where
+pub record FiledTo (p : PassView) (feed : List FilingView) (q : PassView) (left : List FilingView) : Type 0 where
   pub receipts : List Receipt
   pub ran : Ran p feed q receipts left
 
 -- and ended so
-pub record RanFeed (setup : Settings) (p : PassView) (feed : List FilingText) (q : PassView) (left : List FilingText) (end : End) : Type 0 where
+pub record RanFeed (setup : SetupView) (p : PassView) (feed : List FilingView) (q : PassView) (left : List FilingView) (end : End) : Type 0 where
   pub filed : FiledTo p feed q left
   pub ends : EndsFeed setup end q left
 
 -- and so did each of these, feed by feed
-abbrev pub RanFeeds : Settings → List PassView → List (List FilingText) → List PassView → List (List FilingText) → List End → Type 0
+abbrev pub RanFeeds : SetupView → List PassView → List (List FilingView) → List PassView → List (List FilingView) → List End → Type 0
 RanFeeds s [] [] [] [] [] = Unit {0}
 RanFeeds s (p ∷ ps) (feed ∷ feeds) (q ∷ qs) (left ∷ ls) (end ∷ es) = RanFeed s p feed q left end × RanFeeds s ps feeds qs ls es
 RanFeeds s _ _ _ _ _ = ⊥
@@ -38,12 +38,12 @@ RanFeeds s _ _ _ _ _ = ⊥
 -- of the desk of one thread. Each feeder has filed a prefix of its feed; if none ended with a fault
 -- and the journal isn't full, all of it. One ended with a fault only if the journal isn't full:
 -- otherwise each text that is left has found it full, whichever fault was seen.
-pub record HasFiled (setup : Settings) (read : List Record) (feeders : ℕ) (feeds : List (List FilingText)) (core : History) (stop : Option RunFault) : Type 0 where
-  pub entries : List Record
+pub record HasFiled (setup : SetupView) (read : List EntryView) (feeders : ℕ) (feeds : List (List FilingView)) (core : History) (stop : Option RunFault) : Type 0 where
+  pub entries : List EntryView
   pub setup_is : core.setup ≡ setup
   pub journal : (state_of core).journal ≡ read ++ entries
   pub one_thread : state_of core ≡ after setup (read ++ entries)
-  pub below : All (λ (e : Record). e.input.feeder < feeders) entries
-  pub fronts : (k : ℕ) (feed : List FilingText) → slice_get feeds k ≡ Some feed → IsPrefix (texts (own k entries)) feed
+  pub below : All (λ (e : EntryView). e.input.feeder < feeders) entries
+  pub fronts : (k : ℕ) (feed : List FilingView) → slice_get feeds k ≡ Some feed → IsPrefix (texts (own k entries)) feed
   pub room : stop ≢ None → length (read ++ entries) < setup.max_entries
-  pub whole : stop ≡ None → length (read ++ entries) < setup.max_entries → (k : ℕ) (feed : List FilingText) → slice_get feeds k ≡ Some feed → texts (own k entries) ≡ feed
+  pub whole : stop ≡ None → length (read ++ entries) < setup.max_entries → (k : ℕ) (feed : List FilingView) → slice_get feeds k ≡ Some feed → texts (own k entries) ≡ feed

@@ -3,13 +3,13 @@ use Rattle.std.specs.Prelude.{◌≡◌, ◌≢◌, ◌⊎◌, ℕ, zero, suc, �
 use Rattle.std.specs.List.{All, flat_map}
 use Rattle.std.specs.Io.KnownBytes.{Appends, Keeps}
 use mathlib.Core.List.{IsPrefix}
-use Rattle.flow_plans.specs.Settings.{Settings}
+use Rattle.flow_plans.specs.Settings.{SetupView}
 use Rattle.flow_input.specs.Frames.{frames}
 use Rattle.flow_input.specs.Cutting.{Overrun}
 use Rattle.flow_input.specs.declared.input.TheConstants.{MAX_INPUT}
 use Rattle.flow_input.specs.Writes.{AppendsFront, Writes}
 use Rattle.flow_input.specs.declared.counted.Counted.{Counted}
-use Rattle.flow_core.specs.State.{State, Input, Record}
+use Rattle.flow_core.specs.State.{State, Input, EntryView}
 use Rattle.flow_core.specs.Steps.{run}
 use Rattle.flow_core.specs.CoreView.{inputs}
 use Rattle.flow_core.specs.Output.{answer_of, journal_full_line}
@@ -26,7 +26,7 @@ use Rattle.flow_runs.specs.Filing.{texts}
 -- ---- what is written
 
 -- the answers to some entries of a journal
-abbrev pub answers : State → List Record → List ℕ
+abbrev pub answers : State → List EntryView → List ℕ
 answers s entries = flat_map (answer_of s) entries
 
 -- a line for each of `count` filings at a full journal
@@ -63,15 +63,15 @@ answers_and_end s read count journal = answers s (drop read s.journal) ++ end_li
 
 -- for an input: a line for each frame that is too long, and the answers to these entries, which
 -- follow those read
-abbrev pub answered : Settings → List Record → List (List ℕ) → List Record → List ℕ
+abbrev pub answered : SetupView → List EntryView → List (List ℕ) → List EntryView → List ℕ
 answered setup read input entries = long_lines input ++ answers (after setup (read ++ entries)) entries
 
 -- and what follows the last answer, with its last line or without it
-abbrev pub ended : Settings → List Record → Bool → List (List ℕ) → List Record → List ℕ
+abbrev pub ended : SetupView → List EntryView → Bool → List (List ℕ) → List EntryView → List ℕ
 ended setup read journal input entries =
     long_lines input ++ (answers (after setup (read ++ entries)) entries ++ end_lines (after setup (read ++ entries)) (length (filings input) - length entries) journal)
 
-abbrev pub ended_before_replay : Settings → List Record → Bool → List (List ℕ) → List Record → List ℕ
+abbrev pub ended_before_replay : SetupView → List EntryView → Bool → List (List ℕ) → List EntryView → List ℕ
 ended_before_replay setup read journal input entries =
     long_lines input ++ (answers (after setup (read ++ entries)) entries ++ end_before_replay (after setup (read ++ entries)) (length (filings input) - length entries) journal)
 
@@ -81,8 +81,8 @@ ended_before_replay setup read journal input entries =
 -- of the desk of one thread. Each feeder has filed a prefix of what is dealt to it, and all of it
 -- if the journal isn't full. What was written is a line for each frame that is too long, the
 -- answers to these entries, and what follows the last answer.
-pub record RanMany (setup : Settings) (read : List Record) (feeders : ℕ) (journal : Bool) (input : List (List ℕ)) (begun written : Option (List ℕ)) : Type 0 where
-  pub entries : List Record
+pub record RanMany (setup : SetupView) (read : List EntryView) (feeders : ℕ) (journal : Bool) (input : List (List ℕ)) (begun written : Option (List ℕ)) : Type 0 where
+  pub entries : List EntryView
   pub one_thread : (after setup (read ++ entries)).journal ≡ read ++ entries
   pub below : All (λ e. e.input.feeder < feeders) entries
   pub fronts : (k : ℕ) → k < feeders → IsPrefix (texts (own k entries)) (dealt feeders k (filings input))
@@ -92,7 +92,7 @@ pub record RanMany (setup : Settings) (read : List Record) (feeders : ℕ) (jour
 -- the input begins with a journal text, all of whose entries are of the feeders, and the run
 -- resumes there; what follows the text is no longer than an input may be
 pub record RanOn (bytes : List ℕ) (feeders : ℕ) (journal : Bool) (begun written : Option (List ℕ)) : Type 0 where
-  pub setup : Settings
+  pub setup : SetupView
   pub filed : List Input
   pub text : List ℕ
   pub rest : List ℕ
@@ -107,7 +107,7 @@ pub record RanOn (bytes : List ℕ) (feeders : ℕ) (journal : Bool) (begun writ
 -- the input begins with a journal text, of which an entry's feeder isn't below `feeders`; all after
 -- it is left
 pub record HoldsBeyond (feeders : ℕ) (input rest : Option (List ℕ)) : Type 0 where
-  pub setup : Settings
+  pub setup : SetupView
   pub filed : List Input
   pub holds : HoldsJournal setup filed input rest
   pub number : ℕ
@@ -115,7 +115,7 @@ pub record HoldsBeyond (feeders : ℕ) (input rest : Option (List ℕ)) : Type 0
 
 -- more bytes came after the journal text than an input may have
 pub record OverrunAfter (input rest : Option (List ℕ)) : Type 0 where
-  pub setup : Settings
+  pub setup : SetupView
   pub filed : List Input
   pub mid : Option (List ℕ)
   pub holds : HoldsJournal setup filed input mid
@@ -125,20 +125,20 @@ pub record OverrunAfter (input rest : Option (List ℕ)) : Type 0 where
 
 -- After the entries read there are entries of the feeders, as in a run that is answered, and they
 -- satisfy P.
-pub record HaveFiled (setup : Settings) (read : List Record) (feeders : ℕ) (input : List (List ℕ)) (Is : List Record → Type 0) : Type 0 where
-  pub entries : List Record
+pub record HaveFiled (setup : SetupView) (read : List EntryView) (feeders : ℕ) (input : List (List ℕ)) (Is : List EntryView → Type 0) : Type 0 where
+  pub entries : List EntryView
   pub one_thread : (after setup (read ++ entries)).journal ≡ read ++ entries
   pub below : All (λ e. e.input.feeder < feeders) entries
   pub fronts : (k : ℕ) → k < feeders → IsPrefix (texts (own k entries)) (dealt feeders k (filings input))
   pub is : Is entries
 
 -- each feeder has filed all that is dealt to it, if the journal isn't full
-abbrev pub FiledAll : Settings → List Record → ℕ → List (List ℕ) → List Record → Type 0
+abbrev pub FiledAll : SetupView → List EntryView → ℕ → List (List ℕ) → List EntryView → Type 0
 FiledAll setup read feeders input entries = length (read ++ entries) < setup.max_entries → (k : ℕ) → k < feeders → texts (own k entries) ≡ dealt feeders k (filings input)
 
 -- if an allocation for a feed failed or it was never begun, and the journal isn't full: the answers
 -- were written and nothing more
-abbrev pub IsCutShort : Settings → List Record → List (List ℕ) → Option (List ℕ) → Option (List ℕ) → List Record → Type 0
+abbrev pub IsCutShort : SetupView → List EntryView → List (List ℕ) → Option (List ℕ) → Option (List ℕ) → List EntryView → Type 0
 IsCutShort setup read input begun written entries = (length (read ++ entries) < setup.max_entries) × Appends begun written (answered setup read input entries)
 
 -- The answers to the core's entries after the first `read`, if `count` filings were dealt, and a
@@ -154,7 +154,7 @@ AnsweredUntil _ stop s read count journal begun written = ⊥
 
 -- if an allocation failed when all was read: before a feeder began; for a feed, if the journal
 -- isn't full; or for the replay of the journal, so that its line alone is missing
-abbrev pub EndedByMemory : Settings → List Record → ℕ → Bool → List (List ℕ) → Option (List ℕ) → Option (List ℕ) → Type 0
+abbrev pub EndedByMemory : SetupView → List EntryView → ℕ → Bool → List (List ℕ) → Option (List ℕ) → Option (List ℕ) → Type 0
 EndedByMemory setup read feeders journal input begun written =
     Appends begun written (long_lines input)
     ⊎ HaveFiled setup read feeders input (λ entries. IsCutShort setup read input begun written entries ⊎ (FiledAll setup read feeders input entries × Appends begun written (ended_before_replay setup read journal input entries)))
@@ -162,7 +162,7 @@ EndedByMemory setup read feeders journal input begun written =
 -- What was written if a run ended with this fault. Before the feeders begin nothing is filed, and
 -- what is written are lines for frames that are too long. Once they file, an allocation failure is
 -- never returned in place of a full journal: if it is full the run goes on to its end.
-abbrev pub EndedBy : RunFault → Settings → List Record → ℕ → Bool → Option (List ℕ) → Option (List ℕ) → Option (List ℕ) → Option (List ℕ) → Type 0
+abbrev pub EndedBy : RunFault → SetupView → List EntryView → ℕ → Bool → Option (List ℕ) → Option (List ℕ) → Option (List ℕ) → Option (List ℕ) → Type 0
 EndedBy fault.Read setup read feeders journal begun written input rest = ToldEnded begun written input rest
 EndedBy fault.TooMuch setup read feeders journal begun written input rest = ToldFirst begun written input rest
 EndedBy fault.Write setup read feeders journal begun written input rest =
@@ -178,7 +178,7 @@ EndedBy fault.BadFeeders setup read feeders journal begun written input rest = K
 -- the input begins with a journal text, all of whose entries are of the feeders, and after it the
 -- run ended with this fault
 pub record EndedBehind (why : RunFault) (feeders : ℕ) (journal : Bool) (begun written input rest : Option (List ℕ)) : Type 0 where
-  pub setup : Settings
+  pub setup : SetupView
   pub filed : List Input
   pub mid : Option (List ℕ)
   pub holds : HoldsJournal setup filed input mid
@@ -199,6 +199,6 @@ EndedOnBy fault.BadFeeders feeders journal begun written input rest = Keeps begu
 
 -- the input begins with a journal text, and all after it is left
 pub record HoldsSome (input rest : Option (List ℕ)) : Type 0 where
-  pub setup : Settings
+  pub setup : SetupView
   pub filed : List Input
   pub holds : HoldsJournal setup filed input rest

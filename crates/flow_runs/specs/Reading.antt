@@ -1,12 +1,12 @@
 -- What is read before the feeders start.
 use Rattle.std.specs.Prelude.{◌≡◌, ◌⊎◌, ℕ, List, [], ◌∷◌, ◌++◌, length, take, nat_le, if◌then◌else◌, Option, None, IfSome}
 use Rattle.std.specs.Io.KnownBytes.{Appends, Consumes}
-use Rattle.fpl_message.specs.Filings.{FilingText}
+use Rattle.fpl_message.specs.Filings.{FilingView}
 use Rattle.flow_input.specs.Filings.{filings}
 use Rattle.flow_input.specs.Frames.{frames, ended_frames}
 use Rattle.flow_input.specs.Writes.{AppendsFront}
 use Rattle.flow_input.specs.NextFrame.{filing_of}
-use Rattle.flow_input.specs.Reader.{Ahead}
+use Rattle.flow_input.specs.Reader.{InputView}
 use Rattle.flow_input.specs.Cutting.{Cutting}
 use Rattle.flow_core.specs.Output.{too_long_line}
 use Rattle.flow_runs.specs.declared.fault.RunFault.{RunFault}
@@ -21,18 +21,18 @@ long_lines (f ∷ fs) = if nat_le (length f) MAX_BYTES then long_lines fs else t
 
 -- of these frames the whole filings are dealt and counted, and for each of the others its line is
 -- there
-pub record HasRead (feeders : ℕ) (frames : List (List ℕ)) (feeds : List (List FilingText)) (count : ℕ) (begun written : Option (List ℕ)) : Type 0 where
+pub record HasRead (feeders : ℕ) (frames : List (List ℕ)) (feeds : List (List FilingView)) (count : ℕ) (begun written : Option (List ℕ)) : Type 0 where
   pub dealt : AreDealt feeders (filings frames) feeds
   pub counted : count ≡ length (filings frames)
   pub told : Appends begun written (long_lines frames)
 
 -- whatever frame this is the filing of, it is the next that was read
-abbrev pub ReadsNext : Option FilingText → List (List FilingText) → ℕ → List (List FilingText) → ℕ → Option (List ℕ) → Option (List ℕ) → Type 0
+abbrev pub ReadsNext : Option FilingView → List (List FilingView) → ℕ → List (List FilingView) → ℕ → Option (List ℕ) → Option (List ℕ) → Type 0
 ReadsNext filing old count new longer before after =
     (feeders : ℕ) (frames : List (List ℕ)) (frame : List ℕ) (begun : Option (List ℕ)) → filing ≡ filing_of frame → HasRead feeders frames old count begun before → HasRead feeders (frames ++ frame ∷ []) new longer begun after
 
 -- how far reading has come: these frames were taken from the beginning of the input
-pub record Reading (feeders : ℕ) (feeds : List (List FilingText)) (count : ℕ) (begun written : Option (List ℕ)) (ahead : Ahead) (input rest : Option (List ℕ)) : Type 0 where
+pub record Reading (feeders : ℕ) (feeds : List (List FilingView)) (count : ℕ) (begun written : Option (List ℕ)) (ahead : InputView) (input rest : Option (List ℕ)) : Type 0 where
   pub done : List (List ℕ)
   pub cutting : Cutting done ahead input rest
   pub has : HasRead feeders done feeds count begun written
@@ -69,7 +69,7 @@ ToldUntil fault.OutOfMemory begun written input rest = ToldFirst begun written i
 ToldUntil _ begun written input rest = ⊥
 
 -- what was written for one frame, of which this is the filing, if the fault came with it
-abbrev pub LeavesNext : RunFault → Option FilingText → Option (List ℕ) → Option (List ℕ) → Type 0
+abbrev pub LeavesNext : RunFault → Option FilingView → Option (List ℕ) → Option (List ℕ) → Type 0
 LeavesNext fault.Write filing before after = (filing ≡ None) × AppendsFront before after too_long_line
 LeavesNext fault.OutOfMemory filing before after = after ≡ before
 LeavesNext _ filing before after = ⊥

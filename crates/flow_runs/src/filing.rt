@@ -32,7 +32,7 @@ fn stop_with(stop: Option<RunFault>, end: End) -> Option<RunFault>
     ensures none { result ≡ None → (stop ≡ None) × EndsWell end }
     ensures memory { result ≢ Some RunFault.OutOfMemory
         → (stop ≢ Some RunFault.OutOfMemory) × (end ≢ End.Stopped StepFault.OutOfMemory) }
-    ensures kinds { IsStop stop → IsStop result }
+    ensures error_kinds { IsStop stop → IsStop result }
 {
     match end {
         End::Finished => stop,
@@ -50,7 +50,7 @@ fn stop_with(stop: Option<RunFault>, end: End) -> Option<RunFault>
 fn stop_among<N: Name, A: Allocator + Copy>(feeds: &[Feed<N, A>]) -> Option<RunFault>
     ensures is { result ≡ fold (λ stop f. stop_of stop f.end) None feeds.now }
     ensures none { IfNone result (All (λ f. EndsWell f.end) feeds.now) }
-    ensures kinds { IsStop result }
+    ensures error_kinds { IsStop result }
     ensures memory { result ≢ Some RunFault.OutOfMemory
         → All (λ f. f.end ≢ End.Stopped StepFault.OutOfMemory) feeds.now }
 {
@@ -66,7 +66,7 @@ fn stop_among<N: Name, A: Allocator + Copy>(feeds: &[Feed<N, A>]) -> Option<RunF
 fn stop_with_room<A: Allocator + Copy>(core: &Core<A>, stop: Option<RunFault>) -> Option<RunFault>
     ensures room { result ≢ None → length (state_of core.now).journal < core.now.setup.max_entries }
     ensures is { length (state_of core.now).journal < core.now.setup.max_entries → result ≡ stop }
-    ensures kinds { IsStop stop → IsStop result }
+    ensures error_kinds { IsStop stop → IsStop result }
 {
     if core.entries() == core.setup().max_entries() {
         return None;

@@ -1,9 +1,9 @@
 //! What follows from the definitions of runs with a store.
 ghost use Rattle.std.specs.Prelude.{ℕ, Bool, List, Option};
-ghost use Rattle.flow_plans.specs.Settings.{Settings};
+ghost use Rattle.flow_plans.specs.Settings.{SetupView};
 ghost use Rattle.flow_log.specs.Left.{Left};
 ghost use Rattle.flow_core.specs.History.{History, state_of};
-ghost use Rattle.flow_core.specs.State.{State, Record};
+ghost use Rattle.flow_core.specs.State.{State, EntryView};
 ghost use Rattle.flow_store.specs.Serving.{IsSafe, IsKept};
 ghost use Rattle.flow_store.specs.Store.{IsStoreFile};
 ghost use Rattle.flow_runs.specs.StoredRuns.{IsSafeRun, IsKeptRun, HasAll};
@@ -25,11 +25,11 @@ pub fn stored_runs_keep_all()
         → IsKept first begun input given file → IsStoreFile opened.setup opened.filed file
         → HasAll opened new
         → IsKept first begun input given new }
-    ensures answered { (setup : Settings) (read : List Record) (feeders : ℕ) (journal : Bool)
+    ensures answered { (setup : SetupView) (read : List EntryView) (feeders : ℕ) (journal : Bool)
         (input : List (List ℕ))
         (begun : List ℕ) (l : Left) → IsSafeRun setup read feeders journal input begun l
         → IsKeptRun setup read feeders journal input begun l.given l.file }
-    ensures later_many { (setup : Settings) (read : List Record) (feeders : ℕ) (journal : Bool)
+    ensures later_many { (setup : SetupView) (read : List EntryView) (feeders : ℕ) (journal : Bool)
         (input : List (List ℕ))
         (begun given file new : List ℕ) (opened : History)
         → IsKeptRun setup read feeders journal input begun given file

@@ -22,6 +22,7 @@ pub mod laws;
 mod run;
 mod stored;
 
+pub use answers::write_end;
 pub use fault::RunFault;
 pub use run::{run_many, run_resumed};
 pub use stored::{StoredRunFault, run_stored};

@@ -7,7 +7,7 @@ use Rattle.flow_slots.specs.declared.cell.Cell.{Cell}
 use Rattle.flow_slots.specs.declared.cell.Cell.TheVariants.{Empty, Waiting, Fixed}
 use Rattle.flow_slots.specs.Period.{Period, first_slot, slots_before_end}
 use Rattle.flow_slots.specs.Order.{without}
-use Rattle.flow_slots.specs.Row.{waiting_of, fixed_of, cell_at, flight_of, flight_at, place_at, AllAfter, AllWithin, IsSettled, IsTied}
+use Rattle.flow_slots.specs.Row.{waiting_of, fixed_of, cell_at, flight_of, flight_at, place_at, AllAfter, AllWithin, IsSettledRow, IsTied}
 use Rattle.flow_slots.specs.Walk.{displace, push, has_empty}
 use Rattle.flow_slots.specs.Lineup.{Lineup, IsKept, len_of, held_slot, held_flight, fixed_slot, slot_in, insert_fixed, fixed_at, with_fixed}
 use Rattle.flow_slots.proofs.Fixing.{Fixes, fix-fixes, put-fixes, push-fixes}
@@ -57,7 +57,7 @@ AllAfter-at first o (suc k) w (Fixed f ∷ cs) a e = AllAfter-at first o k w cs 
 AllAfter-at first o (suc k) w (Waiting v ∷ cs) a e = AllAfter-at first o k w cs a.1 e
 
 -- if a provisional flight is in slot `k`, the empty cells from its first slot on lie after `k`
-empty_behind : (first : ℕ → ℕ) (o n k : ℕ) (w : Planned) (cs : List Cell) → IsSettled first o cs → cell_at cs k ≡ Waiting w → first w.entry ≤ o + n → n ≤ k → has_empty (drop n cs) ≡ true → has_empty (drop (suc k) cs) ≡ true
+empty_behind : (first : ℕ → ℕ) (o n k : ℕ) (w : Planned) (cs : List Cell) → IsSettledRow first o cs → cell_at cs k ≡ Waiting w → first w.entry ≤ o + n → n ≤ k → has_empty (drop n cs) ≡ true → has_empty (drop (suc k) cs) ≡ true
 empty_behind first o n k w [] s e early l m = cc
 empty_behind first o (suc n) zero w (c ∷ cs) s e early l m = absurd (omega arith)
 empty_behind first o (suc n) (suc k) w (Empty ∷ cs) s e early l m = empty_behind first (o + 1) n k w cs s.1 e (omega arith) (omega arith) m

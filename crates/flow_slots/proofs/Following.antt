@@ -6,7 +6,7 @@ use Rattle.flow_slots.specs.declared.cell.Planned.{Planned}
 use Rattle.flow_slots.specs.declared.cell.Cell.{Cell}
 use Rattle.flow_slots.specs.declared.cell.Cell.TheVariants.{Empty, Waiting, Fixed}
 use Rattle.flow_slots.specs.Order.{stands_before}
-use Rattle.flow_slots.specs.Row.{NoneBefore, IsSettled, IsFixedCell, waiting_of}
+use Rattle.flow_slots.specs.Row.{NoneBefore, IsSettledRow, IsFixedCell, waiting_of}
 use Rattle.flow_slots.specs.Walk.{displace, has_empty, waits_before, Follows, AllFollow, ComesIn}
 use Rattle.flow_slots.proofs.Steps.{drop_at, has_empty-within, has_empty-fixed, has_empty-waiting, displace-fixed, displace-earlier}
 
@@ -17,13 +17,13 @@ pub Follows-waiting : (row : List Cell) (k : ℕ) (w x : Planned) → k < length
 Follows-waiting row k w x h e a = rw (drop_at row k (Waiting w) h e) at a
 
 -- in a settled row each provisional flight may go on
-Follows-settled : (first : ℕ → ℕ) (k : ℕ) (w : Planned) (cs : List Cell) → NoneBefore w (waiting_of cs) → IsSettled first k cs → Follows w cs
+Follows-settled : (first : ℕ → ℕ) (k : ℕ) (w : Planned) (cs : List Cell) → NoneBefore w (waiting_of cs) → IsSettledRow first k cs → Follows w cs
 Follows-settled first k w [] a s = tt
 Follows-settled first k w (Empty ∷ cs) a s = tt
 Follows-settled first k w (Fixed f ∷ cs) a s = Follows-settled first (k + 1) w cs a s
 Follows-settled first k w (Waiting v ∷ cs) a s = (a.0, Follows-settled first (k + 1) v cs s.1 s.2)
 
-pub AllFollow-settled : (first : ℕ → ℕ) (k : ℕ) (cs : List Cell) → IsSettled first k cs → AllFollow cs
+pub AllFollow-settled : (first : ℕ → ℕ) (k : ℕ) (cs : List Cell) → IsSettledRow first k cs → AllFollow cs
 AllFollow-settled first k [] s = tt
 AllFollow-settled first k (Empty ∷ cs) s = AllFollow-settled first (k + 1) cs s.1
 AllFollow-settled first k (Fixed f ∷ cs) s = AllFollow-settled first (k + 1) cs s

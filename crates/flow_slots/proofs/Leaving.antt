@@ -8,7 +8,7 @@ use Rattle.flow_slots.specs.declared.cell.Cell.TheVariants.{Empty, Waiting, Fixe
 use Rattle.flow_slots.specs.Period.{Period, first_slot}
 use Rattle.flow_slots.specs.Order.{without}
 use Rattle.flow_slots.specs.Assignment.{Placed}
-use Rattle.flow_slots.specs.Row.{waiting_of, fixed_of, flight_at, place_at, NoneBefore, AllAfter, AllWithin, IsSettled, IsTied}
+use Rattle.flow_slots.specs.Row.{waiting_of, fixed_of, flight_at, place_at, NoneBefore, AllAfter, AllWithin, IsSettledRow, IsTied}
 use Rattle.flow_slots.specs.Walk.{next_up, moved_up, shift, close}
 use Rattle.flow_slots.specs.Lineup.{Lineup, IsKept, without_fixed, without_flight}
 use Rattle.flow_slots.proofs.Chain.{IsMonotone, close-closes}
@@ -61,11 +61,11 @@ AllWithin-without p f (w ∷ ws) a =
 
 -- what becomes of a row that flight `f` leaves
 pub record Leaves (first : ℕ → ℕ) (o f : ℕ) (cs new : List Cell) : Type 0 where
-  pub settled : IsSettled first o new
+  pub settled : IsSettledRow first o new
   pub waiting : waiting_of new ≡ without f (waiting_of cs)
   pub fixed : fixed_of o new ≡ without_fixed f (fixed_of o cs)
 
-leaves : (first : ℕ → ℕ) (mono : IsMonotone first) (o f k i : ℕ) (cs : List Cell) → i ≡ o + k → flight_at cs k ≡ Some f → StandsOnlyAt f k cs → IsSettled first o cs → Leaves first o f cs (take k cs ++ close first i (drop (suc k) cs))
+leaves : (first : ℕ → ℕ) (mono : IsMonotone first) (o f k i : ℕ) (cs : List Cell) → i ≡ o + k → flight_at cs k ≡ Some f → StandsOnlyAt f k cs → IsSettledRow first o cs → Leaves first o f cs (take k cs ++ close first i (drop (suc k) cs))
 leaves first mono o f k i [] q e a s = cc
 leaves first mono o f zero i (Empty ∷ cs) q e a s = cc
 leaves first mono o f zero i (Fixed g ∷ cs) q e a s =

@@ -4,9 +4,9 @@ use Rattle.std.proofs.lemmas.List.{length-replicate}
 use Rattle.flow_slots.specs.declared.cell.Cell.{Cell}
 use Rattle.flow_slots.specs.declared.cell.Cell.TheVariants.{Empty}
 use Rattle.flow_slots.specs.Period.{Period, IsRegular, first_slot, slots_before_end}
-use Rattle.flow_slots.specs.Row.{waiting_of, fixed_of, flight_at, place_at, AllAfter, IsSettled, IsTied}
-use Rattle.flow_slots.specs.CellRow.{CellRow}
-use Rattle.flow_slots.specs.Lineup.{Lineup, Slots, IsKept}
+use Rattle.flow_slots.specs.Row.{waiting_of, fixed_of, flight_at, place_at, AllAfter, IsSettledRow, IsTied}
+use Rattle.flow_slots.specs.Cells.{CellsView}
+use Rattle.flow_slots.specs.Lineup.{Lineup, SlotListView, IsKept}
 use Rattle.flow_slots.proofs.Kept.{lineup_of}
 
 waiting_of-empty : (n : ℕ) → waiting_of (replicate n Empty) ≡ []
@@ -17,7 +17,7 @@ fixed_of-empty : (k n : ℕ) → fixed_of k (replicate n Empty) ≡ []
 fixed_of-empty k zero = refl
 fixed_of-empty k (suc n) = fixed_of-empty (k + 1) n
 
-IsSettled-empty : (first : ℕ → ℕ) (k n : ℕ) → IsSettled first k (replicate n Empty)
+IsSettled-empty : (first : ℕ → ℕ) (k n : ℕ) → IsSettledRow first k (replicate n Empty)
 IsSettled-empty first k zero = tt
 IsSettled-empty first k (suc n) =
     let none : AllAfter first k (waiting_of (replicate n Empty)) = rw waiting_of-empty tt in
@@ -60,8 +60,8 @@ lineup-new p capacity n row is =
     let f : fixed_of 0 row ≡ [] = ap (fixed_of 0) is ∙ fixed_of-empty 0 n in
     ap (λ ws. let l : Lineup = record { period = p; capacity = capacity; waiting = ws; fixed = fixed_of 0 row } in l) w ∙ ap (λ fs. let l : Lineup = record { period = p; capacity = capacity; waiting = []; fixed = fs } in l) f
 
-pub slots-new : (p : Period) (capacity n start : ℕ) (cells : CellRow) → cells ≡ record { row = replicate n Empty; writes = 0; start = start } → (let s : Slots = record { lineup = lineup_of p capacity cells.row; writes = cells.writes } in s) ≡ record { lineup = record { period = p; capacity = capacity; waiting = []; fixed = [] }; writes = 0 }
+pub slots-new : (p : Period) (capacity n start : ℕ) (cells : CellsView) → cells ≡ record { row = replicate n Empty; writes = 0; start = start } → (let s : SlotListView = record { lineup = lineup_of p capacity cells.row; writes = cells.writes } in s) ≡ record { lineup = record { period = p; capacity = capacity; waiting = []; fixed = [] }; writes = 0 }
 slots-new p capacity n start cells is =
     let l = lineup-new p capacity n cells.row (ap (λ c. c.row) is) in
     let w : cells.writes ≡ 0 = ap (λ c. c.writes) is in
-    ap (λ v. let s : Slots = record { lineup = v; writes = cells.writes } in s) l ∙ ap (λ v. let s : Slots = record { lineup = record { period = p; capacity = capacity; waiting = []; fixed = [] }; writes = v } in s) w
+    ap (λ v. let s : SlotListView = record { lineup = v; writes = cells.writes } in s) l ∙ ap (λ v. let s : SlotListView = record { lineup = record { period = p; capacity = capacity; waiting = []; fixed = [] }; writes = v } in s) w

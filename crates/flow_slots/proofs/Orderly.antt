@@ -11,7 +11,7 @@ use Rattle.flow_slots.specs.Delay.{Rise, waiting_slots}
 use Rattle.flow_slots.specs.Period.{Period, first_slot}
 use Rattle.flow_slots.proofs.Fresh.{greedy-row}
 use Rattle.flow_slots.proofs.Periods.{first_slot-monotone}
-use Rattle.flow_slots.specs.Row.{waiting_of, fixed_of, placed_of, flight_of, flight_at, place_at, NoneBefore, IsSettled, IsTied}
+use Rattle.flow_slots.specs.Row.{waiting_of, fixed_of, placed_of, flight_of, flight_at, place_at, NoneBefore, IsSettledRow, IsTied}
 use Rattle.flow_slots.specs.Lineup.{InOrder, BySlot, NoneIs, NoneFixed, FixedApart, WaitingApart, IsLineup}
 use Rattle.flow_slots.proofs.Held.{IsAway, IsAway-tail}
 
@@ -34,7 +34,7 @@ all_behind w (Waiting v ∷ cs) a n =
     let behind : stands_before w v ≡ true = behind_is w v n.0 other in
     (behind, all_behind w cs (IsAway-tail w.flight (Waiting v) cs a) n.1)
 
-in_order : (first : ℕ → ℕ) (k : ℕ) (cs : List Cell) → IsSettled first k cs → AreApart cs → InOrder (waiting_of cs)
+in_order : (first : ℕ → ℕ) (k : ℕ) (cs : List Cell) → IsSettledRow first k cs → AreApart cs → InOrder (waiting_of cs)
 in_order first k [] s a = tt
 in_order first k (Empty ∷ cs) s a = in_order first (k + 1) cs s.1 (AreApart-tail Empty cs a)
 in_order first k (Fixed f ∷ cs) s a = in_order first (k + 1) cs s (AreApart-tail (Fixed f) cs a)
@@ -54,7 +54,7 @@ fixed-by_slot k (Empty ∷ cs) = fixed-by_slot (k + 1) cs
 fixed-by_slot k (Waiting w ∷ cs) = fixed-by_slot (k + 1) cs
 fixed-by_slot k (Fixed f ∷ cs) = (fixed_behind k (k + 1) cs (omega arith), fixed-by_slot (k + 1) cs)
 
-waiting-in_order : (first : ℕ → ℕ) (places : List (Option ℕ)) (row : List Cell) → IsSettled first 0 row → IsTied places row → InOrder (waiting_of row)
+waiting-in_order : (first : ℕ → ℕ) (places : List (Option ℕ)) (row : List Cell) → IsSettledRow first 0 row → IsTied places row → InOrder (waiting_of row)
 waiting-in_order first places row s t =
     in_order first 0 row s (λ i j f p q. (let here : place_at places f ≡ Some i = (t.each f i).1 p in let there : place_at places f ≡ Some j = (t.each f j).1 q in cc))
 
@@ -99,7 +99,7 @@ tied-apart : (places : List (Option ℕ)) (row : List Cell) → IsTied places ro
 tied-apart places row t = λ i j f p q. (let here : place_at places f ≡ Some i = (t.each f i).1 p in let there : place_at places f ≡ Some j = (t.each f j).1 q in cc)
 
 -- the lists that are read off a row are a lineup
-pub row-lineup : (first : ℕ → ℕ) (p : Period) (capacity : ℕ) (places : List (Option ℕ)) (row : List Cell) → IsSettled first 0 row → IsTied places row → IsLineup (record { period = p; capacity = capacity; waiting = waiting_of row; fixed = fixed_of 0 row })
+pub row-lineup : (first : ℕ → ℕ) (p : Period) (capacity : ℕ) (places : List (Option ℕ)) (row : List Cell) → IsSettledRow first 0 row → IsTied places row → IsLineup (record { period = p; capacity = capacity; waiting = waiting_of row; fixed = fixed_of 0 row })
 row-lineup first p capacity places row s t =
     record {
       in_order = waiting-in_order first places row s t;
@@ -121,6 +121,6 @@ placed-rise k (Empty ∷ cs) = placed-rise (k + 1) cs
 placed-rise k (Fixed f ∷ cs) = placed-rise (k + 1) cs
 placed-rise k (Waiting w ∷ cs) = (placed-behind k (k + 1) cs (omega arith), placed-rise (k + 1) cs)
 
-pub row-rise : (p : Period) (capacity : ℕ) (row : List Cell) → IsSettled (λ e. first_slot p e) 0 row → Rise (waiting_slots (record { period = p; capacity = capacity; waiting = waiting_of row; fixed = fixed_of 0 row }))
+pub row-rise : (p : Period) (capacity : ℕ) (row : List Cell) → IsSettledRow (λ e. first_slot p e) 0 row → Rise (waiting_slots (record { period = p; capacity = capacity; waiting = waiting_of row; fixed = fixed_of 0 row }))
 row-rise p capacity row s =
     subst (λ placed. Rise (slots placed)) (sym (greedy-row (λ e. first_slot p e) (first_slot-monotone p) row s)) (placed-rise 0 row)

@@ -7,7 +7,7 @@ use Rattle.std.proofs.lemmas.List.{length-map, map-set}
 use Rattle.flow_slots.specs.declared.cell.Cell.{Cell}
 use Rattle.flow_slots.specs.declared.cell.Cell.TheVariants.{Empty, Waiting, Fixed}
 use Rattle.flow_slots.specs.declared.cell.Planned.{Planned}
-use Rattle.flow_slots.specs.CellRow.{CellRow}
+use Rattle.flow_slots.specs.Cells.{CellsView}
 use Rattle.flow_slots.specs.MadeRow.{filled}
 use Rattle.flow_slots.specs.PackedCell.{from_start, flight_from, planned_in}
 use Rattle.flow_slots.specs.Row.{cell_at, IsFixedCell}
@@ -46,11 +46,11 @@ pub started-set : (start : ℕ) (cells : List Cell) (len k : ℕ) (x c : Cell) �
 started-set start cells len k x c h is =
     ap (map (from_start start)) (filled-set cells len k x h) ∙ (map-set (from_start start) (filled cells len) k x ∙ ap (set (started start cells len) k) is)
 
-pub row-new : (start len : ℕ) (cells : List Cell) → cells ≡ [] → (let r : CellRow = record { row = started start cells len; writes = 0; start = start } in r) ≡ record { row = replicate len Empty; writes = 0; start = start }
+pub row-new : (start len : ℕ) (cells : List Cell) → cells ≡ [] → (let r : CellsView = record { row = started start cells len; writes = 0; start = start } in r) ≡ record { row = replicate len Empty; writes = 0; start = start }
 row-new start len cells is =
     let left : len - 0 ≡ len = omega arith in
-    ap (λ cs. let r : CellRow = record { row = started start cs len; writes = 0; start = start } in r) is
-    ∙ ap (λ v. let r : CellRow = record { row = v; writes = 0; start = start } in r) (started-empty start (len - 0) ∙ ap (λ n. replicate n Empty) left)
+    ap (λ cs. let r : CellsView = record { row = started start cs len; writes = 0; start = start } in r) is
+    ∙ ap (λ v. let r : CellsView = record { row = v; writes = 0; start = start } in r) (started-empty start (len - 0) ∙ ap (λ n. replicate n Empty) left)
 
 -- a cell with a provisional flight has its entry and its number
 pub waits-is : (c : Cell) → waits c ≡ true → Waiting (planned_in c) ≡ c

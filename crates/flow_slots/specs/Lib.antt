@@ -1,5 +1,5 @@
 pub mod Assignment
-pub mod CellRow
+pub mod Cells
 pub mod Delay
 pub mod FirstServed
 pub mod ChangeList

@@ -7,7 +7,7 @@ use Rattle.flow_slots.specs.declared.cell.Cell.{Cell}
 use Rattle.flow_slots.specs.Period.{Period, IsRegular, first_slot, slots_before_end, most_flights}
 use Rattle.flow_slots.specs.Order.{stands_before, insert, without}
 use Rattle.flow_slots.specs.Assignment.{Placed, greedy, slots}
-use Rattle.flow_slots.specs.Row.{waiting_of, IsSettled, IsTied, AllWithin}
+use Rattle.flow_slots.specs.Row.{waiting_of, IsSettledRow, IsTied, AllWithin}
 
 -- the provisional flights in the order, and the frozen ones with their slots, by slot; flights are
 -- numbered from 1 to `capacity`
@@ -81,13 +81,13 @@ fixed_at a l =
     }
 
 -- a lineup, and how often the cells of its row were written
-pub record Slots : Type 0 where
+pub record SlotListView : Type 0 where
   pub lineup : Lineup
   pub writes : ℕ
 
 -- what a slot list stores of its row and of the slots of the flights
 pub record IsKept (p : Period) (capacity : ℕ) (row : List Cell) (places : List (Option ℕ)) : Type 0 where
-  pub settled : IsSettled (λ e. first_slot p e) 0 row
+  pub settled : IsSettledRow (λ e. first_slot p e) 0 row
   pub tied : IsTied places row
   pub entries : AllWithin p (waiting_of row)
   pub len : length row ≡ slots_before_end p + capacity

@@ -39,12 +39,12 @@ AllAfter first k ws = AllByRecursion (λ v. k < first v.entry) ws
 
 -- In a settled row that begins with slot `k`, no later flight could be in an empty slot; a
 -- provisional flight isn't before its first slot, and is in the order.
-abbrev pub IsSettled : (ℕ → ℕ) → ℕ → List Cell → Type 0
-IsSettled first k [] = Unit {0}
-IsSettled first k (Empty ∷ cs) = AllAfter first k (waiting_of cs) × IsSettled first (k + 1) cs
-IsSettled first k (Waiting w ∷ cs) =
-    (first w.entry ≤ k) × NoneBefore w (waiting_of cs) × IsSettled first (k + 1) cs
-IsSettled first k (Fixed f ∷ cs) = IsSettled first (k + 1) cs
+abbrev pub IsSettledRow : (ℕ → ℕ) → ℕ → List Cell → Type 0
+IsSettledRow first k [] = Unit {0}
+IsSettledRow first k (Empty ∷ cs) = AllAfter first k (waiting_of cs) × IsSettledRow first (k + 1) cs
+IsSettledRow first k (Waiting w ∷ cs) =
+    (first w.entry ≤ k) × NoneBefore w (waiting_of cs) × IsSettledRow first (k + 1) cs
+IsSettledRow first k (Fixed f ∷ cs) = IsSettledRow first (k + 1) cs
 
 -- the flight in a cell
 abbrev pub flight_of : Cell → Option ℕ

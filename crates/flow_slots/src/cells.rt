@@ -2,7 +2,7 @@
 ghost use Rattle.std.specs.Prelude.{◌≡◌, ℕ, ◌+◌, ◌-◌, ◌^◌, ◌<◌, ◌≤◌, ◌++◌};
 ghost use Rattle.std.specs.Prelude.{true, ◌↔◌, IfOk, IsTrue, vec_capacity};
 ghost use Rattle.std.specs.Prelude.{None, Some, [], drop, length, map, replicate, take, vec_len};
-ghost use Rattle.flow_slots.specs.CellRow.{CellRow, written};
+ghost use Rattle.flow_slots.specs.Cells.{CellsView, written};
 ghost use Rattle.flow_slots.specs.Changed.{gained};
 ghost use Rattle.flow_slots.specs.Lineup.{IsKept, MayFill};
 ghost use Rattle.flow_slots.specs.MadeRow.{EndsEmpty, filled};
@@ -15,8 +15,8 @@ ghost use Rattle.flow_slots.specs.declared.cell.Cell.TheVariants.{Empty, Fixed, 
 ghost use Rattle.flow_slots.specs.declared.cell.Planned.{Planned};
 
 use crate::cell::{Cell, Planned};
-use crate::chains::{displace, first_later, vacate};
 use crate::counting::Counting;
+use crate::displacement::{displace, first_later, vacate};
 use crate::first_slots::FirstSlots;
 use crate::held_slot::HeldSlot;
 use crate::packed_cell::{PackedCell, are_unfixed};
@@ -38,11 +38,11 @@ pub struct Cells<A: Allocator + Copy = Global> {
 
 impl<A: Allocator + Copy> Model for Cells<A> {
     ghost use Rattle.std.specs.Prelude.{map, vec_capacity};
-    ghost use Rattle.flow_slots.specs.CellRow.{CellRow};
+    ghost use Rattle.flow_slots.specs.Cells.{CellsView};
     ghost use Rattle.flow_slots.specs.MadeRow.{HasRoom, filled};
     ghost use Rattle.flow_slots.specs.PackedCell.{from_start};
 
-    ghost Value = { CellRow };
+    ghost Value = { CellsView };
 
     ghost view = { λ c. record {
       row = map (from_start c.start) (filled c.row.items c.len);

@@ -33,9 +33,9 @@
 
 mod cell;
 mod cells;
-mod chains;
 mod change_list;
 mod counting;
+mod displacement;
 mod first_slots;
 mod held_slot;
 pub mod laws;

@@ -44,10 +44,10 @@ pub struct SlotList<A: Allocator + Copy = Global> {
 }
 
 impl<A: Allocator + Copy> Model for SlotList<A> {
-    ghost use Rattle.flow_slots.specs.Lineup.{Slots, IsKeptFrom};
+    ghost use Rattle.flow_slots.specs.Lineup.{SlotListView, IsKeptFrom};
     ghost use Rattle.flow_slots.specs.Row.{waiting_of, fixed_of};
 
-    ghost Value = { Slots };
+    ghost Value = { SlotListView };
 
     ghost view = { λ s. record {
       lineup = record {

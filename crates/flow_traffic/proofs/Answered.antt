@@ -5,14 +5,14 @@ use Rattle.fpl_message.specs.declared.refusal.Refusal.{Refusal}
 use Rattle.fpl_message.specs.declared.refusal.Refusal.TheVariants as refusal
 use Rattle.fpl_message.specs.declared.order.OpenReg.{OpenReg}
 use Rattle.fpl_message.specs.Messages.{Message, Order, open_reg, shut_reg, set_time}
-use Rattle.fpl_message.specs.Reads.{Reading, msg, ord}
-use Rattle.flow_plans.specs.Plans.{Plan}
-use Rattle.flow_plans.specs.Stores.{Store}
+use Rattle.fpl_message.specs.Reads.{ReadingView, msg, ord}
+use Rattle.flow_plans.specs.Plans.{PlanView}
+use Rattle.flow_plans.specs.Stores.{PlanStoreView}
 use Rattle.flow_plans.specs.declared.fault.PlanFault.{PlanFault}
 use Rattle.flow_plans.specs.Changes.{Changed, refusal_of, IsRefusal, Refuses}
 use Rattle.flow_regulations.specs.Regulations.{Regulation}
 use Rattle.flow_regulations.specs.Settling.{settled}
-use Rattle.flow_regulations.specs.Listing.{Listed, regulation_of, IsListed, IsSettled, IsOpened, AreRenewed, is_named, without_named}
+use Rattle.flow_regulations.specs.Listing.{RegulationView, regulation_of, IsListed, IsSettled, IsOpened, AreRenewed, is_named, without_named}
 use Rattle.flow_regulations.specs.Notices.{notices_from, told_from}
 use Rattle.flow_regulations.specs.declared.notice.Told.{Told}
 use Rattle.flow_regulations.specs.declared.notice.Notice.{Notice}
@@ -24,7 +24,7 @@ use Rattle.flow_traffic.specs.declared.verdict.Verdict.TheVariants.{Accepted, Re
 use Rattle.flow_traffic.specs.Traffic.{Traffic}
 use Rattle.flow_traffic.specs.State.{State, with_lists, traffic_of}
 use Rattle.flow_slots.specs.Limits.{rates_fit}
-use Rattle.flow_traffic.specs.Opening.{is_period, regulation_by}
+use Rattle.flow_traffic.specs.Opening.{has_period, regulation_by}
 use Rattle.flow_traffic.specs.Asked.{Asked, asked, changed_by, verdict_on, is_departure, departing, asked_by_message, asked_to_open, asked_to_shut, asked_at, is_called, ordered}
 use Rattle.flow_traffic.specs.declared.opening.TheConstants.{MAX_REGULATIONS}
 use Rattle.flow_traffic.specs.Answers.{settle, told_to, Answers}
@@ -32,12 +32,12 @@ use Rattle.flow_traffic.specs.Kept.{IsSettledFor}
 use Rattle.flow_traffic.proofs.Telling.{told_to-same}
 
 -- an accepted reading
-pub accepted : (reading : Reading) (t new : Traffic) (v : Verdict) (a : Asked) → asked t reading ≡ Ok a → new ≡ settle t a → v ≡ a.verdict → Answers reading t new v
+pub accepted : (reading : ReadingView) (t new : Traffic) (v : Verdict) (a : Asked) → asked t reading ≡ Ok a → new ≡ settle t a → v ≡ a.verdict → Answers reading t new v
 accepted reading t new v a e same verdict =
     subst (λ (r : Result Asked Refusal). MatchResult r (λ a. (new ≡ settle t a) × (v ≡ a.verdict)) (λ refusal. (new ≡ t) × (v ≡ Refused refusal))) (sym e) (same, verdict)
 
 -- a refused one
-pub refused : (reading : Reading) (t : Traffic) (r : Refusal) → asked t reading ≡ Err r → Answers reading t t (Refused r)
+pub refused : (reading : ReadingView) (t : Traffic) (r : Refusal) → asked t reading ≡ Err r → Answers reading t t (Refused r)
 refused reading t r e =
     subst (λ (r' : Result Asked Refusal). MatchResult r' (λ a. (t ≡ settle t a) × (Refused r ≡ a.verdict)) (λ refusal. (t ≡ t) × (Refused r ≡ Refused refusal))) (sym e) (refl, refl)
 
@@ -62,24 +62,24 @@ message-refused t m r e = rw e refl
 
 -- ---- orders
 
-pub opened-asked : (t : Traffic) (m : OpenReg) → is_period m ≡ true → rates_fit m.rate m.more ≡ true → list_any (is_called m.id) t.regulations ≡ false → nat_le MAX_REGULATIONS (length t.regulations) ≡ false
+pub opened-asked : (t : Traffic) (m : OpenReg) → has_period m ≡ true → rates_fit m.rate m.more ≡ true → list_any (is_called m.id) t.regulations ≡ false → nat_le MAX_REGULATIONS (length t.regulations) ≡ false
     → asked t (ord (open_reg m)) ≡ Ok (ordered t kind.Open t.now (t.regulations ++ regulation_by m ∷ []))
 unfolding asked_to_open
 opened-asked t m a b c d = rw (a, b, c, d) refl
 
-pub period-refused : (t : Traffic) (m : OpenReg) → is_period m ≡ false → asked t (ord (open_reg m)) ≡ Err refusal.BadPeriod
+pub period-refused : (t : Traffic) (m : OpenReg) → has_period m ≡ false → asked t (ord (open_reg m)) ≡ Err refusal.BadPeriod
 unfolding asked_to_open
 period-refused t m a = rw a refl
 
-pub rate-refused : (t : Traffic) (m : OpenReg) → is_period m ≡ true → rates_fit m.rate m.more ≡ false → asked t (ord (open_reg m)) ≡ Err refusal.BadRate
+pub rate-refused : (t : Traffic) (m : OpenReg) → has_period m ≡ true → rates_fit m.rate m.more ≡ false → asked t (ord (open_reg m)) ≡ Err refusal.BadRate
 unfolding asked_to_open
 rate-refused t m a b = rw (a, b) refl
 
-pub held-refused : (t : Traffic) (m : OpenReg) → is_period m ≡ true → rates_fit m.rate m.more ≡ true → list_any (is_called m.id) t.regulations ≡ true → asked t (ord (open_reg m)) ≡ Err refusal.RegulationHeld
+pub held-refused : (t : Traffic) (m : OpenReg) → has_period m ≡ true → rates_fit m.rate m.more ≡ true → list_any (is_called m.id) t.regulations ≡ true → asked t (ord (open_reg m)) ≡ Err refusal.RegulationHeld
 unfolding asked_to_open
 held-refused t m a b c = rw (a, b, c) refl
 
-pub full-refused : (t : Traffic) (m : OpenReg) → is_period m ≡ true → rates_fit m.rate m.more ≡ true → list_any (is_called m.id) t.regulations ≡ false → nat_le MAX_REGULATIONS (length t.regulations) ≡ true
+pub full-refused : (t : Traffic) (m : OpenReg) → has_period m ≡ true → rates_fit m.rate m.more ≡ true → list_any (is_called m.id) t.regulations ≡ false → nat_le MAX_REGULATIONS (length t.regulations) ≡ true
     → asked t (ord (open_reg m)) ≡ Err refusal.RegulationsFull
 unfolding asked_to_open
 full-refused t m a b c d = rw (a, b, c, d) refl
@@ -102,7 +102,7 @@ unfolding asked_at
 back-refused t at a = rw a refl
 
 -- one more settled regulation after the others
-pub opened-map : (taxi max now : ℕ) (plans : List Plan) (r : Regulation) (lists new : List Listed) → IsOpened taxi max now plans r lists new → IsListed taxi max plans lists → IsSettled taxi now plans lists
+pub opened-map : (taxi max now : ℕ) (plans : List PlanView) (r : Regulation) (lists new : List RegulationView) → IsOpened taxi max now plans r lists new → IsListed taxi max plans lists → IsSettled taxi now plans lists
     → map regulation_of new ≡ map (settled taxi now plans) (map regulation_of lists ++ r ∷ [])
 opened-map taxi max now plans r lists new h listed settled_in =
     opened-regulations taxi max now plans r lists new h
@@ -116,7 +116,7 @@ opened-map taxi max now plans r lists new h listed settled_in =
 -- ---- after the calls
 
 -- after an accepted message
-pub message-answers : (s : State) (store : Store) (lists : List Listed) (told told1 told2 : List (Option Told)) (notices notices2 : List Notice) (m : Message) (n : ℕ) (v : Verdict) (departs : Bool)
+pub message-answers : (s : State) (store : PlanStoreView) (lists : List RegulationView) (told told1 told2 : List (Option Told)) (notices notices2 : List Notice) (m : Message) (n : ℕ) (v : Verdict) (departs : Bool)
     → store.taxi ≡ s.store.taxi → store.max_plans ≡ s.store.max_plans → s.listing.max_plans ≡ s.store.max_plans → departs ≡ is_departure m
     → changed_by s.store.max_plans s.time s.store.plans m ≡ Ok (record { plans = store.plans; number = n }) → v ≡ verdict_on told m n
     → IsSettledFor departs n s store.plans lists → told1 ≡ told_to store.plans told
@@ -130,7 +130,7 @@ message-answers s store lists told told1 told2 notices notices2 m n v departs ta
     verdict
 
 -- after an accepted order
-pub order-answers : (s : State) (at : ℕ) (lists : List Listed) (told told2 : List (Option Told)) (notices notices2 : List Notice) (order : Order) (kind : Kind) (regulations : List Regulation)
+pub order-answers : (s : State) (at : ℕ) (lists : List RegulationView) (told told2 : List (Option Told)) (notices notices2 : List Notice) (order : Order) (kind : Kind) (regulations : List Regulation)
     → asked (traffic_of s told notices) (ord order) ≡ Ok (ordered (traffic_of s told notices) kind at regulations)
     → map regulation_of lists ≡ map (settled s.store.taxi at s.store.plans) regulations → length told ≡ length s.store.plans
     → told2 ≡ told_from 1 s.store.taxi (map regulation_of lists) s.store.plans told → notices2 ≡ notices ++ notices_from 1 s.store.taxi (map regulation_of lists) s.store.plans told
@@ -147,7 +147,7 @@ length-map f [] = refl
 length-map f (x ∷ xs) = let h : length (map f xs) ≡ length xs = length-map f xs in omega (arith, h)
 
 -- settling closes and opens no regulation
-pub settled-count : (departs : Bool) (n : ℕ) (s : State) (plans : List Plan) (new : List Listed) → IsSettledFor departs n s plans new → length new ≡ length s.listing.lists
+pub settled-count : (departs : Bool) (n : ℕ) (s : State) (plans : List PlanView) (new : List RegulationView) → IsSettledFor departs n s plans new → length new ≡ length s.listing.lists
 settled-count departs n s plans new h =
     sym (count-regulations new) ∙ ap (λ (rs : List Regulation). length rs) h.regulations
     ∙ length-map (settled s.store.taxi s.time plans) (departing departs n s.store.taxi s.listing.max_plans s.store.plans (map regulation_of s.listing.lists)) ∙ same departs
@@ -157,14 +157,14 @@ settled-count departs n s plans new h =
     same false = refl
     same true = length-map _ (map regulation_of s.listing.lists)
 
-pub renewed-count : (taxi max now : ℕ) (plans : List Plan) (lists new : List Listed) → AreRenewed taxi max now plans lists new → length new ≡ length lists
+pub renewed-count : (taxi max now : ℕ) (plans : List PlanView) (lists new : List RegulationView) → AreRenewed taxi max now plans lists new → length new ≡ length lists
 renewed-count taxi max now plans lists new h =
     sym (count-regulations new) ∙ ap (λ (rs : List Regulation). length rs) h.regulations
     ∙ length-map (settled taxi now plans) (map regulation_of lists) ∙ count-regulations lists
 
 -- the period or a rate exceeds a limit
 pub shape-refused : (t : Traffic) (m : OpenReg) (r : Refusal)
-    → ((r ≡ refusal.BadPeriod) × (is_period m ≡ false)) ⊎ ((r ≡ refusal.BadRate) × (is_period m ≡ true) × (rates_fit m.rate m.more ≡ false))
+    → ((r ≡ refusal.BadPeriod) × (has_period m ≡ false)) ⊎ ((r ≡ refusal.BadRate) × (has_period m ≡ true) × (rates_fit m.rate m.more ≡ false))
     → asked t (ord (open_reg m)) ≡ Err r
 shape-refused t m r (inl h) = rw h.0 (period-refused t m h.1)
 shape-refused t m r (inr h) = rw h.0 (rate-refused t m h.1 h.2)
@@ -188,7 +188,7 @@ pub fault-ok : {E : Type 0} (t new : Traffic) (m : Message) (fault : PlanFault) 
 fault-ok {E} t new m fault o v same is h e = let P : Result Verdict E → Type 0 = λ w. IfOk w (Answers (msg m) t new) in subst P is (fault-answers t new m fault o same h e)
 
 -- closing opens none
-pub fewer-named : (id : List ℕ) (ls : List Listed) → length (without_named id ls) ≤ length ls
+pub fewer-named : (id : List ℕ) (ls : List RegulationView) → length (without_named id ls) ≤ length ls
 fewer-named id [] = omega arith
 fewer-named id (l ∷ ls) = by (is_named id l) (fewer-named id ls) where
   by : (b : Bool) → length (without_named id ls) ≤ length ls → length (if not b then l ∷ without_named id ls else without_named id ls) ≤ length (l ∷ ls)

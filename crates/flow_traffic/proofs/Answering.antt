@@ -3,7 +3,7 @@
 use Rattle.std.proofs.Common.{◌≡◌, ◌≤◌, ◌+◌, ◌++◌, List, length, Option, Some, None, Ok, Err, sym, ap, subst, ◌∙◌, arith, length-append, inl}
 use Rattle.std.specs.declared.alloc.AllocError.{AllocError}
 use Rattle.fpl_message.specs.declared.refusal.Refusal.{Refusal}
-use Rattle.fpl_message.specs.Reads.{Reading}
+use Rattle.fpl_message.specs.Reads.{ReadingView}
 use Rattle.flow_plans.specs.declared.setup.TheConstants.{MAX_PLANS}
 use Rattle.flow_regulations.specs.Listing.{IsSettled, HasPair}
 use Rattle.flow_regulations.specs.declared.notice.Told.{Told}
@@ -12,23 +12,23 @@ use Rattle.flow_traffic.specs.declared.undo.Last.{Last}
 use Rattle.flow_traffic.specs.declared.undo.Last.TheVariants as last
 use Rattle.flow_traffic.specs.declared.verdict.Verdict.{Verdict}
 use Rattle.flow_traffic.specs.declared.verdict.Verdict.TheVariants.{Refused}
-use Rattle.flow_traffic.specs.Traffic.{Traffic, Undoable}
+use Rattle.flow_traffic.specs.Traffic.{Traffic, TrafficView}
 use Rattle.flow_traffic.specs.State.{State, traffic_of}
 use Rattle.flow_traffic.specs.Asked.{asked}
 use Rattle.flow_traffic.specs.Answers.{Answers}
 use Rattle.flow_traffic.specs.Answering.{AnswersReading}
 use Rattle.flow_traffic.specs.Frozen.{frozen_pairs}
 use Rattle.flow_traffic.specs.Memory.{MayTakeMemory}
-use Rattle.flow_traffic.specs.Undoing.{LastReading, undone}
+use Rattle.flow_traffic.specs.Undoing.{UndoingView, undone}
 use Rattle.flow_traffic.proofs.Answered.{refused}
 use Rattle.flow_traffic.proofs.FrozenStay.{frozen-settled}
 
 -- what is left
-abbrev pub left : State → List (Option Told) → List Notice → LastReading → Undoable
+abbrev pub left : State → List (Option Told) → List Notice → UndoingView → TrafficView
 left s told notices u = record { traffic = traffic_of s told notices; before = undone u.which u s told notices }
 
 -- the reading is refused
-pub refusing : (reading : Reading) (old : Undoable) (s : State) (told : List (Option Told)) (notices : List Notice) (u : LastReading) (r : Refusal)
+pub refusing : (reading : ReadingView) (old : TrafficView) (s : State) (told : List (Option Told)) (notices : List Notice) (u : UndoingView) (r : Refusal)
     → u.which ≡ last.Refused → traffic_of s told notices ≡ old.traffic → asked old.traffic reading ≡ Err r
     → AnswersReading reading old (left s told notices u) (Ok (Refused r))
 refusing reading old s told notices u r which same e =
@@ -45,12 +45,12 @@ refusing reading old s told notices u r which same e =
     }
 
 -- allocation fails
-pub running-out : (reading : Reading) (old : Undoable) (s : State) (told : List (Option Told)) (notices : List Notice) (u : LastReading) (e : AllocError)
+pub running-out : (reading : ReadingView) (old : TrafficView) (s : State) (told : List (Option Told)) (notices : List Notice) (u : UndoingView) (e : AllocError)
     → u.which ≡ last.Nothing → traffic_of s told notices ≡ old.traffic → MayTakeMemory reading old.traffic
     → AnswersReading reading old (left s told notices u) (Err e)
 running-out reading old s told notices u e which same may =
-    let W : Last → Undoable = λ w. record { traffic = traffic_of s told notices; before = undone w u s told notices } in
-    let T : Traffic → Undoable = λ t. record { traffic = t; before = None } in
+    let W : Last → TrafficView = λ w. record { traffic = traffic_of s told notices; before = undone w u s told notices } in
+    let T : Traffic → TrafficView = λ t. record { traffic = t; before = None } in
     let count : length notices ≡ length old.traffic.notices = ap (λ (t : Traffic). length t.notices) same in
     record {
       answers = tt;
@@ -63,8 +63,8 @@ running-out reading old s told notices u e which same may =
     }
 
 -- it is accepted, in a state of settled slot lists
-pub accepting : (reading : Reading) (old : Undoable) (s : State) (told : List (Option Told)) (notices : List Notice)
-    (new : State) (new_told : List (Option Told)) (new_notices more : List Notice) (u : LastReading) (v : Verdict)
+pub accepting : (reading : ReadingView) (old : TrafficView) (s : State) (told : List (Option Told)) (notices : List Notice)
+    (new : State) (new_told : List (Option Told)) (new_notices more : List Notice) (u : UndoingView) (v : Verdict)
     → traffic_of s told notices ≡ old.traffic → IsSettled s.store.taxi s.time s.store.plans s.listing.lists
     → Answers reading old.traffic (traffic_of new new_told new_notices) v → undone u.which u new new_told new_notices ≡ Some old.traffic
     → new_notices ≡ notices ++ more → length new_notices ≤ length notices + MAX_PLANS

@@ -11,17 +11,17 @@ use Rattle.fpl_message.specs.declared.refusal.Refusal.{Refusal}
 use Rattle.fpl_message.specs.declared.refusal.Refusal.TheVariants as refusal
 use Rattle.fpl_message.specs.declared.order.OpenReg.{OpenReg}
 use Rattle.fpl_message.specs.Messages.{Message, fpl, dla, chg, cnl, dep, open_reg, shut_reg, set_time}
-use Rattle.fpl_message.specs.Reads.{Reading, msg, ord, bad}
+use Rattle.fpl_message.specs.Reads.{ReadingView, msg, ord, bad}
 use Rattle.fpl_message.specs.Refusals.{◌>>=◌}
 use Rattle.flow_plans.specs.declared.plan.PlanState.TheVariants as state
-use Rattle.flow_plans.specs.Plans.{Plan, plan_at, with_state}
+use Rattle.flow_plans.specs.Plans.{PlanView, plan_at, with_state}
 use Rattle.flow_plans.specs.Changes.{Changed, filed}
 use Rattle.flow_plans.proofs.Distincts.{filed-count}
 use Rattle.flow_slots.specs.Assignment.{Placed}
 use Rattle.flow_slots.specs.Lineup.{assigned}
 use Rattle.flow_regulations.specs.Regulations.{Regulation, has_flight, lineup_of}
 use Rattle.flow_regulations.specs.Settling.{keeps, stays, settled, frozen_at_departure, insert_all, pairs_of}
-use Rattle.flow_regulations.specs.Listing.{Listed, regulation_of, IsSettled, AreSameBut, HasPair}
+use Rattle.flow_regulations.specs.Listing.{RegulationView, regulation_of, IsSettled, AreSameBut, HasPair}
 use Rattle.flow_regulations.specs.declared.notice.Told.{Told}
 use Rattle.flow_regulations.specs.declared.notice.Notice.{Notice}
 use Rattle.flow_regulations.proofs.Advances.{stays-later}
@@ -36,7 +36,7 @@ use Rattle.flow_traffic.specs.declared.verdict.Verdict.TheVariants.{Refused}
 use Rattle.flow_traffic.specs.Traffic.{Traffic, regulation_named}
 use Rattle.flow_traffic.specs.State.{State, traffic_of}
 use Rattle.flow_slots.specs.Limits.{rates_fit}
-use Rattle.flow_traffic.specs.Opening.{is_period, regulation_by}
+use Rattle.flow_traffic.specs.Opening.{has_period, regulation_by}
 use Rattle.flow_traffic.specs.Asked.{Asked, asked, asked_by_message, asked_to_open, asked_to_shut, asked_at, changed_by, departing, is_called, is_departure, ordered, verdict_on}
 use Rattle.flow_traffic.specs.declared.opening.TheConstants.{MAX_REGULATIONS}
 use Rattle.flow_traffic.specs.Answers.{Answers, settle}
@@ -46,11 +46,11 @@ use Rattle.flow_traffic.proofs.Changing.{ok-same, unless-ok, filed-same, delayed
 -- ---- which pairs may stay
 
 -- all frozen pairs of these regulations may stay by this time and these plans
-abbrev pub MayStay : ℕ → ℕ → List Plan → List Regulation → Type 0
+abbrev pub MayStay : ℕ → ℕ → List PlanView → List Regulation → Type 0
 MayStay taxi at plans regulations = AllByRecursion (λ r. AllByRecursion (λ a. (0 < a.flight) × (stays taxi at plans r a ≡ true)) r.fixed) regulations
 
 -- those of settled regulations may, from then on
-pub may-stay : (taxi now at : ℕ) (plans : List Plan) (lists : List Listed) → now ≤ at → IsSettled taxi now plans lists → MayStay taxi at plans (map regulation_of lists)
+pub may-stay : (taxi now at : ℕ) (plans : List PlanView) (lists : List RegulationView) → now ≤ at → IsSettled taxi now plans lists → MayStay taxi at plans (map regulation_of lists)
 may-stay taxi now at plans [] later s = tt
 may-stay taxi now at plans (l ∷ ls) later s = (stays-later taxi now at plans l later s.0, may-stay taxi now at plans ls later s.1)
 
@@ -60,38 +60,38 @@ pair-of P a (x ∷ xs) all (inl e) = subst P e all.0
 pair-of P a (x ∷ xs) all (inr h) = pair-of P a xs all.1 h
 
 -- the pair may stay if it is frozen
-abbrev AStays : ℕ → ℕ → List Plan → Placed → Regulation → Type 0
+abbrev AStays : ℕ → ℕ → List PlanView → Placed → Regulation → Type 0
 AStays taxi at plans a r = HasPair a r.fixed → (0 < a.flight) × (stays taxi at plans r a ≡ true)
 
-this-stays : (taxi at : ℕ) (plans : List Plan) (a : Placed) (rs : List Regulation) → MayStay taxi at plans rs → AllByRecursion (AStays taxi at plans a) rs
+this-stays : (taxi at : ℕ) (plans : List PlanView) (a : Placed) (rs : List Regulation) → MayStay taxi at plans rs → AllByRecursion (AStays taxi at plans a) rs
 this-stays taxi at plans a rs all =
     all-map (λ r. AllByRecursion (λ b. (0 < b.flight) × (stays taxi at plans r b ≡ true)) r.fixed) (AStays taxi at plans a) rs
     (λ r each has. pair-of (λ b. (0 < b.flight) × (stays taxi at plans r b ≡ true)) a r.fixed each has) all
 
 -- it is of a plan that there is
-stays-within : (taxi at : ℕ) (plans : List Plan) (r : Regulation) (a : Placed) → stays taxi at plans r a ≡ true → (p : Plan) × (plan_at plans a.flight ≡ Some p)
+stays-within : (taxi at : ℕ) (plans : List PlanView) (r : Regulation) (a : Placed) → stays taxi at plans r a ≡ true → (p : PlanView) × (plan_at plans a.flight ≡ Some p)
 stays-within taxi at plans r a h = by (plan_at plans a.flight) h where
-  by : (o : Option Plan) → option_map_or (keeps taxi at r a.slot) o false ≡ true → (p : Plan) × (o ≡ Some p)
+  by : (o : Option PlanView) → option_map_or (keeps taxi at r a.slot) o false ≡ true → (p : PlanView) × (o ≡ Some p)
   by None e = absurd (cc)
   by (Some p) e = (p, refl)
 
 -- if its plan is as before, it may stay
-stays-same : (taxi at : ℕ) (plans later : List Plan) (r : Regulation) (a : Placed) → plan_at later a.flight ≡ plan_at plans a.flight → stays taxi at plans r a ≡ true → stays taxi at later r a ≡ true
-stays-same taxi at plans later r a same h = ap (λ (o : Option Plan). option_map_or (keeps taxi at r a.slot) o false) same ∙ h
+stays-same : (taxi at : ℕ) (plans later : List PlanView) (r : Regulation) (a : Placed) → plan_at later a.flight ≡ plan_at plans a.flight → stays taxi at plans r a ≡ true → stays taxi at later r a ≡ true
+stays-same taxi at plans later r a same h = ap (λ (o : Option PlanView). option_map_or (keeps taxi at r a.slot) o false) same ∙ h
 
 -- and if its flight has departed
-stays-departed : (taxi at : ℕ) (later : List Plan) (r : Regulation) (a : Placed) (p : Plan) → plan_at later a.flight ≡ Some (with_state state.Departed p) → stays taxi at later r a ≡ true
-stays-departed taxi at later r a p gone = ap (λ (o : Option Plan). option_map_or (keeps taxi at r a.slot) o false) gone
+stays-departed : (taxi at : ℕ) (later : List PlanView) (r : Regulation) (a : Placed) (p : PlanView) → plan_at later a.flight ≡ Some (with_state state.Departed p) → stays taxi at later r a ≡ true
+stays-departed taxi at later r a p gone = ap (λ (o : Option PlanView). option_map_or (keeps taxi at r a.slot) o false) gone
 
 -- freezing a departing flight removes none, and changes no period
-stays-frozen : (taxi at max n : ℕ) (before later : List Plan) (r : Regulation) (a : Placed) → stays taxi at later r a ≡ true → stays taxi at later (frozen_at_departure taxi max before n r) a ≡ true
+stays-frozen : (taxi at max n : ℕ) (before later : List PlanView) (r : Regulation) (a : Placed) → stays taxi at later r a ≡ true → stays taxi at later (frozen_at_departure taxi max before n r) a ≡ true
 unfolding frozen_at_departure
 stays-frozen taxi at max n before later r a h = by (has_flight n r.fixed) where
   by : (b : Bool) → stays taxi at later (if b then r else record r { fixed = insert_all (pairs_of n (assigned (lineup_of taxi max before r))) r.fixed }) a ≡ true
   by true = h
   by false = h
 
-frozen-name : (taxi max n : ℕ) (before : List Plan) (r : Regulation) → (frozen_at_departure taxi max before n r).id ≡ r.id
+frozen-name : (taxi max n : ℕ) (before : List PlanView) (r : Regulation) → (frozen_at_departure taxi max before n r).id ≡ r.id
 unfolding frozen_at_departure
 frozen-name taxi max n before r = by (has_flight n r.fixed) where
   by : (b : Bool) → (if b then r else record r { fixed = insert_all (pairs_of n (assigned (lineup_of taxi max before r))) r.fixed }).id ≡ r.id
@@ -147,7 +147,7 @@ all-left P test (r ∷ rs) all = by (test r) (all-left P test rs all.1) where
 -- ---- settling
 
 -- a pair that may stay by the plans before and also by those after is there after settling
-pairs-settled : (taxi at : ℕ) (plans later : List Plan) (rs : List Regulation) (id : List ℕ) (a : Placed) → AllByRecursion (AStays taxi at plans a) rs
+pairs-settled : (taxi at : ℕ) (plans later : List PlanView) (rs : List Regulation) (id : List ℕ) (a : Placed) → AllByRecursion (AStays taxi at plans a) rs
     → ((r : Regulation) → 0 < a.flight → stays taxi at plans r a ≡ true → stays taxi at later r a ≡ true)
     → HasPair a (frozen_pairs id rs) → HasPair a (frozen_pairs id (map (settled taxi at later) rs))
 pairs-settled taxi at plans later rs id a all on =
@@ -156,7 +156,7 @@ pairs-settled taxi at plans later rs id a all on =
     (λ r may has. settling-keeps taxi at later r a (on r (may has).0 (may has).1) has) all)
 
 -- the same if one flight departs
-pairs-departing : (taxi max at n : ℕ) (plans later : List Plan) (rs : List Regulation) (id : List ℕ) (a : Placed) → AllByRecursion (AStays taxi at plans a) rs
+pairs-departing : (taxi max at n : ℕ) (plans later : List PlanView) (rs : List Regulation) (id : List ℕ) (a : Placed) → AllByRecursion (AStays taxi at plans a) rs
     → ((r : Regulation) → 0 < a.flight → stays taxi at plans r a ≡ true → stays taxi at later r a ≡ true)
     → HasPair a (frozen_pairs id rs) → HasPair a (frozen_pairs id (map (settled taxi at later) (map (frozen_at_departure taxi max plans n) rs)))
 pairs-departing taxi max at n plans later rs id a all on h =
@@ -173,17 +173,17 @@ pairs-departing taxi max at n plans later rs id a all on h =
 
 module _ (t : Traffic) (id : List ℕ) (a : Placed) (all : MayStay t.taxi t.now t.plans t.regulations) (h : HasPair a (frozen_pairs id t.regulations)) where
   -- of the plan of another number
-  other-stays : (n : ℕ) (later : List Plan) → AreSameBut n t.plans later → (a.flight ≡ n → ⊥) → (r : Regulation) → 0 < a.flight → stays t.taxi t.now t.plans r a ≡ true → stays t.taxi t.now later r a ≡ true
+  other-stays : (n : ℕ) (later : List PlanView) → AreSameBut n t.plans later → (a.flight ≡ n → ⊥) → (r : Regulation) → 0 < a.flight → stays t.taxi t.now t.plans r a ≡ true → stays t.taxi t.now later r a ≡ true
   other-stays n later same apart r some may = stays-same t.taxi t.now t.plans later r a (same a.flight some apart) may
 
-  filed-stays : (later : List Plan) → AreSameBut (length later) t.plans later → length later ≡ length t.plans + 1
+  filed-stays : (later : List PlanView) → AreSameBut (length later) t.plans later → length later ≡ length t.plans + 1
       → (r : Regulation) → 0 < a.flight → stays t.taxi t.now t.plans r a ≡ true → stays t.taxi t.now later r a ≡ true
   filed-stays later same count r some may =
       let p = stays-within t.taxi t.now t.plans r a may in
       let within : a.flight - 1 < length t.plans = slice_get_within t.plans (a.flight - 1) p.0 p.1 in
       other-stays (length later) later same (λ e. absurd (omega (arith, e, within, count, some))) r some may
 
-  departed-stays : (n : ℕ) (later : List Plan) → AreSameBut n t.plans later → ((p : Plan) → plan_at t.plans n ≡ Some p → plan_at later n ≡ Some (with_state state.Departed p))
+  departed-stays : (n : ℕ) (later : List PlanView) → AreSameBut n t.plans later → ((p : PlanView) → plan_at t.plans n ≡ Some p → plan_at later n ≡ Some (with_state state.Departed p))
       → (r : Regulation) → 0 < a.flight → stays t.taxi t.now t.plans r a ≡ true → stays t.taxi t.now later r a ≡ true
   departed-stays n later same gone r some may = ⊎_elim own (λ ne. other-stays n later same ne r some may) (cases_eq a.flight n) where
     own : a.flight ≡ n → stays t.taxi t.now later r a ≡ true
@@ -193,7 +193,7 @@ module _ (t : Traffic) (id : List ℕ) (a : Placed) (all : MayStay t.taxi t.now 
         stays-departed t.taxi t.now later r a p.0 (ap (λ k. plan_at later k) e ∙ gone p.0 there)
 
   -- after a message about that plan, which may remove its pair
-  pairs-after : (n : ℕ) (later : List Plan) → AreSameBut n t.plans later → HasPair a (frozen_pairs id (map (settled t.taxi t.now later) t.regulations)) ⊎ (n ≡ a.flight)
+  pairs-after : (n : ℕ) (later : List PlanView) → AreSameBut n t.plans later → HasPair a (frozen_pairs id (map (settled t.taxi t.now later) t.regulations)) ⊎ (n ≡ a.flight)
   pairs-after n later same = ⊎_elim (λ e. inr (sym e)) (λ ne. inl (stay ne)) (cases_eq a.flight n) where
     stay : (a.flight ≡ n → ⊥) → HasPair a (frozen_pairs id (map (settled t.taxi t.now later) t.regulations))
     stay ne = pairs-settled t.taxi t.now t.plans later t.regulations id a (this-stays t.taxi t.now t.plans a t.regulations all) (other-stays n later same ne) h
@@ -202,7 +202,7 @@ module _ (t : Traffic) (id : List ℕ) (a : Placed) (all : MayStay t.taxi t.now 
       → IsFrozenStill (msg m) (verdict_on t.told m c.number) (map (settled t.taxi t.now c.plans) (departing (is_departure m) c.number t.taxi t.max_plans t.plans t.regulations)) id a
   unfolding changed_by verdict_on is_departure
   message-stays (fpl m) c e = by (filed t.max_plans t.now t.plans m) refl e where
-    by : (r : Result (List Plan) Refusal) → filed t.max_plans t.now t.plans m ≡ r → (r >>= (λ more. Ok (record { plans = more; number = length more }))) ≡ Ok c
+    by : (r : Result (List PlanView) Refusal) → filed t.max_plans t.now t.plans m ≡ r → (r >>= (λ more. Ok (record { plans = more; number = length more }))) ≡ Ok c
         → IsFrozenStill (msg (fpl m)) (verdict_on t.told (fpl m) c.number) (map (settled t.taxi t.now c.plans) t.regulations) id a
     by (Err r) q e = absurd (cc)
     by (Ok more) q e =
@@ -211,7 +211,7 @@ module _ (t : Traffic) (id : List ℕ) (a : Placed) (all : MayStay t.taxi t.now 
         let stay : HasPair a (frozen_pairs id (map (settled t.taxi t.now more) t.regulations)) =
         pairs-settled t.taxi t.now t.plans more t.regulations id a (this-stays t.taxi t.now t.plans a t.regulations all)
         (filed-stays more (filed-same t.max_plans t.now t.plans more m q) (filed-count t.max_plans t.now t.plans more m q)) h in
-        inl (subst (λ (ps : List Plan). HasPair a (frozen_pairs id (map (settled t.taxi t.now ps) t.regulations))) plans stay)
+        inl (subst (λ (ps : List PlanView). HasPair a (frozen_pairs id (map (settled t.taxi t.now ps) t.regulations))) plans stay)
   message-stays (dla m) c e = pairs-after c.number c.plans (delayed-same t.now t.plans m c e).1
   message-stays (chg m) c e = pairs-after c.number c.plans (amended-same t.now t.plans m c e).1
   message-stays (cnl m) c e = pairs-after c.number c.plans (cancelled-same t.plans m c e).1
@@ -230,7 +230,7 @@ module _ (t : Traffic) (all : (at : ℕ) → t.now ≤ at → MayStay t.taxi at 
   now-all = all t.now (omega arith)
 
   -- as what is asked for
-  abbrev StaysBy : Reading → Asked → Type 0
+  abbrev StaysBy : ReadingView → Asked → Type 0
   StaysBy reading x = IsFrozenStill reading x.verdict (settled_by t x) id a
 
   message-accepted : (m : Message) (x : Asked) → asked_by_message t m ≡ Ok x → StaysBy (msg m) x
@@ -245,7 +245,7 @@ module _ (t : Traffic) (all : (at : ℕ) → t.now ≤ at → MayStay t.taxi at 
   open-accepted : (m : OpenReg) (x : Asked) → asked_to_open t m ≡ Ok x → StaysBy (ord (open_reg m)) x
   unfolding asked_to_open
   open-accepted m x e =
-      let b = unless-ok (not (is_period m)) refusal.BadPeriod _ x e in
+      let b = unless-ok (not (has_period m)) refusal.BadPeriod _ x e in
       let c = unless-ok (not (rates_fit m.rate m.more)) refusal.BadRate _ x b in
       let d = unless-ok (list_any (is_called m.id) t.regulations) refusal.RegulationHeld _ x c in
       let f = unless-ok (nat_le MAX_REGULATIONS (length t.regulations)) refusal.RegulationsFull _ x d in
@@ -273,7 +273,7 @@ module _ (t : Traffic) (all : (at : ℕ) → t.now ≤ at → MayStay t.taxi at 
         subst (StaysBy (ord (set_time at))) (ok-same (ordered t kind.Time at t.regulations) x e)
         (inl (pairs-settled t.taxi at t.plans t.plans t.regulations id a (this-stays t.taxi at t.plans a t.regulations (all at (ltb-false at t.now q))) (λ r some may. may) h))
 
-  accepted-stays : (reading : Reading) (x : Asked) → asked t reading ≡ Ok x → StaysBy reading x
+  accepted-stays : (reading : ReadingView) (x : Asked) → asked t reading ≡ Ok x → StaysBy reading x
   accepted-stays (msg m) x e = message-accepted m x e
   accepted-stays (ord (open_reg m)) x e = open-accepted m x e
   accepted-stays (ord (shut_reg named)) x e = shut-accepted named x e
@@ -281,7 +281,7 @@ module _ (t : Traffic) (all : (at : ℕ) → t.now ≤ at → MayStay t.taxi at 
   accepted-stays (bad refusal) x e = absurd (cc)
 
 -- if all frozen pairs may stay from now on, they do, except those that the reading may remove
-pub frozen-stay : (reading : Reading) (old new : Traffic) (v : Verdict) → ((at : ℕ) → old.now ≤ at → MayStay old.taxi at old.plans old.regulations) → Answers reading old new v → FrozenPairsStay reading old new v
+pub frozen-stay : (reading : ReadingView) (old new : Traffic) (v : Verdict) → ((at : ℕ) → old.now ≤ at → MayStay old.taxi at old.plans old.regulations) → Answers reading old new v → FrozenPairsStay reading old new v
 unfolding settle
 frozen-stay reading old new v all answers id a h = by (asked old reading) refl answers where
   by : (r : Result Asked Refusal) → asked old reading ≡ r → MatchResult r (λ x. (new ≡ settle old x) × (v ≡ x.verdict)) (λ refusal. (new ≡ old) × (v ≡ Refused refusal))
@@ -292,7 +292,7 @@ frozen-stay reading old new v all answers id a h = by (asked old reading) refl a
   by (Err r) e is = subst (λ (s : Traffic). IsFrozenStill reading v s.regulations id a) (sym is.0) (inl h)
 
 -- the same if the traffic before is that of settled slot lists
-pub frozen-settled : (reading : Reading) (s : State) (told : List (Option Told)) (notices : List Notice) (old new : Traffic) (v : Verdict)
+pub frozen-settled : (reading : ReadingView) (s : State) (told : List (Option Told)) (notices : List Notice) (old new : Traffic) (v : Verdict)
     → traffic_of s told notices ≡ old → IsSettled s.store.taxi s.time s.store.plans s.listing.lists → Answers reading old new v → FrozenPairsStay reading old new v
 frozen-settled reading s told notices old new v was settled_in answers =
     frozen-stay reading old new v

@@ -7,16 +7,16 @@ use Rattle.std.proofs.lemmas.List.{take_more}
 use Rattle.std.proofs.lemmas.List.Elements.{All-nil, All-push}
 use Rattle.std.proofs.Math.Seq.{take-length, take-append_seam}
 use Rattle.flow_plans.specs.declared.plan.Status.{Status}
-use Rattle.flow_plans.specs.Plans.{Plan, plan_at, status_at}
-use Rattle.flow_plans.specs.Stores.{Store}
+use Rattle.flow_plans.specs.Plans.{PlanView, plan_at, status_at}
+use Rattle.flow_plans.specs.Stores.{PlanStoreView}
 use Rattle.flow_slots.specs.Lineup.{Lineup, fixed_slot, with_waiting, without_flight}
 use Rattle.flow_regulations.specs.declared.notice.Told.{Told}
 use Rattle.flow_regulations.specs.declared.notice.Notice.{Notice}
-use Rattle.flow_regulations.specs.declared.places.Place.{Place}
+use Rattle.flow_regulations.specs.declared.slot_state.Place.{Place}
 use Rattle.flow_regulations.specs.Regulations.{Regulation, subject_to}
 use Rattle.flow_regulations.specs.Awaiting.{Covers, HaveBecomeDue}
-use Rattle.flow_regulations.specs.Listing.{Closing, IsOpened, is_named, Listed, Listing, regulation_of, with_lineup, without_in, with_fixed_waiting, released, released_in, IsReleased, Walked, HoldNewlyDue}
-use Rattle.flow_regulations.specs.Places.{stood, ArePlaces}
+use Rattle.flow_regulations.specs.Listing.{ClosedView, IsOpened, is_named, RegulationView, RegulationsView, regulation_of, with_lineup, without_in, with_fixed_waiting, released, released_in, IsReleased, Walked, HoldNewlyDue}
+use Rattle.flow_regulations.specs.SlotStates.{stood, ArePlaces}
 use Rattle.flow_regulations.proofs.PutBack.{stood-there}
 use Rattle.flow_regulations.proofs.Queues.{due-there, became-within}
 use Rattle.flow_regulations.proofs.Released.{release-step}
@@ -27,17 +27,17 @@ use Rattle.flow_traffic.specs.State.{State, traffic_of}
 use Rattle.flow_traffic.specs.Kept.{IsKept}
 use Rattle.flow_traffic.specs.Reopening.{open_again}
 use Rattle.flow_traffic.specs.Telling.{told_again}
-use Rattle.flow_traffic.specs.Undoing.{LastReading, has_changed, told_past, traffic_past, stood_again, waiting_again, all_waiting_again, before_last, past, undone, CanUndo, IsAgain, AreNoted, WasKept, IsKeptWith}
+use Rattle.flow_traffic.specs.Undoing.{UndoingView, has_changed, told_past, traffic_past, stood_again, waiting_again, all_waiting_again, before_last, past, undone, CanUndo, IsAgain, AreNoted, WasKept, IsKeptWith}
 use Rattle.flow_traffic.specs.Answers.{told_to}
 use Rattle.flow_traffic.proofs.Both.{some-same}
 use Rattle.flow_traffic.proofs.ToldAgain.{told_to-undone}
 
-abbrev head-of : Listed → List Listed → Listed
+abbrev head-of : RegulationView → List RegulationView → RegulationView
 head-of d [] = d
 head-of d (l ∷ ls) = l
 
 -- a flight has its former slots again
-pub stands-again : (n : ℕ) (ps : List Place) (ls bs : List Listed) → ArePlaces n ps bs → map (without_in n) ls ≡ map (without_in n) bs → stood_again n ps ls ≡ bs
+pub stands-again : (n : ℕ) (ps : List Place) (ls bs : List RegulationView) → ArePlaces n ps bs → map (without_in n) ls ≡ map (without_in n) bs → stood_again n ps ls ≡ bs
 stands-again n [] [] [] h e = refl
 stands-again n [] (l ∷ ls) [] h e = absurd cc
 stands-again n [] ls (b ∷ bs) h e = absurd h
@@ -45,7 +45,7 @@ stands-again n (p ∷ ps) ls [] h e = absurd h
 stands-again n (p ∷ ps) [] (b ∷ bs) h e = absurd cc
 stands-again n (p ∷ ps) (l ∷ ls) (b ∷ bs) h e =
     let here : without_in n l ≡ without_in n b = ap (λ xs. head-of l xs) e in
-    let rest : map (without_in n) ls ≡ map (without_in n) bs = ap (λ (xs : List Listed). drop 1 xs) e in
+    let rest : map (without_in n) ls ≡ map (without_in n) bs = ap (λ (xs : List RegulationView). drop 1 xs) e in
     ap (λ x. x ∷ stood_again n ps ls) (stood-there n p l (without_in n l) (with_lineup (stood p n (without_flight n l.lineup)) l) b h.0 here refl refl)
     ∙ ap (λ xs. b ∷ xs) (stands-again n ps ls bs h.1 rest)
 
@@ -58,27 +58,27 @@ keeps-capacity (Some e) n l = by (is_some (fixed_slot l n)) where
   by true = refl
   by false = refl
 
-released-walk : (taxi n : ℕ) (plans : List Plan) (p : Plan) (ls : List Listed) → plan_at plans n ≡ Some p
+released-walk : (taxi n : ℕ) (plans : List PlanView) (p : PlanView) (ls : List RegulationView) → plan_at plans n ≡ Some p
     → Walked (IsReleased n taxi plans) (length (map (released_in taxi p n) ls)) ls (map (released_in taxi p n) ls)
 released-walk taxi n plans p [] at = refl
 released-walk taxi n plans p (l ∷ ls) at = (
   record {
-    same = λ q there. ap (λ (r : Plan). released_in taxi r n l) (some-same (plan_at plans n) p q at there);
+    same = λ q there. ap (λ (r : PlanView). released_in taxi r n l) (some-same (plan_at plans n) p q at there);
     id = refl;
     capacity = keeps-capacity (subject_to taxi (regulation_of l) p) n l.lineup;
   },
   released-walk taxi n plans p ls at,
 )
 
-all-last : (taxi n : ℕ) (plans : List Plan) (ns : List ℕ) (ls : List Listed) → all_waiting_again taxi plans (ns ++ n ∷ []) ls ≡ all_waiting_again taxi plans ns (waiting_again taxi plans n ls)
+all-last : (taxi n : ℕ) (plans : List PlanView) (ns : List ℕ) (ls : List RegulationView) → all_waiting_again taxi plans (ns ++ n ∷ []) ls ≡ all_waiting_again taxi plans ns (waiting_again taxi plans n ls)
 all-last taxi n plans [] ls = refl
 all-last taxi n plans (m ∷ ns) ls = ap (λ xs. waiting_again taxi plans m xs) (all-last taxi n plans ns ls)
 
-none-fixed : (ls : List Listed) → map (with_fixed_waiting []) ls ≡ ls
+none-fixed : (ls : List RegulationView) → map (with_fixed_waiting []) ls ≡ ls
 none-fixed [] = refl
 none-fixed (l ∷ ls) = ap (λ xs. l ∷ xs) (none-fixed ls)
 
-waiting-first : (taxi max earlier now : ℕ) (plans : List Plan) (due : List ℕ) (before : List Listed) → HaveBecomeDue taxi max earlier now plans due before → (j : ℕ) → j ≤ length due
+waiting-first : (taxi max earlier now : ℕ) (plans : List PlanView) (due : List ℕ) (before : List RegulationView) → HaveBecomeDue taxi max earlier now plans due before → (j : ℕ) → j ≤ length due
     → all_waiting_again taxi plans (take j due) (map (with_fixed_waiting (take j due)) before) ≡ before
 waiting-first taxi max earlier now plans due before h zero within = none-fixed before
 waiting-first taxi max earlier now plans due before h (suc j) within =
@@ -87,16 +87,16 @@ waiting-first taxi max earlier now plans due before h (suc j) within =
     let b = h.became j 0 inside in
     let p = due-there now n plans b.1 in
     let next : suc j ≡ j + 1 = omega arith in
-    let ms : List Listed = map (with_fixed_waiting (take (j + 1) due)) before in
+    let ms : List RegulationView = map (with_fixed_waiting (take (j + 1) due)) before in
     let step = release-step taxi max earlier now j plans due before ms (map (released_in taxi p.0 n) ms) h inside refl (released-walk taxi n plans p.0 ms p.1) in
     ap (λ k. all_waiting_again taxi plans (take k due) (map (with_fixed_waiting (take k due)) before)) next
     ∙ ap (λ ns. all_waiting_again taxi plans ns ms) (take_more due j 0 inside)
     ∙ all-last taxi n plans (take j due) ms
-    ∙ ap (λ (o : Option Plan). all_waiting_again taxi plans (take j due) (option_map_or (λ q. map (released_in taxi q n) ms) o ms)) p.1
+    ∙ ap (λ (o : Option PlanView). all_waiting_again taxi plans (take j due) (option_map_or (λ q. map (released_in taxi q n) ms) o ms)) p.1
     ∙ ap (λ xs. all_waiting_again taxi plans (take j due) xs) step
     ∙ waiting-first taxi max earlier now plans due before h j (omega (arith, within))
 
-pub waits-again : (taxi max earlier now : ℕ) (plans : List Plan) (due : List ℕ) (before lists : List Listed) → HaveBecomeDue taxi max earlier now plans due before → lists ≡ map (with_fixed_waiting due) before
+pub waits-again : (taxi max earlier now : ℕ) (plans : List PlanView) (due : List ℕ) (before lists : List RegulationView) → HaveBecomeDue taxi max earlier now plans due before → lists ≡ map (with_fixed_waiting due) before
     → all_waiting_again taxi plans due lists ≡ before
 waits-again taxi max earlier now plans due before lists h is =
     ap (λ xs. all_waiting_again taxi plans due xs) is
@@ -105,10 +105,10 @@ waits-again taxi max earlier now plans due before lists h is =
 
 -- ---- what can be undone
 
-pub plans-before : (store : Store) (plans : List Plan) → store.before ≡ Some plans → option_map_or (λ ps. ps) store.before [] ≡ plans
-plans-before store plans e = ap (λ (o : Option (List Plan)). option_map_or (λ ps. ps) o []) e
+pub plans-before : (store : PlanStoreView) (plans : List PlanView) → store.before ≡ Some plans → option_map_or (λ ps. ps) store.before [] ≡ plans
+plans-before store plans e = ap (λ (o : Option (List PlanView)). option_map_or (λ ps. ps) o []) e
 
-pub can-forget : (n : ℕ) (r : LastReading) (s : State) (plans : List Plan) (lists : List Listed)
+pub can-forget : (n : ℕ) (r : UndoingView) (s : State) (plans : List PlanView) (lists : List RegulationView)
     → 0 < n → n ≤ s.listing.max_plans → s.store.before ≡ Some plans → ArePlaces n r.places lists → map (without_in n) s.listing.lists ≡ map (without_in n) lists → Covers s.time plans s.queue.flights
     → CanUndo (reading.Message n) r s
 can-forget n r s plans lists some room before stand alone covers =
@@ -118,19 +118,19 @@ can-forget n r s plans lists some room before stand alone covers =
       some = some;
       room = room;
       before = before ∙ ap Some ended;
-      stand = (let P : List Listed → Type 0 = λ ls. ArePlaces n r.places ls in subst P stood stand);
+      stand = (let P : List RegulationView → Type 0 = λ ls. ArePlaces n r.places ls in subst P stood stand);
       alone = alone ∙ ap (λ ls. map (without_in n) ls) stood;
-      covers = (let P : List Plan → Type 0 = λ ps. Covers s.time ps s.queue.flights in subst P ended covers);
+      covers = (let P : List PlanView → Type 0 = λ ps. Covers s.time ps s.queue.flights in subst P ended covers);
     }
 
-pub can-go-back : (earlier : ℕ) (r : LastReading) (s : State) (lists : List Listed)
+pub can-go-back : (earlier : ℕ) (r : UndoingView) (s : State) (lists : List RegulationView)
     → HaveBecomeDue s.store.taxi s.listing.max_plans earlier s.time s.store.plans r.changed lists → s.listing.lists ≡ map (with_fixed_waiting r.changed) lists
     → HoldNewlyDue earlier s.time s.store.plans r.changed → Covers s.time s.store.plans s.queue.flights → length s.queue.flights + length r.changed ≤ s.queue.room
     → CanUndo (reading.Time earlier) r s
 can-go-back earlier r s lists due fixed hold covers room =
     let was = sym (waits-again s.store.taxi s.listing.max_plans earlier s.time s.store.plans r.changed lists s.listing.lists due fixed) in
     record {
-      due = (let P : List Listed → Type 0 = λ ls. HaveBecomeDue s.store.taxi s.listing.max_plans earlier s.time s.store.plans r.changed ls in subst P was due);
+      due = (let P : List RegulationView → Type 0 = λ ls. HaveBecomeDue s.store.taxi s.listing.max_plans earlier s.time s.store.plans r.changed ls in subst P was due);
       fixed = fixed ∙ ap (λ ls. map (with_fixed_waiting r.changed) ls) was;
       within = became-within _ _ _ _ due.became;
       hold = hold;
@@ -138,27 +138,27 @@ can-go-back earlier r s lists due fixed hold covers room =
       room = room;
     }
 
-before-last : (lists new : List Listed) (l : Listed) → new ≡ lists ++ l ∷ [] → before_last new ≡ lists
+before-last : (lists new : List RegulationView) (l : RegulationView) → new ≡ lists ++ l ∷ [] → before_last new ≡ lists
 before-last lists new l e =
     let count : length (lists ++ l ∷ []) - 1 ≡ length lists = omega (arith, length-append lists (l ∷ [])) in
     ap before_last e ∙ ap (λ k. take k (lists ++ l ∷ [])) count ∙ take-append_seam lists (l ∷ [])
 
-pub was-opened : (taxi max now : ℕ) (plans : List Plan) (r : Regulation) (lists new : List Listed) → IsOpened taxi max now plans r lists new → before_last new ≡ lists
+pub was-opened : (taxi max now : ℕ) (plans : List PlanView) (r : Regulation) (lists new : List RegulationView) → IsOpened taxi max now plans r lists new → before_last new ≡ lists
 was-opened taxi max now plans r lists new h = before-last lists new h.0 h.1
 
-pub can-unopen : (taxi max now : ℕ) (plans : List Plan) (r : Regulation) (lists new : List Listed) → IsOpened taxi max now plans r lists new → (l : Listed) × (new ≡ before_last new ++ l ∷ [])
+pub can-unopen : (taxi max now : ℕ) (plans : List PlanView) (r : Regulation) (lists new : List RegulationView) → IsOpened taxi max now plans r lists new → (l : RegulationView) × (new ≡ before_last new ++ l ∷ [])
 can-unopen taxi max now plans r lists new h = (h.0, h.1 ∙ ap (λ ls. ls ++ h.0 ∷ []) (sym (before-last lists new h.0 h.1)))
 
-pub opened-count : (taxi max now : ℕ) (plans : List Plan) (r : Regulation) (lists new : List Listed) → IsOpened taxi max now plans r lists new → length new ≡ length lists + 1
+pub opened-count : (taxi max now : ℕ) (plans : List PlanView) (r : Regulation) (lists new : List RegulationView) → IsOpened taxi max now plans r lists new → length new ≡ length lists + 1
 opened-count taxi max now plans r lists new h = ap length h.1 ∙ length-append lists (h.0 ∷ [])
 
-pub was-shut : (id : List ℕ) (lists : List Listed) (new : Listing) (closed : Option Closing) → list_any (is_named id) lists ≡ true
+pub was-shut : (id : List ℕ) (lists : List RegulationView) (new : RegulationsView) (closed : Option ClosedView) → list_any (is_named id) lists ≡ true
     → IfNone closed (list_any (is_named id) lists ≡ false) → IfSome closed (λ c. lists ≡ insert new.lists c.index c.listed) → open_again closed new.lists ≡ lists
 was-shut id lists new None is none was = absurd (true≢false (sym is ∙ none))
 was-shut id lists new (Some c) is none was = sym was
 
 -- what was kept before
-pub was-kept : (r : LastReading) (s p old : State) (told old_told : List (Option Told)) → IsAgain p old → told_past r p told ≡ old_told → IsKept old old_told
+pub was-kept : (r : UndoingView) (s p old : State) (told old_told : List (Option Told)) → IsAgain p old → told_past r p told ≡ old_told → IsKept old old_told
     → length r.noted ≡ length r.changed → All (λ n. (0 < n) × (n ≤ length told)) r.changed → AreNoted r s.store.plans old.store.plans old_told
     → WasKept r s p told
 was-kept r s p old told old_told h e k each numbers changes = record {
@@ -179,7 +179,7 @@ was-kept r s p old told old_told h e k each numbers changes = record {
   };
 }
 
-pub traffic-before : (r : LastReading) (p old : State) (told old_told : List (Option Told)) (notices old_notices : List Notice) → IsAgain p old → told_past r p told ≡ old_told → take r.issued notices ≡ old_notices
+pub traffic-before : (r : UndoingView) (p old : State) (told old_told : List (Option Told)) (notices old_notices : List Notice) → IsAgain p old → told_past r p told ≡ old_told → take r.issued notices ≡ old_notices
     → traffic_past r p told notices ≡ traffic_of old old_told old_notices
 traffic-before r p old told old_told notices old_notices h e n = rw (e, n, sym h.time, sym h.plans, sym h.lists, sym h.taxi, sym h.most) refl
 
@@ -188,19 +188,19 @@ pub notices-before : (old new more : List Notice) (count : ℕ) → new ≡ old 
 notices-before old new more count e c = ap (λ (ns : List Notice). take count ns) e ∙ ap (λ k. take k (old ++ more)) c ∙ take-append_seam old more
 
 -- the CTOTs issued before
-pub told-before : (r : LastReading) (p : State) (told mid old_told : List (Option Told)) (plans old_plans : List Plan)
+pub told-before : (r : UndoingView) (p : State) (told mid old_told : List (Option Told)) (plans old_plans : List PlanView)
     → p.store.plans ≡ old_plans → told_again r.changed r.noted told ≡ mid → mid ≡ told_to plans old_told
     → length old_told ≡ length old_plans → length old_plans ≤ length plans → length plans ≤ length old_plans + 1 → told_past r p told ≡ old_told
 told-before r p told mid old_told plans old_plans e again place each one more =
-    ap (λ (ps : List Plan). take (length ps) (told_again r.changed r.noted told)) e
+    ap (λ (ps : List PlanView). take (length ps) (told_again r.changed r.noted told)) e
     ∙ ap (λ (ts : List (Option Told)). take (length old_plans) ts) (again ∙ place)
     ∙ told_to-undone plans old_told (length old_plans) each one more
 
 -- and if the plans are the same
-pub told-back : (r : LastReading) (p : State) (told old_told : List (Option Told)) (plans : List Plan)
+pub told-back : (r : UndoingView) (p : State) (told old_told : List (Option Told)) (plans : List PlanView)
     → p.store.plans ≡ plans → told_again r.changed r.noted told ≡ old_told → length old_told ≡ length plans → told_past r p told ≡ old_told
 told-back r p told old_told plans e again each =
-    ap (λ (ps : List Plan). take (length ps) (told_again r.changed r.noted told)) e
+    ap (λ (ps : List PlanView). take (length ps) (told_again r.changed r.noted told)) e
     ∙ ap (λ (ts : List (Option Told)). take (length plans) ts) again
     ∙ ap (λ k. take k old_told) (sym each) ∙ take-length old_told
 
@@ -228,7 +228,7 @@ kept-again p s told new_told k h e = record {
 }
 
 -- a reading that changed nothing can be undone
-nothing-can : (which : Last) (r : LastReading) (s : State) → has_changed which ≡ false → CanUndo which r s
+nothing-can : (which : Last) (r : UndoingView) (s : State) → has_changed which ≡ false → CanUndo which r s
 nothing-can reading.Nothing r s e = tt
 nothing-can reading.Refused r s e = tt
 nothing-can (reading.Message n) r s e = absurd (true≢false e)
@@ -236,11 +236,11 @@ nothing-can (reading.Time earlier) r s e = absurd (true≢false e)
 nothing-can reading.Open r s e = absurd (true≢false e)
 nothing-can reading.Shut r s e = absurd (true≢false e)
 
-pub kept-with-nothing : (r : LastReading) (s : State) (told : List (Option Told)) → has_changed r.which ≡ false → IsKept s told → IsKeptWith r s told
+pub kept-with-nothing : (r : UndoingView) (s : State) (told : List (Option Told)) → has_changed r.which ≡ false → IsKept s told → IsKeptWith r s told
 kept-with-nothing r s told e k = record { kept = k; can = nothing-can r.which r s e; was = λ h. absurd (true≢false (sym h ∙ e)) }
 
 -- before a reading that may have changed something
-pub undone-was : (which : Last) (r : LastReading) (s : State) (told : List (Option Told)) (notices : List Notice) → has_changed which ≡ true
+pub undone-was : (which : Last) (r : UndoingView) (s : State) (told : List (Option Told)) (notices : List Notice) → has_changed which ≡ true
     → undone which r s told notices ≡ Some (traffic_past r (past which r s) told notices)
 undone-was reading.Nothing r s told notices e = absurd (true≢false (sym e))
 undone-was reading.Refused r s told notices e = absurd (true≢false (sym e))
@@ -250,7 +250,7 @@ undone-was reading.Open r s told notices e = refl
 undone-was reading.Shut r s told notices e = refl
 
 -- before one that changed nothing, the traffic was the same
-pub undone-same : (which : Last) (r : LastReading) (s : State) (told : List (Option Told)) (notices : List Notice) → has_changed which ≡ false
+pub undone-same : (which : Last) (r : UndoingView) (s : State) (told : List (Option Told)) (notices : List Notice) → has_changed which ≡ false
     → IfSome (undone which r s told notices) (λ before. before ≡ traffic_of s told notices)
 undone-same reading.Nothing r s told notices e = tt
 undone-same reading.Refused r s told notices e = refl
@@ -264,12 +264,12 @@ if-same None t P same h = tt
 if-same (Some b) t P same h = subst P (sym same) h
 
 -- the state of a plan, if the plans before are known
-pub status-was : (o : Option (List Plan)) (ps : List Plan) (r : Option Status) (number : ℕ) → o ≡ Some ps → IfSome o (λ plans. r ≡ status_at plans number) → r ≡ status_at (option_map_or (λ qs. qs) o []) number
+pub status-was : (o : Option (List PlanView)) (ps : List PlanView) (r : Option Status) (number : ℕ) → o ≡ Some ps → IfSome o (λ plans. r ≡ status_at plans number) → r ≡ status_at (option_map_or (λ qs. qs) o []) number
 status-was None ps r number e h = absurd (cc)
 status-was (Some qs) ps r number e h = h
 
 -- only a message changes plans
-pub plans-stay : (which : Last) (r : LastReading) (s : State) (told : List (Option Told)) (notices : List Notice) → ((n : ℕ) → which ≡ reading.Message n → ⊥)
+pub plans-stay : (which : Last) (r : UndoingView) (s : State) (told : List (Option Told)) (notices : List Notice) → ((n : ℕ) → which ≡ reading.Message n → ⊥)
     → IfSome (undone which r s told notices) (λ before. before.plans ≡ s.store.plans)
 plans-stay reading.Nothing r s told notices ne = tt
 plans-stay reading.Refused r s told notices ne = refl
@@ -278,7 +278,7 @@ plans-stay (reading.Time earlier) r s told notices ne = refl
 plans-stay reading.Open r s told notices ne = refl
 plans-stay reading.Shut r s told notices ne = refl
 
-pub status-stays : (before : Option Traffic) (plans : List Plan) (status : Option Status) (number : ℕ) → IfSome before (λ b. b.plans ≡ plans) → status ≡ status_at plans number
+pub status-stays : (before : Option Traffic) (plans : List PlanView) (status : Option Status) (number : ℕ) → IfSome before (λ b. b.plans ≡ plans) → status ≡ status_at plans number
     → IfSome before (λ b. status ≡ status_at b.plans number)
 status-stays None plans status number same h = tt
 status-stays (Some b) plans status number same h = h ∙ ap (λ ps. status_at ps number) (sym same)

@@ -6,7 +6,7 @@ use Rattle.std.proofs.lemmas.Bool.{cases_eq, ne_eqb, leb-true, leb-false}
 use Rattle.std.proofs.lemmas.List.{length-set}
 use Rattle.std.proofs.lemmas.Option.{slice_get_within}
 use Rattle.std.proofs.Math.Seq.{take-length, take-append_seam}
-use Rattle.flow_plans.specs.Plans.{Plan}
+use Rattle.flow_plans.specs.Plans.{PlanView}
 use Rattle.flow_slots.specs.Assignment.{is_in}
 use Rattle.flow_regulations.specs.declared.notice.Told.{Told}
 use Rattle.flow_regulations.specs.Regulations.{Regulation}
@@ -75,7 +75,7 @@ again-same (n ∷ ns) (o ∷ os) ts us e some told same = again-same ns os (slic
         set-other ts (n - 1) i o ne ∙ same i (ap (λ b. b || is_in (i + 1) ns) apart ∙ out)
 
 -- a quiet plan is issued what it was
-told-at : (f n taxi : ℕ) (regulations : List Regulation) (ps : List Plan) (ts : List (Option Told)) (i : ℕ) → f ≡ n + i → length ts ≡ length ps
+told-at : (f n taxi : ℕ) (regulations : List Regulation) (ps : List PlanView) (ts : List (Option Told)) (i : ℕ) → f ≡ n + i → length ts ≡ length ps
     → IfSome (slice_get ps i) (λ p. IfSome (slice_get ts i) (λ t. IsQuiet taxi f regulations p t)) → slice_get (told_from n taxi regulations ps ts) i ≡ slice_get ts i
 told-at f n taxi regulations [] [] i e l q = refl
 told-at f n taxi regulations [] (t ∷ ts) i e l q = absurd (omega (arith, l))
@@ -87,7 +87,7 @@ told-at f n taxi regulations (p ∷ ps) (t ∷ ts) zero e l q =
 told-at f n taxi regulations (p ∷ ps) (t ∷ ts) (suc i) e l q = told-at f (n + 1) taxi regulations ps ts i (omega (arith, e)) (omega (arith, l)) q
 
 -- what was issued is restored if it changed, and all plans have the CTOTs that they had
-pub told-undone : (taxi : ℕ) (regulations : List Regulation) (plans : List Plan) (told new : List (Option Told)) (changed : List ℕ) (noted : List (Option Told))
+pub told-undone : (taxi : ℕ) (regulations : List Regulation) (plans : List PlanView) (told new : List (Option Told)) (changed : List ℕ) (noted : List (Option Told))
     → new ≡ told_from 1 taxi regulations plans told → length told ≡ length plans → length new ≡ length plans → AreQuietBut changed taxi regulations plans told
     → AreTold changed told noted → AllByRecursion (λ n. 0 < n) changed → told_again changed noted new ≡ told
 told-undone taxi regulations plans told new changed noted is each each_new quiet told_is some =
@@ -97,7 +97,7 @@ told-undone taxi regulations plans told new changed noted is each each_new quiet
     ap (λ (ts : List (Option Told)). slice_get ts i) is ∙ told-at (i + 1) 1 taxi regulations plans told i (omega arith) each (subst Q back (quiet (i + 1) (omega arith) out)))
 
 -- the entry of a new plan is removed
-pub told_to-undone : (plans : List Plan) (told : List (Option Told)) (count : ℕ) → length told ≡ count → count ≤ length plans → length plans ≤ count + 1 → take count (told_to plans told) ≡ told
+pub told_to-undone : (plans : List PlanView) (told : List (Option Told)) (count : ℕ) → length told ≡ count → count ≤ length plans → length plans ≤ count + 1 → take count (told_to plans told) ≡ told
 told_to-undone plans told count e one more = by (nat_le (length plans) (length told)) refl where
   by : (b : Bool) → nat_le (length plans) (length told) ≡ b → take count (told_to plans told) ≡ told
   by true q =

@@ -1,10 +1,10 @@
 -- The traffic after a reading: each regulation is allocated by the rules, by itself, and then slots
 -- are issued to plans, by number (EUROCONTROL ATFCM Users Manual, slot allocation).
 use Rattle.std.specs.Prelude.{◌≡◌, List, [], ◌∷◌, ◌++◌, map, Option, None, MatchResult}
-use Rattle.fpl_message.specs.Reads.{Reading, ord}
+use Rattle.fpl_message.specs.Reads.{ReadingView, ord}
 use Rattle.fpl_message.specs.Messages.{open_reg, set_time}
 use Rattle.flow_plans.specs.Settings.{IsDeskTime}
-use Rattle.flow_plans.specs.Plans.{Plan}
+use Rattle.flow_plans.specs.Plans.{PlanView}
 use Rattle.flow_regulations.specs.Settling.{settled}
 use Rattle.flow_regulations.specs.Notices.{notices_from, told_from}
 use Rattle.flow_regulations.specs.declared.notice.Told.{Told}
@@ -14,7 +14,7 @@ use Rattle.flow_traffic.specs.Traffic.{Traffic}
 use Rattle.flow_traffic.specs.Asked.{Asked, asked}
 
 -- the CTOT last issued to each plan, to a new one none
-abbrev pub told_to : List Plan → List (Option Told) → List (Option Told)
+abbrev pub told_to : List PlanView → List (Option Told) → List (Option Told)
 told_to [] told = []
 told_to (p ∷ ps) [] = None ∷ told_to ps []
 told_to (p ∷ ps) (t ∷ ts) = t ∷ told_to ps ts
@@ -33,14 +33,14 @@ settle t a =
     }
 
 -- the traffic after a reading, and the verdict; a refused one changes nothing
-abbrev pub Answers : Reading → Traffic → Traffic → Verdict → Type 0
+abbrev pub Answers : ReadingView → Traffic → Traffic → Verdict → Type 0
 Answers reading old new verdict =
     MatchResult (asked old reading)
     (λ a. (new ≡ settle old a) × (verdict ≡ a.verdict))
     (λ refusal. (new ≡ old) × (verdict ≡ Refused refusal))
 
 -- the times of an order are in the years 2000 to 2098
-abbrev pub HasDeskMoments : Reading → Type 0
+abbrev pub HasDeskMoments : ReadingView → Type 0
 HasDeskMoments (ord (open_reg m)) = IsDeskTime m.from × IsDeskTime m.to
 HasDeskMoments (ord (set_time at)) = IsDeskTime at
 HasDeskMoments _ = Unit {0}

@@ -6,9 +6,9 @@ use Rattle.fpl_message.specs.declared.refusal.Refusal.{Refusal}
 use Rattle.fpl_message.specs.declared.refusal.Refusal.TheVariants as refusal
 use Rattle.fpl_message.specs.declared.order.OpenReg.{OpenReg}
 use Rattle.fpl_message.specs.Messages.{Message, fpl, dla, chg, cnl, dep, Order, open_reg, shut_reg, set_time}
-use Rattle.fpl_message.specs.Reads.{Reading, msg, ord, bad}
+use Rattle.fpl_message.specs.Reads.{ReadingView, msg, ord, bad}
 use Rattle.fpl_message.specs.Refusals.{◌>>=◌}
-use Rattle.flow_plans.specs.Plans.{Plan}
+use Rattle.flow_plans.specs.Plans.{PlanView}
 use Rattle.flow_plans.specs.Times.{unless}
 use Rattle.flow_plans.specs.Changes.{Changed, filed, delayed, amended, cancelled, departed}
 use Rattle.flow_regulations.specs.Regulations.{Regulation}
@@ -21,13 +21,13 @@ use Rattle.flow_traffic.specs.declared.verdict.Verdict.{Verdict}
 use Rattle.flow_traffic.specs.declared.verdict.Verdict.TheVariants.{Accepted, Departed}
 use Rattle.flow_traffic.specs.Traffic.{Traffic, told_of}
 use Rattle.flow_slots.specs.Limits.{rates_fit}
-use Rattle.flow_traffic.specs.Opening.{is_period, regulation_by}
+use Rattle.flow_traffic.specs.Opening.{has_period, regulation_by}
 use Rattle.flow_traffic.specs.declared.opening.TheConstants.{MAX_REGULATIONS}
 
 -- plans, time and regulations as they are asked for, before the regulations are settled, and the
 -- verdict
 pub record Asked : Type 0 where
-  pub plans : List Plan
+  pub plans : List PlanView
   pub now : ℕ
   pub regulations : List Regulation
   pub verdict : Verdict
@@ -35,7 +35,7 @@ pub record Asked : Type 0 where
 -- ---- messages
 
 -- the plans after a message, and the number of the plan that it is about; a new plan is the last
-unfoldable pub changed_by : ℕ → ℕ → List Plan → Message → Result Changed Refusal
+unfoldable pub changed_by : ℕ → ℕ → List PlanView → Message → Result Changed Refusal
 changed_by max now plans (fpl m) = filed max now plans m >>= (λ more. Ok (record { plans = more; number = length more }))
 changed_by max now plans (dla m) = delayed now plans m
 changed_by max now plans (chg m) = amended now plans m
@@ -59,7 +59,7 @@ is_departure (cnl m) = false
 is_departure (dep m) = true
 
 -- a departing flight keeps the slot that it has by the plans before, frozen or not
-abbrev pub departing : Bool → ℕ → ℕ → ℕ → List Plan → List Regulation → List Regulation
+abbrev pub departing : Bool → ℕ → ℕ → ℕ → List PlanView → List Regulation → List Regulation
 departing false number taxi max before regulations = regulations
 departing true number taxi max before regulations = map (frozen_at_departure taxi max before number) regulations
 
@@ -84,7 +84,7 @@ ordered t kind now regulations = record { plans = t.plans; now = now; regulation
 -- OPEN: one more regulation, the last
 unfoldable pub asked_to_open : Traffic → OpenReg → Result Asked Refusal
 asked_to_open t m =
-    unless (not (is_period m)) refusal.BadPeriod
+    unless (not (has_period m)) refusal.BadPeriod
     (unless (not (rates_fit m.rate m.more)) refusal.BadRate
     (unless (list_any (is_called m.id) t.regulations) refusal.RegulationHeld
     (unless (nat_le MAX_REGULATIONS (length t.regulations)) refusal.RegulationsFull
@@ -107,7 +107,7 @@ asked_by_order t (set_time at) = asked_at t at
 
 -- ---- any reading
 
-abbrev pub asked : Traffic → Reading → Result Asked Refusal
+abbrev pub asked : Traffic → ReadingView → Result Asked Refusal
 asked t (msg m) = asked_by_message t m
 asked t (ord order) = asked_by_order t order
 asked t (bad refusal) = Err refusal

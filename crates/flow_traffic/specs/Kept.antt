@@ -5,12 +5,12 @@ use Rattle.std.specs.Prelude.{◌≡◌, ◌≤◌, ◌<◌, ℕ, Bool, true, fa
 use Rattle.std.specs.List.{All, AllByRecursion}
 use Rattle.std.specs.List.Sorted.{IsStrictlyIncreasing}
 use Rattle.flow_plans.specs.Settings.{IsDeskTime}
-use Rattle.flow_plans.specs.Plans.{Plan}
+use Rattle.flow_plans.specs.Plans.{PlanView}
 use Rattle.flow_regulations.specs.declared.notice.Told.{Told}
 use Rattle.flow_regulations.specs.Awaiting.{Covers}
 use Rattle.flow_regulations.specs.Settling.{settled, pairs_of}
 use Rattle.flow_slots.specs.Assignment.{is_in}
-use Rattle.flow_regulations.specs.Listing.{Listed, regulation_of, IsListed, IsSettled, is_named}
+use Rattle.flow_regulations.specs.Listing.{RegulationView, regulation_of, IsListed, IsSettled, is_named}
 use Rattle.flow_regulations.specs.Quiet.{AllQuiet, KeepsSlots}
 use Rattle.flow_traffic.specs.State.{State}
 use Rattle.flow_traffic.specs.Asked.{departing}
@@ -31,7 +31,7 @@ pub record IsKept (s : State) (told : List (Option Told)) : Type 0 where
 
 -- the regulations were settled after a message about one flight, which departs or does not: in that
 -- state before, with these plans and slot lists after
-pub record IsSettledFor (departs : Bool) (number : ℕ) (s : State) (plans : List Plan) (lists : List Listed) : Type 0 where
+pub record IsSettledFor (departs : Bool) (number : ℕ) (s : State) (plans : List PlanView) (lists : List RegulationView) : Type 0 where
   pub regulations : map regulation_of lists
       ≡ map (settled s.store.taxi s.time plans)
       (departing departs number s.store.taxi s.listing.max_plans s.store.plans (map regulation_of s.listing.lists))
@@ -41,7 +41,7 @@ pub record IsSettledFor (departs : Bool) (number : ℕ) (s : State) (plans : Lis
 
 -- the flights with frozen slots in the open regulation of this name, by number: it makes a
 -- difference to the advice of no other
-pub record AreFixedIn (id : List ℕ) (lists : List Listed) (flights : List ℕ) : Type 0 where
+pub record AreFixedIn (id : List ℕ) (lists : List RegulationView) (flights : List ℕ) : Type 0 where
   pub rising : IsStrictlyIncreasing flights
-  pub numbers : (taxi now : ℕ) (plans : List Plan) → IsSettled taxi now plans lists → All (λ n. (0 < n) × (n ≤ length plans)) flights
+  pub numbers : (taxi now : ℕ) (plans : List PlanView) → IsSettled taxi now plans lists → All (λ n. (0 < n) × (n ≤ length plans)) flights
   pub others : (f : ℕ) → is_in f flights ≡ false → AllByRecursion (λ l. is_named id l ≡ true → pairs_of f l.lineup.fixed ≡ []) lists

@@ -5,8 +5,8 @@ use Rattle.flow_regulations.specs.Regulations.{Regulation}
 use Rattle.flow_slots.specs.Limits.{is_period as is_period_from}
 
 -- a period of 1 to 1,440 minutes, whose sub-periods begin one after the other within it
-unfoldable pub is_period : OpenReg → Bool
-is_period m = is_period_from m.from m.to m.more
+unfoldable pub has_period : OpenReg → Bool
+has_period m = is_period_from m.from m.to m.more
 
 -- the regulation, without flights
 abbrev pub regulation_by : OpenReg → Regulation

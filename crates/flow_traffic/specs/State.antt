@@ -1,10 +1,10 @@
 -- What a reading changes of a desk, beside what is issued to plans: as it is kept, and as the
 -- traffic is seen.
 use Rattle.std.specs.Prelude.{ℕ, List, map, Option}
-use Rattle.flow_plans.specs.Plans.{Plan}
-use Rattle.flow_plans.specs.Stores.{Store}
-use Rattle.flow_regulations.specs.Awaiting.{Awaiting}
-use Rattle.flow_regulations.specs.Listing.{Listed, Listing, regulation_of}
+use Rattle.flow_plans.specs.Plans.{PlanView}
+use Rattle.flow_plans.specs.Stores.{PlanStoreView}
+use Rattle.flow_regulations.specs.Awaiting.{DueQueueView}
+use Rattle.flow_regulations.specs.Listing.{RegulationView, RegulationsView, regulation_of}
 use Rattle.flow_regulations.specs.declared.notice.Told.{Told}
 use Rattle.flow_regulations.specs.declared.notice.Notice.{Notice}
 use Rattle.flow_traffic.specs.Traffic.{Traffic}
@@ -13,16 +13,16 @@ use Rattle.flow_traffic.specs.Traffic.{Traffic}
 -- aren't due
 pub record State : Type 0 where
   pub time : ℕ
-  pub store : Store
-  pub listing : Listing
-  pub queue : Awaiting
+  pub store : PlanStoreView
+  pub listing : RegulationsView
+  pub queue : DueQueueView
 
 -- with these plans
-abbrev pub with_plans : List Plan → State → State
+abbrev pub with_plans : List PlanView → State → State
 with_plans plans s = record s { store = record s.store { plans = plans } }
 
 -- with these slot lists
-abbrev pub with_lists : List Listed → State → State
+abbrev pub with_lists : List RegulationView → State → State
 with_lists lists s = record s { listing = record s.listing { lists = lists } }
 
 -- the traffic in that state, with these CTOTs and notices issued

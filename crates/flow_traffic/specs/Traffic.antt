@@ -2,8 +2,8 @@
 use Rattle.std.specs.Prelude.{ℕ, ◌-◌, if◌then◌else◌, List, [], ◌∷◌, slice_get, Option, Some, None}
 use Rattle.std.specs.Option.{option_map, option_map_or}
 use Rattle.std.specs.Str.{bytes_eq}
-use Rattle.flow_plans.specs.Settings.{Settings}
-use Rattle.flow_plans.specs.Plans.{Plan}
+use Rattle.flow_plans.specs.Settings.{SetupView}
+use Rattle.flow_plans.specs.Plans.{PlanView}
 use Rattle.flow_slots.specs.Lineup.{Lineup}
 use Rattle.flow_regulations.specs.Regulations.{Regulation, lineup_of}
 use Rattle.flow_regulations.specs.declared.notice.Told.{Told}
@@ -17,7 +17,7 @@ pub record Traffic : Type 0 where
   -- the desk's time, in minutes since 1970-01-01 00:00 UTC
   pub now : ℕ
   -- plan n is the n-th
-  pub plans : List Plan
+  pub plans : List PlanView
   -- the open regulations, in order of opening
   pub regulations : List Regulation
   -- the CTOT last issued to each plan
@@ -26,7 +26,7 @@ pub record Traffic : Type 0 where
   pub notices : List Notice
 
 -- the traffic of a desk without entries
-abbrev pub no_traffic : Settings → Traffic
+abbrev pub no_traffic : SetupView → Traffic
 no_traffic setup = record { taxi = setup.taxi; max_plans = setup.max_plans; now = setup.start; plans = []; regulations = []; told = []; notices = [] }
 
 -- the first open regulation of this name
@@ -40,7 +40,7 @@ abbrev pub slots_of : Traffic → List ℕ → Option Lineup
 slots_of t id = option_map (lineup_of t.taxi t.max_plans t.plans) (regulation_named id t.regulations)
 
 -- the traffic, and the one before the last reading, if that can be undone
-pub record Undoable : Type 0 where
+pub record TrafficView : Type 0 where
   pub traffic : Traffic
   pub before : Option Traffic
 

@@ -3,15 +3,15 @@ use Rattle.std.specs.Prelude.{◌≡◌, ◌≤◌, ◌<◌, ◌+◌, ◌-◌, �
 use Rattle.std.specs.List.{All}
 use Rattle.std.specs.List.Sorted.{IsStrictlyIncreasing}
 use Rattle.std.specs.Option.{option_map_or}
-use Rattle.flow_plans.specs.Plans.{Plan, plan_at}
+use Rattle.flow_plans.specs.Plans.{PlanView, plan_at}
 use Rattle.flow_slots.specs.Assignment.{is_in}
 use Rattle.flow_slots.specs.Lineup.{without_flight}
 use Rattle.flow_regulations.specs.declared.notice.Told.{Told}
 use Rattle.flow_regulations.specs.declared.notice.Notice.{Notice}
-use Rattle.flow_regulations.specs.declared.places.Place.{Place}
-use Rattle.flow_regulations.specs.Awaiting.{Awaiting, Covers, HaveBecomeDue}
-use Rattle.flow_regulations.specs.Listing.{Listed, Closing, MayReopen, with_lineup, without_in, with_fixed_waiting, released_in, HoldNewlyDue}
-use Rattle.flow_regulations.specs.Places.{stood, ArePlaces}
+use Rattle.flow_regulations.specs.declared.slot_state.Place.{Place}
+use Rattle.flow_regulations.specs.Awaiting.{DueQueueView, Covers, HaveBecomeDue}
+use Rattle.flow_regulations.specs.Listing.{RegulationView, ClosedView, MayReopen, with_lineup, without_in, with_fixed_waiting, released_in, HoldNewlyDue}
+use Rattle.flow_regulations.specs.SlotStates.{stood, ArePlaces}
 use Rattle.flow_traffic.specs.declared.undo.Last.{Last}
 use Rattle.flow_traffic.specs.declared.undo.Last.TheVariants as reading
 use Rattle.flow_traffic.specs.Traffic.{Traffic, told_of}
@@ -21,22 +21,22 @@ use Rattle.flow_traffic.specs.Reopening.{open_again}
 use Rattle.flow_traffic.specs.Kept.{IsKept}
 
 -- a flight has its former slots again
-abbrev pub stood_again : ℕ → List Place → List Listed → List Listed
+abbrev pub stood_again : ℕ → List Place → List RegulationView → List RegulationView
 stood_again number [] lists = lists
 stood_again number (p ∷ ps) [] = []
 stood_again number (p ∷ ps) (l ∷ ls) = with_lineup (stood p number (without_flight number l.lineup)) l ∷ stood_again number ps ls
 
 -- a flight has a provisional slot again
-abbrev pub waiting_again : ℕ → List Plan → ℕ → List Listed → List Listed
+abbrev pub waiting_again : ℕ → List PlanView → ℕ → List RegulationView → List RegulationView
 waiting_again taxi plans number lists = option_map_or (λ p. map (released_in taxi p number) lists) (plan_at plans number) lists
 
 -- these flights have, the last one first
-abbrev pub all_waiting_again : ℕ → List Plan → List ℕ → List Listed → List Listed
+abbrev pub all_waiting_again : ℕ → List PlanView → List ℕ → List RegulationView → List RegulationView
 all_waiting_again taxi plans [] lists = lists
 all_waiting_again taxi plans (n ∷ ns) lists = waiting_again taxi plans n (all_waiting_again taxi plans ns lists)
 
 -- without the regulation that was opened last
-abbrev pub before_last : List Listed → List Listed
+abbrev pub before_last : List RegulationView → List RegulationView
 before_last lists = take (length lists - 1) lists
 
 -- the capacities: for slots, for plan numbers, and for CTOTs issued before
@@ -46,7 +46,7 @@ pub record Room : Type 0 where
   pub told : ℕ
 
 -- what is recorded of the last reading
-pub record LastReading : Type 0 where
+pub record UndoingView : Type 0 where
   -- which reading it was
   pub which : Last
   -- the slots that the flight of a message had before, in each regulation
@@ -56,7 +56,7 @@ pub record LastReading : Type 0 where
   -- the CTOTs issued to those before
   pub noted : List (Option Told)
   -- the regulation that was closed last
-  pub closed : Option Closing
+  pub closed : Option ClosedView
   -- the number of notices before
   pub issued : ℕ
   pub room : Room
@@ -68,7 +68,7 @@ has_changed reading.Refused = false
 has_changed which = true
 
 -- the state before it, with the queue of now
-abbrev pub past : Last → LastReading → State → State
+abbrev pub past : Last → UndoingView → State → State
 past reading.Nothing r s = s
 past reading.Refused r s = s
 past (reading.Message number) r s =
@@ -78,21 +78,21 @@ past reading.Open r s = with_lists (before_last s.listing.lists) s
 past reading.Shut r s = with_lists (open_again r.closed s.listing.lists) s
 
 -- the CTOTs issued to plans in that state
-abbrev pub told_past : LastReading → State → List (Option Told) → List (Option Told)
+abbrev pub told_past : UndoingView → State → List (Option Told) → List (Option Told)
 told_past r p told = take (length p.store.plans) (told_again r.changed r.noted told)
 
 -- the traffic in that state, without the notices since
-abbrev pub traffic_past : LastReading → State → List (Option Told) → List Notice → Traffic
+abbrev pub traffic_past : UndoingView → State → List (Option Told) → List Notice → Traffic
 traffic_past r p told notices = traffic_of p (told_past r p told) (take r.issued notices)
 
 -- the traffic before the last reading, if that can be undone
-abbrev pub undone : Last → LastReading → State → List (Option Told) → List Notice → Option Traffic
+abbrev pub undone : Last → UndoingView → State → List (Option Told) → List Notice → Option Traffic
 undone reading.Nothing r s told notices = None
 undone reading.Refused r s told notices = Some (traffic_of s told notices)
 undone which r s told notices = Some (traffic_past r (past which r s) told notices)
 
 -- a message about the plan of this number can be undone
-pub record CanForget (number : ℕ) (r : LastReading) (s p : State) : Type 0 where
+pub record CanForget (number : ℕ) (r : UndoingView) (s p : State) : Type 0 where
   pub some : 0 < number
   pub room : number ≤ s.listing.max_plans
   pub before : s.store.before ≡ Some p.store.plans
@@ -101,7 +101,7 @@ pub record CanForget (number : ℕ) (r : LastReading) (s p : State) : Type 0 whe
   pub covers : Covers s.time p.store.plans s.queue.flights
 
 -- so can TIME, which advanced the desk's time from this one
-pub record CanGoBack (earlier : ℕ) (r : LastReading) (s p : State) : Type 0 where
+pub record CanGoBack (earlier : ℕ) (r : UndoingView) (s p : State) : Type 0 where
   pub due : HaveBecomeDue s.store.taxi s.listing.max_plans earlier s.time s.store.plans r.changed p.listing.lists
   pub fixed : s.listing.lists ≡ map (with_fixed_waiting r.changed) p.listing.lists
   pub within : All (λ n. (0 < n) × (n ≤ length s.store.plans)) r.changed
@@ -110,12 +110,12 @@ pub record CanGoBack (earlier : ℕ) (r : LastReading) (s p : State) : Type 0 wh
   pub room : length s.queue.flights + length r.changed ≤ s.queue.room
 
 -- so can the last reading
-abbrev pub CanUndo : Last → LastReading → State → Type 0
+abbrev pub CanUndo : Last → UndoingView → State → Type 0
 CanUndo reading.Nothing r s = Unit {0}
 CanUndo reading.Refused r s = Unit {0}
 CanUndo (reading.Message number) r s = CanForget number r s (past (reading.Message number) r s)
 CanUndo (reading.Time earlier) r s = CanGoBack earlier r s (past (reading.Time earlier) r s)
-CanUndo reading.Open r s = (l : Listed) × (s.listing.lists ≡ before_last s.listing.lists ++ l ∷ [])
+CanUndo reading.Open r s = (l : RegulationView) × (s.listing.lists ≡ before_last s.listing.lists ++ l ∷ [])
 CanUndo reading.Shut r s = IfSome r.closed (λ c. MayReopen c s.listing)
 
 -- a state has the time, plans and slot lists of an earlier one again, and its queue each filed
@@ -131,21 +131,21 @@ pub record IsAgain (p s : State) : Type 0 where
 
 -- the recorded numbers rise, all other plans are unchanged, and these are the CTOTs issued to those
 -- before
-pub record AreNoted (r : LastReading) (plans before : List Plan) (told : List (Option Told)) : Type 0 where
+pub record AreNoted (r : UndoingView) (plans before : List PlanView) (told : List (Option Told)) : Type 0 where
   pub rising : IsStrictlyIncreasing r.changed
   pub each : length told ≡ length before
   pub others : (number : ℕ) → 0 < number → is_in number r.changed ≡ false → plan_at plans number ≡ plan_at before number
   pub were : r.noted ≡ map (told_of told) r.changed
 
 -- the CTOTs issued to plans can be restored, and then the traffic is kept as before
-pub record WasKept (r : LastReading) (s p : State) (told : List (Option Told)) : Type 0 where
+pub record WasKept (r : UndoingView) (s p : State) (told : List (Option Told)) : Type 0 where
   pub each : length r.noted ≡ length r.changed
   pub numbers : All (λ n. (0 < n) × (n ≤ length told)) r.changed
   pub changes : AreNoted r s.store.plans p.store.plans (told_past r p told)
-  pub kept : (queue : Awaiting) → Covers p.time p.store.plans queue.flights → IsKept (record p { queue = queue }) (told_past r p told)
+  pub kept : (queue : DueQueueView) → Covers p.time p.store.plans queue.flights → IsKept (record p { queue = queue }) (told_past r p told)
 
 -- how the traffic is kept, with what undoes the last reading
-pub record IsKeptWith (r : LastReading) (s : State) (told : List (Option Told)) : Type 0 where
+pub record IsKeptWith (r : UndoingView) (s : State) (told : List (Option Told)) : Type 0 where
   pub kept : IsKept s told
   pub can : CanUndo r.which r s
   pub was : has_changed r.which ≡ true → WasKept r s (past r.which r s) told

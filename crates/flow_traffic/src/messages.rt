@@ -8,11 +8,11 @@ ghost use Rattle.fpl_message.specs.Said.{said_message};
 ghost use Rattle.fpl_message.specs.Reads.{msg};
 ghost use Rattle.flow_plans.specs.Settings.{IsDeskTime};
 ghost use Rattle.std.specs.List.{Contains};
-ghost use Rattle.flow_plans.specs.Plans.{Plan as Held, is_filed, status_at};
+ghost use Rattle.flow_plans.specs.Plans.{PlanView, is_filed, status_at};
 ghost use Rattle.flow_plans.specs.Changes.{refusal_of, IsRefusal};
 ghost use Rattle.flow_regulations.specs.Notices.{window_of};
 ghost use Rattle.flow_regulations.specs.Awaiting.{Covers};
-ghost use Rattle.flow_regulations.specs.declared.due_queue.Awaited.{Awaited};
+ghost use Rattle.flow_regulations.specs.declared.due_queue.PendingFlight.{PendingFlight};
 ghost use Rattle.flow_regulations.specs.Listing.{IsListed, IsSettled, AreSameBut, without_in};
 ghost use Rattle.flow_traffic.specs.Traffic.{told_of};
 ghost use Rattle.flow_traffic.specs.State.{State};
@@ -208,7 +208,7 @@ fn settle_for<A: Allocator + Copy>(
     if departs {
         regulations.freeze_departing(number);
     }
-    regulations.look_again(plans, number, now);
+    regulations.reallocate(plans, number, now);
 }
 
 /// Whether a plan is filed and its flight isn't due.
@@ -245,10 +245,11 @@ fn note_flight<A: Allocator + Copy>(
     requires some { 0 < number }
     requires change { IsSome plans.now.before }
     requires room { length queue.old.flights < queue.old.room }
-    ensures covers { (before : List Held) → plans.now.before ≡ Some before
+    ensures covers { (before : List PlanView) → plans.now.before ≡ Some before
         → AreSameBut number before plans.now.plans
         → Covers now before queue.old.flights → Covers now plans.now.plans queue.new.flights }
-    ensures kept { (a : Awaited) → Contains queue.old.flights a → Contains queue.new.flights a }
+    ensures kept { (a : PendingFlight) → Contains queue.old.flights a
+        → Contains queue.new.flights a }
 {
     let Some(plan) = plans.plan(number) else {
         return;
@@ -265,7 +266,7 @@ fn make_place<A: Allocator>(count: u32, told: &mut Vec<Option<Told>, A>)
     requires one { count ≤ length told.old.items + 1 }
     requires all { length told.old.items ≤ count }
     requires room { vec_len told.old < vec_capacity told.old }
-    ensures told { (plans : List Held) → length plans ≡ count
+    ensures told { (plans : List PlanView) → length plans ≡ count
         → told.new.items ≡ told_to plans told.old.items }
     ensures each { length told.new.items ≡ count }
 {

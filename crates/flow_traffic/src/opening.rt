@@ -7,7 +7,7 @@ ghost use Rattle.flow_regulations.specs.Listing.{regulation_of, is_named};
 ghost use Rattle.flow_traffic.specs.declared.verdict.Kind.TheVariants as kind;
 ghost use Rattle.flow_traffic.specs.Traffic.{Traffic};
 ghost use Rattle.flow_traffic.specs.Asked.{asked_to_open, ordered};
-ghost use Rattle.flow_traffic.specs.Opening.{is_period, regulation_by};
+ghost use Rattle.flow_traffic.specs.Opening.{has_period, regulation_by};
 ghost use Rattle.flow_slots.specs.Limits.{rates_fit};
 
 use flow_regulations::Regulations;
@@ -19,15 +19,15 @@ use std::alloc::Allocator;
 pub const MAX_REGULATIONS: usize = 64;
 
 /// The shape of a regulation that is to be opened. `BadPeriod` comes before `BadRate`.
-#[tactic(auto, unfolding(crate::specs::Opening::is_period))]
+#[tactic(auto, unfolding(crate::specs::Opening::has_period))]
 fn shape_of(order: &OpenReg) -> Result<Shape, Refusal>
     requires from { IsDeskTime order.now.from }
     requires to { IsDeskTime order.now.to }
     ensures ok { IfOk result
-        (λ shape. (is_period order.now ≡ true) × (rates_fit order.now.rate order.now.more ≡ true)
+        (λ shape. (has_period order.now ≡ true) × (rates_fit order.now.rate order.now.more ≡ true)
         × (shape ≡ (regulation_by order.now).period)) }
-    ensures err { IfErr result (λ r. ((r ≡ Refusal.BadPeriod) × (is_period order.now ≡ false))
-        ⊎ ((r ≡ Refusal.BadRate) × (is_period order.now ≡ true)
+    ensures err { IfErr result (λ r. ((r ≡ Refusal.BadPeriod) × (has_period order.now ≡ false))
+        ⊎ ((r ≡ Refusal.BadRate) × (has_period order.now ≡ true)
         × (rates_fit order.now.rate order.now.more ≡ false))) }
 {
     let parts = order.more.as_slice();

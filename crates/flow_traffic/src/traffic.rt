@@ -39,11 +39,11 @@ pub struct Traffic<A: Allocator + Copy = Global> {
 }
 
 impl<A: Allocator + Copy> Model for Traffic<A> {
-    ghost use Rattle.flow_traffic.specs.Traffic.{Undoable};
+    ghost use Rattle.flow_traffic.specs.Traffic.{TrafficView};
     ghost use Rattle.flow_traffic.specs.State.{State, traffic_of};
     ghost use Rattle.flow_traffic.specs.Undoing.{undone, IsKeptWith};
 
-    ghost Value = { Undoable };
+    ghost Value = { TrafficView };
 
     ghost view = { λ t.
         let s : State =

@@ -6,7 +6,7 @@ ghost use Rattle.std.specs.List.Sorted.{IsNonDecreasing, IsStrictlyIncreasing};
 ghost use Rattle.flow_regulations.specs.Listing.{MayReopen, HoldNewlyDue, regulation_of};
 ghost use Rattle.flow_regulations.specs.Notices.{notices_from, told_from};
 ghost use Rattle.flow_regulations.specs.Quiet.{AreQuietBut, AllQuiet};
-ghost use Rattle.flow_regulations.specs.Places.{ArePlaces};
+ghost use Rattle.flow_regulations.specs.SlotStates.{ArePlaces};
 ghost use Rattle.flow_regulations.specs.Awaiting.{Covers, BecameDue};
 ghost use Rattle.flow_traffic.specs.Traffic.{told_of};
 ghost use Rattle.flow_traffic.specs.Kept.{AreFixedIn};
@@ -59,9 +59,9 @@ pub(crate) struct Undoing<A: Allocator + Copy = Global> {
 
 impl<A: Allocator + Copy> Model for Undoing<A> {
     ghost use Rattle.std.specs.Prelude.{vec_capacity};
-    ghost use Rattle.flow_traffic.specs.Undoing.{LastReading};
+    ghost use Rattle.flow_traffic.specs.Undoing.{UndoingView};
 
-    ghost Value = { LastReading };
+    ghost Value = { UndoingView };
 
     ghost view = { λ u. record {
       which = u.which;
@@ -218,7 +218,7 @@ impl<A: Allocator + Copy> Undoing<A> {
             → HoldNewlyDue earlier now plans.now.plans self.new.changed }
         ensures covers { earlier ≤ now → Covers earlier plans.now.plans queue.old.flights
             → Covers now plans.now.plans queue.new.flights }
-        ensures left { length queue.new.flights + length self.new.changed
+        ensures remaining { length queue.new.flights + length self.new.changed
             ≤ length queue.old.flights }
         ensures fits { length queue.new.flights + length self.new.changed ≤ queue.new.room }
         ensures others { self.new ≡ record self.old { changed = self.new.changed } }

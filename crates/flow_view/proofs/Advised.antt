@@ -4,7 +4,7 @@ use Rattle.std.specs.Prelude.{if◌then◌else◌, fold, nat_lt}
 use Rattle.std.specs.List.{AllZip}
 use Rattle.std.specs.Option.{option_map}
 use Rattle.std.proofs.lemmas.Bool.{ltb-true, ltb-false}
-use Rattle.flow_plans.specs.Plans.{Plan}
+use Rattle.flow_plans.specs.Plans.{PlanView}
 use Rattle.flow_plans.specs.Entries.{take_off}
 use Rattle.flow_regulations.specs.declared.notice.Told.{Told}
 use Rattle.flow_regulations.specs.Regulations.{Regulation}
@@ -12,8 +12,8 @@ use Rattle.flow_regulations.specs.Advice.{advice, caused_by, worst}
 use Rattle.flow_regulations.specs.Advice as by_advice
 use Rattle.flow_view.specs.declared.delay.FlightDelay.{FlightDelay}
 use Rattle.flow_view.specs.declared.slot_row.SlotRow.{SlotRow}
-use Rattle.flow_view.specs.Openings.{Opened}
-use Rattle.flow_view.specs.Delays.{worse, worse_by, worse_in, delay_of_flight}
+use Rattle.flow_view.specs.Openings.{OpeningView}
+use Rattle.flow_view.specs.Delays.{worse_flight, worse_by, worse_in, delay_of_flight}
 use Rattle.flow_view.specs.Delays as delays
 use Rattle.flow_view.specs.Advised.{slot_with, GivesAdvised}
 
@@ -80,23 +80,23 @@ chosen {D} greater minutes slot t none one two at (Some d) (Some e) =
     by false = refl
 
 -- the advice in some regulations is the later of that in the first alone and that in the others
-advice-joined : (taxi number : ℕ) (p : Plan) (r : Regulation) (rs : List Regulation)
+advice-joined : (taxi number : ℕ) (p : PlanView) (r : Regulation) (rs : List Regulation)
     → advice taxi number p (r ∷ rs) ≡ later_of (advice taxi number p (r ∷ [])) (advice taxi number p rs)
 unfolding advice
 advice-joined taxi number p r rs =
     chosen by_advice.worse (λ d. d.minutes) (λ d. record { ctot = take_off taxi p + d.minutes; regulation = d.regulation }) (take_off taxi p)
     (λ y. refl) (λ d. refl) (λ d e. refl) (λ d. refl) (option_map (caused_by r) (by_advice.delay_in taxi number p r)) (worst taxi number p rs)
 
-none-advised : (taxi number : ℕ) (p : Plan) → advice taxi number p [] ≡ None
+none-advised : (taxi number : ℕ) (p : PlanView) → advice taxi number p [] ≡ None
 unfolding advice
 none-advised taxi number p = refl
 
-module _ (taxi number : ℕ) (p : Plan) where
+module _ (taxi number : ℕ) (p : PlanView) where
   slot : FlightDelay → Told
   slot d = slot_with taxi p d
 
   -- the rule of the view is the same
-  same-rule : (most : Option FlightDelay) (d : FlightDelay) → option_map (slot_with taxi p) (worse most d) ≡ later_of (option_map (slot_with taxi p) most) (Some (slot_with taxi p d))
+  same-rule : (most : Option FlightDelay) (d : FlightDelay) → option_map (slot_with taxi p) (worse_flight most d) ≡ later_of (option_map (slot_with taxi p) most) (Some (slot_with taxi p d))
   same-rule None d = refl
   same-rule (Some e) d =
       by (nat_lt e.minutes d.minutes)
@@ -106,16 +106,16 @@ module _ (taxi number : ℕ) (p : Plan) where
       by true = refl
       by false = refl
 
-  by-row : (o : Opened) (most : Option FlightDelay) (r : SlotRow)
+  by-row : (o : OpeningView) (most : Option FlightDelay) (r : SlotRow)
       → option_map (slot_with taxi p) (worse_by number o most r) ≡ later_of (option_map (slot_with taxi p) most) (option_map (slot_with taxi p) (worse_by number o None r))
   by-row o most r = by (eqb r.plan number) where
-    by : (x : Bool) → option_map (slot_with taxi p) (if x then worse most (delays.delay_in o r) else most)
-        ≡ later_of (option_map (slot_with taxi p) most) (option_map (slot_with taxi p) (if x then worse None (delays.delay_in o r) else None))
-    by true = same-rule most (delays.delay_in o r)
+    by : (x : Bool) → option_map (slot_with taxi p) (if x then worse_flight most (delays.row_delay o r) else most)
+        ≡ later_of (option_map (slot_with taxi p) most) (option_map (slot_with taxi p) (if x then worse_flight None (delays.row_delay o r) else None))
+    by true = same-rule most (delays.row_delay o r)
     by false = sym (right-none (option_map (slot_with taxi p) most))
 
   -- the rows of a regulation
-  by-rows : (o : Opened) (most : Option FlightDelay) (rows : List SlotRow)
+  by-rows : (o : OpeningView) (most : Option FlightDelay) (rows : List SlotRow)
       → option_map (slot_with taxi p) (fold (worse_by number o) most rows)
       ≡ later_of (option_map (slot_with taxi p) most) (option_map (slot_with taxi p) (fold (worse_by number o) None rows))
   by-rows o most [] = sym (right-none (option_map (slot_with taxi p) most))
@@ -127,7 +127,7 @@ module _ (taxi number : ℕ) (p : Plan) where
       ∙ ap (later_of (option_map (slot_with taxi p) most)) (sym (by-rows o (worse_by number o None r) rs))))
 
   -- all regulations
-  by-all : (most : Option FlightDelay) (os : List Opened) (rs : List Regulation) → AllZip (GivesAdvised taxi number p) os rs
+  by-all : (most : Option FlightDelay) (os : List OpeningView) (rs : List Regulation) → AllZip (GivesAdvised taxi number p) os rs
       → option_map (slot_with taxi p) (fold (worse_in number) most os) ≡ later_of (option_map (slot_with taxi p) most) (advice taxi number p rs)
   by-all most [] [] all =
       sym (right-none (option_map (slot_with taxi p) most)) ∙ ap (later_of (option_map (slot_with taxi p) most)) (sym (none-advised taxi number p))
@@ -140,6 +140,6 @@ module _ (taxi number : ℕ) (p : Plan) where
       ∙ (joined first (advice taxi number p (r ∷ [])) (advice taxi number p rs)
       ∙ ap (later_of first) (sym (advice-joined taxi number p r rs))))
 
-pub advised : (taxi number : ℕ) (p : Plan) (os : List Opened) (rs : List Regulation) → AllZip (GivesAdvised taxi number p) os rs
+pub advised : (taxi number : ℕ) (p : PlanView) (os : List OpeningView) (rs : List Regulation) → AllZip (GivesAdvised taxi number p) os rs
     → option_map (slot_with taxi p) (delay_of_flight os number) ≡ advice taxi number p rs
 advised taxi number p os rs all = by-all taxi number p None os rs all

@@ -9,8 +9,8 @@ use Rattle.std.proofs.lemmas.List.Sums.{fold_more}
 use Rattle.std.proofs.lemmas.Option.{get_or_from_slice_get}
 use Rattle.flow_view.specs.declared.delay.FlightDelay.{FlightDelay}
 use Rattle.flow_view.specs.declared.slot_row.SlotRow.{SlotRow}
-use Rattle.flow_view.specs.Openings.{Opened}
-use Rattle.flow_view.specs.Delays.{delay_in, worse, worse_by, worse_in, delay_of_flight, delays}
+use Rattle.flow_view.specs.Openings.{OpeningView}
+use Rattle.flow_view.specs.Delays.{row_delay, worse_flight, worse_by, worse_in, delay_of_flight, delays}
 
 kept : {X : Type 0} (f : X → X) (o : Option X) → ((x : X) → f x ≡ x) → o ≡ option_map f o
 kept f None same = refl
@@ -32,15 +32,15 @@ unchanged f [] same n = refl
 unchanged f (x ∷ xs) same zero = ap (λ y. Some y) (sym (same zero x (omega arith)))
 unchanged f (x ∷ xs) same (suc n) = unchanged (λ m. f (suc m)) xs (λ m y lt. same (suc m) y (omega (arith, lt))) n
 
-of-plan : (plan : ℕ) (o : Opened) (most : Option FlightDelay) (r : SlotRow) → r.plan ≡ plan → worse_by plan o most r ≡ worse most (delay_in o r)
-of-plan plan o most r e = ap (λ (b : Bool). if b then worse most (delay_in o r) else most) (eq-eqb r.plan plan e)
+of-plan : (plan : ℕ) (o : OpeningView) (most : Option FlightDelay) (r : SlotRow) → r.plan ≡ plan → worse_by plan o most r ≡ worse_flight most (row_delay o r)
+of-plan plan o most r e = ap (λ (b : Bool). if b then worse_flight most (row_delay o r) else most) (eq-eqb r.plan plan e)
 
-of-another : (plan : ℕ) (o : Opened) (most : Option FlightDelay) (r : SlotRow) → (r.plan ≡ plan → ⊥) → worse_by plan o most r ≡ most
-of-another plan o most r e = ap (λ (b : Bool). if b then worse most (delay_in o r) else most) (ne_eqb r.plan plan e)
+of-another : (plan : ℕ) (o : OpeningView) (most : Option FlightDelay) (r : SlotRow) → (r.plan ≡ plan → ⊥) → worse_by plan o most r ≡ most
+of-another plan o most r e = ap (λ (b : Bool). if b then worse_flight most (row_delay o r) else most) (ne_eqb r.plan plan e)
 
 -- a row changes the delay of its flight
-pub noted : (o : Opened) (r : SlotRow) (table : List (Option FlightDelay)) (d v : Option FlightDelay) → (r.plan ≡ 0 → ⊥) → r.plan - 1 < length table
-    → v ≡ worse (slice_index_or table (r.plan - 1) d) (delay_in o r)
+pub noted : (o : OpeningView) (r : SlotRow) (table : List (Option FlightDelay)) (d v : Option FlightDelay) → (r.plan ≡ 0 → ⊥) → r.plan - 1 < length table
+    → v ≡ worse_flight (slice_index_or table (r.plan - 1) d) (row_delay o r)
     → (n : ℕ) → slice_get (slice_set table (r.plan - 1) v) n ≡ option_map (λ most. worse_by (n + 1) o most r) (slice_get table n)
 noted o r table d v some lt e n =
     let own : r.plan ≡ r.plan - 1 + 1 = omega (arith, some) in
@@ -49,13 +49,13 @@ noted o r table d v some lt e n =
     (λ m most ne. of-another (m + 1) o most r (λ q. ne (omega (arith, q)))) n
 
 -- and none of a plan that has no index
-pub beyond : (o : Opened) (r : SlotRow) (table : List (Option FlightDelay)) → (r.plan ≡ 0 → ⊥) → length table ≤ r.plan - 1
+pub beyond : (o : OpeningView) (r : SlotRow) (table : List (Option FlightDelay)) → (r.plan ≡ 0 → ⊥) → length table ≤ r.plan - 1
     → (n : ℕ) → slice_get table n ≡ option_map (λ most. worse_by (n + 1) o most r) (slice_get table n)
 beyond o r table some le n =
     unchanged (λ m most. worse_by (m + 1) o most r) table (λ m most lt. of-another (m + 1) o most r (λ q. absurd (omega (arith, q, le, lt)))) n
 
 -- the delays that are in the table
-pub all-delays : (k : ℕ) (os : List Opened) (table : List (Option FlightDelay)) → k ≤ length table
+pub all-delays : (k : ℕ) (os : List OpeningView) (table : List (Option FlightDelay)) → k ≤ length table
     → ((n : ℕ) → n < k → slice_get table n ≡ Some (delay_of_flight os (n + 1)))
     → flat_map (λ d. option_to_list d) (take k table) ≡ delays k os
 all-delays zero os table le each = refl
@@ -69,9 +69,9 @@ all-delays (suc k) os table le each =
     ∙ ap (λ (d : Option FlightDelay). delays k os ++ option_to_list d) here))
 
 -- one regulation more
-pub worse-step : (i plan : ℕ) (os : List Opened) (o : Opened) (before : Option FlightDelay) → i < length os → o ≡ get_or os i o
+pub worse-step : (i plan : ℕ) (os : List OpeningView) (o : OpeningView) (before : Option FlightDelay) → i < length os → o ≡ get_or os i o
     → before ≡ delay_of_flight (take i os) plan → worse_in plan before o ≡ delay_of_flight (take (i + 1) os) plan
 worse-step i plan os o before lt here e =
     ap (λ (w : Option FlightDelay). worse_in plan w o) e
-    ∙ (ap (λ (p : Opened). worse_in plan (delay_of_flight (take i os) plan) p) here
+    ∙ (ap (λ (p : OpeningView). worse_in plan (delay_of_flight (take i os) plan) p) here
     ∙ sym (fold_more (worse_in plan) None os i o lt))

@@ -6,7 +6,7 @@ use Rattle.std.proofs.lemmas.List.{flat_map_more, take_more}
 use Rattle.std.proofs.lemmas.Option.{get_or_from_slice_get, slice_get_within}
 use Rattle.fpl_message.specs.declared.refusal.Refusal.{Refusal}
 use Rattle.fpl_message.specs.Reads.{reading_of}
-use Rattle.flow_plans.specs.Settings.{Settings}
+use Rattle.flow_plans.specs.Settings.{SetupView}
 use Rattle.flow_traffic.specs.Asked.{Asked, asked}
 use Rattle.flow_traffic.specs.Answers.{settle}
 use Rattle.flow_core.specs.State.{State, Input, fresh}
@@ -45,10 +45,10 @@ steps-few max s [] few = few
 steps-few max s (input ∷ inputs) few =
     steps-few max (step s input) inputs (record { fits = step-fits s input few.fits; most = step-most s input ∙ few.most })
 
-run-few : (setup : Settings) (filed : List Input) → Few setup.max_plans (run setup filed)
+run-few : (setup : SetupView) (filed : List Input) → Few setup.max_plans (run setup filed)
 unfolding run
 run-few setup filed = steps-few setup.max_plans (fresh setup) filed (record { fits = fresh-fits setup; most = refl })
 
-pub few-plans : (setup : Settings) (filed : List Input) → length (run setup filed).traffic.plans ≤ setup.max_plans
+pub few-plans : (setup : SetupView) (filed : List Input) → length (run setup filed).traffic.plans ≤ setup.max_plans
 few-plans setup filed =
     let few = run-few setup filed in omega (arith, few.fits.few, few.most)

@@ -6,7 +6,7 @@ use Rattle.std.specs.Option.{option_map, option_to_list}
 use Rattle.std.proofs.lemmas.Bool.{eqb-true, eqb-false, eq-eqb, ne_eqb}
 use Rattle.std.proofs.lemmas.List.Sums.{fold-append}
 use Rattle.fpl_message.specs.declared.order.Spot.{Spot}
-use Rattle.flow_plans.specs.Plans.{Plan}
+use Rattle.flow_plans.specs.Plans.{PlanView}
 use Rattle.flow_plans.specs.Entries.{entry_at, take_off}
 use Rattle.flow_slots.specs.Assignment.{Placed}
 use Rattle.flow_slots.specs.Period.{slot_time, first_slot}
@@ -16,10 +16,10 @@ use Rattle.flow_slots.proofs.Served.{NoneTwice-assigned}
 use Rattle.flow_regulations.specs.Regulations.{Regulation}
 use Rattle.flow_regulations.specs.Advice.{delay_among, caused_by, advice}
 use Rattle.flow_regulations.specs.Advice as by_advice
-use Rattle.flow_view.specs.Shown.{row_of, held_before}
+use Rattle.flow_view.specs.Shown.{slot_row_of, held_before}
 use Rattle.flow_view.specs.declared.delay.FlightDelay.{FlightDelay}
-use Rattle.flow_view.specs.Openings.{Opened}
-use Rattle.flow_view.specs.Delays.{delay_in, worse, worse_by}
+use Rattle.flow_view.specs.Openings.{OpeningView}
+use Rattle.flow_view.specs.Delays.{row_delay, worse_flight, worse_by}
 use Rattle.flow_traffic.specs.Traffic.{Traffic}
 
 abbrev AllFlights : (ℕ → Type 0) → List Placed → Type 0
@@ -93,29 +93,29 @@ pub none-twice : (l : Lineup) → IsSound l → NoneTwice (assigned l)
 none-twice l sound =
     NoneTwice-assigned (λ e. first_slot l.period e) l.fixed l.waiting sound.lined.by_slot sound.lined.fixed_apart sound.lined.waiting_apart
 
-module _ (taxi n : ℕ) (t : Traffic) (spot : Spot) (l : Lineup) (o : Opened) where
+module _ (taxi n : ℕ) (t : Traffic) (spot : Spot) (l : Lineup) (o : OpeningView) where
   -- the greatest delay of the flight of plan n in the rows of the first slots
   abbrev in-first : ℕ → Option FlightDelay
-  in-first k = fold (worse_by n o) None (map (row_of taxi t spot l) (held_before k l))
+  in-first k = fold (worse_by n o) None (map (slot_row_of taxi t spot l) (held_before k l))
 
   abbrev placed_at : ℕ → ℕ → Placed
   placed_at f k = record { flight = f; slot = k }
 
   abbrev by-slot : ℕ → Option FlightDelay → Option ℕ → Option FlightDelay
   by-slot k most None = most
-  by-slot k most (Some f) = worse_by n o most (row_of taxi t spot l (placed_at f k))
+  by-slot k most (Some f) = worse_by n o most (slot_row_of taxi t spot l (placed_at f k))
 
-  mapped-append : (xs ys : List Placed) → map (row_of taxi t spot l) (xs ++ ys) ≡ map (row_of taxi t spot l) xs ++ map (row_of taxi t spot l) ys
+  mapped-append : (xs ys : List Placed) → map (slot_row_of taxi t spot l) (xs ++ ys) ≡ map (slot_row_of taxi t spot l) xs ++ map (slot_row_of taxi t spot l) ys
   mapped-append [] ys = refl
-  mapped-append (x ∷ xs) ys = ap (λ rs. row_of taxi t spot l x ∷ rs) (mapped-append xs ys)
+  mapped-append (x ∷ xs) ys = ap (λ rs. slot_row_of taxi t spot l x ∷ rs) (mapped-append xs ys)
 
   one-slot : (k : ℕ) → in-first (suc k) ≡ by-slot k (in-first k) (held_flight l k)
   one-slot k =
       ap (fold (worse_by n o) None) (mapped-append (held_before k l) (option_to_list (option_map (λ f. placed_at f k) (held_flight l k))))
-      ∙ (fold-append (worse_by n o) None (map (row_of taxi t spot l) (held_before k l)) (map (row_of taxi t spot l) (option_to_list (option_map (λ f. placed_at f k) (held_flight l k))))
+      ∙ (fold-append (worse_by n o) None (map (slot_row_of taxi t spot l) (held_before k l)) (map (slot_row_of taxi t spot l) (option_to_list (option_map (λ f. placed_at f k) (held_flight l k))))
       ∙ by (held_flight l k))
     where
-      by : (m : Option ℕ) → fold (worse_by n o) (in-first k) (map (row_of taxi t spot l) (option_to_list (option_map (λ f. placed_at f k) m))) ≡ by-slot k (in-first k) m
+      by : (m : Option ℕ) → fold (worse_by n o) (in-first k) (map (slot_row_of taxi t spot l) (option_to_list (option_map (λ f. placed_at f k) m))) ≡ by-slot k (in-first k) m
       by None = refl
       by (Some f) = refl
 
@@ -123,7 +123,7 @@ module _ (taxi n : ℕ) (t : Traffic) (spot : Spot) (l : Lineup) (o : Opened) wh
   other-slot : (k : ℕ) (most : Option FlightDelay) (m : Option ℕ) → (m ≡ Some n → ⊥) → by-slot k most m ≡ most
   other-slot k most None ne = refl
   other-slot k most (Some f) ne =
-      ap (λ (b : Bool). if b then worse most (delay_in o (row_of taxi t spot l (placed_at f k))) else most) (ne_eqb f n (λ e. ne (ap (λ m. Some m) e)))
+      ap (λ (b : Bool). if b then worse_flight most (row_delay o (slot_row_of taxi t spot l (placed_at f k))) else most) (ne_eqb f n (λ e. ne (ap (λ m. Some m) e)))
 
   pub none-before : (k : ℕ) → ((j : ℕ) → j < k → held_flight l j ≡ Some n → ⊥) → in-first k ≡ None
   none-before zero ne = refl
@@ -131,22 +131,22 @@ module _ (taxi n : ℕ) (t : Traffic) (spot : Spot) (l : Lineup) (o : Opened) wh
       one-slot k ∙ (other-slot k (in-first k) (held_flight l k) (λ e. ne k (omega arith) e) ∙ none-before k (λ j lt e. ne j (omega (arith, lt)) e))
 
   -- its own slot gives its delay
-  own-slot : (k : ℕ) (m : Option ℕ) → m ≡ Some n → by-slot k None m ≡ Some (delay_in o (row_of taxi t spot l (placed_at n k)))
+  own-slot : (k : ℕ) (m : Option ℕ) → m ≡ Some n → by-slot k None m ≡ Some (row_delay o (slot_row_of taxi t spot l (placed_at n k)))
   own-slot k m e =
       ap (by-slot k None) e
-      ∙ ap (λ (b : Bool). if b then Some (delay_in o (row_of taxi t spot l (placed_at n k))) else None) (eq-eqb n n refl)
+      ∙ ap (λ (b : Bool). if b then Some (row_delay o (slot_row_of taxi t spot l (placed_at n k))) else None) (eq-eqb n n refl)
 
   pub some-after : (s k : ℕ) → s < k → held_flight l s ≡ Some n → ((j : ℕ) → held_flight l j ≡ Some n → j ≡ s)
-      → in-first k ≡ Some (delay_in o (row_of taxi t spot l (placed_at n s)))
+      → in-first k ≡ Some (row_delay o (slot_row_of taxi t spot l (placed_at n s)))
   some-after s zero lt here one = absurd (omega (arith, lt))
   some-after s (suc k) lt here one = by (λ less. some-after s k less here one) (eqb s k) refl where
-    by : (s < k → in-first k ≡ Some (delay_in o (row_of taxi t spot l (placed_at n s)))) → (b : Bool) → eqb s k ≡ b → in-first (suc k) ≡ Some (delay_in o (row_of taxi t spot l (placed_at n s)))
+    by : (s < k → in-first k ≡ Some (row_delay o (slot_row_of taxi t spot l (placed_at n s)))) → (b : Bool) → eqb s k ≡ b → in-first (suc k) ≡ Some (row_delay o (slot_row_of taxi t spot l (placed_at n s)))
     by again true is =
         let same : s ≡ k = eqb-true s k is in
         let before : in-first k ≡ None = none-before k (λ j less e. absurd (omega (arith, one j e, same, less))) in
         one-slot k ∙ (ap (λ (m : Option FlightDelay). by-slot k m (held_flight l k)) before
         ∙ (own-slot k (held_flight l k) (ap (held_flight l) (sym same) ∙ here)
-        ∙ ap (λ j. Some (delay_in o (row_of taxi t spot l (placed_at n j)))) (sym same)))
+        ∙ ap (λ j. Some (row_delay o (slot_row_of taxi t spot l (placed_at n j)))) (sym same)))
     by again false is =
         let ne : s ≡ k → ⊥ = eqb-false s k is in
         let less : s < k = omega (arith, lt, ne) in
@@ -155,7 +155,7 @@ module _ (taxi n : ℕ) (t : Traffic) (spot : Spot) (l : Lineup) (o : Opened) wh
 -- ---- compared with the advice
 
 -- a frozen slot gives the delay of the advice
-advised-among : (taxi n k : ℕ) (p : Plan) (r : Regulation) (fs : List Placed) → slot_in n fs ≡ Some k
+advised-among : (taxi n k : ℕ) (p : PlanView) (r : Regulation) (fs : List Placed) → slot_in n fs ≡ Some k
     → delay_among taxi n p r fs ≡ option_map (λ e. slot_time r.period k - e) (entry_at taxi r.spot p)
 advised-among taxi n k p r [] e = absurd cc
 advised-among taxi n k p r (a ∷ fs) e = by (advised-among taxi n k p r fs) (eqb a.flight n) e where
@@ -166,7 +166,7 @@ advised-among taxi n k p r (a ∷ fs) e = by (advised-among taxi n k p r fs) (eq
       let same : a.slot ≡ k = cc in ap (λ j. option_map (λ e. slot_time r.period j - e) (entry_at taxi r.spot p)) same
   by again false q = again q
 
-none-among : (taxi n : ℕ) (p : Plan) (r : Regulation) (fs : List Placed) → slot_in n fs ≡ None → delay_among taxi n p r fs ≡ None
+none-among : (taxi n : ℕ) (p : PlanView) (r : Regulation) (fs : List Placed) → slot_in n fs ≡ None → delay_among taxi n p r fs ≡ None
 none-among taxi n p r [] e = refl
 none-among taxi n p r (a ∷ fs) e = by (none-among taxi n p r fs) (eqb a.flight n) e where
   by : (slot_in n fs ≡ None → delay_among taxi n p r fs ≡ None) → (b : Bool) → cond b (Some a.slot) (slot_in n fs) ≡ None
@@ -175,7 +175,7 @@ none-among taxi n p r (a ∷ fs) e = by (none-among taxi n p r fs) (eqb a.flight
   by again false q = again q
 
 -- the advice in one regulation
-pub one-advised : (taxi n : ℕ) (p : Plan) (r : Regulation) (k e : ℕ) → slot_in n r.fixed ≡ Some k → entry_at taxi r.spot p ≡ Some e
+pub one-advised : (taxi n : ℕ) (p : PlanView) (r : Regulation) (k e : ℕ) → slot_in n r.fixed ≡ Some k → entry_at taxi r.spot p ≡ Some e
     → advice taxi n p (r ∷ []) ≡ Some (record { ctot = take_off taxi p + (slot_time r.period k - e); regulation = r.id })
 unfolding advice
 one-advised taxi n p r k e is entry =
@@ -183,7 +183,7 @@ one-advised taxi n p r k e is entry =
     = advised-among taxi n k p r r.fixed is ∙ ap (λ o. option_map (λ m. slot_time r.period k - m) o) entry in
     ap (λ o. option_map (λ d. record { ctot = take_off taxi p + d.minutes; regulation = d.regulation }) (by_advice.worse (option_map (caused_by r) o) None)) delay
 
-pub none-advised-in : (taxi n : ℕ) (p : Plan) (r : Regulation) → slot_in n r.fixed ≡ None → advice taxi n p (r ∷ []) ≡ None
+pub none-advised-in : (taxi n : ℕ) (p : PlanView) (r : Regulation) → slot_in n r.fixed ≡ None → advice taxi n p (r ∷ []) ≡ None
 unfolding advice
 none-advised-in taxi n p r is =
     ap (λ o. option_map (λ d. record { ctot = take_off taxi p + d.minutes; regulation = d.regulation }) (by_advice.worse (option_map (caused_by r) o) None)) (none-among taxi n p r r.fixed is)

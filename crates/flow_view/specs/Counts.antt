@@ -5,7 +5,7 @@ use Rattle.std.specs.Option.{option_map, option_to_list}
 use Rattle.std.specs.Str.{bytes_eq}
 use Rattle.fpl_text.specs.declared.minute.TheConstants.{GREATEST_MINUTE}
 use Rattle.fpl_message.specs.declared.order.Spot.{Spot}
-use Rattle.flow_plans.specs.Plans.{Plan, is_held, is_departed, is_visual}
+use Rattle.flow_plans.specs.Plans.{PlanView, is_held, is_departed, is_visual}
 use Rattle.flow_plans.specs.Entries.{entry_at}
 use Rattle.flow_core.specs.History.{History, state_of}
 use Rattle.flow_view.specs.declared.count.Standing.{Standing}
@@ -17,20 +17,20 @@ use Rattle.flow_view.specs.Load.{is_from_to}
 
 -- a regulation may apply to the flight: it isn't flown by visual flight rules, filed in the air or
 -- exempt
-abbrev pub is_regulated : Plan → Bool
+abbrev pub is_regulated : PlanView → Bool
 is_regulated p = not (is_visual p.rules) && not (bytes_eq p.key.dep (codes "AFIL")) && not p.exempt
 
 -- what a held flight counts as, at a time, at a point that it is planned to enter: a departed one
 -- is on its way there, or has entered
-abbrev pub standing_of : ℕ → Plan → ℕ → Standing
-standing_of now p entry =
+abbrev pub counted_as : ℕ → PlanView → ℕ → Standing
+counted_as now p entry =
     if is_departed p.state then (if nat_le entry now then Entered else Departed)
     else (if is_regulated p then Subject else Exempt)
 
 -- a flight that enters the point
-abbrev pub entrant_of : ℕ → ℕ → Spot → Plan → Option Entrant
+abbrev pub entrant_of : ℕ → ℕ → Spot → PlanView → Option Entrant
 entrant_of taxi now spot p =
-    if is_held p.state then option_map (λ e. record { entry = e; standing = standing_of now p e }) (entry_at taxi spot p) else None
+    if is_held p.state then option_map (λ e. record { entry = e; standing = counted_as now p e }) (entry_at taxi spot p) else None
 
 -- all that do
 abbrev pub entrants : History → Spot → List Entrant

@@ -7,33 +7,33 @@ use Rattle.flow_view.specs.declared.delay.FlightDelay.{FlightDelay}
 use Rattle.flow_view.specs.declared.delay.Spread.{Spread}
 use Rattle.flow_view.specs.declared.delay.DelayTotals.{DelayTotals}
 use Rattle.flow_view.specs.declared.slot_row.SlotRow.{SlotRow}
-use Rattle.flow_view.specs.Openings.{Opened}
+use Rattle.flow_view.specs.Openings.{OpeningView}
 use Rattle.flow_view.specs.Totals.{delay_of}
 
 -- the delay that the slot of a row gives, in this regulation
-abbrev pub delay_in : Opened → SlotRow → FlightDelay
-delay_in o r = record { plan = r.plan; minutes = delay_of r; opened_by = o.opened_by; regulation = o.id }
+abbrev pub row_delay : OpeningView → SlotRow → FlightDelay
+row_delay o r = record { plan = r.plan; minutes = delay_of r; opened_by = o.opened_by; regulation = o.id }
 
 -- the greater delay, the first of equal ones
-abbrev pub worse : Option FlightDelay → FlightDelay → Option FlightDelay
-worse None later = Some later
-worse (Some d) later = if nat_lt d.minutes later.minutes then Some later else Some d
+abbrev pub worse_flight : Option FlightDelay → FlightDelay → Option FlightDelay
+worse_flight None later = Some later
+worse_flight (Some d) later = if nat_lt d.minutes later.minutes then Some later else Some d
 
 -- the greatest so far of the flight of this plan, and a further row
-abbrev pub worse_by : ℕ → Opened → Option FlightDelay → SlotRow → Option FlightDelay
-worse_by plan o most r = if r.plan == plan then worse most (delay_in o r) else most
+abbrev pub worse_by : ℕ → OpeningView → Option FlightDelay → SlotRow → Option FlightDelay
+worse_by plan o most r = if r.plan == plan then worse_flight most (row_delay o r) else most
 
 -- and all rows of a further regulation
-abbrev pub worse_in : ℕ → Option FlightDelay → Opened → Option FlightDelay
+abbrev pub worse_in : ℕ → Option FlightDelay → OpeningView → Option FlightDelay
 worse_in plan most o = fold (worse_by plan o) most o.rows
 
 -- the delay of the flight of a plan: the greatest in all these regulations, and none if it has no
 -- slot in them
-abbrev pub delay_of_flight : List Opened → ℕ → Option FlightDelay
+abbrev pub delay_of_flight : List OpeningView → ℕ → Option FlightDelay
 delay_of_flight os plan = fold (worse_in plan) None os
 
 -- those of the first plans, by number
-abbrev pub delays : ℕ → List Opened → List FlightDelay
+abbrev pub delays : ℕ → List OpeningView → List FlightDelay
 delays zero os = []
 delays (suc n) os = delays n os ++ option_to_list (delay_of_flight os (n + 1))
 

@@ -16,7 +16,7 @@ use Rattle.flow_view.specs.declared.slot_row.SlotRow.{SlotRow}
 use Rattle.flow_view.specs.declared.what_if.Swept.{Swept}
 use Rattle.flow_view.specs.declared.what_if.SweepFault.{SweepFault}
 use Rattle.flow_view.specs.declared.what_if.SweepFault.TheVariants as fault
-use Rattle.flow_view.specs.Openings.{is_open, last_open}
+use Rattle.flow_view.specs.Openings.{is_opening, last_open}
 use Rattle.flow_view.specs.Shown.{shown}
 use Rattle.flow_view.specs.Totals.{totals_of}
 
@@ -53,25 +53,25 @@ CanFile h text = (length text ≤ MAX_BYTES) × (length h.filed < h.setup.max_en
 
 -- the text can be filed, and opens a regulation
 abbrev pub Opens : History → List ℕ → Type 0
-Opens h text = CanFile h text × (option_map is_open (verdict_of h text) ≡ Some true)
+Opens h text = CanFile h text × (option_map is_opening (verdict_of h text) ≡ Some true)
 
 -- the refusal of a verdict: none for an accepted OPEN, and `BadOrder` for anything else that is
 -- accepted
-abbrev pub refusal_of : Verdict → Option Refusal
-refusal_of (Refused why) = Some why
-refusal_of (Accepted kind.Open plan) = None
-refusal_of _ = Some BadOrder
+abbrev pub verdict_refusal : Verdict → Option Refusal
+verdict_refusal (Refused why) = Some why
+verdict_refusal (Accepted kind.Open plan) = None
+verdict_refusal _ = Some BadOrder
 
 -- the fault of a sweep is the refusal of this verdict
 abbrev pub IsToldOf : Verdict → SweepFault → Type 0
-IsToldOf verdict (fault.Refused why) = refusal_of verdict ≡ Some why
+IsToldOf verdict (fault.Refused why) = verdict_refusal verdict ≡ Some why
 IsToldOf verdict fault.OutOfMemory = Unit {0}
 IsToldOf verdict _ = ⊥
 
 -- the fault for a text: that it is too long, else that the journal is full, else the refusal of the
 -- desk; allocation doesn't fail for what can't be filed
 abbrev pub IsToldBy : History → List ℕ → SweepFault → Type 0
-IsToldBy h text (fault.Refused why) = CanFile h text × (option_and_then refusal_of (verdict_of h text) ≡ Some why)
+IsToldBy h text (fault.Refused why) = CanFile h text × (option_and_then verdict_refusal (verdict_of h text) ≡ Some why)
 IsToldBy h text fault.TooLong = MAX_BYTES < length text
 IsToldBy h text fault.JournalFull = (length text ≤ MAX_BYTES) × (h.setup.max_entries ≤ length h.filed)
 IsToldBy h text fault.OutOfMemory = CanFile h text

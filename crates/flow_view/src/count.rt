@@ -3,7 +3,7 @@
 ghost use Rattle.std.specs.Prelude.{◌≡◌, ◌≤◌, ◌++◌, ◌+◌, ◌*◌};
 ghost use Rattle.std.specs.Prelude.{IfOk, OnOk, option_to_list, min, codes};
 ghost use Rattle.std.specs.Str.{bytes_eq};
-ghost use Rattle.flow_view.specs.Counts.{is_regulated, standing_of, entrant_of};
+ghost use Rattle.flow_view.specs.Counts.{is_regulated, counted_as, entrant_of};
 ghost use Rattle.flow_view.specs.Counts.{entrants, same_standing, entering};
 ghost use Rattle.flow_view.specs.Counts.{count_in, counts};
 ghost use Rattle.fpl_text.specs.declared.minute.TheConstants.{GREATEST_MINUTE};
@@ -77,7 +77,7 @@ fn is_regulated<A: Allocator + Copy>(plan: &Plan<A>) -> bool
 
 /// What the flight of a held plan counts as at a point that it is planned to enter at `entry`.
 fn standing_of<A: Allocator + Copy>(now: Minute, plan: &Plan<A>, entry: Minute) -> Standing
-    ensures { result ≡ standing_of now plan.now entry }
+    ensures { result ≡ counted_as now plan.now entry }
 {
     if plan.state() == PlanState::Departed {
         if entry <= now {

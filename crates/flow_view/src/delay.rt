@@ -2,7 +2,7 @@
 ghost use Rattle.std.specs.Prelude.{◌≡◌, ◌≤◌, ◌+◌, ◌-◌, ◌*◌, ℕ, IfOk, length, flat_map, slice_get};
 ghost use Rattle.std.specs.Option.{option_map, option_to_list};
 ghost use Rattle.std.specs.List.Sorted.{IsPermutation, IsNonDecreasingBy};
-ghost use Rattle.flow_view.specs.Delays.{delay_in, worse, worse_by, worse_in};
+ghost use Rattle.flow_view.specs.Delays.{row_delay, worse_flight, worse_by, worse_in};
 ghost use Rattle.flow_view.specs.Delays.{delays, flights_from_to, flights_over};
 ghost use Rattle.flow_view.specs.Delays.{spread_of, total_delay, greatest_delay};
 ghost use Rattle.flow_view.specs.Delays.{delay_totals, rank_of};
@@ -60,7 +60,7 @@ pub struct DelayTotals {
 
 /// The delay that the slot of a row gives in its regulation.
 fn delay_in<A: Allocator + Copy>(opening: &Opening<A>, row: &SlotRow) -> FlightDelay
-    ensures { result ≡ delay_in opening.now row.now }
+    ensures { result ≡ row_delay opening.now row.now }
 {
     FlightDelay {
         plan: row.plan,
@@ -72,7 +72,7 @@ fn delay_in<A: Allocator + Copy>(opening: &Opening<A>, row: &SlotRow) -> FlightD
 
 /// The greater delay, the first of equal ones.
 fn worse(most: Option<FlightDelay>, later: FlightDelay) -> Option<FlightDelay>
-    ensures { result ≡ worse most later }
+    ensures { result ≡ worse_flight most later }
 {
     match most {
         Some(delay) if later.minutes <= delay.minutes => Some(delay),

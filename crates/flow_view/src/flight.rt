@@ -3,7 +3,7 @@ ghost use Rattle.std.specs.Prelude.{◌≡◌, ◌≤◌, ◌<◌, ◌-◌, slic
 ghost use Rattle.std.specs.Option.{option_map_or};
 ghost use Rattle.flow_core.specs.Changes.{rows_at};
 ghost use Rattle.flow_core.specs.History.{state_of};
-ghost use Rattle.flow_view.specs.Shown.{flight_of, flight_at};
+ghost use Rattle.flow_view.specs.Shown.{shown_flight, shown_flight_at};
 ghost use Rattle.flow_plans.specs.declared.setup.TheConstants.{MAX_TAXI};
 
 use flow_core::{Core, Told};
@@ -34,7 +34,7 @@ fn flight_of<A: Allocator + Copy>(
     told: Option<Told>,
 ) -> Flight
     requires { taxi ≤ MAX_TAXI }
-    ensures { result ≡ flight_of taxi spot.now plan.now told }
+    ensures { result ≡ shown_flight taxi spot.now plan.now told }
 {
     let key = plan.key();
     Flight {
@@ -67,7 +67,8 @@ pub(crate) fn flight_at<A: Allocator + Copy>(
     number: u32,
 ) -> Option<Flight>
     requires { 0 < number }
-    ensures { result ≡ flight_at core.now.setup.taxi (state_of core.now).traffic spot.now number }
+    ensures { result ≡ shown_flight_at core.now.setup.taxi (state_of core.now).traffic spot.now
+        number }
 {
     let Some(plan) = core.plan(number) else {
         return None;

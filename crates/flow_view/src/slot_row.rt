@@ -4,7 +4,7 @@ ghost use Rattle.std.specs.Option.{option_map};
 ghost use Rattle.flow_core.specs.History.{state_of};
 ghost use Rattle.flow_slots.specs.Lineup.{held_flight};
 ghost use Rattle.flow_slots.specs.Period.{most_slots};
-ghost use Rattle.flow_view.specs.Shown.{row_of, shown};
+ghost use Rattle.flow_view.specs.Shown.{slot_row_of, shown};
 
 use crate::flight::{Flight, flight_at};
 use flow_core::Core;
@@ -36,7 +36,7 @@ fn row_at<A: Allocator + Copy>(
     slot: u32,
 ) -> Option<SlotRow>
     ensures { result ≡ option_map
-        (λ f. row_of core.now.setup.taxi (state_of core.now).traffic spot.now list.now.lineup
+        (λ f. slot_row_of core.now.setup.taxi (state_of core.now).traffic spot.now list.now.lineup
         (record { flight = f; slot = slot })) (held_flight list.now.lineup slot) }
 {
     let Some(plan) = list.holder(slot) else {

@@ -2,7 +2,7 @@
 ghost use Rattle.std.specs.Prelude.{◌≡◌, ◌≤◌, ◌++◌, Some, true, codes};
 ghost use Rattle.std.specs.Prelude.{IfOk, IfErr, OnOk, OnErr, map, length};
 ghost use Rattle.std.specs.List.{AllByRecursion};
-ghost use Rattle.flow_view.specs.Openings.{is_open};
+ghost use Rattle.flow_view.specs.Openings.{is_opening};
 ghost use Rattle.flow_view.specs.Sweeps.{order_at, with_filing, verdict_of, last_rows, swept};
 ghost use Rattle.flow_view.specs.Sweeps.{CanFile, Opens, IsToldOf, IsToldBy, IsEndedBy};
 ghost use Rattle.flow_view.specs.Totals.{totals_of};
@@ -122,7 +122,7 @@ fn totals_at<A: Allocator + Copy>(
     verdict: Verdict,
 ) -> Result<Totals, SweepFault>
     ensures totals { IfOk result (λ totals. totals ≡ totals_of (last_rows core.now)) }
-    ensures opened { OnOk result (is_open verdict ≡ true) }
+    ensures opened { OnOk result (is_opening verdict ≡ true) }
     ensures refused { IfErr result (λ e. IsToldOf verdict e) }
 {
     match verdict {

@@ -11,7 +11,7 @@ use Rattle.fpl_text.specs.Words.{words_of}
 use Rattle.fpl_items.specs.declared.fault.ItemFault.{ItemFault}
 use Rattle.fpl_items.specs.declared.fault.ItemFault.TheVariants.{BadField}
 use Rattle.fpl_items.specs.Kinds.{before_stroke, is_text}
-use Rattle.fpl_items.specs.Items.{Item, begins_item, own_words, words_before, items_of, field_fault, first_fault, items_or_fault, unless_fault}
+use Rattle.fpl_items.specs.Items.{ItemView, begins_item, own_words, words_before, items_of, field_fault, first_fault, items_or_fault, unless_fault}
 use Rattle.fpl_items.proofs.ItemsLemmas.{stroke-other}
 use Rattle.fpl_items.specs.ItemLaws.{word_if_any, SpellsItem, SpellItems, BeginWithItem}
 
@@ -94,7 +94,7 @@ item-spelled word words h =
 items-skip : (words : List (List ℕ)) → items_of words ≡ items_of (from_item words)
 items-skip [] = refl
 items-skip (word ∷ words) = cases (items-skip words) (begins_item word) refl where
-  item : Item
+  item : ItemView
   item = record { name = take (before_stroke word) word; words = own_words word ++ words_before words }
 
   cases : items_of words ≡ items_of (from_item words) → (b : Bool) → begins_item word ≡ b → cond b (item ∷ items_of words) (items_of words) ≡ items_of (cond b (word ∷ words) (from_item words))
@@ -104,7 +104,7 @@ items-skip (word ∷ words) = cases (items-skip words) (begins_item word) refl w
 spelled-from : (words : List (List ℕ)) → SpellItems (items_of words) (from_item words)
 spelled-from [] = refl
 spelled-from (word ∷ words) = cases (spelled-from words) (begins_item word) refl where
-  item : Item
+  item : ItemView
   item = record { name = take (before_stroke word) word; words = own_words word ++ words_before words }
 
   cases : SpellItems (items_of words) (from_item words) → (b : Bool) → begins_item word ≡ b → SpellItems (cond b (item ∷ items_of words) (items_of words)) (cond b (word ∷ words) (from_item words))
@@ -135,7 +135,7 @@ front-byte : (name own : List ℕ) → 1 ≤ length name → get_or (name ++ (47
 front-byte [] own l = absurd (omega arith)
 front-byte (b ∷ name) own l = refl
 
-spelled-begins : (item : Item) (words : List (List ℕ)) (s : SpellsItem item words) → begins_item (item.name ++ (47 ∷ s.own)) ≡ true
+spelled-begins : (item : ItemView) (words : List (List ℕ)) (s : SpellsItem item words) → begins_item (item.name ++ (47 ∷ s.own)) ≡ true
 spelled-begins item words s =
     let word = item.name ++ (47 ∷ s.own) in
     let stroke = stroke-first item.name s.own s.name in
@@ -149,7 +149,7 @@ spelled-begins item words s =
       name = ap (list_all is_letter_or_digit) name ∙ s.name;
     })
 
-begin-spelled : (items : List Item) (words : List (List ℕ)) → SpellItems items words → BeginWithItem words
+begin-spelled : (items : List ItemView) (words : List (List ℕ)) → SpellItems items words → BeginWithItem words
 begin-spelled [] words s = subst BeginWithItem (sym s) tt
 begin-spelled (item ∷ items) words s =
     subst BeginWithItem (sym (s.4 ∙ ap (λ ws. ws ++ s.1) (s.2).spelled)) (spelled-begins item s.0 s.2)
@@ -182,7 +182,7 @@ own-again name own h =
     ∙ own-is word (length name) (omega (arith, length-append name (47 ∷ own)))
     ∙ ap word_if_any behind
 
-pub items-only : (items : List Item) (words : List (List ℕ)) → SpellItems items words → items_of words ≡ items
+pub items-only : (items : List ItemView) (words : List (List ℕ)) → SpellItems items words → items_of words ≡ items
 items-only [] words s = ap items_of s
 items-only (item ∷ items) words s =
     let one = s.2 in
@@ -195,10 +195,10 @@ items-only (item ∷ items) words s =
     let listed : own_words word ++ words_before (one.others ++ rest) ≡ item.words =
     ap (λ ws. ws ++ words_before (one.others ++ rest)) (own-again item.name one.own one.name)
     ∙ ap (λ ws. word_if_any one.own ++ ws) (before-begun one.others rest one.none_begins begun) ∙ sym one.words_are in
-    let made : Item = record { name = take (before_stroke word) word; words = own_words word ++ words_before (one.others ++ rest) } in
+    let made : ItemView = record { name = take (before_stroke word) word; words = own_words word ++ words_before (one.others ++ rest) } in
     let same : made ≡ item =
-    ap (λ n. let i : Item = record { name = n; words = own_words word ++ words_before (one.others ++ rest) } in i) name
-    ∙ ap (λ ws. let i : Item = record { name = item.name; words = ws } in i) listed in
+    ap (λ n. let i : ItemView = record { name = n; words = own_words word ++ words_before (one.others ++ rest) } in i) name
+    ∙ ap (λ ws. let i : ItemView = record { name = item.name; words = ws } in i) listed in
     ap items_of whole
     ∙ cond-true (begins_item word) (made ∷ items_of (one.others ++ rest)) (items_of (one.others ++ rest)) (spelled-begins item s.0 one)
     ∙ ap (λ i. i ∷ items_of (one.others ++ rest)) same
@@ -215,7 +215,7 @@ unfolding words_of begins_item
 zero-items = refl
 
 -- a field that is read
-pub items-of_field : (field : List ℕ) (items : List Item) → items_or_fault field ≡ Ok items → ((field ≡ codes "0") × (items ≡ [])) ⊎ SpellItems items (words_of field)
+pub items-of_field : (field : List ℕ) (items : List ItemView) → items_or_fault field ≡ Ok items → ((field ≡ codes "0") × (items ≡ [])) ⊎ SpellItems items (words_of field)
 unfolding field_fault
 items-of_field field items h = zero (is_text (codes "0") field) refl h where
   is : (o : Option ItemFault) → unless_fault o (items_of (words_of field)) ≡ Ok items → items_of (words_of field) ≡ items

@@ -10,9 +10,9 @@ use lib.Pointwise.{bytes_decides}
 use Rattle.std.specs.Option.{option_or}
 use Rattle.fpl_text.specs.Times.{elapsed_time}
 use Rattle.fpl_items.specs.Kinds.{is_text}
-use Rattle.fpl_items.specs.Items.{Item, estimate_for, elapsed_to}
+use Rattle.fpl_items.specs.Items.{ItemView, estimate_for, elapsed_to}
 use Rattle.fpl_items.specs.declared.estimate.Estimate.{Estimate}
-use Rattle.fpl_items.specs.Places.{may_have, name_of}
+use Rattle.fpl_items.specs.Points.{may_have, stored_name}
 use Rattle.fpl_items.specs.Estimates.{is_for, first_for, AddsWord, AddsWords, AddsItem, HasPlacesOf}
 
 -- two tests that follow from one another
@@ -26,8 +26,8 @@ if-both true c e = refl
 if-both false c e = absurd (false≢true e)
 
 -- a name written over twelve zeros, and its length over the last, are its stored form
-pub name-kept : (place : List ℕ) → length place ≤ 11 → set (place ++ drop (length place) (0 ∷ 0 ∷ 0 ∷ 0 ∷ 0 ∷ 0 ∷ 0 ∷ 0 ∷ 0 ∷ 0 ∷ 0 ∷ 0 ∷ [])) 11 (length place) ≡ name_of place
-unfolding name_of
+pub name-kept : (place : List ℕ) → length place ≤ 11 → set (place ++ drop (length place) (0 ∷ 0 ∷ 0 ∷ 0 ∷ 0 ∷ 0 ∷ 0 ∷ 0 ∷ 0 ∷ 0 ∷ 0 ∷ 0 ∷ [])) 11 (length place) ≡ stored_name place
+unfolding stored_name
 name-kept place short =
     let n : ℕ = length place in
     let zeros : List ℕ = replicate (11 - n) 0 in
@@ -40,8 +40,8 @@ name-kept place short =
 
 -- four letters, seven zeros and a four are the stored form of a name of four letters
 pub name_of_four : (place : List ℕ) → length place ≡ 4
-    → slice_index place 0 ∷ slice_index place 1 ∷ slice_index place 2 ∷ slice_index place 3 ∷ 0 ∷ 0 ∷ 0 ∷ 0 ∷ 0 ∷ 0 ∷ 0 ∷ 4 ∷ [] ≡ name_of place
-unfolding name_of
+    → slice_index place 0 ∷ slice_index place 1 ∷ slice_index place 2 ∷ slice_index place 3 ∷ 0 ∷ 0 ∷ 0 ∷ 0 ∷ 0 ∷ 0 ∷ 0 ∷ 4 ∷ [] ≡ stored_name place
+unfolding stored_name
 name_of_four [] four = absurd (omega arith)
 name_of_four (a ∷ []) four = absurd (omega arith)
 name_of_four (a ∷ b ∷ []) four = absurd (omega arith)
@@ -50,8 +50,8 @@ name_of_four (a ∷ b ∷ c ∷ d ∷ []) four = refl
 name_of_four (a ∷ b ∷ c ∷ d ∷ e ∷ place) four = absurd (omega arith)
 
 -- the last byte of a stored form is the length of its name
-name-last : (place : List ℕ) → length place ≤ 11 → get_or (name_of place) 11 0 ≡ length place
-unfolding name_of
+name-last : (place : List ℕ) → length place ≤ 11 → get_or (stored_name place) 11 0 ≡ length place
+unfolding stored_name
 name-last place short =
     let zeros : List ℕ = replicate (11 - length place) 0 in
     let none : 11 - length place - length zeros ≡ 0 = omega (arith, length-replicate {A = ℕ} (11 - length place) 0) in
@@ -60,29 +60,29 @@ name-last place short =
     ∙ ap (λ n. get_or (length place ∷ []) n 0) none
 
 -- and its prefix of that length is the name
-name-front : (place : List ℕ) → take (length place) (name_of place) ≡ place
-unfolding name_of
+name-front : (place : List ℕ) → take (length place) (stored_name place) ≡ place
+unfolding stored_name
 name-front place = take-append_seam place _
 
 -- two names of one stored form are the same
-same-place : (place other : List ℕ) → length place ≤ 11 → length other ≤ 11 → name_of place ≡ name_of other → place ≡ other
+same-place : (place other : List ℕ) → length place ≤ 11 → length other ≤ 11 → stored_name place ≡ stored_name other → place ≡ other
 same-place place other short less same =
     let long : length place ≡ length other = sym (name-last place short) ∙ ap (λ name. get_or name 11 0) same ∙ name-last other less in
-    sym (name-front place) ∙ ap (take (length place)) same ∙ ap (λ n. take n (name_of other)) long ∙ name-front other
+    sym (name-front place) ∙ ap (take (length place)) same ∙ ap (λ n. take n (stored_name other)) long ∙ name-front other
 
 -- an estimate is for the point that it is of, and for no other
-pub for-place : (name place : List ℕ) (note : Estimate) → length place ≤ 11 → note.name ≡ name_of place → is_for name note ≡ is_text name place
+pub for-place : (name place : List ℕ) (note : Estimate) → length place ≤ 11 → note.name ≡ stored_name place → is_for name note ≡ is_text name place
 unfolding is_for
 for-place name place note short kept =
     same-test (is_for name note) (is_text name place)
     (λ is.
-    let parts = and_parts (nat_le (length name) 11) (is_text (name_of name) note.name) is in
-    let same : name_of place ≡ name_of name = sym kept ∙ (bytes_decides note.name (name_of name)).0 parts.1 in
+    let parts = and_parts (nat_le (length name) 11) (is_text (stored_name name) note.name) is in
+    let same : stored_name place ≡ stored_name name = sym kept ∙ (bytes_decides note.name (stored_name name)).0 parts.1 in
     (bytes_decides place name).1 (same-place place name short (leb-true (length name) 11 parts.0) same))
     (λ is.
     let same : place ≡ name = (bytes_decides place name).0 is in
-    if-both (nat_le (length name) 11) (is_text (name_of name) note.name) (le-leb (length name) 11 (omega (arith, short, ap length same)))
-    ∙ (bytes_decides note.name (name_of name)).1 (kept ∙ ap name_of same))
+    if-both (nat_le (length name) 11) (is_text (stored_name name) note.name) (le-leb (length name) 11 (omega (arith, short, ap length same)))
+    ∙ (bytes_decides note.name (stored_name name)).1 (kept ∙ ap stored_name same))
 
 -- no estimate is for a longer name
 pub none-for-long : (place : List ℕ) (notes : List Estimate) → 11 < length place → first_for place notes ≡ None
@@ -100,7 +100,7 @@ if-or true minutes x y v w e = refl
 if-or false minutes x y v w e = e
 
 -- one estimate more says what one word more says
-pub one-more : (notes : List Estimate) (note : Estimate) (word : List ℕ) → length (take (length word - 4) word) ≤ 11 → note.name ≡ name_of (take (length word - 4) word) → elapsed_time (drop (length word - 4) word) ≡ Some note.minutes → AddsWord notes (notes ++ note ∷ []) word
+pub one-more : (notes : List Estimate) (note : Estimate) (word : List ℕ) → length (take (length word - 4) word) ≤ 11 → note.name ≡ stored_name (take (length word - 4) word) → elapsed_time (drop (length word - 4) word) ≡ Some note.minutes → AddsWord notes (notes ++ note ∷ []) word
 one-more [] note word short kept time = λ place words. note-is-word _ _ _ _ _ (for-place place (take (length word - 4) word) note short kept) time
 one-more (n ∷ ns) note word short kept time = λ place words. if-or (is_for place n) n.minutes _ _ _ _ (one-more ns note word short kept time place words)
 
@@ -114,7 +114,7 @@ none-more place (n ∷ ns) note other none = none-after (is_for place n) n.minut
     none-after false minutes x y step h = step h
 
 -- the point of one estimate more, with the points from before
-pub place-noted : (own : List ℕ) (places more : ℕ) (before after : List Estimate) (note : Estimate) → length own ≤ 11 → note.name ≡ name_of own → after ≡ before ++ note ∷ [] → may_have more own ≡ true
+pub place-noted : (own : List ℕ) (places more : ℕ) (before after : List Estimate) (note : Estimate) → length own ≤ 11 → note.name ≡ stored_name own → after ≡ before ++ note ∷ [] → may_have more own ≡ true
     → ((other : List ℕ) → may_have places other ≡ true → may_have more other ≡ true) → HasPlacesOf places before → HasPlacesOf more after
 place-noted own places more before after note short named pushed added kept had place without =
     let before_without : may_have places place ≡ false = false_from_ne_true _ (λ is. absurd (false≢true (sym without ∙ kept place is))) in
@@ -131,9 +131,9 @@ or-none None = refl
 or-none (Some x) = refl
 
 -- the words of an EET item say what the item does
-pub item-noted : (before after : List Estimate) (item : Item) → is_text (codes "EET") item.name ≡ true → AddsWords before after item.words → AddsItem before after item
+pub item-noted : (before after : List Estimate) (item : ItemView) → is_text (codes "EET") item.name ≡ true → AddsWords before after item.words → AddsItem before after item
 item-noted before after item is adds = λ place items. rw (adds place, is) (or-or (first_for place before) (estimate_for place item.words) (elapsed_to place items))
 
 -- another item gives no estimate
-pub other-noted : (notes : List Estimate) (item : Item) → is_text (codes "EET") item.name ≡ false → AddsItem notes notes item
+pub other-noted : (notes : List Estimate) (item : ItemView) → is_text (codes "EET") item.name ≡ false → AddsItem notes notes item
 other-noted notes item other = λ place items. rw other refl

@@ -13,12 +13,12 @@ use Rattle.fpl_items.specs.Kinds.{is_text}
 use lib.Pointwise.{bytes_decides}
 use Rattle.std.specs.Prelude.{is_some}
 use Rattle.std.specs.Option.{option_or}
-use Rattle.fpl_items.specs.Items.{Item, begins_item, is_estimate, items_of, field_fault, first_fault, exempts, is_exempt, day_of_items, estimate_for, elapsed_to, Say, SaysAfter}
+use Rattle.fpl_items.specs.Items.{ItemView, begins_item, is_estimate, items_of, field_fault, first_fault, exempts, is_exempt, day_of_items, estimate_for, elapsed_to, Say, SaysAfter}
 use Rattle.fpl_items.specs.declared.estimate.Estimate.{Estimate}
 use Rattle.fpl_items.specs.Estimates.{first_for, noted_of_items}
 
 -- what the items before the ones that are left said: the rest of all is what these say
-pub record SaySoFar (day : Option ℕ) (exempt : Bool) (left all : List Item) : Type 0 where
+pub record SaySoFar (day : Option ℕ) (exempt : Bool) (left all : List ItemView) : Type 0 where
   pub fault_left : first_fault (is_some day) left ≡ first_fault false all
   pub day_left : option_or day (day_of_items left) ≡ day_of_items all
   pub exempt_left : (exempt || is_exempt left) ≡ is_exempt all
@@ -28,7 +28,7 @@ or_assoc true b c = refl
 or_assoc false b c = refl
 
 -- one item taken, of those that are left
-pub so-far-next : (day next_day : Option ℕ) (exempt next_exempt : Bool) (item : Item) (left rest all : List Item) → left ≡ item ∷ rest → SaysAfter day exempt item next_day next_exempt → SaySoFar day exempt left all → SaySoFar next_day next_exempt rest all
+pub so-far-next : (day next_day : Option ℕ) (exempt next_exempt : Bool) (item : ItemView) (left rest all : List ItemView) → left ≡ item ∷ rest → SaysAfter day exempt item next_day next_exempt → SaySoFar day exempt left all → SaySoFar next_day next_exempt rest all
 so-far-next day next_day exempt next_exempt item left rest all taken says far =
     let faults : first_fault (is_some day) (item ∷ rest) ≡ first_fault false all = rw taken at far.fault_left in
     let days : option_or day (day_of_items (item ∷ rest)) ≡ day_of_items all = rw taken at far.day_left in
@@ -90,9 +90,9 @@ pub record NotedSoFar (before notes : List Estimate) (left all : List (List ℕ)
   pub count : length notes + prefix_len is_estimate left ≡ length before + prefix_len is_estimate all
 
 -- so were the items before the ones that are left
-abbrev pub TellSoFar : List Estimate → List Item → List Item → Type 0
+abbrev pub TellSoFar : List Estimate → List ItemView → List ItemView → Type 0
 TellSoFar notes left all = (place : List ℕ) → option_or (first_for place notes) (elapsed_to place left) ≡ elapsed_to place all
 
 -- and counted
-abbrev pub CountSoFar : List Estimate → Bool → List Item → List Item → Type 0
+abbrev pub CountSoFar : List Estimate → Bool → List ItemView → List ItemView → Type 0
 CountSoFar notes dof left all = length notes + noted_of_items dof left ≡ noted_of_items false all

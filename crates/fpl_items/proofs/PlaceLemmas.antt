@@ -4,7 +4,7 @@ use Rattle.std.specs.Int.{w64}
 use Rattle.std.specs.Prelude.{bit_or}
 use Rattle.std.proofs.lemmas.Bool.{cases_Bool, false≢true, eqb-true, eq-eqb}
 use Rattle.std.proofs.lemmas.Nat.Bits.{bit_at_set_same, bit_at_set_other}
-use Rattle.fpl_items.specs.Places.{bit_of, may_have}
+use Rattle.fpl_items.specs.Points.{bit_of, may_have}
 
 -- a point whose bit was set
 pub place-added : (places k : ℕ) (place : List ℕ) → k ≡ bit_of place → k < 64 → may_have (bit_or places (1 * 2 ^ k % 18446744073709551616)) place ≡ true

@@ -14,7 +14,7 @@ use Rattle.fpl_items.specs.declared.route.Element.{Element}
 use Rattle.fpl_items.specs.Speeds.{is_letter_and_digits, is_speed, is_height, is_level, is_speed_and_level, speed_len}
 use Rattle.fpl_items.specs.Kinds.{is_text, is_name, is_coordinate, is_point, before_stroke, is_change, height_len, is_climb_range, is_climb_speed, is_climb_from, is_climb, is_designator, is_route_byte, kind_of}
 use Rattle.fpl_items.specs.declared.fault.ItemFault.TheVariants.{BadField}
-use Rattle.fpl_items.specs.Routes.{Path, path_or_fault, is_route, elements_of}
+use Rattle.fpl_items.specs.Routes.{RouteView, path_or_fault, is_route, elements_of}
 use Rattle.fpl_text.specs.Words.{words_of}
 use Rattle.fpl_items.proofs.ItemsLemmas.{list_all-prefix}
 
@@ -252,7 +252,7 @@ field-routed field first words some =
     rw some (told (is_speed_and_level first) (elements_of (length first + 1) words) ∙ rw (words-kinds (length first + 1) words) refl)
   where
     told : (good : Bool) (found : Option (List Element))
-        → is_ok {T = Path} (ok_or (if good then option_map (λ elements. record { speed = take (speed_len first) first; level = drop (speed_len first) first; elements = elements }) found else None) (BadField 15)) ≡ (good && is_some found)
+        → is_ok {T = RouteView} (ok_or (if good then option_map (λ elements. record { speed = take (speed_len first) first; level = drop (speed_len first) first; elements = elements }) found else None) (BadField 15)) ≡ (good && is_some found)
     told true None = refl
     told true (Some elements) = refl
     told false None = refl

@@ -12,7 +12,7 @@ use Rattle.fpl_items.specs.declared.route.Element.{Element}
 use Rattle.fpl_items.specs.declared.route.Kind.{Kind}
 use Rattle.fpl_items.specs.Kinds.{kind_of}
 use Rattle.fpl_items.specs.Speeds.{speed_len, is_speed_and_level}
-use Rattle.fpl_items.specs.Routes.{Path, elements_of, path_of_words, path_or_fault}
+use Rattle.fpl_items.specs.Routes.{RouteView, elements_of, path_of_words, path_or_fault}
 use Rattle.fpl_items.specs.RouteLaws.{AreElements, AreInOrder}
 
 -- what elements that are found in a field are
@@ -64,14 +64,14 @@ pub record Law (field : List ℕ) (words : List (List ℕ)) (elements : List Ele
   pub all : AreElements field words elements
   pub order : AreInOrder 0 elements
 
-path-told : (field word : List ℕ) (words : List (List ℕ)) (good : Bool) (found : Option (List Element)) (path : Path) → Tells field words (length word + 1) found → ok_or (cond good (option_map (λ elements. record { speed = take (speed_len word) word; level = drop (speed_len word) word; elements = elements }) found) None) (BadField 15) ≡ Ok path → Law field words path.elements
+path-told : (field word : List ℕ) (words : List (List ℕ)) (good : Bool) (found : Option (List Element)) (path : RouteView) → Tells field words (length word + 1) found → ok_or (cond good (option_map (λ elements. record { speed = take (speed_len word) word; level = drop (speed_len word) word; elements = elements }) found) None) (BadField 15) ≡ Ok path → Law field words path.elements
 path-told field word words true (Some elements) path told is =
     let same : record { speed = take (speed_len word) word; level = drop (speed_len word) word; elements = elements } ≡ path = cc in
     rw (← same) (record { all = told.all; order = earlier (length word + 1) 0 elements (omega arith) told.order })
 path-told field word words true None path told is = absurd cc
 path-told field word words false found path told is = absurd cc
 
-words-told : (field : List ℕ) (words : List (List ℕ)) (path : Path) → field ≡ join_with_byte 32 words → ok_or (path_of_words words) (BadField 15) ≡ Ok path → Law field (drop 1 words) path.elements
+words-told : (field : List ℕ) (words : List (List ℕ)) (path : RouteView) → field ≡ join_with_byte 32 words → ok_or (path_of_words words) (BadField 15) ≡ Ok path → Law field (drop 1 words) path.elements
 words-told field [] path is read = absurd cc
 words-told field (word ∷ []) path is read =
     path-told field word [] (is_speed_and_level word) (Some []) path (record { all = tt; order = tt }) read
@@ -88,6 +88,6 @@ joined (b ∷ field) =
     let some : eqb (length (b ∷ field)) 0 ≡ false = ne_eqb (length (b ∷ field)) 0 (λ none. absurd (omega arith)) in
     rw some (sym (join_with_byte-slice_split 32 (b ∷ field)))
 
-pub elements_law : (field : List ℕ) (path : Path) → path_or_fault field ≡ Ok path → Law field (drop 1 (words_of field)) path.elements
+pub elements_law : (field : List ℕ) (path : RouteView) → path_or_fault field ≡ Ok path → Law field (drop 1 (words_of field)) path.elements
 unfolding path_or_fault
 elements_law field path read = words-told field (words_of field) path (joined field) read

@@ -6,12 +6,12 @@ use Rattle.std.specs.Option.{option_or}
 use Rattle.fpl_text.specs.Words.{words_of}
 use Rattle.fpl_items.specs.declared.estimate.Estimate.{Estimate}
 use Rattle.fpl_items.specs.Kinds.{is_text}
-use Rattle.fpl_items.specs.Items.{Item, begins_item, items_of, is_estimate, is_dof, item_fault, estimate_for, elapsed_to}
-use Rattle.fpl_items.specs.Places.{may_have, name_of}
+use Rattle.fpl_items.specs.Items.{ItemView, begins_item, items_of, is_estimate, is_dof, item_fault, estimate_for, elapsed_to}
+use Rattle.fpl_items.specs.Points.{may_have, stored_name}
 
 -- whether an estimate is for a point
 unfoldable pub is_for : List ℕ → Estimate → Bool
-is_for place e = nat_le (length place) 11 && is_text (name_of place) e.name
+is_for place e = nat_le (length place) 11 && is_text (stored_name place) e.name
 
 -- the minutes of the first of these estimates that is for a point
 abbrev pub first_for : List ℕ → List Estimate → Option ℕ
@@ -30,13 +30,13 @@ AddsWords before after words =
     (place : List ℕ) → first_for place after ≡ option_or (first_for place before) (estimate_for place words)
 
 -- what an item says, whatever the items after it are
-abbrev pub AddsItem : List Estimate → List Estimate → Item → Type 0
+abbrev pub AddsItem : List Estimate → List Estimate → ItemView → Type 0
 AddsItem before after item =
-    (place : List ℕ) (items : List Item)
+    (place : List ℕ) (items : List ItemView)
     → option_or (first_for place after) (elapsed_to place items) ≡ option_or (first_for place before) (elapsed_to place (item ∷ items))
 
 -- estimates that say of every point what the items say
-abbrev pub AreEstimatesOf : List Item → List Estimate → Type 0
+abbrev pub AreEstimatesOf : List ItemView → List Estimate → Type 0
 AreEstimatesOf items notes = (place : List ℕ) → first_for place notes ≡ elapsed_to place items
 
 -- with `more` estimates recorded after those before, there are more than eight
@@ -44,11 +44,11 @@ abbrev pub PastTheEighth : List Estimate → ℕ → Type 0
 PastTheEighth before more = (0 < more) × (8 < length before + more)
 
 -- the number of estimates recorded of an item: those with which an EET item begins
-abbrev pub noted_of_item : Item → ℕ
+abbrev pub noted_of_item : ItemView → ℕ
 noted_of_item item = if is_text (codes "EET") item.name then prefix_len is_estimate item.words else 0
 
 -- of items, up to the first fault; `dof` if there was a DOF before
-abbrev pub noted_of_items : Bool → List Item → ℕ
+abbrev pub noted_of_items : Bool → List ItemView → ℕ
 noted_of_items dof [] = 0
 noted_of_items dof (item ∷ items) =
     noted_of_item item + (if is_some (item_fault dof item) then 0 else noted_of_items (dof || is_dof item) items)

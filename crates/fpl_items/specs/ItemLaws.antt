@@ -2,7 +2,7 @@
 use Rattle.std.specs.Prelude.{◌≡◌, ℕ, ◌≤◌, true, not, List, [], ◌∷◌, ◌++◌, length, slice_index}
 use Rattle.std.specs.List.{list_all}
 use Rattle.fpl_text.specs.Bytes.{is_letter, is_letter_or_digit}
-use Rattle.fpl_items.specs.Items.{Item, begins_item}
+use Rattle.fpl_items.specs.Items.{ItemView, begins_item}
 
 -- a word, unless it is empty
 abbrev pub word_if_any : List ℕ → List (List ℕ)
@@ -11,7 +11,7 @@ word_if_any (b ∷ word) = (b ∷ word) ∷ []
 
 -- The first of these words is the item's name, a stroke, and the item's first word, if it follows;
 -- the others are its further words, of which none begins an item.
-pub record SpellsItem (item : Item) (words : List (List ℕ)) : Type 0 where
+pub record SpellsItem (item : ItemView) (words : List (List ℕ)) : Type 0 where
   pub own : List ℕ
   pub others : List (List ℕ)
   pub some : 2 ≤ length item.name
@@ -23,7 +23,7 @@ pub record SpellsItem (item : Item) (words : List (List ℕ)) : Type 0 where
   pub spelled : words ≡ (item.name ++ (47 ∷ own)) ∷ others
 
 -- the words are those of the items, one after the other
-abbrev pub SpellItems : List Item → List (List ℕ) → Type 0
+abbrev pub SpellItems : List ItemView → List (List ℕ) → Type 0
 SpellItems [] words = words ≡ []
 SpellItems (item ∷ items) words =
     (first : List (List ℕ)) × (rest : List (List ℕ)) × SpellsItem item first × SpellItems items rest × (words ≡ first ++ rest)

@@ -15,7 +15,7 @@ use Rattle.fpl_text.specs.Words.{words_of}
 use Rattle.fpl_items.specs.Kinds.{before_stroke, is_text}
 
 -- an item by its bytes
-pub record Item : Type 0 where
+pub record ItemView : Type 0 where
   pub name : List ℕ
   pub words : List (List ℕ)
 
@@ -42,7 +42,7 @@ words_before [] = []
 words_before (word ∷ words) = if begins_item word then [] else word ∷ words_before words
 
 -- the items of words, each up to the next
-abbrev pub items_of : List (List ℕ) → List Item
+abbrev pub items_of : List (List ℕ) → List ItemView
 items_of [] = []
 items_of (word ∷ words) =
     if begins_item word
@@ -65,22 +65,22 @@ day_of_words (word ∷ words) = day_of word
 unfoldable pub is_day : List (List ℕ) → Bool
 is_day words = (length words == 1) && is_some (day_of_words words)
 
-abbrev pub is_dof : Item → Bool
+abbrev pub is_dof : ItemView → Bool
 is_dof item = is_text (codes "DOF") item.name
 
 -- the fault of an item; `dof` if there was a DOF before
-unfoldable pub item_fault : Bool → Item → Option ItemFault
+unfoldable pub item_fault : Bool → ItemView → Option ItemFault
 item_fault dof item =
     if is_dof item
     then (if dof then Some DuplicateItem else (if is_day item.words then None else Some BadDate))
     else (if is_text (codes "EET") item.name && not (list_all is_estimate item.words) then Some (BadField 18) else None)
 
 -- the first fault, from the left
-abbrev pub first_fault : Bool → List Item → Option ItemFault
+abbrev pub first_fault : Bool → List ItemView → Option ItemFault
 first_fault dof [] = None
 first_fault dof (item ∷ items) = option_or (item_fault dof item) (first_fault (dof || is_dof item) items)
 
-abbrev pub unless_fault : Option ItemFault → List Item → Result (List Item) ItemFault
+abbrev pub unless_fault : Option ItemFault → List ItemView → Result (List ItemView) ItemFault
 unless_fault None items = Ok items
 unless_fault (Some fault) items = Err fault
 
@@ -93,15 +93,15 @@ field_fault field =
     else Some (BadField 18))
 
 -- the items of field 18, of which 0 has none, or its first fault
-abbrev pub items_or_fault : List ℕ → Result (List Item) ItemFault
+abbrev pub items_or_fault : List ℕ → Result (List ItemView) ItemFault
 items_or_fault field = unless_fault (field_fault field) (items_of (words_of field))
 
 -- an STS item of which a word is ATFMX
-abbrev pub exempts : Item → Bool
+abbrev pub exempts : ItemView → Bool
 exempts item = is_text (codes "STS") item.name && list_any (is_text (codes "ATFMX")) item.words
 
 -- the flight is exempt if an item exempts it
-abbrev pub is_exempt : List Item → Bool
+abbrev pub is_exempt : List ItemView → Bool
 is_exempt [] = false
 is_exempt (item ∷ items) = exempts item || is_exempt items
 
@@ -113,25 +113,25 @@ estimate_for place (word ∷ words) =
     else estimate_for place words
 
 -- and of all EET items
-abbrev pub elapsed_to : List ℕ → List Item → Option ℕ
+abbrev pub elapsed_to : List ℕ → List ItemView → Option ℕ
 elapsed_to place [] = None
 elapsed_to place (item ∷ items) =
     option_or (if is_text (codes "EET") item.name then estimate_for place item.words else None) (elapsed_to place items)
 
 -- the day that the first DOF item gives
-abbrev pub day_of_items : List Item → Option ℕ
+abbrev pub day_of_items : List ItemView → Option ℕ
 day_of_items [] = None
 day_of_items (item ∷ items) = if is_dof item then day_of_words item.words else day_of_items items
 
 -- what items without a fault say: the day of the flight, and whether it is exempt
-pub record Say (items : List Item) (day : Option ℕ) (exempt : Bool) : Type 0 where
+pub record Say (items : List ItemView) (day : Option ℕ) (exempt : Bool) : Type 0 where
   pub day_is : day ≡ day_of_items items
   pub exempt_is : exempt ≡ is_exempt items
 
 -- one more item after a day, if there was one, and an exemption or none: what both then are, and
 -- what follows of that
-pub record SaysAfter (day : Option ℕ) (exempt : Bool) (item : Item) (new_day : Option ℕ) (new_exempt : Bool) : Type 0 where
+pub record SaysAfter (day : Option ℕ) (exempt : Bool) (item : ItemView) (new_day : Option ℕ) (new_exempt : Bool) : Type 0 where
   pub faultless : item_fault (is_some day) item ≡ None
   pub dof : is_some new_day ≡ (is_some day || is_dof item)
-  pub day_then : (items : List Item) → option_or new_day (day_of_items items) ≡ option_or day (day_of_items (item ∷ items))
+  pub day_then : (items : List ItemView) → option_or new_day (day_of_items items) ≡ option_or day (day_of_items (item ∷ items))
   pub exempt_then : new_exempt ≡ (exempt || exempts item)

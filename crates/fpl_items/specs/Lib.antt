@@ -4,6 +4,6 @@ pub mod Routes
 pub mod Items
 pub mod ItemLaws
 pub mod RouteLaws
-pub mod Places
+pub mod Points
 pub mod Estimates
-pub mod Told
+pub mod Other18

@@ -10,7 +10,7 @@ use Rattle.fpl_items.specs.Speeds.{speed_len, is_speed_and_level}
 use Rattle.fpl_items.specs.Kinds.{kind_of}
 
 -- what contracts see of a route
-pub record Path : Type 0 where
+pub record RouteView : Type 0 where
   pub speed : List ℕ
   pub level : List ℕ
   pub elements : List Element
@@ -24,7 +24,7 @@ elements_of from (word ∷ words) =
     (kind_of word)
 
 -- a speed and a level joined, and then the elements
-abbrev pub path_of_words : List (List ℕ) → Option Path
+abbrev pub path_of_words : List (List ℕ) → Option RouteView
 path_of_words [] = None
 path_of_words (word ∷ words) =
     if is_speed_and_level word
@@ -34,7 +34,7 @@ path_of_words (word ∷ words) =
     else None
 
 -- field 15, or its fault
-unfoldable pub path_or_fault : List ℕ → Result Path ItemFault
+unfoldable pub path_or_fault : List ℕ → Result RouteView ItemFault
 path_or_fault field = ok_or (path_of_words (words_of field)) (BadField 15)
 
 -- whether field 15 can be read

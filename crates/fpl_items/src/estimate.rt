@@ -1,9 +1,9 @@
 //! One estimate of an EET item, as it is recorded.
 ghost use Rattle.std.specs.Prelude.{◌≡◌, ◌<◌, ◌≤◌, length};
-ghost use Rattle.fpl_items.specs.Places.{name_of};
+ghost use Rattle.fpl_items.specs.Points.{stored_name};
 ghost use Rattle.fpl_text.specs.declared.time.TheConstants.{ELAPSED_LIMIT};
 
-use crate::places::name_of;
+use crate::points::name_of;
 
 /// The estimated elapsed time to a route point. The name of the point is stored in the value
 /// itself, so it is compared without reading the field.
@@ -37,7 +37,7 @@ impl Estimate {
     pub(crate) fn new(place: &[u8], minutes: u32) -> Estimate
         requires place { length place.now ≤ 11 }
         requires minutes { minutes < ELAPSED_LIMIT }
-        ensures { (result.name ≡ name_of place.now) × (result.minutes ≡ minutes) }
+        ensures { (result.name ≡ stored_name place.now) × (result.minutes ≡ minutes) }
     {
         Estimate {
             name: name_of(place),
@@ -59,7 +59,7 @@ impl Estimate {
     #[tactic(auto, unfolding(crate::specs::Estimates::is_for))]
     pub(crate) fn is_for(&self, place: &[u8], name: &[u8; 12]) -> bool
         requires place { length place.now ≤ 11 }
-        requires name { name.now ≡ name_of place.now }
+        requires name { name.now ≡ stored_name place.now }
         ensures { result ≡ is_for place.now self.now }
     {
         if self.name[3] != name[3] {

@@ -2,14 +2,14 @@
 ghost use Rattle.std.specs.Prelude.{◌≡◌, ◌≤◌, ◌<◌, ◌∷◌, ◌++◌, [], true};
 ghost use Rattle.std.specs.Prelude.{List, ℕ, length, IfOk, IfSome, IsSome, OnOk};
 ghost use Rattle.std.specs.Prelude.{OnErr};
-ghost use Rattle.fpl_items.specs.Places.{may_have, name_of};
+ghost use Rattle.fpl_items.specs.Points.{may_have, stored_name};
 ghost use Rattle.fpl_items.specs.Estimates.{first_for};
 ghost use Rattle.fpl_text.specs.declared.time.TheConstants.{ELAPSED_LIMIT};
 
 use crate::estimate::Estimate;
 use crate::kept_estimates::KeptEstimates;
 use crate::note_list::NoteList;
-use crate::places::{may_have, name_of, with_place};
+use crate::points::{may_have, name_of, with_place};
 use std::alloc::{AllocError, Allocator, Global};
 use std::marker::Model;
 
@@ -58,7 +58,7 @@ impl<A: Allocator + Copy> Estimates<A> {
     #[inline(always)]
     pub(crate) fn push(&mut self, place: &[u8], note: Estimate) -> Result<(), AllocError>
         requires place { length place.now ≤ 11 }
-        requires note { note.name ≡ name_of place.now }
+        requires note { note.name ≡ stored_name place.now }
         ensures ok { OnOk result (self.new ≡ self.old ++ note ∷ []) }
         ensures err { OnErr result (self.new ≡ self.old) }
         ensures full { OnErr result (8 ≤ length self.old) }

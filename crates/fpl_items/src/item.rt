@@ -83,9 +83,9 @@ pub struct Item<'a> {
 impl<'a> Model for Item<'a> {
     ghost use Rattle.std.specs.Prelude.{◌≡◌, ◌++◌, take, IsTrue};
     ghost use Rattle.fpl_items.specs.Kinds.{before_stroke};
-    ghost use Rattle.fpl_items.specs.Items.{Item as Entry, begins_item, own_words, words_before};
+    ghost use Rattle.fpl_items.specs.Items.{ItemView, begins_item, own_words, words_before};
 
-    ghost Value = { Entry };
+    ghost Value = { ItemView };
 
     ghost view = { λ i. record {
       name = take (before_stroke i.first.now) i.first.now;
@@ -158,10 +158,10 @@ pub struct Items<'a> {
 }
 
 impl<'a> Model for Items<'a> {
-    ghost use Rattle.fpl_items.specs.Items.{Item as Entry, items_of};
+    ghost use Rattle.fpl_items.specs.Items.{ItemView, items_of};
     ghost use Rattle.std.specs.Prelude.{List};
 
-    ghost Value = { List Entry };
+    ghost Value = { List ItemView };
 
     ghost view = { λ i. items_of i.words };
 }

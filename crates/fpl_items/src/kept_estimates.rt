@@ -1,12 +1,12 @@
 //! The estimates of field 18, as a plan keeps them.
 ghost use Rattle.std.specs.Prelude.{◌≡◌, ◌≤◌, ◌<◌, ◌++◌, true, List, ℕ, IfOk, IfSome, IsSome};
-ghost use Rattle.fpl_items.specs.Places.{may_have};
+ghost use Rattle.fpl_items.specs.Points.{may_have};
 ghost use Rattle.fpl_items.specs.Estimates.{first_for, HasPlacesOf};
 ghost use Rattle.fpl_text.specs.declared.time.TheConstants.{ELAPSED_LIMIT};
 
 use crate::estimate::Estimate;
 use crate::estimates::first_for;
-use crate::places::may_have;
+use crate::points::may_have;
 use std::alloc::{AllocError, Allocator, Global};
 use std::marker::Model;
 

@@ -3,17 +3,17 @@
 ghost use Rattle.std.specs.Prelude.{◌≡◌, ◌⊎◌, ℕ, List, [], Ok, true, codes, take, drop};
 ghost use Rattle.fpl_text.specs.Words.{words_of};
 ghost use Rattle.fpl_items.specs.ItemLaws.{BeginWithItem, SpellItems};
-ghost use Rattle.fpl_items.specs.Items.{Item, items_of, items_or_fault};
-ghost use Rattle.fpl_items.specs.Routes.{Path, path_or_fault};
+ghost use Rattle.fpl_items.specs.Items.{ItemView, items_of, items_or_fault};
+ghost use Rattle.fpl_items.specs.Routes.{RouteView, path_or_fault};
 ghost use Rattle.fpl_items.specs.RouteLaws.{AreElements, AreInOrder, IsSpeedThenLevel};
 ghost use Rattle.fpl_items.specs.Speeds.{is_speed_and_level, speed_len};
 
 /// The elements of a route are the words after its first one, in order, each with its offsets in
 /// the field and the first kind that fits.
 pub fn elements_are_words()
-    ensures words { (field : List ℕ) (path : Path) → path_or_fault field ≡ Ok path
+    ensures words { (field : List ℕ) (path : RouteView) → path_or_fault field ≡ Ok path
         → AreElements field (drop 1 (words_of field)) path.elements }
-    ensures order { (field : List ℕ) (path : Path) → path_or_fault field ≡ Ok path
+    ensures order { (field : List ℕ) (path : RouteView) → path_or_fault field ≡ Ok path
         → AreInOrder 0 path.elements }
 {}
 
@@ -23,9 +23,9 @@ pub fn elements_are_words()
 pub fn items_are_words()
     ensures found { (words : List (List ℕ)) → BeginWithItem words
         → SpellItems (items_of words) words }
-    ensures only { (items : List Item) (words : List (List ℕ)) → SpellItems items words
+    ensures only { (items : List ItemView) (words : List (List ℕ)) → SpellItems items words
         → items_of words ≡ items }
-    ensures field { (field : List ℕ) (items : List Item) → items_or_fault field ≡ Ok items
+    ensures field { (field : List ℕ) (items : List ItemView) → items_or_fault field ≡ Ok items
         → ((field ≡ codes "0") × (items ≡ [])) ⊎ SpellItems items (words_of field) }
 {}
 

@@ -16,7 +16,7 @@ mod kept_estimates;
 pub mod laws;
 mod note_list;
 mod other;
-mod places;
+mod points;
 mod route;
 mod speed;
 
@@ -26,5 +26,5 @@ pub use fault::ItemFault;
 pub use item::{Item, ItemWords, Items};
 pub use kept_estimates::KeptEstimates;
 pub use other::Other18;
-pub use places::{bit_of, may_have};
+pub use points::{bit_of, may_have};
 pub use route::{Element, Kind, Route, is_route};

@@ -17,9 +17,9 @@ ghost use Rattle.fpl_items.specs.Items.{begins_item, words_before, is_estimate};
 ghost use Rattle.fpl_items.specs.Items.{is_day, item_fault, first_fault};
 ghost use Rattle.fpl_items.specs.Items.{items_of, field_fault, items_or_fault};
 ghost use Rattle.fpl_items.specs.Items.{elapsed_to, is_exempt, day_of_words};
-ghost use Rattle.fpl_items.specs.Items.{Item as Entry, day_of_items, Say, SaysAfter};
+ghost use Rattle.fpl_items.specs.Items.{ItemView, day_of_items, Say, SaysAfter};
 ghost use Rattle.fpl_items.specs.Routes.{Gives};
-ghost use Rattle.fpl_items.specs.Told.{TellsOf};
+ghost use Rattle.fpl_items.specs.Other18.{TellsOf};
 ghost use Rattle.fpl_text.specs.declared.time.TheConstants.{ELAPSED_LIMIT};
 ghost use Rattle.std.specs.Str.{bytes_eq};
 
@@ -290,9 +290,9 @@ pub struct Other18<A: Allocator + Copy = Global> {
 }
 
 impl<A: Allocator + Copy> Model for Other18<A> {
-    ghost use Rattle.fpl_items.specs.Told.{Told};
+    ghost use Rattle.fpl_items.specs.Other18.{Other18View};
 
-    ghost Value = { Told };
+    ghost Value = { Other18View };
 
     ghost view = { λ o. record {
       estimates = o.estimates;
@@ -368,7 +368,7 @@ impl<A: Allocator + Copy> Other18<A> {
     /// The day of flight of the first DOF item.
     pub fn day(&self) -> Option<Day>
         ensures value { result ≡ self.now.day }
-        ensures items { (items : List Entry) → TellsOf items self.now
+        ensures items { (items : List ItemView) → TellsOf items self.now
             → result ≡ day_of_items items }
     {
         self.day
@@ -398,7 +398,7 @@ impl<A: Allocator + Copy> Other18<A> {
     /// The estimates of the EET items.
     pub fn estimates(&self) -> &Estimates<A>
         ensures value { result.now ≡ self.now.estimates }
-        ensures items { (items : List Entry) → TellsOf items self.now
+        ensures items { (items : List ItemView) → TellsOf items self.now
             → AreEstimatesOf items result.now }
     {
         &self.estimates
@@ -407,7 +407,7 @@ impl<A: Allocator + Copy> Other18<A> {
     /// The elapsed time, in minutes, of the first estimate for the point `place`.
     pub fn elapsed(&self, place: &[u8]) -> Option<u32>
         ensures value { result ≡ first_for place.now self.now.estimates }
-        ensures items { (items : List Entry) → TellsOf items self.now
+        ensures items { (items : List ItemView) → TellsOf items self.now
             → result ≡ elapsed_to place.now items }
         ensures bound { IfSome result (λ minutes. minutes < ELAPSED_LIMIT) }
     {
@@ -418,7 +418,8 @@ impl<A: Allocator + Copy> Other18<A> {
     /// Users Manual).
     pub fn exempt(&self) -> bool
         ensures value { result ≡ self.now.exempt }
-        ensures items { (items : List Entry) → TellsOf items self.now → result ≡ is_exempt items }
+        ensures items { (items : List ItemView) → TellsOf items self.now → result
+            ≡ is_exempt items }
     {
         self.exempt
     }

@@ -63,9 +63,9 @@ pub struct Route<A: Allocator + Copy = Global> {
 }
 
 impl<A: Allocator + Copy> Model for Route<A> {
-    ghost use Rattle.fpl_items.specs.Routes.{Path};
+    ghost use Rattle.fpl_items.specs.Routes.{RouteView};
 
-    ghost Value = { Path };
+    ghost Value = { RouteView };
 
     ghost view = { λ r. record { speed = r.speed; level = r.level; elements = r.elements.items } };
 }

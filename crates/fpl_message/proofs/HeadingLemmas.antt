@@ -14,7 +14,7 @@ use Rattle.fpl_text.specs.Words.{words_of}
 use Rattle.fpl_message.specs.declared.edition.Edition.{Edition}
 use Rattle.fpl_message.specs.declared.refusal.Refusal.{Refusal}
 use Rattle.fpl_message.specs.declared.refusal.Refusal.TheVariants as refusal
-use Rattle.fpl_message.specs.Filings.{FilingText}
+use Rattle.fpl_message.specs.Filings.{FilingView}
 use Rattle.fpl_message.specs.Messages.{field, Message, Order}
 use Rattle.fpl_message.specs.FlightPlans.{fpl_of}
 use Rattle.fpl_message.specs.ShortMessages.{opening_of}
@@ -66,6 +66,6 @@ of-squeezed edition (Ok text) m is =
     of-text (begins_message text) (fields_or_fault text) (order_of edition (words_of text)) m is
 of-squeezed edition (Err fault) m is = absurd (cc)
 
-pub message-heading : (filing : FilingText) (m : Message) → reading_of filing ≡ msg m → IsSome (heading_of_bytes filing.bytes)
+pub message-heading : (filing : FilingView) (m : Message) → reading_of filing ≡ msg m → IsSome (heading_of_bytes filing.bytes)
 unfolding reading_of
 message-heading filing m is = of-squeezed filing.edition (squeezed_or_fault filing.bytes) m is

@@ -18,10 +18,10 @@ use Rattle.fpl_message.specs.declared.edition.Edition.TheVariants.{First, Second
 use Rattle.fpl_message.specs.declared.order.OpenReg.{OpenReg}
 use Rattle.fpl_message.specs.declared.refusal.Refusal.{Refusal}
 use Rattle.fpl_message.specs.declared.refusal.Refusal.TheVariants as refusal
-use Rattle.fpl_message.specs.Filings.{FilingText}
+use Rattle.fpl_message.specs.Filings.{FilingView}
 use Rattle.fpl_message.specs.Messages.{Order, open_reg, shut_reg, set_time, Message}
 use Rattle.fpl_message.specs.Refusals.{◌>>=◌, by_text}
-use Rattle.fpl_message.specs.Orders.{◌>>?◌, order_of, time_of, shut_of, open_of, regulation_of, spot_of, rate_of, more_of, parts_of, part_of}
+use Rattle.fpl_message.specs.Orders.{◌>>?◌, order_of, time_of, shut_of, open_of, regulation_id_of, spot_of, rate_of, more_of, parts_of, part_of}
 use Rattle.fpl_message.specs.Reads.{msg, ord, begins_message, titled_message, message_of, reading_of_squeezed, reading_of, or_bad}
 
 -- a time of those years
@@ -38,7 +38,7 @@ mapped (Some x) f y is = (x, refl, cc)
 mapped None f y is = absurd cc
 
 -- the text of which an order is read
-order-read : (filing : FilingText) (order : Order) → reading_of filing ≡ ord order → (text : List ℕ) × (order_of filing.edition (words_of text) ≡ Some order)
+order-read : (filing : FilingView) (order : Order) → reading_of filing ≡ ord order → (text : List ℕ) × (order_of filing.edition (words_of text) ≡ Some order)
 unfolding reading_of
 order-read filing order is = squeezed-read (by_text (squeezed_or_fault filing.bytes)) is
   where
@@ -133,7 +133,7 @@ pub record OpensWithinYears (order : OpenReg) : Type 0 where
 
 open-years : (edition : Edition) (words : List (List ℕ)) (order : OpenReg) → open_of edition words ≡ Some order → OpensWithinYears order
 open-years edition (id ∷ kind ∷ place ∷ from ∷ to ∷ rate ∷ words) order is =
-    let name = chained (regulation_of id) _ order is in
+    let name = chained (regulation_id_of id) _ order is in
     let spot = chained (spot_of kind place) _ order name.2 in
     let start = chained (moment_of from) _ order spot.2 in
     let end = chained (moment_of to) _ order start.2 in
@@ -187,13 +187,13 @@ order-open edition (verb ∷ words) order is = by_verb (is_text (codes "OPEN") v
     by_verb false false false h = absurd cc
 
 -- TIME names a time of those years
-pub time-within : (filing : FilingText) (at : ℕ) → reading_of filing ≡ ord (set_time at) → (15_778_080 ≤ at) × (at < 67_848_480)
+pub time-within : (filing : FilingView) (at : ℕ) → reading_of filing ≡ ord (set_time at) → (15_778_080 ≤ at) × (at < 67_848_480)
 time-within filing at is =
     let read = order-read filing (set_time at) is in
     order-time filing.edition (words_of read.0) at read.1
 
 -- the times of OPEN are of those years
-pub open-within : (filing : FilingText) (order : OpenReg) → reading_of filing ≡ ord (open_reg order) → OpensWithinYears order
+pub open-within : (filing : FilingView) (order : OpenReg) → reading_of filing ≡ ord (open_reg order) → OpensWithinYears order
 open-within filing order is =
     let read = order-read filing (open_reg order) is in
     order-open filing.edition (words_of read.0) order read.1

@@ -3,6 +3,6 @@
 use Rattle.std.specs.Prelude.{ℕ, List}
 use Rattle.fpl_message.specs.declared.edition.Edition.{Edition}
 
-pub record FilingText : Type 0 where
+pub record FilingView : Type 0 where
   pub edition : Edition
   pub bytes : List ℕ

@@ -8,7 +8,7 @@ use Rattle.fpl_items.specs.Routes.{is_route}
 use Rattle.fpl_items.specs.Items.{items_or_fault}
 use Rattle.fpl_message.specs.declared.refusal.Refusal.{Refusal}
 use Rattle.fpl_message.specs.Refusals.{◌>>=◌, by_items, in_field}
-use Rattle.fpl_message.specs.Messages.{field, Fpl}
+use Rattle.fpl_message.specs.Messages.{field, FplView}
 
 -- field 16 of a flight plan has the total elapsed time (appendix 3, field type 16)
 abbrev pub elapsed_of : Destination → Result ℕ Refusal
@@ -23,7 +23,7 @@ abbrev pub route_of : List ℕ → Option (List ℕ)
 route_of text = if is_route text then Some text else None
 
 -- FPL: fields 3, 7, 8, 9, 10, 13, 15, 16 and 18, read from the left
-unfoldable pub fpl_of : List (List ℕ) → Result Fpl Refusal
+unfoldable pub fpl_of : List (List ℕ) → Result FplView Refusal
 fpl_of fields =
     in_field 3 (heading_of (field fields 0))
     >>= (λ heading. in_field 7 (ident_of (field fields 1))

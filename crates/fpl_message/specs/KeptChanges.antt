@@ -2,10 +2,10 @@
 use Rattle.std.specs.Prelude.{ℕ, ◌<◌, List, Option, length}
 use Rattle.std.specs.Option.{option_map, ForSome}
 use Rattle.fpl_text.specs.Words.{words_of}
-use Rattle.fpl_items.specs.Items.{Item, items_of}
-use Rattle.fpl_items.specs.Told.{TellsOfAny}
+use Rattle.fpl_items.specs.Items.{ItemView, items_of}
+use Rattle.fpl_items.specs.Other18.{TellsOfAny}
 use Rattle.fpl_message.specs.declared.changes.Changes.{Changes}
-use Rattle.fpl_message.specs.Messages.{field, Chg}
+use Rattle.fpl_message.specs.Messages.{field, ChgView}
 use Rattle.fpl_message.specs.Modifications.{amended_text}
 use Rattle.fpl_text.specs.declared.time.TheConstants.{ELAPSED_LIMIT}
 
@@ -14,11 +14,11 @@ abbrev pub text_at : List (List ℕ) → Option ℕ → Option (List ℕ)
 text_at fields place = option_map (λ at. amended_text (field fields at)) place
 
 -- the items of an amended field 18, if there is one
-abbrev pub items_at : Option (List ℕ) → Option (List Item)
+abbrev pub items_at : Option (List ℕ) → Option (List ItemView)
 items_at field18 = option_map (λ text. items_of (words_of text)) field18
 
 -- the modification that is stored
-abbrev pub kept : {A : Type 0} → List (List ℕ) → Changes A → Chg
+abbrev pub kept : {A : Type 0} → List (List ℕ) → Changes A → ChgView
 kept fields c = record {
   parts = c.parts;
   rules = c.rules;

@@ -10,7 +10,7 @@ use Rattle.fpl_message.specs.declared.short_message.Dla.{Dla}
 use Rattle.fpl_message.specs.declared.short_message.Cnl.{Cnl}
 use Rattle.fpl_message.specs.declared.short_message.Dep.{Dep}
 use Rattle.fpl_message.specs.declared.order.OpenReg.{OpenReg}
-use Rattle.fpl_items.specs.Items.{Item}
+use Rattle.fpl_items.specs.Items.{ItemView}
 
 -- the text of the field at this index of a message, from 0
 abbrev pub field : List (List ℕ) → ℕ → List ℕ
@@ -18,7 +18,7 @@ field fields place = unwrap_or (slice_get fields place) []
 
 -- a filed flight plan: the squeezed texts of its nine fields, and what they say; field 15 is read
 -- when it is asked for
-pub record Fpl : Type 0 where
+pub record FplView : Type 0 where
   pub fields : List (List ℕ)
   pub ident : Ident
   pub rules : Rules
@@ -27,16 +27,16 @@ pub record Fpl : Type 0 where
   pub destination : Destination
   -- the total elapsed time, in minutes
   pub elapsed : ℕ
-  pub items : List Item
+  pub items : List ItemView
 
 -- a modification: the plan that it is about, and of each field at most one amendment: its squeezed
 -- text, and what it says
-pub record Chg : Type 0 where
+pub record ChgView : Type 0 where
   pub parts : Parts
   pub rules : Option Rules
   pub departure : Option Departure
   pub destination : Option Destination
-  pub items : Option (List Item)
+  pub items : Option (List ItemView)
   pub field8 : Option (List ℕ)
   pub field9 : Option (List ℕ)
   pub field10 : Option (List ℕ)
@@ -44,9 +44,9 @@ pub record Chg : Type 0 where
   pub field18 : Option (List ℕ)
 
 pub data Message : Type 0 where
-  fpl : Fpl → Message
+  fpl : FplView → Message
   dla : Dla → Message
-  chg : Chg → Message
+  chg : ChgView → Message
   cnl : Cnl → Message
   dep : Dep → Message
 

@@ -9,7 +9,7 @@ use Rattle.fpl_message.specs.declared.refusal.Refusal.{Refusal}
 use Rattle.fpl_message.specs.declared.refusal.Refusal.TheVariants as refusal
 use Rattle.fpl_message.specs.declared.parts.Opening.{Opening}
 use Rattle.fpl_message.specs.Refusals.{◌>>=◌, by_items, in_field}
-use Rattle.fpl_message.specs.Messages.{field, Chg}
+use Rattle.fpl_message.specs.Messages.{field, ChgView}
 use Rattle.fpl_message.specs.FlightPlans.{equipment_of, route_of}
 use Rattle.fpl_message.specs.ShortMessages.{opening_of}
 
@@ -24,41 +24,41 @@ unfoldable pub amended_text : List ℕ → List ℕ
 amended_text field = if slice_index field 1 == 47 then drop 2 field else drop 3 field
 
 -- what comes next, unless the field was amended before
-abbrev pub once : {X : Type 0} → Option X → Result Chg Refusal → Result Chg Refusal
+abbrev pub once : {X : Type 0} → Option X → Result ChgView Refusal → Result ChgView Refusal
 once None next = next
 once (Some _) next = Err refusal.DuplicateItem
 
 -- an amendment adds the squeezed text of its field, and what it says
-abbrev pub amend_rules : List ℕ → Chg → Result Chg Refusal
+abbrev pub amend_rules : List ℕ → ChgView → Result ChgView Refusal
 amend_rules text m =
     once m.field8 (in_field 8 (rules_of text) >>= (λ rules. Ok (record m { field8 = Some text; rules = Some rules })))
 
-abbrev pub amend_craft : List ℕ → Chg → Result Chg Refusal
+abbrev pub amend_craft : List ℕ → ChgView → Result ChgView Refusal
 amend_craft text m =
     once m.field9 (in_field 9 (craft_of text) >>= (λ craft. Ok (record m { field9 = Some text })))
 
-abbrev pub amend_equipment : List ℕ → Chg → Result Chg Refusal
+abbrev pub amend_equipment : List ℕ → ChgView → Result ChgView Refusal
 amend_equipment text m =
     once m.field10 (in_field 10 (equipment_of text) >>= (λ equipment. Ok (record m { field10 = Some equipment })))
 
-abbrev pub amend_departure : List ℕ → Chg → Result Chg Refusal
+abbrev pub amend_departure : List ℕ → ChgView → Result ChgView Refusal
 amend_departure text m =
     once m.departure (in_field 13 (departure_of text) >>= (λ departure. Ok (record m { departure = Some departure })))
 
-abbrev pub amend_route : List ℕ → Chg → Result Chg Refusal
+abbrev pub amend_route : List ℕ → ChgView → Result ChgView Refusal
 amend_route text m =
     once m.field15 (in_field 15 (route_of text) >>= (λ route. Ok (record m { field15 = Some text })))
 
-abbrev pub amend_destination : List ℕ → Chg → Result Chg Refusal
+abbrev pub amend_destination : List ℕ → ChgView → Result ChgView Refusal
 amend_destination text m =
     once m.destination (in_field 16 (destination_of text) >>= (λ destination. Ok (record m { destination = Some destination })))
 
-abbrev pub amend_other : List ℕ → Chg → Result Chg Refusal
+abbrev pub amend_other : List ℕ → ChgView → Result ChgView Refusal
 amend_other text m =
     once m.field18 (by_items (items_or_fault text) >>= (λ items. Ok (record m { field18 = Some text; items = Some items })))
 
 -- fields 8, 9, 10, 13, 15, 16 and 18 may be amended
-unfoldable pub amend_numbered : ℕ → List ℕ → Chg → Result Chg Refusal
+unfoldable pub amend_numbered : ℕ → List ℕ → ChgView → Result ChgView Refusal
 amend_numbered number text m =
     if number == 8 then amend_rules text m
     else (if number == 9 then amend_craft text m
@@ -70,18 +70,18 @@ amend_numbered number text m =
     else Err (refusal.UnsupportedAmendment number)))))))
 
 -- one field 22 more
-unfoldable pub amend : List ℕ → Chg → Result Chg Refusal
+unfoldable pub amend : List ℕ → ChgView → Result ChgView Refusal
 amend field m =
     if begins_amendment field then amend_numbered (amended_number field) (amended_text field) m
     else Err (refusal.BadField 22)
 
 -- one field 22 after the other
-abbrev pub amended : List (List ℕ) → Chg → Result Chg Refusal
+abbrev pub amended : List (List ℕ) → ChgView → Result ChgView Refusal
 amended [] m = Ok m
 amended (field ∷ fields) m = amend field m >>= amended fields
 
 -- a modification of a plan that amends nothing yet
-abbrev pub unamended : Opening → Chg
+abbrev pub unamended : Opening → ChgView
 unamended opening = record {
   parts = opening.parts;
   rules = None;
@@ -96,7 +96,7 @@ unamended opening = record {
 }
 
 -- CHG: fields 3, 7, 13 and 16, then field 18 if the fifth field is no field 22, and then fields 22
-unfoldable pub chg_of : List (List ℕ) → Result Chg Refusal
+unfoldable pub chg_of : List (List ℕ) → Result ChgView Refusal
 chg_of fields =
     let has_other = not (begins_amendment (field fields 4)) in
     opening_of has_other fields

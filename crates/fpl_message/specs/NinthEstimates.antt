@@ -3,12 +3,12 @@
 use Rattle.std.specs.Prelude.{◌≡◌, ◌⊎◌, ℕ, true, not, if◌then◌else◌, List, [], ◌∷◌, drop, IfOk}
 use Rattle.fpl_text.specs.Fields.{begins_amendment}
 use Rattle.fpl_message.specs.Refusals.{IsPastTheEighth}
-use Rattle.fpl_message.specs.Messages.{field, Chg}
+use Rattle.fpl_message.specs.Messages.{field, ChgView}
 use Rattle.fpl_message.specs.Modifications.{amended_text, amend, unamended}
 use Rattle.fpl_message.specs.ShortMessages.{opening_of}
 
 -- one of these fields 22 amends field 18 so
-abbrev pub NotesNine : List (List ℕ) → Chg → Type 0
+abbrev pub NotesNine : List (List ℕ) → ChgView → Type 0
 NotesNine [] m = ⊥
 NotesNine (text ∷ fields) m =
     IsPastTheEighth (amended_text text) (amend text m) ⊎ IfOk (amend text m) (λ next. NotesNine fields next)

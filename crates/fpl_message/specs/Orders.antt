@@ -29,8 +29,8 @@ unfoldable pub is_regulation : List ℕ → Bool
 is_regulation word =
     nat_le 1 (length word) && nat_le (length word) 8 && is_letter (slice_index word 0) && list_all is_letter_or_digit word
 
-abbrev pub regulation_of : List ℕ → Option (List ℕ)
-regulation_of word = if is_regulation word then Some word else None
+abbrev pub regulation_id_of : List ℕ → Option (List ℕ)
+regulation_id_of word = if is_regulation word then Some word else None
 
 -- a route point: 1 to 11 letters or digits
 unfoldable pub is_way_point : List ℕ → Bool
@@ -55,8 +55,8 @@ abbrev pub digit_at : List ℕ → ℕ → ℕ
 digit_at word place = slice_index word place - 48
 
 -- the number that 1 to 3 digits are
-abbrev pub number_of : List ℕ → ℕ
-number_of word =
+abbrev pub decimal_value : List ℕ → ℕ
+decimal_value word =
     if length word == 1 then digit_at word 0
     else (if length word == 2 then 10 * digit_at word 0 + digit_at word 1
     else 100 * digit_at word 0 + 10 * digit_at word 1 + digit_at word 2)
@@ -64,7 +64,7 @@ number_of word =
 -- a rate of flights an hour has 1 to 3 digits
 unfoldable pub rate_of : List ℕ → Option ℕ
 rate_of word =
-    if nat_le 1 (length word) && nat_le (length word) 3 && list_all is_digit word then Some (number_of word) else None
+    if nat_le 1 (length word) && nat_le (length word) 3 && list_all is_digit word then Some (decimal_value word) else None
 
 -- a sub-period: a time with its date and a rate
 unfoldable pub part_of : List ℕ → List ℕ → Option Part
@@ -86,7 +86,7 @@ more_of Second words = if nat_le (length words) (2 * MOST_PARTS) then parts_of w
 -- further sub-periods
 abbrev pub open_of : Edition → List (List ℕ) → Option OpenReg
 open_of edition (id ∷ kind ∷ place ∷ from ∷ to ∷ rate ∷ words) =
-    regulation_of id
+    regulation_id_of id
     >>? (λ name. spot_of kind place
     >>? (λ spot. moment_of from
     >>? (λ start. moment_of to
@@ -97,7 +97,7 @@ open_of edition _ = None
 
 -- what follows SHUT: a name
 abbrev pub shut_of : List (List ℕ) → Option (List ℕ)
-shut_of (id ∷ []) = regulation_of id
+shut_of (id ∷ []) = regulation_id_of id
 shut_of _ = None
 
 -- what follows TIME: a time with its date

@@ -11,7 +11,7 @@ use Rattle.fpl_text.specs.declared.fields.Title.TheVariants as title
 use Rattle.fpl_message.specs.declared.refusal.Refusal.{Refusal}
 use Rattle.fpl_message.specs.declared.refusal.Refusal.TheVariants as refusal
 use Rattle.fpl_message.specs.declared.edition.Edition.{Edition}
-use Rattle.fpl_message.specs.Filings.{FilingText}
+use Rattle.fpl_message.specs.Filings.{FilingView}
 use Rattle.fpl_message.specs.Refusals.{◌>>=◌, by_text}
 use Rattle.fpl_message.specs.Messages.{Message, fpl, dla, chg, cnl, dep, Order}
 use Rattle.fpl_message.specs.FlightPlans.{fpl_of}
@@ -21,10 +21,10 @@ use Rattle.fpl_message.specs.Orders.{order_or_refusal}
 pub use Rattle.fpl_message.specs.Messages.{field}
 
 -- what a filing says
-pub data Reading : Type 0 where
-  msg : Message → Reading
-  ord : Order → Reading
-  bad : Refusal → Reading
+pub data ReadingView : Type 0 where
+  msg : Message → ReadingView
+  ord : Order → ReadingView
+  bad : Refusal → ReadingView
 
 -- a message begins with an opening bracket
 unfoldable pub begins_message : List ℕ → Bool
@@ -39,25 +39,25 @@ titled_message (Some title.Dep) fields = dep_of fields >>= (λ m. Ok (dep m))
 titled_message (Some title.Chg) fields = chg_of fields >>= (λ m. Ok (chg m))
 titled_message None fields = Err refusal.UnknownTitle
 
-abbrev pub message_of : List (List ℕ) → Result Reading Refusal
+abbrev pub message_of : List (List ℕ) → Result ReadingView Refusal
 message_of fields = titled_message (title_of (first_field fields)) fields >>= (λ m. Ok (msg m))
 
 -- a squeezed text that begins with an opening bracket is a message, any other an order
-abbrev pub reading_of_squeezed : Edition → List ℕ → Result Reading Refusal
+abbrev pub reading_of_squeezed : Edition → List ℕ → Result ReadingView Refusal
 reading_of_squeezed edition text =
     if begins_message text then by_text (fields_or_fault text) >>= message_of
     else order_or_refusal edition text >>= (λ order. Ok (ord order))
 
 -- what a filing says, or its first refusal
-abbrev pub reading_or_refusal : FilingText → Result Reading Refusal
+abbrev pub reading_or_refusal : FilingView → Result ReadingView Refusal
 reading_or_refusal filing = by_text (squeezed_or_fault filing.bytes) >>= reading_of_squeezed filing.edition
 
-abbrev pub or_bad : Result Reading Refusal → Reading
+abbrev pub or_bad : Result ReadingView Refusal → ReadingView
 or_bad (Ok reading) = reading
 or_bad (Err refusal) = bad refusal
 
 -- the reading of a filing: what it says, or that it is refused
-unfoldable pub reading_of : FilingText → Reading
+unfoldable pub reading_of : FilingView → ReadingView
 reading_of filing = or_bad (reading_or_refusal filing)
 
 -- field 3 of a text that has fields, if the first has that form, whether the text is refused or not

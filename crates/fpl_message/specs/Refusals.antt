@@ -45,15 +45,15 @@ text_fault text.UnknownTitle = Refused refusal.UnknownTitle
 text_fault text.FieldCount = Refused refusal.FieldCount
 text_fault text.OutOfMemory = OutOfMemory
 
-abbrev pub field_fault : FieldFault → Fault
-field_fault (fields.BadField number) = Refused (refusal.BadField number)
-field_fault fields.OutOfMemory = OutOfMemory
+abbrev pub fault_of_field : FieldFault → Fault
+fault_of_field (fields.BadField number) = Refused (refusal.BadField number)
+fault_of_field fields.OutOfMemory = OutOfMemory
 
-abbrev pub item_fault : ItemFault → Fault
-item_fault (item.BadField number) = Refused (refusal.BadField number)
-item_fault item.DuplicateItem = Refused refusal.DuplicateItem
-item_fault item.BadDate = Refused refusal.BadDate
-item_fault item.OutOfMemory = OutOfMemory
+abbrev pub fault_of_item : ItemFault → Fault
+fault_of_item (item.BadField number) = Refused (refusal.BadField number)
+fault_of_item item.DuplicateItem = Refused refusal.DuplicateItem
+fault_of_item item.BadDate = Refused refusal.BadDate
+fault_of_item item.OutOfMemory = OutOfMemory
 
 -- the offset of a byte that no message has, if that is the fault, is stored in 16 bits
 abbrev pub PlaceFits : TextFault → Type 0

@@ -1,6 +1,7 @@
 //! Why parsing stopped.
 ghost use Rattle.std.specs.Prelude.{◌≡◌};
-ghost use Rattle.fpl_message.specs.Refusals.{Gives, PlaceFits, text_fault, field_fault, item_fault};
+ghost use Rattle.fpl_message.specs.Refusals.{Gives, PlaceFits, text_fault, fault_of_field};
+ghost use Rattle.fpl_message.specs.Refusals.{fault_of_item};
 
 use crate::refusal::Refusal;
 use fpl_items::ItemFault;
@@ -30,7 +31,7 @@ pub(crate) fn text_fault(fault: TextFault) -> Fault
 }
 
 impl From<FieldFault> for Fault {
-    ghost from_gives = { λ fault made. made ≡ field_fault fault };
+    ghost from_gives = { λ fault made. made ≡ fault_of_field fault };
 
     fn from(fault: FieldFault) -> Fault {
         match fault {
@@ -41,7 +42,7 @@ impl From<FieldFault> for Fault {
 }
 
 impl From<ItemFault> for Fault {
-    ghost from_gives = { λ fault made. made ≡ item_fault fault };
+    ghost from_gives = { λ fault made. made ≡ fault_of_item fault };
 
     fn from(fault: ItemFault) -> Fault {
         match fault {

@@ -29,10 +29,10 @@ const _: () = prove!(size_of::<FiledText>() <= 32);
 
 impl<A: Allocator + Copy> Model for FiledText<A> {
     ghost use Rattle.std.specs.Prelude.{◌≤◌, length};
-    ghost use Rattle.fpl_message.specs.Filings.{FilingText};
+    ghost use Rattle.fpl_message.specs.Filings.{FilingView};
     ghost use Rattle.fpl_message.specs.declared.filed_text.TheConstants.{MAX_BYTES};
 
-    ghost Value = { FilingText };
+    ghost Value = { FilingView };
 
     ghost view = { λ t. record { edition = t.edition; bytes = t.bytes.items } };
 

@@ -22,9 +22,9 @@ pub struct Filing<A: Allocator + Copy = Global> {
 
 impl<A: Allocator + Copy> Model for Filing<A> {
     ghost use Rattle.std.specs.Prelude.{◌≡◌};
-    ghost use Rattle.fpl_message.specs.Filings.{FilingText};
+    ghost use Rattle.fpl_message.specs.Filings.{FilingView};
 
-    ghost Value = { FilingText };
+    ghost Value = { FilingView };
 
     ghost use Rattle.fpl_message.specs.Reads.{reading_of};
 

@@ -25,10 +25,10 @@ pub struct FilingReader<A: Allocator + Copy = Global> {
 }
 
 impl<A: Allocator + Copy> Model for FilingReader<A> {
-    ghost use Rattle.fpl_message.specs.Reads.{Reading as Says};
+    ghost use Rattle.fpl_message.specs.Reads.{ReadingView};
     ghost use Rattle.fpl_message.specs.Said.{said};
 
-    ghost Value = { Says };
+    ghost Value = { ReadingView };
 
     ghost view = { λ r. said r.reading };
 }

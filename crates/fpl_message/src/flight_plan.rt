@@ -4,7 +4,7 @@ ghost use Rattle.fpl_message.specs.Refusals.{Gives, RunsOutOnlyIf, IsPastTheEigh
 ghost use Rattle.fpl_items.specs.Routes.{is_route, path_or_fault};
 ghost use Rattle.fpl_text.specs.Words.{words_of};
 ghost use Rattle.fpl_items.specs.Items.{items_of};
-ghost use Rattle.fpl_items.specs.Told.{TellsOf};
+ghost use Rattle.fpl_items.specs.Other18.{TellsOf};
 ghost use Rattle.fpl_message.specs.FlightPlans.{fpl_of};
 ghost use Rattle.fpl_message.specs.Messages.{field};
 ghost use Rattle.fpl_text.specs.declared.time.TheConstants.{ELAPSED_LIMIT};
@@ -34,12 +34,12 @@ impl<A: Allocator + Copy> Model for Fpl<A> {
     ghost use Rattle.std.specs.Prelude.{◌≡◌, ◌<◌, true, length};
     ghost use Rattle.fpl_text.specs.Words.{words_of};
     ghost use Rattle.fpl_items.specs.Items.{items_of};
-    ghost use Rattle.fpl_items.specs.Told.{TellsOf};
+    ghost use Rattle.fpl_items.specs.Other18.{TellsOf};
     ghost use Rattle.fpl_items.specs.Routes.{is_route};
-    ghost use Rattle.fpl_message.specs.Messages.{Fpl as Plan, field};
+    ghost use Rattle.fpl_message.specs.Messages.{FplView, field};
     ghost use Rattle.fpl_text.specs.declared.time.TheConstants.{ELAPSED_LIMIT};
 
-    ghost Value = { Plan };
+    ghost Value = { FplView };
 
     ghost view = { λ m. record {
       fields = m.fields;

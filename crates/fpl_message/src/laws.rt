@@ -6,7 +6,7 @@ ghost use Rattle.fpl_message.specs.Modifications.{amended_number, amended_text};
 ghost use Rattle.fpl_message.specs.declared.edition.Edition.{Edition};
 ghost use Rattle.fpl_message.specs.declared.filed_text.TheConstants.{MAX_BYTES};
 ghost use Rattle.fpl_message.specs.Reads.{reading_of, is_open, msg, heading_of_bytes};
-ghost use Rattle.fpl_message.specs.Filings.{FilingText};
+ghost use Rattle.fpl_message.specs.Filings.{FilingView};
 ghost use Rattle.fpl_message.specs.Messages.{Message};
 
 /// The two editions differ in OPEN alone: any other filing reads the same by both.
@@ -34,6 +34,6 @@ pub fn limits_are()
 
 /// Each message has a field 3, which `Filing::heading` reads.
 pub fn messages_have_headings()
-    ensures { (filing : FilingText) (m : Message) → reading_of filing ≡ msg m
+    ensures { (filing : FilingView) (m : Message) → reading_of filing ≡ msg m
         → IsSome (heading_of_bytes filing.bytes) }
 {}

@@ -1,7 +1,7 @@
 //! The modification message, CHG.
 ghost use Rattle.std.specs.Prelude.{◌≡◌, ◌≤◌, ◌<◌, length, option_copied, IfErr, IfSome};
 ghost use Rattle.std.specs.Option.{ForSome};
-ghost use Rattle.fpl_items.specs.Told.{TellsOfAny};
+ghost use Rattle.fpl_items.specs.Other18.{TellsOfAny};
 ghost use Rattle.fpl_message.specs.Refusals.{Gives, RunsOutOnlyIf};
 ghost use Rattle.fpl_message.specs.Modifications.{chg_of};
 ghost use Rattle.fpl_message.specs.NinthEstimates.{ChgNotesNine};
@@ -27,10 +27,10 @@ pub struct Chg<A: Allocator + Copy = Global> {
 
 impl<A: Allocator + Copy> Model for Chg<A> {
     ghost use Rattle.std.specs.Prelude.{length};
-    ghost use Rattle.fpl_message.specs.Messages.{Chg as Modification};
+    ghost use Rattle.fpl_message.specs.Messages.{ChgView};
     ghost use Rattle.fpl_message.specs.KeptChanges.{kept, StandAmong};
 
-    ghost Value = { Modification };
+    ghost Value = { ChgView };
 
     ghost view = { λ m. kept m.fields m.changes };
 

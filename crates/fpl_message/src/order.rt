@@ -3,7 +3,7 @@ ghost use Rattle.std.specs.Prelude.{◌≡◌, Ok, codes};
 ghost use Rattle.fpl_items.specs.Kinds.{is_text};
 ghost use Rattle.fpl_message.specs.Refusals.{Gives, RunsOutOnlyIf};
 ghost use Rattle.fpl_message.specs.Messages.{open_reg};
-ghost use Rattle.fpl_message.specs.Orders.{is_regulation, is_way_point, regulation_of};
+ghost use Rattle.fpl_message.specs.Orders.{is_regulation, is_way_point, regulation_id_of};
 ghost use Rattle.fpl_message.specs.Orders.{way_point_of, aerodrome_of};
 ghost use Rattle.fpl_message.specs.Orders.{spot_of, open_of, shut_of, time_of, order_or_refusal};
 ghost use Rattle.fpl_message.specs.declared.order.OpenReg.{OpenReg};
@@ -66,7 +66,7 @@ fn is_regulation(word: &[u8]) -> bool
 /// Parses the name of a regulation.
 #[tactic(auto, unfolding(crate::specs::Orders::is_regulation))]
 fn regulation_of(word: &[u8]) -> Option<Text<8>>
-    ensures { result ≡ regulation_of word.now }
+    ensures { result ≡ regulation_id_of word.now }
 {
     if !is_regulation(word) {
         return None;

@@ -2,6 +2,7 @@
 ghost use Rattle.std.specs.Prelude.{◌≤◌};
 
 use flow_core::{JournalFault, ServeFault};
+use flow_live::LiveFault;
 use flow_runs::{RunFault, StoredRunFault};
 use flow_store::{OpenFault, StoreFault, StoredFault};
 
@@ -20,6 +21,8 @@ pub enum Fault {
     BadStart,
     BadJournal,
     BadFeeders,
+    /// The folder of `--feeds` isn't there, or isn't one of 1 to 64 feeds.
+    BadFeeds,
     NoReader,
     NotStarted,
     OutOfMemory,
@@ -43,7 +46,7 @@ impl Fault {
         match self {
             Fault::Read | Fault::Write | Fault::BadJournal => DEVICE_FAILED,
             Fault::Store | Fault::BadStore => DEVICE_FAILED,
-            Fault::BadStart | Fault::BadFeeders => NOT_RUN,
+            Fault::BadStart | Fault::BadFeeders | Fault::BadFeeds => NOT_RUN,
             Fault::NoReader | Fault::NotStarted | Fault::OutOfMemory => NOT_RUN,
             Fault::NoStore | Fault::StoreExists | Fault::StoreInUse => NOT_RUN,
         }
@@ -56,6 +59,7 @@ impl Fault {
             Fault::BadStart => b"slotdesk: bad start\n",
             Fault::BadJournal => b"slotdesk: bad journal\n",
             Fault::BadFeeders => b"slotdesk: bad feeders\n",
+            Fault::BadFeeds => b"slotdesk: bad feeds\n",
             Fault::NoReader => b"slotdesk: no reader\n",
             Fault::NotStarted => b"slotdesk: thread not started\n",
             Fault::OutOfMemory => b"slotdesk: out of memory\n",
@@ -98,6 +102,17 @@ impl From<RunFault> for Fault {
             RunFault::NotStarted => Fault::NotStarted,
             RunFault::BadJournal => Fault::BadJournal,
             RunFault::BadFeeders => Fault::BadFeeders,
+        }
+    }
+}
+
+impl From<LiveFault> for Fault {
+    fn from(fault: LiveFault) -> Fault {
+        match fault {
+            LiveFault::Feeds => Fault::BadFeeders,
+            LiveFault::NoReader => Fault::NoReader,
+            LiveFault::Write => Fault::Write,
+            LiveFault::OutOfMemory => Fault::OutOfMemory,
         }
     }
 }

@@ -3,6 +3,9 @@
 
 mod desk_file;
 mod fault;
+mod feeds;
+mod late;
+mod live;
 mod options;
 mod run;
 mod start;
@@ -12,7 +15,8 @@ mod stores;
 mod tests;
 
 use command_line::read_words;
-use run::{run_kept, tell_no_memory, tell_words};
+use feeds::SystemFeeds;
+use run::{run_fed, tell_no_memory, tell_words};
 use std::io;
 use std::process::ExitCode;
 use stores::SystemStores;
@@ -30,6 +34,17 @@ fn main(rt: HostRuntime) -> ExitCode {
         return ExitCode::from(tell_no_memory(&mut errors));
     };
     let stores = SystemStores { rt: &rt };
-    let status = run_kept(&rt, &rt, &stores, &words, rt.stdin(), answers, &mut errors);
+    let feeds = SystemFeeds { rt: &rt };
+    let input = rt.stdin();
+    let status = run_fed(
+        &rt,
+        &rt,
+        &stores,
+        &feeds,
+        &words,
+        input,
+        answers,
+        &mut errors,
+    );
     ExitCode::from(status)
 }

@@ -1,4 +1,4 @@
-//! The words of the command line.
+//! The arguments of the command line.
 ghost use Rattle.std.specs.Prelude.{◌≤◌, IsTrue};
 ghost use Rattle.flow_core.specs.declared.entry.TheConstants.{MAX_FEEDERS};
 
@@ -19,20 +19,22 @@ const VERSION: &str = "0.1.0 (journal version 2)";
 const USAGE: &str = "slotdesk <--start <yymmddhhmm>|--resume> [OPTIONS] < FILE";
 
 const AFTER: &str =
-    "With 2 or more feeders the answers come at the end of the input. With --resume\n\
-    the taxi time and the number of plans are those of the journal. A run that is\n\
-    killed writes no journal: keep its input.\n\n\
+    "With 2 or more feeders the answers come at the end of the input. With --feeds\n\
+    each NAME.in of DIR is a feeder, which is answered in NAME.out as it files, and\n\
+    standard input isn't read. With --resume the taxi time and the number of plans\n\
+    are those of the journal. A run that is killed writes no journal: keep what it\n\
+    was given.\n\n\
     Exit status: 0 at the end of the input; 1 if reading or writing fails, or the\n\
     input of --resume begins with no journal; 2 for a bad command line, a bad start,\n\
-    fewer feeders than the journal has, or if memory, a reader's place or a thread\n\
-    is refused.\n\n\
+    bad feeds, fewer feeders than the journal has, or if memory, a reader's place or\n\
+    a thread is refused.\n\n\
     Times are UTC. A day, the same with its journal, and going on from there:\n  \
     slotdesk --start 2409010500 < day.txt\n  \
     slotdesk --start 2409010500 --journal < day.txt > answers.txt\n  \
     sed -n '/^SLOTDESK JOURNAL/,$p' answers.txt > journal.txt\n  \
     cat journal.txt later.txt | slotdesk --resume";
 
-/// What the words of the command line ask for.
+/// What the arguments of the command line ask for.
 #[derive(Clone, Copy)]
 pub struct Options<'a> {
     /// The desk's time at the start, as it was given.
@@ -46,6 +48,8 @@ pub struct Options<'a> {
     pub journal: bool,
     /// The number of feeders.
     pub feeders: u32,
+    /// The name of the folder whose feeds are answered as they file, if one was given.
+    pub feeds: Option<&'a str>,
     /// Minutes from off-block to take-off.
     pub taxi: u32,
     /// The number of flight plans that the desk accepts.
@@ -103,6 +107,16 @@ fn feeders_argument<'a>(alloc: Global) -> Arg<'a> {
         .help("Feeders that file at once, 1 to 64")
 }
 
+fn feeds_argument<'a>(alloc: Global) -> Result<Arg<'a>, AllocError> {
+    Arg::new(alloc, "feeds")
+        .long("feeds")
+        .value_name("DIR")
+        .help("Answers each NAME.in of DIR in NAME.out")
+        .conflicts_with("feeders")?
+        .conflicts_with("resume")?
+        .conflicts_with("store")
+}
+
 fn journal_argument<'a>(alloc: Global) -> Arg<'a> {
     Arg::new(alloc, "journal")
         .long("journal")
@@ -135,12 +149,13 @@ fn command<'a>(alloc: Global) -> Result<Command<'a>, AllocError> {
         .arg(taxi_argument(alloc))?
         .arg(plans_argument(alloc))?
         .arg(feeders_argument(alloc))?
+        .arg(feeds_argument(alloc)?)?
         .arg(journal_argument(alloc))?
         .arg(resume_argument(alloc)?)?
         .arg(store_argument(alloc))
 }
 
-/// Reads the words of the command line, of which the first is the program's name.
+/// Reads the arguments of the command line, of which the first is the program's name.
 pub fn read_options<'a>(alloc: Global, words: &'a [String]) -> Result<Options<'a>, Error> {
     let matches = command(alloc)?.try_get_matches_from(words)?;
     Ok(Options {
@@ -149,6 +164,7 @@ pub fn read_options<'a>(alloc: Global, words: &'a [String]) -> Result<Options<'a
         store: matches.get_str("store"),
         journal: matches.get_flag("journal"),
         feeders: matches.get_one::<u32>("feeders").unwrap_or(1),
+        feeds: matches.get_str("feeds"),
         taxi: matches.get_one::<u32>("taxi").unwrap_or(10),
         plans: matches.get_one::<u32>("plans").unwrap_or(1000),
     })

@@ -115,29 +115,29 @@ fn kind_argument<'a>(alloc: Global) -> Arg<'a> {
 
 fn place_argument<'a>(alloc: Global) -> Arg<'a> {
     Arg::new(alloc, "place")
-        .value_name("PLACE")
+        .value_name("POINT")
         .required(true)
-        .help("The aerodrome or the route point")
+        .help("The aerodrome or route point")
 }
 
 fn count_command<'a>(alloc: Global) -> Result<Command<'a>, AllocError> {
     Command::new(alloc, "count")
-        .about("How many flights enter a place, regulated or not, by steps of time")
+        .about("How many flights enter an aerodrome or route point, regulated or not")
         .arg(kind_argument(alloc))?
         .arg(place_argument(alloc))?
         .arg(file_argument(alloc))?
         .arg(
             Arg::new(alloc, "from")
                 .long("from")
-                .value_name("MOMENT")
-                .help("When it begins, without it with the desk's day"),
+                .value_name("TIME")
+                .help("When it begins, yymmddhhmm; else with the desk's day"),
         )?
         .arg(
             Arg::new(alloc, "to")
                 .long("to")
-                .value_name("MOMENT")
+                .value_name("TIME")
                 .requires_arg("from")?
-                .help("When it ends, without it a day later"),
+                .help("When it ends, yymmddhhmm; else a day later"),
         )?
         .arg(step_argument(alloc, "60"))?
         .arg(

@@ -138,14 +138,14 @@ enum Wrong<'a> {
 impl<'a> Wrong<'a> {
     /// The value, its argument, and why it can't be used.
     fn parts(&self) -> Option<(&'a str, &'static str, &'static str)> {
-        let no_moment = "it is no moment yymmddhhmm";
+        let no_time = "it is no time yymmddhhmm";
         match self {
-            Wrong::Place(value) => Some((*value, "<PLACE>", "no OPEN has it after that kind")),
-            Wrong::Begin(value) => Some((*value, "--from <MOMENT>", no_moment)),
-            Wrong::End(value) => Some((*value, "--to <MOMENT>", no_moment)),
+            Wrong::Place(value) => Some((*value, "<POINT>", "no OPEN has it after that kind")),
+            Wrong::Begin(value) => Some((*value, "--from <TIME>", no_time)),
+            Wrong::End(value) => Some((*value, "--to <TIME>", no_time)),
             Wrong::Period(value) => Some((
                 *value,
-                "--to <MOMENT>",
+                "--to <TIME>",
                 "it isn't 1 to 1440 minutes after the beginning",
             )),
             Wrong::Rates(value) => Some((
@@ -156,7 +156,7 @@ impl<'a> Wrong<'a> {
             Wrong::When(value) => Some((
                 *value,
                 "--at <WHEN>",
-                "it is no entry, 0 to 1000000, and no moment yymmddhhmm",
+                "it is no entry, 0 to 1000000, and no time yymmddhhmm",
             )),
             Wrong::OutOfMemory => None,
         }

@@ -15,14 +15,14 @@ returns-clause-serving g c = λ ahead mid rest gave agrees.
 
 pub returns-in_err-answer_frame-clause-answered : goal.returns-in_err-answer_frame-clause-answered
 returns-in_err-answer_frame-clause-answered g c =
-    rw (err-made c.from_residual.result c.from_residual.ensures.1) (λ no ahead mid rest gave agrees first begun input serving. in_both c.in_err-answer_frame.ensures.kinds (λ w. absurd (no w)) (λ m.
+    rw (err-made c.from_residual.result c.from_residual.ensures.1) (λ no ahead mid rest gave agrees first begun input serving. in_both c.in_err-answer_frame.ensures.error_kinds (λ w. absurd (no w)) (λ m.
     let kept = c.in_err-answer_frame.ensures.nothing (err_is m) in
     Answered-not first (state_of c.args.core.now) begun (g.W.Write.contents c.args.writer.now.device) ahead input mid serving c.args.input.now rest
     (filing_kept c.args.input.now.item) gave (state_of c.answer_frame.new.core) (g.W.Write.contents c.answer_frame.new.writer.device) kept.0 kept.1))
 
 pub returns-in_err-answer_frame-clause-fault : goal.returns-in_err-answer_frame-clause-fault
 returns-in_err-answer_frame-clause-fault g c =
-    rw (err-made c.from_residual.result c.from_residual.ensures.1) (λ ahead mid rest gave agrees first begun input serving. in_both c.in_err-answer_frame.ensures.kinds
+    rw (err-made c.from_residual.result c.from_residual.ensures.1) (λ ahead mid rest gave agrees first begun input serving. in_both c.in_err-answer_frame.ensures.error_kinds
     (λ w. Stopped-part first (state_of c.args.core.now) begun (g.W.Write.contents c.args.writer.now.device) ahead input mid serving c.args.input.now rest
     (filing_kept c.args.input.now.item) gave (state_of c.answer_frame.new.core) (g.W.Write.contents c.answer_frame.new.writer.device) (c.in_err-answer_frame.ensures.part (err_is w)))
     (λ m.

@@ -7,7 +7,7 @@ use Rattle.flow_core.proofs.serving.answer_whole.Goals as goal
 
 pub returns-in_err-answer_frame-clause-answered : goal.returns-in_err-answer_frame-clause-answered
 returns-in_err-answer_frame-clause-answered g c =
-    rw (err-made c.from_residual.result c.from_residual.ensures.1) (λ no first begun input rest agrees serving. in_both c.in_err-answer_frame.ensures.kinds (λ w. absurd (no w)) (λ m.
+    rw (err-made c.from_residual.result c.from_residual.ensures.1) (λ no first begun input rest agrees serving. in_both c.in_err-answer_frame.ensures.error_kinds (λ w. absurd (no w)) (λ m.
     let kept = c.in_err-answer_frame.ensures.nothing (err_is m) in
     Answered-not first (state_of c.frames.core) begun (g.W.Write.contents c.frames.writer.device) c.frames.input input rest (Serving-more first (state_of c.args.core.now) (state_of c.frames.core) begun (g.W.Write.contents c.args.writer.now.device) (g.W.Write.contents c.frames.writer.device)
     c.args.input.now c.frames.input input rest rest serving (c.frames.invariant.serving rest agrees)) c.take_whole.new.self rest
@@ -16,7 +16,7 @@ returns-in_err-answer_frame-clause-answered g c =
 
 pub returns-in_err-answer_frame-clause-fault : goal.returns-in_err-answer_frame-clause-fault
 returns-in_err-answer_frame-clause-fault g c =
-    rw (err-made c.from_residual.result c.from_residual.ensures.1) (λ first begun input rest agrees serving. in_both c.in_err-answer_frame.ensures.kinds
+    rw (err-made c.from_residual.result c.from_residual.ensures.1) (λ first begun input rest agrees serving. in_both c.in_err-answer_frame.ensures.error_kinds
     (λ w. Stopped-part first (state_of c.frames.core) begun (g.W.Write.contents c.frames.writer.device) c.frames.input input rest (Serving-more first (state_of c.args.core.now) (state_of c.frames.core) begun (g.W.Write.contents c.args.writer.now.device) (g.W.Write.contents c.frames.writer.device)
     c.args.input.now c.frames.input input rest rest serving (c.frames.invariant.serving rest agrees)) c.take_whole.new.self rest
     (filing_kept c.take_whole.new.self.item) (c.take_whole.ensures.gave c.frames-test.true rest (c.frames.invariant.agrees rest agrees))

@@ -2,7 +2,7 @@ use Rattle.std.proofs.Common.{ℕ, suc, ◌+◌, ◌-◌, ◌<◌, ◌≤◌, Li
 use Rattle.std.proofs.Common.{refl, ap, ◌∙◌, arith, append_assoc}
 use Rattle.std.proofs.lemmas.List.{take_all}
 use Rattle.flow_input.proofs.Written.{Writes-none, Writes-then, Writes-stopped, Writes-same}
-use Rattle.flow_core.specs.State.{State, Record}
+use Rattle.flow_core.specs.State.{State, EntryView}
 use Rattle.flow_core.specs.History.{state_of}
 use Rattle.flow_core.specs.Output.{answer_text}
 use Rattle.flow_core.proofs.JournalTexts.{part, part-size}
@@ -21,7 +21,7 @@ returns-in_err-write_answer-clause-written g c =
     let i : ℕ = c.loop-index.index in
     let inside : i < c.args.to - from =
     omega (arith, c.saturating_sub-index-end.ensures, c.loop-index-test.true) in
-    let some : List Record = part from c.args.to s.journal in
+    let some : List EntryView = part from c.args.to s.journal in
     let text : List ℕ = answer_text s (from + i + 1 - 1) in
     let rest : List ℕ = end ++ answers_with end s (drop (suc i) some) in
     let fault = c.from_residual in
@@ -38,7 +38,7 @@ returns-in_err-write_bytes-clause-written g c =
     let i : ℕ = c.loop-index.index in
     let inside : i < c.args.to - from =
     omega (arith, c.saturating_sub-index-end.ensures, c.loop-index-test.true) in
-    let some : List Record = part from c.args.to s.journal in
+    let some : List EntryView = part from c.args.to s.journal in
     let so_far : List ℕ = answers_with end s (take i some) in
     let text : List ℕ = answer_text s (from + i + 1 - 1) in
     let after : List ℕ = answers_with end s (drop (suc i) some) in
@@ -59,7 +59,7 @@ loop-index-preserved g c =
     let i : ℕ = c.loop-index.index in
     let inside : i < c.args.to - from =
     omega (arith, c.saturating_sub-index-end.ensures, c.loop-index-test.true) in
-    let some : List Record = part from c.args.to s.journal in
+    let some : List EntryView = part from c.args.to s.journal in
     let so_far : List ℕ = answers_with end s (take i some) in
     let text : List ℕ = answer_text s (from + i + 1 - 1) in
     Writes-then (Ok (tt {0})) (answers_with end s (take (i + 1) some))
@@ -71,7 +71,7 @@ loop-index-preserved g c =
 pub returns-clause-written : goal.returns-clause-written
 returns-clause-written g c =
     let s : State = state_of c.args.core.now in
-    let some : List Record = part c.args.from c.args.to s.journal in
+    let some : List EntryView = part c.args.from c.args.to s.journal in
     let all : length some ≤ c.loop-index.index =
     omega (
       arith,

@@ -1,7 +1,7 @@
 use Rattle.std.proofs.Common.{◌≡◌, ◌≤◌, ◌∙◌, List, [], ◌∷◌, ◌++◌, map, length, vec_capacity, ap, sym, arith}
 use Rattle.std.proofs.lemmas.List.{map-append, append_assoc, length-append}
 use Rattle.std.proofs.lemmas.List.Elements.{All-same, All-push}
-use Rattle.flow_desk.specs.declared.feeders.Feed.{Feed}
+use Rattle.flow_desk.specs.declared.feeders.Done.{Done}
 use Rattle.flow_desk.specs.Feeds.{IsFresh}
 use Rattle.flow_desk.proofs.feeders.+gather.Goals as goal
 
@@ -25,8 +25,7 @@ returns-in-Ok-gather-clause-texts g n c =
     with-one (λ f. f.left.items) _ c.gather.new.feeds.items _ _ (map (λ v. v.items) c.pop-2.new.self.items) _
     c.push_reserved-in-Ok-gather.ensures.items c.in-Ok-gather.ensures.texts
     (ap (map (λ v. v.items)) c.in-Some-pop.ensures.items
-    ∙ (map-append (λ v. v.items) c.pop-2.new.self.items (c.in-Some-pop.left ∷ [])
-    ∙ ap (λ t. map (λ v. v.items) c.pop-2.new.self.items ++ t ∷ []) (sym c.from.ensures.0)))
+    ∙ map-append (λ v. v.items) c.pop-2.new.self.items (c.in-Some-pop.left ∷ []))
 
 pub returns-in-Ok-gather-clause-len : goal.returns-in-Ok-gather-clause-len
 returns-in-Ok-gather-clause-len g n c =
@@ -35,6 +34,6 @@ returns-in-Ok-gather-clause-len g n c =
 
 pub returns-in-Ok-gather-clause-fresh : goal.returns-in-Ok-gather-clause-fresh
 returns-in-Ok-gather-clause-fresh g n c =
-    let fresh : Feed g.row.N.Denot g.row.A.Denot → Type 0 = λ f. IsFresh f.receipts.items f.left.items (vec_capacity f.receipts) in
-    let left : length c.from.result.items ≤ vec_capacity c.in-Ok.receipts = omega (arith, c.len.ensures, ap length c.from.ensures.0, c.in-Ok.ensures.exact, c.in-Some-pop.left.ok.0) in
+    let fresh : Done g.row.N.Denot g.row.A.Denot → Type 0 = λ f. IsFresh f.receipts.items f.left.items (vec_capacity f.receipts) in
+    let left : length c.in-Some-pop.left.items ≤ vec_capacity c.in-Ok.receipts = omega (arith, c.len.ensures, c.in-Ok.ensures.exact, c.in-Some-pop.left.ok.0) in
     All-same fresh c.push_reserved-in-Ok-gather.new.self.items _ c.push_reserved-in-Ok-gather.ensures.items (All-push fresh c.gather.new.feeds.items _ c.in-Ok-gather.ensures.fresh (c.in-Ok.ensures.items, left))

@@ -96,6 +96,6 @@ reads-preserved g c =
     record {
       sought = Sought-fill c.args.input.now c.skip_blanks.new.input c.fill.new.self (g.R.Read.remaining c.args.reader.now.device) (g.R.Read.remaining c.reads.reader.device) (g.R.Read.remaining c.fill.new.reader.device) s c.in_ok-fill.ensures.filled c.fill.ensures.taken;
       going = sym c.has_ended-in-reads.ensures.ended ∙ c.if-has_ended-2.false;
-      calm = c.in_ok-fill.ensures.failures ∙ c.reads.invariant.calm;
+      no_failure = c.in_ok-fill.ensures.failures ∙ c.reads.invariant.no_failure;
       nearer = omega (arith, c.fill.ensures.taken, nearer-past c.args.input.now c.reads.input c.take_whole.new.self c.skip_blanks.new.input none.0 c.skip_blanks.ensures.took c.args.input.now.taken c.reads.invariant.nearer);
     }

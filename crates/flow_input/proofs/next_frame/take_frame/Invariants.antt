@@ -6,7 +6,7 @@ abbrev pub invariant-reads : goal.invariant-reads
 invariant-reads g l = record {
   sought : Sought l.fn.input l.input (g.R.Read.remaining l.fn.reader.device) (g.R.Read.remaining l.reader.device);
   going : l.input.ended ≡ false;
-  calm : l.reader.failures ≡ l.fn.reader.failures;
+  no_failure : l.reader.failures ≡ l.fn.reader.failures;
   nearer : l.fn.input.taken ≤ l.input.taken;
 }
 

@@ -8,7 +8,7 @@ pub pieces-init : goal.pieces-init
 pieces-init g c = record {
   agrees = c.requires;
   took = Took-start (stops_at c.args.until) c.args.input.now (g.R.Read.remaining c.args.reader.now.device);
-  calm = refl;
+  no_failure = refl;
 }
 
 pub returns-in_err-make_ready-clause-much : goal.returns-in_err-make_ready-clause-much
@@ -41,5 +41,5 @@ pieces-preserved g c = record {
   took = Took-more (stops_at c.args.until) c.args.input.now c.pieces.input c.make_ready.new.input c.take_run.new.input
       (g.R.Read.remaining c.args.reader.now.device) (g.R.Read.remaining c.pieces.reader.device) (g.R.Read.remaining c.make_ready.new.reader.device)
       c.pieces.invariant.took c.in_ok-make_ready.ensures.filled c.in_ok-make_ready.ensures.taken c.take_run.ensures.took;
-  calm = c.in_ok-make_ready.ensures.failures ∙ c.pieces.invariant.calm;
+  no_failure = c.in_ok-make_ready.ensures.failures ∙ c.pieces.invariant.no_failure;
 }

@@ -7,7 +7,7 @@ abbrev pub invariant-pieces : goal.invariant-pieces
 invariant-pieces g l = record {
   agrees : Agrees l.input (g.R.Read.remaining l.reader.device);
   took : Took (stops_at l.until) l.fn.input l.input (g.R.Read.remaining l.fn.reader.device) (g.R.Read.remaining l.reader.device);
-  calm : l.reader.failures ≡ l.fn.reader.failures;
+  no_failure : l.reader.failures ≡ l.fn.reader.failures;
 }
 
 abbrev pub decreases-pieces : goal.decreases-pieces

@@ -1,6 +1,6 @@
 use Rattle.std.proofs.Common.{ℕ, ◌+◌, ap, ◌∙◌}
 use Rattle.flow_plans.specs.Near.{word_at}
-use Rattle.fpl_items.specs.Places.{bit_of}
+use Rattle.fpl_items.specs.Points.{bit_of}
 use Rattle.flow_plans.proofs.NearLemmas.{or-first, or-second, bits-same}
 use Rattle.flow_plans.proofs.near.words_of_ends.Goals as goal
 

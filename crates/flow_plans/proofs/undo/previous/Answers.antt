@@ -2,15 +2,15 @@ use Rattle.std.proofs.Common.{◌≡◌, ◌∙◌, ◌-◌, ◌<◌, ℕ, List,
 use Rattle.std.specs.Option.{option_map}
 use Rattle.std.proofs.lemmas.Option.{slice_get-get_or}
 use Rattle.flow_plans.specs.declared.plan.PlanState.TheVariants as state
-use Rattle.flow_plans.specs.Plans.{Plan, plan_at, status_of, with_state, with_off_block, with_former}
+use Rattle.flow_plans.specs.Plans.{PlanView, plan_at, status_of, with_state, with_off_block, with_former}
 use Rattle.flow_plans.proofs.Previous.{first-there, changed-elsewhere, changed-own}
 use Rattle.flow_plans.proofs.undo.previous.Goals.{in_default-via-in-Filed+else-place-plans, in_default-via-in-Delayed+else-number-delayed, in_default-via-in-Ended+else-number-ended, in_default-via-in-Amended+else-number-amended}
 use Rattle.flow_plans.proofs.undo.previous.Goals as goal
 
 pub returns-in-Delayed : goal.returns-in-Delayed
 returns-in-Delayed g c =
-    let ps : List Plan = c.args.plans.now in
-    let p : Plan = c.index-plans-place.result in
+    let ps : List PlanView = c.args.plans.now in
+    let p : PlanView = c.index-plans-place.result in
     let n : ℕ = c.args.number in
     let within = rw (c.in-Delayed.is, sym c.if-number-delayed.true) at c.requires.within in
     let inside : n - 1 < length ps = omega (arith, within.0, within.1) in
@@ -20,8 +20,8 @@ returns-in-Delayed g c =
 
 pub returns-in-Ended : goal.returns-in-Ended
 returns-in-Ended g c =
-    let ps : List Plan = c.args.plans.now in
-    let p : Plan = c.index-plans-place-in-Ended.result in
+    let ps : List PlanView = c.args.plans.now in
+    let p : PlanView = c.index-plans-place-in-Ended.result in
     let n : ℕ = c.args.number in
     let within = rw (c.in-Ended.is, sym c.if-number-ended.true) at c.requires.within in
     let inside : n - 1 < length ps = omega (arith, within.0, within.1) in
@@ -31,8 +31,8 @@ returns-in-Ended g c =
 
 pub returns-in-Amended : goal.returns-in-Amended
 returns-in-Amended g c =
-    let ps : List Plan = c.args.plans.now in
-    let p : Plan = c.index-plans-place-in-Amended.result in
+    let ps : List PlanView = c.args.plans.now in
+    let p : PlanView = c.index-plans-place-in-Amended.result in
     let n : ℕ = c.args.number in
     let within = rw (c.in-Amended.is, sym c.if-number-amended.true) at c.requires.within in
     let inside : n - 1 < length ps = omega (arith, within.0, within.1) in
@@ -42,7 +42,7 @@ returns-in-Amended g c =
 
 pub returns-in_default : goal.returns-in_default
 returns-in_default g c =
-    let ps : List Plan = c.args.plans.now in
+    let ps : List PlanView = c.args.plans.now in
     elim c.in_default.branch [
       | in_default-via-in-Filed+else-place-plans w ↦
           rw w.in-Filed.is

@@ -3,22 +3,22 @@ use Rattle.std.specs.List.{All, Contains}
 use Rattle.std.specs.declared.cmp.Reverse.{Reverse}
 use Rattle.std.proofs.lemmas.List.Elements.{All-head, All-tail, All-push, Contains-push, Contains-append_left}
 use Rattle.std.proofs.lemmas.List.Sorted.{All-permutation}
-use Rattle.flow_regulations.specs.declared.due_queue.Awaited.{Awaited}
+use Rattle.flow_regulations.specs.declared.due_queue.PendingFlight.{PendingFlight}
 use Rattle.flow_regulations.specs.Awaiting.{awaits, BecameDue}
 use Rattle.flow_regulations.proofs.Queues.{taken-step, became}
 use Rattle.flow_regulations.proofs.due_queue.take_from.Goals as goal
 
-abbrev numbered : Reverse Awaited → Type 0
+abbrev numbered : Reverse PendingFlight → Type 0
 numbered x = 0 < x.0.number
 
 pub awaits-requires : goal.awaits-requires
 awaits-requires g c =
-    let x : Reverse Awaited = record { 0 = c.in-Some.flight } in
+    let x : Reverse PendingFlight = record { 0 = c.in-Some.flight } in
     All-head numbered x (heap_items c.pop_until.new.heap) (All-permutation numbered (heap_items c.loop-flight.heap) (x ∷ heap_items c.pop_until.new.heap) c.in-Some.ensures.first c.loop-flight.invariant.numbers)
 
 pub loop-flight-preserved-then-awaits : goal.loop-flight-preserved-then-awaits
 loop-flight-preserved-then-awaits g c =
-    let x : Reverse Awaited = record { 0 = c.in-Some.flight } in
+    let x : Reverse PendingFlight = record { 0 = c.in-Some.flight } in
     let i = c.loop-flight.invariant in
     let plans = c.args.plans.now.plans in
     let rest = heap_items c.pop_until.new.heap in
@@ -43,7 +43,7 @@ loop-flight-preserved-then-awaits g c =
 
 pub loop-flight-preserved : goal.loop-flight-preserved
 loop-flight-preserved g c =
-    let x : Reverse Awaited = record { 0 = c.in-Some.flight } in
+    let x : Reverse PendingFlight = record { 0 = c.in-Some.flight } in
     let i = c.loop-flight.invariant in
     let plans = c.args.plans.now.plans in
     let rest = heap_items c.pop_until.new.heap in
@@ -61,8 +61,8 @@ loop-flight-preserved g c =
       capacity = i.capacity;
     }
 
-pub returns-clause-left : goal.returns-clause-left
-returns-clause-left g c = λ x held late.
-    (let C : List (Reverse Awaited) → Type 0 = λ xs. Contains xs x in
+pub returns-clause-remaining : goal.returns-clause-remaining
+returns-clause-remaining g c = λ x held late.
+    (let C : List (Reverse PendingFlight) → Type 0 = λ xs. Contains xs x in
     ⊎_elim (λ (q : Contains (heap_items c.loop-flight.heap) x). subst C (sym c.in_default.ensures.same) q) (λ q. absurd (omega (arith, q.0, late)))
     (c.loop-flight.invariant.taken x held))

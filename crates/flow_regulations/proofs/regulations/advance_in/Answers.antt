@@ -1,6 +1,6 @@
 use Rattle.std.proofs.Common.{◌≡◌, ℕ, ◌+◌, ◌<◌, List, [], length, map, take, get_or, refl, sym, ap, subst, ◌∙◌, arith}
 use Rattle.std.proofs.lemmas.List.{take_all}
-use Rattle.flow_regulations.specs.Listing.{Listed, Walked, IsFixedWaiting, IsAdvancing, is_among, with_fixed_waiting}
+use Rattle.flow_regulations.specs.Listing.{RegulationView, Walked, IsFixedWaiting, IsAdvancing, is_among, with_fixed_waiting}
 use Rattle.flow_regulations.proofs.Marking.{marked-walked}
 use Rattle.flow_regulations.proofs.Outs.{out-fixed}
 use Rattle.flow_regulations.proofs.Advances.{walk-start, walk-step, among-more, fixed-start, fixed-more}
@@ -19,9 +19,9 @@ fix_waiting_in-requires g c =
 
 pub loop-number-preserved : goal.loop-number-preserved
 loop-number-preserved g c =
-    let os : List Listed = c.args.regulations.now in
-    let ms : List Listed = c.loop-number.regulations in
-    let xs : List Listed = c.fix_waiting_in.new.regulations in
+    let os : List RegulationView = c.args.regulations.now in
+    let ms : List RegulationView = c.loop-number.regulations in
+    let xs : List RegulationView = c.fix_waiting_in.new.regulations in
     let j : ℕ = c.loop-number.number-index in
     let ns : List ℕ = c.args.due.now in
     let n : ℕ = get_or ns j 0 in
@@ -48,6 +48,6 @@ returns-clause-marked g c = c.loop-number.invariant.marked
 pub returns-clause-walked : goal.returns-clause-walked
 returns-clause-walked g c = λ taxi now plans due.
     (let all : take c.loop-number.number-index c.args.due.now ≡ c.args.due.now = take_all c.loop-number.number-index c.args.due.now (omega arith) in
-    let xs : List Listed = c.loop-number.regulations in
+    let xs : List RegulationView = c.loop-number.regulations in
     let W : List ℕ → Type 0 = λ ns. Walked (IsAdvancing (is_among ns) taxi now plans) (length xs) c.args.regulations.now xs in
     subst W all (c.loop-number.invariant.walked taxi now plans due))

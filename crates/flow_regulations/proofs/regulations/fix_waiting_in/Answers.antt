@@ -1,5 +1,5 @@
 use Rattle.std.proofs.Common.{rules, ℕ, ◌+◌, ◌<◌, ◌≤◌, List, length, get_or, refl, arith}
-use Rattle.flow_regulations.specs.Listing.{Listed, IsFixedWaiting}
+use Rattle.flow_regulations.specs.Listing.{RegulationView, IsFixedWaiting}
 use Rattle.flow_regulations.proofs.Passing.{fixes-past}
 use Rattle.flow_regulations.proofs.Walks.{walked-step, walked-end}
 use Rattle.flow_regulations.proofs.regulations.fix_waiting_in.Goals as goal
@@ -11,9 +11,9 @@ loop-index-init g c =
 pub loop-index-preserved : goal.loop-index-preserved
 loop-index-preserved g c =
     let s = c.loop-index in
-    let ys : List Listed = s.regulations in
-    let d : Listed = c.index-regulations-index.result in
-    let z : Listed = c.fix_waiting.new.self in
+    let ys : List RegulationView = s.regulations in
+    let d : RegulationView = c.index-regulations-index.result in
+    let z : RegulationView = c.fix_waiting.new.self in
     let f = c.fix_waiting.ensures in
     let n : ℕ = c.args.number in
     let i : ℕ = s.index in
@@ -25,7 +25,7 @@ loop-index-preserved g c =
 
 pub returns : goal.returns
 returns g c =
-    let xs : List Listed = c.loop-index.regulations in
+    let xs : List RegulationView = c.loop-index.regulations in
     let n : ℕ = c.args.number in
     walked-end (IsFixedWaiting n) c.loop-index.index (length xs) c.args.regulations.now xs refl (omega (arith, c.loop-index-test.false, c.loop-index.auto.regulations)) c.loop-index.invariant
 

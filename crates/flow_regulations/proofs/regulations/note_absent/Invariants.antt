@@ -1,6 +1,6 @@
 use Rattle.std.proofs.Common.{◌≡◌, ◌-◌, ◌++◌, length, vec_capacity}
 use Rattle.std.specs.Prelude.{replicate}
-use Rattle.flow_regulations.specs.declared.places.Place.TheVariants as place
+use Rattle.flow_regulations.specs.declared.slot_state.Place.TheVariants as place
 use Rattle.flow_regulations.proofs.regulations.note_absent.Given as goal
 
 abbrev pub invariant-loop-places : goal.invariant-loop-places

@@ -1,5 +1,5 @@
 use Rattle.std.proofs.Common.{◌≡◌, ◌-◌, ◌≤◌, length, take, vec_capacity}
-use Rattle.flow_regulations.specs.Places.{ArePlaces}
+use Rattle.flow_regulations.specs.SlotStates.{ArePlaces}
 use Rattle.flow_regulations.proofs.Passing.{AreUnmarked}
 use Rattle.flow_regulations.proofs.regulations.note_places_in.Given as goal
 

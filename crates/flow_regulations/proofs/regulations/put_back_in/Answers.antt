@@ -1,7 +1,7 @@
 use Rattle.std.proofs.Common.{◌≡◌, ℕ, ◌<◌, ◌≤◌, List, length, get_or, refl, sym, ap, subst, ◌∙◌, arith}
-use Rattle.flow_regulations.specs.declared.places.Place.{Place}
-use Rattle.flow_regulations.specs.Listing.{Listed, without_in}
-use Rattle.flow_regulations.specs.Places.{IsPlaceOf}
+use Rattle.flow_regulations.specs.declared.slot_state.Place.{Place}
+use Rattle.flow_regulations.specs.Listing.{RegulationView, without_in}
+use Rattle.flow_regulations.specs.SlotStates.{IsPlaceOf}
 use Rattle.flow_regulations.proofs.PutBack.{WalkedBy, IsBack, walk-by, walk-rest, places-length, same-count, place-at, map-at, all-back}
 use Rattle.flow_regulations.proofs.Walks.{all-at}
 use Rattle.flow_regulations.proofs.regulations.put_back_in.Goals as goal
@@ -16,10 +16,10 @@ bounds-places-index g c =
 
 pub put_back-requires-clause-last : goal.put_back-requires-clause-last
 put_back-requires-clause-last g c =
-    let os : List Listed = c.args.regulations.now in
+    let os : List RegulationView = c.args.regulations.now in
     let i : ℕ = c.loop-index.index in
-    let d : Listed = c.index-regulations-index.result in
-    let P : Listed → Type 0 = λ l. c.args.number ≤ l.lineup.capacity in
+    let d : RegulationView = c.index-regulations-index.result in
+    let P : RegulationView → Type 0 = λ l. c.args.number ≤ l.lineup.capacity in
     let within : i < length os = omega (arith, c.loop-index-test.true, c.loop-index.auto.regulations) in
     subst P (sym (walk-rest (IsBack c.args.number) i c.args.places.now os c.loop-index.regulations d c.loop-index.invariant)) (all-at P i os d within c.requires.room)
 
@@ -27,10 +27,10 @@ pub put_back-requires-clause-before : goal.put_back-requires-clause-before
 put_back-requires-clause-before g c =
     let b = c.requires.before in
     let n = c.args.number in
-    let os : List Listed = c.args.regulations.now in
+    let os : List RegulationView = c.args.regulations.now in
     let ps : List Place = c.args.places.now in
     let i : ℕ = c.loop-index.index in
-    let d : Listed = c.index-regulations-index.result in
+    let d : RegulationView = c.index-regulations-index.result in
     let within : i < length os = omega (arith, c.loop-index-test.true, c.loop-index.auto.regulations) in
     let places = places-length n ps b.0 b.1 in
     let count = same-count n os b.0 b.2 in
@@ -45,11 +45,11 @@ pub loop-index-preserved : goal.loop-index-preserved
 loop-index-preserved g c =
     let b = c.requires.before in
     let n = c.args.number in
-    let os : List Listed = c.args.regulations.now in
+    let os : List RegulationView = c.args.regulations.now in
     let ps : List Place = c.args.places.now in
-    let zs : List Listed = c.loop-index.regulations in
+    let zs : List RegulationView = c.loop-index.regulations in
     let i : ℕ = c.loop-index.index in
-    let d : Listed = c.index-regulations-index.result in
+    let d : RegulationView = c.index-regulations-index.result in
     let dp : Place = c.index-places-index.result in
     let within : i < length zs = omega (arith, c.loop-index-test.true, c.loop-index.auto.regulations) in
     let places = places-length n ps b.0 b.1 in
@@ -61,7 +61,7 @@ loop-index-preserved g c =
 pub returns : goal.returns
 returns g c = λ before are same.
     (let n = c.args.number in
-    let os : List Listed = c.args.regulations.now in
+    let os : List RegulationView = c.args.regulations.now in
     let ps : List Place = c.args.places.now in
     let places = places-length n ps before are in
     let count = same-count n os before same in

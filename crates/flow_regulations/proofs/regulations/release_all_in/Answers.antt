@@ -1,5 +1,5 @@
 use Rattle.std.proofs.Common.{◌≡◌, ℕ, ◌+◌, ◌-◌, ◌<◌, List, length, map, take, get_or, refl, sym, ap, subst, ◌∙◌, arith}
-use Rattle.flow_regulations.specs.Listing.{Listed, IsReleased, with_fixed_waiting}
+use Rattle.flow_regulations.specs.Listing.{RegulationView, IsReleased, with_fixed_waiting}
 use Rattle.flow_regulations.proofs.Advances.{fixed-start}
 use Rattle.flow_regulations.proofs.Alls.{names-released}
 use Rattle.flow_regulations.proofs.Marking.{marked-walked}
@@ -14,8 +14,8 @@ loop-left-preserved g c =
     let plans = c.args.plans.now.plans in
     let taxi = c.args.plans.now.taxi in
     let due : List ℕ = c.args.due.now in
-    let ms : List Listed = c.loop-left.regulations in
-    let xs : List Listed = c.release_in.new.regulations in
+    let ms : List RegulationView = c.loop-left.regulations in
+    let xs : List RegulationView = c.release_in.new.regulations in
     let within : j < length due = omega (arith, c.loop-left-test.true, c.loop-left.invariant.within) in
     let next : c.loop-left.left ≡ j + 1 = omega (arith, c.loop-left-test.true) in
     record {

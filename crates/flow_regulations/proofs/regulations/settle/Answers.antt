@@ -1,13 +1,13 @@
 use Rattle.std.proofs.Common.{ℕ, ◌+◌, ◌≤◌, length, arith}
 use Rattle.std.proofs.lemmas.Bool.{le-ltb}
-use Rattle.flow_regulations.specs.Listing.{Listed, is_below}
+use Rattle.flow_regulations.specs.Listing.{RegulationView, is_below}
 use Rattle.flow_regulations.proofs.Advances.{advancing-start, advancing-due, advancing-out, advancing-fewer, advancing-none, below-more}
 use Rattle.flow_regulations.proofs.regulations.settle.Goals as goal
 
 pub loop-number-init : goal.loop-number-init
 loop-number-init g c =
     let plans = c.args.plans.now.plans in
-    let o : Listed = c.args.regulation.now in
+    let o : RegulationView = c.args.regulation.now in
     let start = advancing-start (is_below 1) c.args.plans.now.taxi c.args.now plans o (λ f h. le-ltb f 1 (omega (arith, h))) in
     record {
       some = omega (arith, c.next_held-number.ensures.from);
@@ -18,9 +18,9 @@ pub loop-number-preserved : goal.loop-number-preserved
 loop-number-preserved g c =
     let plans = c.args.plans.now.plans in
     let taxi = c.args.plans.now.taxi in
-    let o : Listed = c.args.regulation.now in
-    let m : Listed = c.loop-number.regulation in
-    let x : Listed = c.fix_due.new.self in
+    let o : RegulationView = c.args.regulation.now in
+    let m : RegulationView = c.loop-number.regulation in
+    let x : RegulationView = c.fix_due.new.self in
     let n : ℕ = c.loop-number.number in
     let e = c.fix_due.ensures in
     let next = c.next_held-number-in-loop-number in

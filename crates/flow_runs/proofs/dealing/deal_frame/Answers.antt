@@ -16,10 +16,10 @@ returns-clause-next g c =
     ReadsNext-whole c.args.input.now.item c.in-Some.bytes.now c.in-Ok.text (map (λ v. v.items) c.args.dealt.now.feeds.items) (map (λ v. v.items) c.deal.new.dealt.feeds.items) c.args.dealt.now.count c.deal.new.dealt.count (g.W.Write.contents c.args.writer.now.device)
     c.in-Some.ensures.0 c.in-Ok.ensures.value c.in_ok-deal.ensures.ok c.in_ok-deal.ensures.count
 
-pub returns-in_default-clause-left : goal.returns-in_default-clause-left
-returns-in_default-clause-left g c =
+pub returns-in_default-clause-remaining : goal.returns-in_default-clause-remaining
+returns-in_default-clause-remaining g c =
     let none : c.args.input.now.item ≡ None = rw c.in_default.is at c.frame.ensures in
     left-result c.write_out.result c.args.input.now.item (g.W.Write.contents c.args.writer.now.device) (g.W.Write.contents c.write_out.new.writer.device) none c.write_out.ensures.kind (rw c.too_long_line.ensures at c.write_out.ensures.writes.err)
 
 pub returns-in_default-clause-writer : goal.returns-in_default-clause-writer
-returns-in_default-clause-writer g c = writer-failed c.write_out.result _ _ c.write_out.ensures.writes.calm c.write_out.ensures.writes.failed c.write_out.ensures.kind
+returns-in_default-clause-writer g c = writer-failed c.write_out.result _ _ c.write_out.ensures.writes.no_failure c.write_out.ensures.writes.failed c.write_out.ensures.kind

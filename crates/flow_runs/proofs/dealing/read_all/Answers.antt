@@ -1,5 +1,5 @@
 use Rattle.std.proofs.Common.{◌≡◌, ◌≢◌, ◌<◌, map, arith, ◌∙◌, ap, refl, sym, subst, true}
-use Rattle.flow_input.specs.Reader.{Ahead}
+use Rattle.flow_input.specs.Reader.{InputView}
 use Rattle.flow_input.specs.NextFrame.{filing_kept}
 use Rattle.flow_core.proofs.Serves.{err-made, err_is}
 use Rattle.flow_runs.specs.declared.fault.RunFault.{RunFault}
@@ -14,7 +14,7 @@ use Rattle.flow_runs.proofs.dealing.read_all.Goals as goal
 
 pub frames-init : goal.frames-init
 frames-init g c =
-    let taken : c.in_ok-input.input.taken ≡ 0 = ap (λ (a : Ahead). a.taken) c.in_ok-input.ensures in
+    let taken : c.in_ok-input.input.taken ≡ 0 = ap (λ (a : InputView). a.taken) c.in_ok-input.ensures in
     record {
       agrees = rw c.in_ok-input.ensures (λ e. absurd (cc));
       reading = Reading-start c.args.feeders (map (λ v. v.items) c.in_ok-dealt.dealt.feeds.items) c.in_ok-dealt.dealt.count (g.W.Write.contents c.args.writer.now.device) c.in_ok-input.input (g.R.Read.remaining c.args.reader.now.device)
@@ -88,7 +88,7 @@ returns-in_err-deal_frame-clause-told g c =
     rw (err-made c.from_residual-in_err-deal_frame.result c.from_residual-in_err-deal_frame.ensures.1)
     (told-part c.args.feeders (map (λ v. v.items) c.frames.dealt.feeds.items) c.frames.dealt.count (g.W.Write.contents c.args.writer.now.device) (g.W.Write.contents c.frames.writer.device) c.frames.input (g.R.Read.remaining c.args.reader.now.device) (g.R.Read.remaining c.frames.reader.device)
     c.frames.invariant.reading c.take_frame.new.input (g.R.Read.remaining c.take_frame.new.reader.device) (filing_kept c.take_frame.new.input.item) (rw c.if-not-found.false at c.in_ok-found.ensures.cuts)
-    c.in_err-deal_frame.field-0.0 (g.W.Write.contents c.deal_frame.new.writer.device) c.in_err-deal_frame.ensures.left)
+    c.in_err-deal_frame.field-0.0 (g.W.Write.contents c.deal_frame.new.writer.device) c.in_err-deal_frame.ensures.remaining)
 
 pub returns-then-not-found-clause-within : goal.returns-then-not-found-clause-within
 returns-then-not-found-clause-within g c =
@@ -115,7 +115,7 @@ returns-in_err-found-clause-writer g c =
 pub returns-in_err-deal_frame-clause-reader : goal.returns-in_err-deal_frame-clause-reader
 returns-in_err-deal_frame-clause-reader g c =
     rw (err-made c.from_residual-in_err-deal_frame.result c.from_residual-in_err-deal_frame.ensures.1)
-    (c.in_ok-found.ensures.failures ∙ (c.frames.invariant.reader_calm ∙ sym (part-reader c.in_err-deal_frame.field-0.0 c.args.reader.now.failures c.in_err-deal_frame.ensures.kinds)))
+    (c.in_ok-found.ensures.failures ∙ (c.frames.invariant.reader_calm ∙ sym (part-reader c.in_err-deal_frame.field-0.0 c.args.reader.now.failures c.in_err-deal_frame.ensures.error_kinds)))
 
 pub returns-in_err-deal_frame-clause-writer : goal.returns-in_err-deal_frame-clause-writer
 returns-in_err-deal_frame-clause-writer g c =

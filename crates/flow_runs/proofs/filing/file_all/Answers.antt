@@ -1,11 +1,11 @@
 use Rattle.std.proofs.Common.{◌≡◌, ◌≢◌, ◌+◌, ◌≤◌, ◌<◌, List, length, ◌++◌, None, map, vec_len, vec_capacity, ap, refl, sym, subst, ◌∙◌, arith}
 use Rattle.std.specs.List.{All}
 use Rattle.std.proofs.lemmas.List.{length-map}
-use Rattle.flow_plans.specs.Settings.{Settings}
-use Rattle.flow_core.specs.State.{Record}
+use Rattle.flow_plans.specs.Settings.{SetupView}
+use Rattle.flow_core.specs.State.{EntryView}
 use Rattle.flow_core.specs.History.{state_of}
 use Rattle.flow_desk.specs.Desks.{IsMissing}
-use Rattle.flow_desk.specs.Passes.{PassView}
+use Rattle.flow_desk.specs.FeederPasses.{PassView}
 use Rattle.flow_runs.specs.Ends.{EndsWell}
 use Rattle.flow_runs.specs.declared.feeding.Feed.{Feed}
 use Rattle.flow_runs.proofs.Closed.{closed, as-many, none-missing}
@@ -36,8 +36,8 @@ returns-clause-filed g c =
     let qs : List PassView = map (λ (f : F). f.pass) feeds in
     let taken : c.take_passes.new.passes.items ≡ qs = c.take_passes.ensures.passes ∙ ap (λ ps. ps ++ qs) (c.reserve.ensures.items ∙ c.new-back.ensures.items) in
     let ends = c.stop_among-ends.result in
-    let journal : List Record = (state_of c.in-Ok-close.core).journal in
-    let most : c.in-Ok-close.core.setup.max_entries ≡ g.N.Name.setup.max_entries = ap (λ (q : Settings). q.max_entries) c.in-Ok-close.ensures.setup in
+    let journal : List EntryView = (state_of c.in-Ok-close.core).journal in
+    let most : c.in-Ok-close.core.setup.max_entries ≡ g.N.Name.setup.max_entries = ap (λ (q : SetupView). q.max_entries) c.in-Ok-close.ensures.setup in
     let all_well : ends ≡ None → All EndsWell (map (λ (f : F). f.end) feeds) = λ e. (all-map (λ (f : F). f.end) EndsWell feeds
     (subst (λ (gs : List F). All (λ f. EndsWell f.end) gs) c.as_slice.ensures.value (from-none ends (All (λ (f : F). EndsWell f.end) c.as_slice.result.now) c.stop_among-ends.ensures.none e))) in
     let well : c.stop_with_room-stop.result ≡ None → length journal < g.N.Name.setup.max_entries → All EndsWell (map (λ (f : F). f.end) feeds) = λ e few. all_well (sym (c.stop_with_room-stop.ensures.is (omega (arith, few, most))) ∙ e) in

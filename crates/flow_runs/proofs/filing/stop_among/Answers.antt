@@ -24,7 +24,7 @@ loop-feed-preserved g c =
           one-more well c.args.feeds.now c.loop-feed.feed-index f c.loop-feed-test.true c.feed-item.is (λ j e lt. c.loop-feed.invariant.well j e lt both.0) both.1 i d lt);
       memory = λ i d lt other. (let both = c.stop_with-stop.ensures.memory other in
           one-more fed c.args.feeds.now c.loop-feed.feed-index f c.loop-feed-test.true c.feed-item.is (λ j e lt. c.loop-feed.invariant.memory j e lt both.0) both.1 i d lt);
-      kinds = c.stop_with-stop.ensures.kinds c.loop-feed.invariant.kinds;
+      kinds = c.stop_with-stop.ensures.error_kinds c.loop-feed.invariant.kinds;
     }
 
 pub returns-clause-none : goal.returns-clause-none

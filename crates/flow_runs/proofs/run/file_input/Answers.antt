@@ -1,6 +1,6 @@
 use Rattle.std.proofs.Common.{ℕ, List, map, inl, inr, sym, subst}
-use Rattle.flow_plans.specs.Settings.{Settings}
-use Rattle.fpl_message.specs.Filings.{FilingText}
+use Rattle.flow_plans.specs.Settings.{SetupView}
+use Rattle.fpl_message.specs.Filings.{FilingView}
 use Rattle.flow_input.specs.Frames.{frames}
 use Rattle.flow_input.proofs.Results.{err_again}
 use Rattle.std.specs.Io.KnownBytes.{Appends}
@@ -26,8 +26,8 @@ pub returns-in_err-feeds-clause-writer : goal.returns-in_err-feeds-clause-writer
 returns-in_err-feeds-clause-writer g c =
     rw (err-made c.from_residual.result c.from_residual.ensures.1) c.in_err-feeds.ensures.writer
 
-pub returns-in_err-feeds-clause-left : goal.returns-in_err-feeds-clause-left
-returns-in_err-feeds-clause-left g c =
+pub returns-in_err-feeds-clause-remaining : goal.returns-in_err-feeds-clause-remaining
+returns-in_err-feeds-clause-remaining g c =
     rw (err-made c.from_residual.result c.from_residual.ensures.1) (inl c.in_err-feeds.ensures.told)
 
 pub returns-in_err-filed-clause-reader : goal.returns-in_err-filed-clause-reader
@@ -38,11 +38,11 @@ pub returns-in_err-filed-clause-writer : goal.returns-in_err-filed-clause-writer
 returns-in_err-filed-clause-writer g c =
     rw (err-made c.from_residual-in_err-filed.result c.from_residual-in_err-filed.ensures.1, c.in_err-filed.ensures.fault) c.in_ok-feeds.ensures.writer
 
-pub returns-in_err-filed-clause-left : goal.returns-in_err-filed-clause-left
-returns-in_err-filed-clause-left g c =
+pub returns-in_err-filed-clause-remaining : goal.returns-in_err-filed-clause-remaining
+returns-in_err-filed-clause-remaining g c =
     let begun = g.W.Write.contents c.args.writer.now.device in
     let written = g.W.Write.contents c.read_all.new.writer.device in
-    let feeds : List (List FilingText) = map (λ v. v.items) c.in_ok-feeds.field-0.feeds.items in
+    let feeds : List (List FilingView) = map (λ v. v.items) c.in_ok-feeds.field-0.feeds.items in
     rw (err-made c.from_residual-in_err-filed.result c.from_residual-in_err-filed.ensures.1)
     (inr (
       c.in_err-filed.ensures.fault,
@@ -52,9 +52,9 @@ returns-in_err-filed-clause-left g c =
 
 pub returns-clause-filed : goal.returns-clause-filed
 returns-clause-filed g c =
-    let feeds : List (List FilingText) = map (λ v. v.items) c.in_ok-feeds.field-0.feeds.items in (
+    let feeds : List (List FilingView) = map (λ v. v.items) c.in_ok-feeds.field-0.feeds.items in (
       feeds,
-      subst (λ (q : Settings). HasFiled q c.args.blank.entries c.args.feeders feeds c.in_ok-filed.filed.core c.in_ok-filed.filed.stop) (sym c.requires.named.1)
+      subst (λ (q : SetupView). HasFiled q c.args.blank.entries c.args.feeders feeds c.in_ok-filed.filed.core c.in_ok-filed.filed.stop) (sym c.requires.named.1)
           (subst (λ (n : ℕ). HasFiled g.N.Name.setup c.args.blank.entries n feeds c.in_ok-filed.filed.core c.in_ok-filed.filed.stop) (sym c.requires.feeders.0) c.in_ok-filed.ensures.filed),
       c.in_ok-feeds.ensures.has,
     )

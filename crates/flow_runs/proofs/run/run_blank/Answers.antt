@@ -28,23 +28,23 @@ pub returns-in_err-filed-clause-writer : goal.returns-in_err-filed-clause-writer
 returns-in_err-filed-clause-writer g c =
     rw (err-made c.from_residual.result c.from_residual.ensures.1) c.in_err-filed.ensures.writer
 
-pub returns-in_err-filed-clause-left : goal.returns-in_err-filed-clause-left
-returns-in_err-filed-clause-left g c =
+pub returns-in_err-filed-clause-remaining : goal.returns-in_err-filed-clause-remaining
+returns-in_err-filed-clause-remaining g c =
     let begun = g.W.Write.contents c.args.writer.now.device in
     let written = g.W.Write.contents c.file_input.new.writer.device in
     let input = g.R.Read.remaining c.args.reader.now.device in
     let rest = g.R.Read.remaining c.file_input.new.reader.device in
     rw (err-made c.from_residual.result c.from_residual.ensures.1)
-    (ended-before c.args.blank.setup c.args.blank.entries c.args.feeders c.args.journal c.in_err-filed.field-0.0 begun written input rest c.in_err-filed.ensures.left)
+    (ended-before c.args.blank.setup c.args.blank.entries c.args.feeders c.args.journal c.in_err-filed.field-0.0 begun written input rest c.in_err-filed.ensures.remaining)
 
 pub returns-clause-reader : goal.returns-clause-reader
-returns-clause-reader g c = c.in_ok-filed.ensures.reader ∙ sym (reader-calm-all c.answer_all.result c.args.reader.now.failures (if_err_map c.answer_all.result (λ e k. k.0) c.answer_all.ensures.kinds))
+returns-clause-reader g c = c.in_ok-filed.ensures.reader ∙ sym (reader-calm-all c.answer_all.result c.args.reader.now.failures (if_err_map c.answer_all.result (λ e k. k.0) c.answer_all.ensures.error_kinds))
 
 pub returns-clause-writer : goal.returns-clause-writer
 returns-clause-writer g c = c.answer_all.ensures.writer ∙ ap (writer_failures c.answer_all.result) c.in_ok-filed.ensures.writer
 
 pub returns-clause-others : goal.returns-clause-others
-returns-clause-others g c = if_err_map c.answer_all.result (λ e k. (k.2, k.3, k.4)) c.answer_all.ensures.kinds
+returns-clause-others g c = if_err_map c.answer_all.result (λ e k. (k.2, k.3, k.4)) c.answer_all.ensures.error_kinds
 
 pub returns-clause-ran : goal.returns-clause-ran
 returns-clause-ran g c =
@@ -55,11 +55,11 @@ returns-clause-ran g c =
     filed.2 filed.1 none c.requires.read a)
     c.answer_all.ensures.ok c.answer_all.ensures.whole
 
-pub returns-clause-left : goal.returns-clause-left
-returns-clause-left g c =
+pub returns-clause-remaining : goal.returns-clause-remaining
+returns-clause-remaining g c =
     let filed = c.in_ok-filed.ensures.filed in
     if_err_map c.answer_all.result
     (λ e a. ended-filed c.args.blank.setup c.args.blank.entries c.args.feeders c.args.journal e (g.R.Read.remaining c.args.reader.now.device) (g.R.Read.remaining c.file_input.new.reader.device) filed.0 c.in_ok-filed.count
     (g.W.Write.contents c.args.writer.now.device) (g.W.Write.contents c.file_input.new.writer.device) (g.W.Write.contents c.answer_all.new.writer.device) c.in_ok-filed.filed.core c.in_ok-filed.filed.stop c.args.read
     filed.2 filed.1 c.requires.read a)
-    c.answer_all.ensures.left
+    c.answer_all.ensures.remaining

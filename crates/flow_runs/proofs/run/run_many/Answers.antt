@@ -8,10 +8,10 @@ use Rattle.flow_runs.proofs.run.run_many.Goals as goal
 pub why_no_desk-requires : goal.why_no_desk-requires
 why_no_desk-requires g c = λ e. sized c.args.feeders c.requires.0 c.requires.1 (c.in-Err.ensures.feeders.0 (ap Err e))
 
-pub returns-in-Ok-clause-left : goal.returns-in-Ok-clause-left
-returns-in-Ok-clause-left g c =
+pub returns-in-Ok-clause-remaining : goal.returns-in-Ok-clause-remaining
+returns-in-Ok-clause-remaining g c =
     ended-at c.run_blank.result c.in-Ok.blank.setup c.args.setup.now c.in-Ok.blank.entries [] c.args.feeders c.args.journal (g.W.Write.contents c.args.writer.now.device) (g.W.Write.contents c.run_blank.new.writer.device) (g.R.Read.remaining c.args.reader.now.device) (g.R.Read.remaining c.run_blank.new.reader.device)
-    c.in-Ok.ensures.made.0 c.in-Ok.ensures.made.2 c.run_blank.ensures.left
+    c.in-Ok.ensures.made.0 c.in-Ok.ensures.made.2 c.run_blank.ensures.remaining
 
 pub returns-in-Ok-clause-others : goal.returns-in-Ok-clause-others
 returns-in-Ok-clause-others g c = if_err_map c.run_blank.result (λ e k. (k.0, k.1)) c.run_blank.ensures.others
@@ -19,8 +19,8 @@ returns-in-Ok-clause-others g c = if_err_map c.run_blank.result (λ e k. (k.0, k
 pub returns-in-Ok-clause-no_reader : goal.returns-in-Ok-clause-no_reader
 returns-in-Ok-clause-no_reader g c = λ e. absurd (no-reader c.run_blank.result c.run_blank.ensures.others e)
 
-pub returns-in-Err-clause-left : goal.returns-in-Err-clause-left
-returns-in-Err-clause-left g c =
+pub returns-in-Err-clause-remaining : goal.returns-in-Err-clause-remaining
+returns-in-Err-clause-remaining g c =
     ended-first c.args.setup.now [] c.args.feeders c.args.journal c.why_no_desk.result (g.W.Write.contents c.args.writer.now.device) (g.R.Read.remaining c.args.reader.now.device) (no-desk c.in-Err.fault c.why_no_desk.result c.why_no_desk.ensures).begun
 
 pub returns-in-Err-clause-reader : goal.returns-in-Err-clause-reader

@@ -13,22 +13,22 @@ returns-clause-bad_feeders g c = λ e.
     let number = c.in-Err.ensures.beyond b.0 in
     (HoldsBeyond-made c.in_ok-core.core.setup c.in_ok-core.core.filed c.args.feeders b.0 (g.R.Read.remaining c.args.reader.now.device) (g.R.Read.remaining c.read_journal.new.reader.device) c.in_ok-core.ensures.holds (number.0 b.1).2, refl)
 
-pub returns-in_err-core-clause-left : goal.returns-in_err-core-clause-left
-returns-in_err-core-clause-left g c =
+pub returns-in_err-core-clause-remaining : goal.returns-in_err-core-clause-remaining
+returns-in_err-core-clause-remaining g c =
     let others = journal-others c.in_err-core.field-0.0 in
     rw (err-made c.from_residual.result c.from_residual.ensures.1) (ended-on-first (fault_of_journal c.in_err-core.field-0.0) c.args.feeders c.args.journal (g.W.Write.contents c.args.writer.now.device) (g.R.Read.remaining c.args.reader.now.device) (g.R.Read.remaining c.read_journal.new.reader.device) others.much others.written others.begun)
 
-pub returns-in-Ok-clause-left : goal.returns-in-Ok-clause-left
-returns-in-Ok-clause-left g c =
+pub returns-in-Ok-clause-remaining : goal.returns-in-Ok-clause-remaining
+returns-in-Ok-clause-remaining g c =
     ended-behind c.run_blank.result c.in_ok-core.core.setup c.in-Ok.blank.setup c.in_ok-core.core.filed c.in-Ok.blank.entries c.args.feeders c.args.journal (g.W.Write.contents c.args.writer.now.device) (g.W.Write.contents c.run_blank.new.writer.device)
     (g.R.Read.remaining c.args.reader.now.device) (g.R.Read.remaining c.read_journal.new.reader.device) (g.R.Read.remaining c.run_blank.new.reader.device) c.in_ok-core.ensures.holds c.in-Ok.ensures.within c.in-Ok.ensures.made.0 c.in-Ok.ensures.made.2
-    c.run_blank.ensures.others c.run_blank.ensures.left
+    c.run_blank.ensures.others c.run_blank.ensures.remaining
 
 pub returns-in-Ok-clause-no_reader : goal.returns-in-Ok-clause-no_reader
 returns-in-Ok-clause-no_reader g c = λ e. absurd (no-reader c.run_blank.result c.run_blank.ensures.others e)
 
-pub returns-clause-left : goal.returns-clause-left
-returns-clause-left g c =
+pub returns-clause-remaining : goal.returns-clause-remaining
+returns-clause-remaining g c =
     let others = no-desk c.in-Err.fault c.why_no_desk.result c.why_no_desk.ensures in
     ended-on-first c.why_no_desk.result c.args.feeders c.args.journal (g.W.Write.contents c.args.writer.now.device) (g.R.Read.remaining c.args.reader.now.device) (g.R.Read.remaining c.read_journal.new.reader.device) others.much others.written others.begun
 

@@ -2,15 +2,15 @@ use Rattle.std.proofs.Common.{◌≡◌, ℕ, ◌+◌, ◌-◌, List, sym, ap, �
 use Rattle.std.specs.Prelude.{slice_get, option_copied}
 use Rattle.std.specs.Option.{option_map}
 use Rattle.std.proofs.lemmas.Bool.{false≢true}
-use Rattle.flow_plans.specs.Plans.{Plan}
+use Rattle.flow_plans.specs.Plans.{PlanView}
 use Rattle.flow_traffic.specs.Same.{standing_of}
 use Rattle.flow_traffic.proofs.Alike.{standing_at, alike-at, alike-more}
 use Rattle.flow_traffic.proofs.same.stand_alike.Goals as goal
 
 pub returns-then-not-stands_as : goal.returns-then-not-stands_as
 returns-then-not-stands_as g c =
-    let ps : List Plan = c.args.plans.now.plans in
-    let qs : List Plan = c.args.others.now.plans in
+    let ps : List PlanView = c.args.plans.now.plans in
+    let qs : List PlanView = c.args.others.now.plans in
     let i : ℕ = c.loop-index.index in
     let at : i + 1 - 1 ≡ i = omega arith in
     let mine : option_map standing_of (option_copied c.plan.result) ≡ standing_at ps i = ap (option_map standing_of) (c.plan.ensures.plan (omega arith) ∙ ap (slice_get ps) at) in
@@ -19,8 +19,8 @@ returns-then-not-stands_as g c =
 
 pub loop-index-preserved : goal.loop-index-preserved
 loop-index-preserved g c =
-    let ps : List Plan = c.args.plans.now.plans in
-    let qs : List Plan = c.args.others.now.plans in
+    let ps : List PlanView = c.args.plans.now.plans in
+    let qs : List PlanView = c.args.others.now.plans in
     let i : ℕ = c.loop-index.index in
     let at : i + 1 - 1 ≡ i = omega arith in
     let mine : option_map standing_of (option_copied c.plan.result) ≡ standing_at ps i = ap (option_map standing_of) (c.plan.ensures.plan (omega arith) ∙ ap (slice_get ps) at) in

@@ -1,20 +1,20 @@
 use Rattle.left_right.specs.Sides.{view as view_of}
 use Rattle.std.proofs.Common.{Bool, ◌≡◌, List, drop, refl, sym, ◌∙◌, ap}
-use Rattle.flow_desk.specs.Boards.{Shown, Turn, absorbed}
+use Rattle.flow_desk.specs.Boards.{BoardView, OperationView, absorbed}
 use Rattle.std.specs.List.{fold}
-use Rattle.flow_desk.specs.Seats.{WriterView}
+use Rattle.flow_desk.specs.Seats.{PublisherView}
 use Rattle.flow_desk.proofs.Keeping.{publishes, published, done}
 use Rattle.flow_desk.proofs.seat.Publisher.publish.Goals as goal
 
-abbrev as_writer : Bool → Shown → WriterView
+abbrev as_writer : Bool → BoardView → PublisherView
 as_writer k x = record { knows = k; book = x.book; setup = x.setup; entries = x.entries }
 
 pub replace_with-published-requires : goal.replace_with-published-requires
 replace_with-published-requires g c next is =
-    let x : Shown = c.append.new.writer.desk.shown.value in
-    let op : Turn = c.args.operation in
-    let xs : List Turn = drop c.self.inside.writer.behind c.self.inside.writer.log.items in
-    let same : c.args.self.now ≡ as_writer c.args.self.now.knows x = sym c.self.view_is ∙ (ap (λ d. as_writer (view_of c.self.inside.writer.desk.place).knows d.shown.value) (sym c.append.ensures.desk) ∙ ap (λ (w : WriterView). as_writer w.knows x) c.self.view_is) in
+    let x : BoardView = c.append.new.writer.desk.shown.value in
+    let op : OperationView = c.args.operation in
+    let xs : List OperationView = drop c.self.inside.writer.behind c.self.inside.writer.log.items in
+    let same : c.args.self.now ≡ as_writer c.args.self.now.knows x = sym c.self.view_is ∙ (ap (λ d. as_writer (view_of c.self.inside.writer.desk.place).knows d.shown.value) (sym c.append.ensures.desk) ∙ ap (λ (w : PublisherView). as_writer w.knows x) c.self.view_is) in
     let none : fold absorbed x xs ≡ x = rw (ap (λ d. d.shown.value) c.append.ensures.desk) c.self.invariant.0 in
     publishes _ _ x next op xs none (is ∙ ap (λ os. fold absorbed x os) c.append.ensures.pending)
     (c.requires.book ∙ ap (λ w. w.book) same)
@@ -24,10 +24,10 @@ replace_with-published-requires g c next is =
 
 pub returns : goal.returns
 returns g c =
-    let x : Shown = c.append.new.writer.desk.shown.value in
-    let y : Shown = c.replace_with-published.new.dest.desk.shown.value in
-    let op : Turn = c.args.operation in
-    let xs : List Turn = drop c.self.inside.writer.behind c.self.inside.writer.log.items in
+    let x : BoardView = c.append.new.writer.desk.shown.value in
+    let y : BoardView = c.replace_with-published.new.dest.desk.shown.value in
+    let op : OperationView = c.args.operation in
+    let xs : List OperationView = drop c.self.inside.writer.behind c.self.inside.writer.log.items in
     let e = c.replace_with-published.ensures in
     let values = done c.replace_with-published.result _ _ (e.1.0 tt) e.1.1.0 in
     let rule = done c.replace_with-published.result _ _ (e.1.0 tt) e.1.1.1 in

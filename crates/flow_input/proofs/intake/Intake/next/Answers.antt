@@ -1,6 +1,6 @@
 use Rattle.std.proofs.Common.{ap}
 use Rattle.std.specs.Io.KnownBytes.{prepend_known}
-use Rattle.flow_input.specs.Source.{Source}
+use Rattle.flow_input.specs.Source.{IntakeView}
 use Rattle.flow_input.proofs.InTurn.{EndsWithin-ok, GivesNext-ok, SameTotal-missed, SameTotal-ok}
 use Rattle.flow_input.proofs.Sources.{CutsFirst-ok, MissesFirst-given}
 use Rattle.flow_input.proofs.intake.Intake.next.Goals as goal
@@ -8,7 +8,7 @@ use Rattle.flow_input.proofs.intake.Intake.next.Goals as goal
 pub returns-clause-cuts : goal.returns-clause-cuts
 returns-clause-cuts g c =
     CutsFirst-ok g.row.A.Denot c.next_frame-result.result c.self.inside.input c.next_frame-result.new.input (g.R.Read.remaining c.self.inside.reader.device) (g.R.Read.remaining c.next_frame-result.new.reader.device) c.args.self.now.left
-    c.next_frame-result.ensures.gives c.next_frame-result.ensures.agrees (ap (λ (s : Source). s.left) c.self.view_is)
+    c.next_frame-result.ensures.gives c.next_frame-result.ensures.agrees (ap (λ (s : IntakeView). s.left) c.self.view_is)
 
 pub returns-clause-frames : goal.returns-clause-frames
 returns-clause-frames g c =
@@ -17,7 +17,7 @@ returns-clause-frames g c =
 pub returns-clause-taken : goal.returns-clause-taken
 returns-clause-taken g c =
     SameTotal-ok g.row.A.Denot c.next_frame-result.result c.self.inside.input c.next_frame-result.new.input (g.R.Read.remaining c.self.inside.reader.device) (g.R.Read.remaining c.next_frame-result.new.reader.device) c.args.self.now.left c.args.self.now.taken
-    c.next_frame-result.ensures.gives (ap (λ (s : Source). s.left) c.self.view_is) (ap (λ (s : Source). s.taken) c.self.view_is)
+    c.next_frame-result.ensures.gives (ap (λ (s : IntakeView). s.left) c.self.view_is) (ap (λ (s : IntakeView). s.taken) c.self.view_is)
 
 pub returns-clause-end : goal.returns-clause-end
 returns-clause-end g c =
@@ -27,9 +27,9 @@ returns-clause-end g c =
 pub returns-clause-memory : goal.returns-clause-memory
 returns-clause-memory g c = λ e.
     let m = c.next_frame-result.ensures.memory e in
-    let left = ap (λ (s : Source). s.left) c.self.view_is in (
+    let left = ap (λ (s : IntakeView). s.left) c.self.view_is in (
       MissesFirst-given c.self.inside.input c.next_frame-result.new.input (g.R.Read.remaining c.self.inside.reader.device) (g.R.Read.remaining c.next_frame-result.new.reader.device) c.args.self.now.left m.0 m.1 left,
       SameTotal-missed c.self.inside.input c.next_frame-result.new.input (g.R.Read.remaining c.self.inside.reader.device) (g.R.Read.remaining c.next_frame-result.new.reader.device) c.args.self.now.left c.args.self.now.taken m.0 left
-          (ap (λ (s : Source). s.taken) c.self.view_is),
+          (ap (λ (s : IntakeView). s.taken) c.self.view_is),
       c.next_frame-result.ensures.room e,
     )

@@ -1,13 +1,13 @@
 use Rattle.std.proofs.Common.{◌≡◌, ◌+◌, ◌<◌, ◌++◌, ◌∷◌, [], List, length, ℕ, ap, ◌∙◌, arith}
 use Rattle.std.specs.Prelude.{max}
 use Rattle.indexmap.specs.IndexMap.{spare}
-use Rattle.flow_plans.specs.Chains.{Chained, newest, flight_of_key, IsUpdated, AreChained}
+use Rattle.flow_plans.specs.Chains.{ChainsView, newest, flight_of_key, IsUpdated, AreChained}
 use Rattle.flow_plans.proofs.ChainMoves.{head-within, down-push, append-chained}
 use Rattle.flow_plans.proofs.chains.Chains.append.Goals as goal
 
 pub invariant_of-self-2 : goal.invariant_of-self-2
 invariant_of-self-2 g c =
-    let chains : Chained = record { heads = c.self.inside.heads.entries; older = c.self.inside.older.items; room = spare c.self.inside.heads } in
+    let chains : ChainsView = record { heads = c.self.inside.heads.entries; older = c.self.inside.older.items; room = spare c.self.inside.heads } in
     let are : AreChained chains c.args.plans.now = rw (← c.self.view_is) at c.requires.chained in
     let first : c.raise_newest-older.result ≡ newest chains.heads c.of_key-name.result =
     c.raise_newest-older.ensures.before ∙ ap (λ es. newest es c.of_key-name.result) c.in_ok-reserve-2.ensures.entries in
@@ -17,7 +17,7 @@ invariant_of-self-2 g c =
 
 pub returns-clause-ok : goal.returns-clause-ok
 returns-clause-ok g c =
-    let chains : Chained = record { heads = c.self.inside.heads.entries; older = c.self.inside.older.items; room = spare c.self.inside.heads } in
+    let chains : ChainsView = record { heads = c.self.inside.heads.entries; older = c.self.inside.older.items; room = spare c.self.inside.heads } in
     let are : AreChained chains c.args.plans.now = rw (← c.self.view_is) at c.requires.chained in
     let name : c.of_key-name.result ≡ flight_of_key c.args.plan.now.key = c.of_key-name.ensures ∙ ap (λ k. flight_of_key k) c.key.ensures in
     let all : c.raise_newest-older.result ≡ newest chains.heads c.of_key-name.result =

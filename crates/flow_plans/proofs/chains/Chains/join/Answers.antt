@@ -2,7 +2,7 @@ use Rattle.std.proofs.Common.{ℕ, ◌≡◌, ◌≤◌, ◌<◌, ◌-◌, lengt
 use Rattle.std.specs.Prelude.{max}
 use Rattle.std.proofs.lemmas.Grind.{get_or_default_zero}
 use Rattle.indexmap.specs.IndexMap.{spare}
-use Rattle.flow_plans.specs.Chains.{Chained, newest, IsUpdated, IsApart}
+use Rattle.flow_plans.specs.Chains.{ChainsView, newest, IsUpdated, IsApart}
 use Rattle.flow_plans.proofs.ChainLemmas.{updated-stays}
 use Rattle.flow_plans.proofs.ChainMoves.{down-set}
 use Rattle.flow_plans.proofs.ChainChanges.{IsReached, apart-within, apart-newest-within, apart-newest, apart-below, into-newest, into-later}
@@ -26,7 +26,7 @@ invariant_of-self g c =
 
 pub returns-then-newest-number-clause-taken : goal.returns-then-newest-number-clause-taken
 returns-then-newest-number-clause-taken g c =
-    let chains : Chained = record { heads = c.self.inside.heads.entries; older = c.self.inside.older.items; room = spare c.self.inside.heads } in
+    let chains : ChainsView = record { heads = c.self.inside.heads.entries; older = c.self.inside.older.items; room = spare c.self.inside.heads } in
     let apart : IsApart chains c.args.number = rw (← c.self.view_is) at c.requires.apart in
     let first : c.raise_newest-newest.result ≡ newest chains.heads c.args.name = c.raise_newest-newest.ensures.before in
     let most : max c.raise_newest-newest.result c.args.number ≡ c.args.number = omega (arith, c.if-newest-number.true) in
@@ -40,20 +40,20 @@ later_than-later-requires-clause-down g c = rw c.deref.ensures.value c.self.inva
 
 pub later_than-later-requires-clause-within : goal.later_than-later-requires-clause-within
 later_than-later-requires-clause-within g c =
-    let chains : Chained = record { heads = c.self.inside.heads.entries; older = c.self.inside.older.items; room = spare c.self.inside.heads } in
+    let chains : ChainsView = record { heads = c.self.inside.heads.entries; older = c.self.inside.older.items; room = spare c.self.inside.heads } in
     let apart : IsApart chains c.args.number = rw (← c.self.view_is) at c.requires.apart in
     rw c.deref.ensures.value (omega (arith, c.raise_newest-newest.ensures.before, apart-newest-within chains c.args.number apart c.args.name))
 
 pub later_than-later-requires-clause-later : goal.later_than-later-requires-clause-later
 later_than-later-requires-clause-later g c =
-    let chains : Chained = record { heads = c.self.inside.heads.entries; older = c.self.inside.older.items; room = spare c.self.inside.heads } in
+    let chains : ChainsView = record { heads = c.self.inside.heads.entries; older = c.self.inside.older.items; room = spare c.self.inside.heads } in
     let apart : IsApart chains c.args.number = rw (← c.self.view_is) at c.requires.apart in
     let other : newest chains.heads c.args.name ≡ c.args.number → ⊥ = apart-newest chains c.args.number apart c.args.name in
     omega (arith, other, c.raise_newest-newest.ensures.before, c.if-newest-number.false)
 
 pub invariant_of-self-2 : goal.invariant_of-self-2
 invariant_of-self-2 g c =
-    let chains : Chained = record { heads = c.self.inside.heads.entries; older = c.self.inside.older.items; room = spare c.self.inside.heads } in
+    let chains : ChainsView = record { heads = c.self.inside.heads.entries; older = c.self.inside.older.items; room = spare c.self.inside.heads } in
     let older = c.self.inside.older.items in
     let i : ℕ = c.args.number - 1 in
     let l : ℕ = c.later_than-later.result in
@@ -69,7 +69,7 @@ invariant_of-self-2 g c =
 
 pub returns-clause-taken : goal.returns-clause-taken
 returns-clause-taken g c =
-    let chains : Chained = record { heads = c.self.inside.heads.entries; older = c.self.inside.older.items; room = spare c.self.inside.heads } in
+    let chains : ChainsView = record { heads = c.self.inside.heads.entries; older = c.self.inside.older.items; room = spare c.self.inside.heads } in
     let l : ℕ = c.later_than-later.result in
     let apart : IsApart chains c.args.number = rw (← c.self.view_is) at c.requires.apart in
     let inside : l < length chains.older = rw c.deref.ensures.value at c.later_than-later.ensures.within in

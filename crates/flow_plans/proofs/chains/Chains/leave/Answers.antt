@@ -4,15 +4,15 @@ use Rattle.std.proofs.lemmas.Bool.{cases_lt}
 use Rattle.std.proofs.lemmas.Grind.{get_or_default_zero}
 use Rattle.flow_plans.specs.declared.chains.FlightName.{FlightName}
 use Rattle.indexmap.specs.IndexMap.{spare}
-use Rattle.flow_plans.specs.Chains.{Chained, newest, same_flight, IsUpdated, LeaveOut}
+use Rattle.flow_plans.specs.Chains.{ChainsView, newest, same_flight, IsUpdated, LeaveOut}
 use Rattle.flow_plans.proofs.ChainLemmas.{updated-names}
 use Rattle.flow_plans.proofs.ChainChanges.{IsReached, out-absent, out-newest, out-later, out-past, out-stay}
 use Rattle.flow_plans.proofs.chains.Chains.leave.Goals as goal
 
 pub returns-then-newest-number-clause-out : goal.returns-then-newest-number-clause-out
 returns-then-newest-number-clause-out g c =
-    let chains : Chained = record { heads = c.self.inside.heads.entries; older = c.self.inside.older.items; room = spare c.self.inside.heads } in
-    let later : Chained = record { heads = c.lower_newest-newest.new.heads.entries; older = chains.older; room = spare c.lower_newest-newest.new.heads } in
+    let chains : ChainsView = record { heads = c.self.inside.heads.entries; older = c.self.inside.older.items; room = spare c.self.inside.heads } in
+    let later : ChainsView = record { heads = c.lower_newest-newest.new.heads.entries; older = chains.older; room = spare c.lower_newest-newest.new.heads } in
     let inside : c.args.number ≤ length chains.older = rw (← c.self.view_is) at c.requires.number.1 in
     let value : c.index-next.result.now ≡ slice_index chains.older (c.args.number - 1) =
     c.index-next.ensures ∙ get_or_default_zero chains.older (c.args.number - 1) c.index-next.result.now (omega (arith, inside, c.requires.number.0)) in
@@ -54,7 +54,7 @@ later_than-later-requires-clause-within g c =
 
 pub returns-then-index-number-clause-out : goal.returns-then-index-number-clause-out
 returns-then-index-number-clause-out g c =
-    let chains : Chained = record { heads = c.self.inside.heads.entries; older = c.self.inside.older.items; room = spare c.self.inside.heads } in
+    let chains : ChainsView = record { heads = c.self.inside.heads.entries; older = c.self.inside.older.items; room = spare c.self.inside.heads } in
     let n : ℕ = c.args.number in
     let l : ℕ = c.later_than-later.result in
     let inside : n ≤ length chains.older = rw (← c.self.view_is) at c.requires.number.1 in
@@ -72,7 +72,7 @@ returns-then-index-number-clause-out g c =
 
 pub returns-else-index-number-clause-out : goal.returns-else-index-number-clause-out
 returns-else-index-number-clause-out g c =
-    let chains : Chained = record { heads = c.self.inside.heads.entries; older = c.self.inside.older.items; room = spare c.self.inside.heads } in
+    let chains : ChainsView = record { heads = c.self.inside.heads.entries; older = c.self.inside.older.items; room = spare c.self.inside.heads } in
     let n : ℕ = c.args.number in
     let l : ℕ = c.later_than-later.result in
     let inside : n ≤ length chains.older = rw (← c.self.view_is) at c.requires.number.1 in

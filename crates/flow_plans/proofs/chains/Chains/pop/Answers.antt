@@ -2,7 +2,7 @@ use Rattle.std.proofs.Common.{◌≡◌, ◌-◌, List, length, take, ℕ, sym, 
 use Rattle.indexmap.specs.IndexMap.{spare}
 use Rattle.flow_plans.specs.declared.chains.FlightName.{FlightName}
 use Rattle.flow_plans.specs.Changes.{others}
-use Rattle.flow_plans.specs.Chains.{Chained, newest, flight_of_key, AreChained}
+use Rattle.flow_plans.specs.Chains.{ChainsView, newest, flight_of_key, AreChained}
 use Rattle.flow_plans.proofs.Keepings.{plan-stood}
 use Rattle.flow_plans.proofs.ChainMoves.{head-within, down-take, others-length, popped}
 use Rattle.flow_plans.proofs.chains.Chains.pop.Goals as goal
@@ -18,12 +18,12 @@ pub returns : goal.returns
 returns g c =
     let plans = c.args.plans.now in
     let p = c.index-plans-plans.result in
-    let left : Chained = c.withdraw.new.self in
+    let left : ChainsView = c.withdraw.new.self in
     let name : c.of_key-name.result ≡ flight_of_key p.key = c.of_key-name.ensures ∙ ap (λ k. flight_of_key k) c.key.ensures in
     let are : AreChained left (others (length plans) plans) =
     c.withdraw.ensures.out plans c.requires.chained (rw (plan-stood plans (length plans) p c.requires.some (omega arith) c.index-plans-plans.is) (sym name)) in
-    let older : c.self.inside.older.items ≡ left.older = ap (λ (v : Chained). v.older) c.self.view_is in
-    let heads : c.self.inside.heads.entries ≡ left.heads = ap (λ (v : Chained). v.heads) c.self.view_is in
+    let older : c.self.inside.older.items ≡ left.older = ap (λ (v : ChainsView). v.older) c.self.view_is in
+    let heads : c.self.inside.heads.entries ≡ left.heads = ap (λ (v : ChainsView). v.heads) c.self.view_is in
     let long : length left.older ≡ length plans = are.count ∙ others-length plans (length plans) p c.requires.some (omega arith) c.index-plans-plans.is in
     let items : c.pop.new.self.items ≡ take (length plans - 1) left.older =
     c.pop.ensures.rest ∙ ap (λ (n : ℕ). take (n - 1) c.self.inside.older.items) (c.self.inside.older.ok.0 ∙ ap (λ (xs : List ℕ). length xs) older ∙ long)

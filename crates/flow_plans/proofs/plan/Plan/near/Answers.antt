@@ -2,7 +2,7 @@ use Rattle.std.proofs.Common.{ℕ, ◌+◌, List, sym, ap, subst, ◌∙◌}
 use Rattle.std.specs.Prelude.{IsSome}
 use Rattle.fpl_text.specs.Words.{words_of}
 use Rattle.fpl_items.specs.Items.{items_of, elapsed_to}
-use Rattle.fpl_items.specs.Places.{bit_of}
+use Rattle.fpl_items.specs.Points.{bit_of}
 use Rattle.flow_plans.specs.Near.{word_at, HasBitsOf}
 use Rattle.flow_plans.proofs.NearLemmas.{or-first, or-second, subject-enters, comes-there, not-filed, exempted}
 use Rattle.flow_plans.proofs.plan.Plan.near.Goals as goal

@@ -13,7 +13,7 @@ loop-number-preserved g c = record {
       ⊎_elim
       (λ below. c.loop-number.invariant.passed n low below)
       (λ above. let same : n ≡ c.loop-number.number = omega (arith, high, above) in
-      subst T (sym same) (c.may_come.ensures c.if-not-may_come.true))
+      subst T (sym same) (c.may_come.ensures c.if-may_come.false))
       (cases_lt n c.loop-number.number);
   most = omega (arith, c.loop-number.invariant.most, c.loop-number-test.true);
 }

@@ -1,7 +1,7 @@
 use Rattle.std.proofs.Common.{◌≡◌, List, ℕ, Some, sym, ap, ◌∙◌, arith}
 use Rattle.fpl_message.specs.declared.order.Spot.TheVariants.{Dep}
 use Rattle.flow_plans.specs.Plans.{plan_at}
-use Rattle.flow_plans.specs.Places.{IsTold}
+use Rattle.flow_plans.specs.Letters.{IsTold}
 use Rattle.flow_plans.proofs.OutlineLemmas.{plan-read}
 use Rattle.flow_plans.proofs.plan_list.PlanList.subject.Goals as goal
 

@@ -1,6 +1,6 @@
 use Rattle.std.proofs.Common.{◌≡◌, List, ◌∷◌, ◌++◌, [], length, Some, refl, ap, arith}
-use Rattle.flow_plans.specs.Plans.{Plan}
-use Rattle.flow_plans.specs.Stores.{Store}
+use Rattle.flow_plans.specs.Plans.{PlanView}
+use Rattle.flow_plans.specs.Stores.{PlanStoreView}
 use Rattle.flow_plans.specs.Changes.{plan_of}
 use Rattle.flow_plans.proofs.Keepings.{returns-stay, pushed-back}
 use Rattle.flow_plans.proofs.store.PlanStore.file.Goals as goal
@@ -23,5 +23,5 @@ invariant_of-self g c =
 pub returns-clause-before : goal.returns-clause-before
 returns-clause-before g c =
     let now : c.append.new.self ≡ c.self.inside.plans ++ c.in-Ok-new.plan ∷ [] = c.in-Ok-append.ensures.ok in
-    let old : c.self.inside.plans ≡ c.args.self.now.plans = ap (λ (s : Store). s.plans) c.self.view_is in
-    rw (now, pushed-back c.self.inside.plans c.in-Ok-new.plan) (ap (λ (ps : List Plan). Some ps) old)
+    let old : c.self.inside.plans ≡ c.args.self.now.plans = ap (λ (s : PlanStoreView). s.plans) c.self.view_is in
+    rw (now, pushed-back c.self.inside.plans c.in-Ok-new.plan) (ap (λ (ps : List PlanView). Some ps) old)

@@ -3,7 +3,7 @@ use Rattle.std.specs.Prelude.{IsSome, slice_range}
 use Rattle.std.proofs.lemmas.Bool.{eqb-true}
 use Rattle.fpl_text.specs.Words.{words_of}
 use Rattle.fpl_items.specs.Items.{items_of, elapsed_to}
-use Rattle.fpl_items.specs.Places.{bit_of}
+use Rattle.fpl_items.specs.Points.{bit_of}
 use Rattle.flow_plans.proofs.NearLemmas.{some-has, bit-below}
 use Rattle.flow_plans.proofs.texts.Texts.near.Goals as goal
 

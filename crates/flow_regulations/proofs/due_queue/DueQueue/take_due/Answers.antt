@@ -7,7 +7,7 @@ use Rattle.std.proofs.lemmas.List.Kept.{Contains-dedup_nat}
 use Rattle.std.proofs.lemmas.List.Sorted.{All-permutation, Contains-permutation}
 use Rattle.std.proofs.lemmas.Map.Keys.{IsStrictlyIncreasing-dedup}
 use Rattle.flow_slots.specs.Assignment.{is_in}
-use Rattle.flow_regulations.specs.declared.due_queue.Awaited.{Awaited}
+use Rattle.flow_regulations.specs.declared.due_queue.PendingFlight.{PendingFlight}
 use Rattle.flow_regulations.specs.Awaiting.{BecameDue}
 use Rattle.flow_regulations.proofs.Queues.{from-view, to-view, contains-in, due-there, became-awaits, awaits-is}
 use Rattle.flow_regulations.proofs.due_queue.DueQueue.take_due.Goals as goal
@@ -30,8 +30,8 @@ returns-clause-each g c = λ covers number some now_due then_not.
     (let plans = c.args.plans.now.plans in
     let p = due-there c.args.now number plans now_due in
     let h = became-awaits c.args.earlier c.args.now number plans p.0 p.1 now_due then_not in
-    let x : Reverse Awaited = record { 0 = record { off_block = p.0.off_block; number = number } } in
-    let V : List Awaited → Type 0 = λ xs. Contains xs x.0 in
+    let x : Reverse PendingFlight = record { 0 = record { off_block = p.0.off_block; number = number } } in
+    let V : List PendingFlight → Type 0 = λ xs. Contains xs x.0 in
     let held = from-view (heap_items c.self.inside.heap) x.0 (subst V (ap (λ v. v.flights) (sym c.self.view_is)) (covers number p.0 some p.1 h.0 h.2)) in
     let taken = c.take_from.ensures.taken x held h.1 (awaits-is c.args.earlier number plans p.0 p.1 h.0 h.2) in
     let sorted = Contains-permutation c.take_from.new.due.items c.sort_unstable.new.self.items number c.sort_unstable.ensures.permutation taken in
@@ -41,8 +41,8 @@ returns-clause-each g c = λ covers number some now_due then_not.
 
 pub returns-clause-covers : goal.returns-clause-covers
 returns-clause-covers g c = λ later covers number p some at filed late.
-    (let x : Reverse Awaited = record { 0 = record { off_block = p.off_block; number = number } } in
-    let V : List Awaited → Type 0 = λ xs. Contains xs x.0 in
+    (let x : Reverse PendingFlight = record { 0 = record { off_block = p.off_block; number = number } } in
+    let V : List PendingFlight → Type 0 = λ xs. Contains xs x.0 in
     let then : c.args.earlier + 120 < p.off_block = omega (arith, later, late) in
     let held = from-view (heap_items c.self.inside.heap) x.0 (subst V (ap (λ v. v.flights) (sym c.self.view_is)) (covers number p some at filed then)) in
-    to-view (heap_items c.take_from.new.heap) x (c.take_from.ensures.left x held late))
+    to-view (heap_items c.take_from.new.heap) x (c.take_from.ensures.remaining x held late))

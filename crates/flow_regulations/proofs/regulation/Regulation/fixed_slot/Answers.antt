@@ -1,6 +1,6 @@
 use Rattle.std.proofs.Common.{ap, subst, ◌∙◌}
 use Rattle.flow_slots.specs.Lineup.{fixed_slot}
-use Rattle.flow_regulations.specs.Listing.{Listed}
+use Rattle.flow_regulations.specs.Listing.{RegulationView}
 use Rattle.flow_regulations.specs.Marks.{IsInOrder}
 use Rattle.flow_regulations.proofs.Looks.{held-fixed}
 use Rattle.flow_regulations.proofs.regulation.Regulation.fixed_slot.Goals as goal
@@ -11,10 +11,10 @@ returns-then-is_fixed-clause-slot g c =
 
 pub returns-then-is_fixed-clause-order : goal.returns-then-is_fixed-clause-order
 returns-then-is_fixed-clause-order g c =
-    let I : Listed → Type 0 = IsInOrder in
+    let I : RegulationView → Type 0 = IsInOrder in
     subst I c.self.view_is (record { lined = c.is_fixed.ensures.lined; regular = c.self.invariant.0 })
 
 pub returns-else-is_fixed-clause-order : goal.returns-else-is_fixed-clause-order
 returns-else-is_fixed-clause-order g c =
-    let I : Listed → Type 0 = IsInOrder in
+    let I : RegulationView → Type 0 = IsInOrder in
     subst I c.self.view_is (record { lined = c.is_fixed.ensures.lined; regular = c.self.invariant.0 })

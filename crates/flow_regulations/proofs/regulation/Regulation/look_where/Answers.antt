@@ -1,15 +1,15 @@
 use Rattle.flow_regulations.proofs.Outs.{out-looks, is-none}
 use Rattle.flow_regulations.proofs.regulation.Regulation.look_where.Goals as goal
 
-pub look_again-requires-clause-entry : goal.look_again-requires-clause-entry
-look_again-requires-clause-entry g c = c.subject-entry.ensures
+pub reallocate-requires-clause-entry : goal.reallocate-requires-clause-entry
+reallocate-requires-clause-entry g c = c.subject-entry.ensures
 
-pub look_again-requires-2-clause-entry : goal.look_again-requires-2-clause-entry
-look_again-requires-2-clause-entry g c = c.subject-entry.ensures
+pub reallocate-requires-2-clause-entry : goal.reallocate-requires-2-clause-entry
+reallocate-requires-2-clause-entry g c = c.subject-entry.ensures
 
 pub returns-then-may_stand-clause-looked : goal.returns-then-may_stand-clause-looked
 returns-then-may_stand-clause-looked g c =
-    let e = c.look_again.ensures in
+    let e = c.reallocate.ensures in
     record { same = e.same; capacity = e.capacity; others = e.others; alone = e.alone; renewed = e.renewed }
 
 pub returns-then-is_none-clause-looked : goal.returns-then-is_none-clause-looked
@@ -22,5 +22,5 @@ returns-then-is_none-clause-out g c = λ _. c.requires.out c.if-may_stand.false
 
 pub returns-clause-looked : goal.returns-clause-looked
 returns-clause-looked g c =
-    let e = c.look_again-2.ensures in
+    let e = c.reallocate-2.ensures in
     record { same = e.same; capacity = e.capacity; others = e.others; alone = e.alone; renewed = e.renewed }

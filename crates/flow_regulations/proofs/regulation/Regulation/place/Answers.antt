@@ -1,7 +1,7 @@
 use Rattle.std.proofs.Common.{Some, ap, ◌∙◌}
 use Rattle.std.specs.Prelude.{IsSome}
 use Rattle.flow_slots.specs.Lineup.{held_slot}
-use Rattle.flow_regulations.specs.Listing.{Listed, with_lineup, placed}
+use Rattle.flow_regulations.specs.Listing.{RegulationView, with_lineup, placed}
 use Rattle.flow_regulations.proofs.Placing.{held-waiting, not-fixed, fixed-is, placed-fixed, keeps-open}
 use Rattle.flow_regulations.proofs.regulation.Regulation.place.Goals as goal
 
@@ -24,7 +24,7 @@ invariant_of-self g c =
 pub returns-then-due : goal.returns-then-due
 returns-then-due g c =
     let s = c.self.inside in
-    let m : Listed = record { id = s.id; spot = s.spot; lineup = s.list.lineup } in
+    let m : RegulationView = record { id = s.id; spot = s.spot; lineup = s.list.lineup } in
     let w = c.insert.ensures.lineup in
     let l = c.insert.new.self.lineup in
     let held : IsSome (held_slot l c.args.number) = rw w (held-waiting (record { entry = c.args.entry; flight = c.args.number }) s.list.lineup) in

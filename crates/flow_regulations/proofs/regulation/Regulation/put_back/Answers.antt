@@ -1,7 +1,7 @@
 use Rattle.std.proofs.Common.{sym, subst, ◌∙◌}
-use Rattle.flow_regulations.specs.declared.places.Place.{Place}
-use Rattle.flow_regulations.specs.Listing.{Listed}
-use Rattle.flow_regulations.specs.Places.{IsPlaceOf, MayStand}
+use Rattle.flow_regulations.specs.declared.slot_state.Place.{Place}
+use Rattle.flow_regulations.specs.Listing.{RegulationView}
+use Rattle.flow_regulations.specs.SlotStates.{IsPlaceOf, MayStand}
 use Rattle.flow_regulations.proofs.Looked.{out-absent}
 use Rattle.flow_regulations.proofs.PutBack.{same-place, stood-there}
 use Rattle.flow_regulations.proofs.regulation.Regulation.put_back.Goals as goal
@@ -17,7 +17,7 @@ stand_in-requires-clause-absent g c = out-absent c.args.number c.args.self.now c
 pub stand_in-requires-clause-may : goal.stand_in-requires-clause-may
 stand_in-requires-clause-may g c =
     let b = c.requires.before in
-    let M : Listed → Type 0 = λ v. MayStand c.args.place v.lineup in
+    let M : RegulationView → Type 0 = λ v. MayStand c.args.place v.lineup in
     subst M (sym (c.take_out.ensures ∙ b.2)) b.1.may
 
 pub returns : goal.returns

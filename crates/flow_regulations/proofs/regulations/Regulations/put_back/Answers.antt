@@ -1,6 +1,6 @@
 use Rattle.std.proofs.Common.{◌≡◌, ◌≤◌, ℕ, List, length, map, sym, ap, subst, ◌∙◌, arith}
 use Rattle.std.specs.List.{AllByRecursion}
-use Rattle.flow_regulations.specs.Listing.{Listed, HaveCapacity, AreApart, names_in, without_in}
+use Rattle.flow_regulations.specs.Listing.{RegulationView, HaveCapacity, AreApart, names_in, without_in}
 use Rattle.flow_regulations.specs.Marks.{AreInRows, AreMarked}
 use Rattle.flow_regulations.proofs.Marking.{covers-ones}
 use Rattle.flow_regulations.proofs.Alls.{room-at}
@@ -15,16 +15,16 @@ invariant_of-self g c =
     let s = c.self.inside in
     let b = c.requires.before in
     let n = c.args.number in
-    let ns : List Listed = c.put_back_in.new.regulations in
+    let ns : List RegulationView = c.put_back_in.new.regulations in
     let len : s.regulations.len ≡ length ns = omega (arith, c.put_back_in.auto.regulations, c.deref_mut.ensures.len) in
-    let H : List Listed → Type 0 = HaveCapacity s.max_plans in
-    let M : List Listed → Type 0 = λ ls. map (without_in n) ls ≡ map (without_in n) b.0 in
+    let H : List RegulationView → Type 0 = HaveCapacity s.max_plans in
+    let M : List RegulationView → Type 0 = λ ls. map (without_in n) ls ≡ map (without_in n) b.0 in
     let lists = ap (λ v. v.lists) c.self.view_is in
     let back : ns ≡ b.0 = c.put_back_in.ensures b.0 b.1 (subst M (sym (c.deref_mut.ensures.value ∙ lists)) b.2) in
-    let A : List Listed → Type 0 = λ ls. AreApart (names_in ls) in
+    let A : List RegulationView → Type 0 = λ ls. AreApart (names_in ls) in
     let alone : map (without_in n) ns ≡ map (without_in n) s.regulations.items = ap (map (without_in n)) back ∙ sym (subst M (sym lists) b.2) in
-    let M' : List Listed → Type 0 = λ ls. AreMarked c.set.new.self ls in
-    let Z : List Listed → Type 0 = λ ls. AreInRows s.table 0 ls in (
+    let M' : List RegulationView → Type 0 = λ ls. AreMarked c.set.new.self ls in
+    let Z : List RegulationView → Type 0 = λ ls. AreInRows s.table 0 ls in (
       c.self.invariant.0,
       c.self.invariant.1,
       subst H (sym (written-back s.regulations.len ns _ len ∙ back)) (capacity-back n s.max_plans s.regulations.items b.0 (subst M (sym lists) b.2) c.self.invariant.2),
@@ -37,13 +37,13 @@ pub returns-clause-lists : goal.returns-clause-lists
 returns-clause-lists g c = λ before are same.
     (let s = c.self.inside in
     let n = c.args.number in
-    let ns : List Listed = c.put_back_in.new.regulations in
+    let ns : List RegulationView = c.put_back_in.new.regulations in
     let len : s.regulations.len ≡ length ns = omega (arith, c.put_back_in.auto.regulations, c.deref_mut.ensures.len) in
-    let M : List Listed → Type 0 = λ ls. map (without_in n) ls ≡ map (without_in n) before in
+    let M : List RegulationView → Type 0 = λ ls. map (without_in n) ls ≡ map (without_in n) before in
     written-back s.regulations.len ns _ len ∙ c.put_back_in.ensures before are (subst M (sym (c.deref_mut.ensures.value ∙ ap (λ v. v.lists) c.self.view_is)) same))
 
 pub put_back_in-requires-clause-room : goal.put_back_in-requires-clause-room
 put_back_in-requires-clause-room g c =
-    let R : List Listed → Type 0 = λ ls. AllByRecursion (λ l. c.args.number ≤ l.lineup.capacity) ls in
+    let R : List RegulationView → Type 0 = λ ls. AllByRecursion (λ l. c.args.number ≤ l.lineup.capacity) ls in
     let most : c.args.number ≤ c.self.inside.max_plans = omega (arith, c.requires.room, ap (λ v. v.max_plans) c.self.view_is) in
     subst R (sym c.deref_mut.ensures.value) (room-at c.args.number c.self.inside.max_plans c.self.inside.regulations.items most c.self.invariant.2)

@@ -1,6 +1,6 @@
 use Rattle.std.proofs.Common.{◌≡◌, ◌<◌, ◌+◌, ◌-◌, length, set, replicate, sym, ap, ◌∙◌, arith}
 use Rattle.std.proofs.lemmas.List.{length-append, length-replicate}
-use Rattle.flow_slots.specs.CellRow.{CellRow, one_more}
+use Rattle.flow_slots.specs.Cells.{CellsView, one_more}
 use Rattle.flow_slots.specs.declared.cell.Cell.TheVariants.{Empty}
 use Rattle.flow_slots.proofs.Started.{started, length-started, started-more, started-set}
 use Rattle.flow_slots.proofs.cells.Cells.write.Goals as goal
@@ -19,9 +19,9 @@ returns-clause-cells g c =
     let start : s.start ≡ c.args.self.now.start = ap (λ v. v.start) c.self.view_is in
     let n = c.saturating_add-self-inside.result in
     let new = set c.args.self.now.row k c.args.cell in
-    ap (λ v. let r : CellRow = record { row = v; writes = n; start = s.start } in r) row
-    ∙ (ap (λ v. let r : CellRow = record { row = new; writes = v; start = s.start } in r) writes
-    ∙ ap (λ v. let r : CellRow = record { row = new; writes = one_more c.args.self.now.writes; start = v } in r) start)
+    ap (λ v. let r : CellsView = record { row = v; writes = n; start = s.start } in r) row
+    ∙ (ap (λ v. let r : CellsView = record { row = new; writes = v; start = s.start } in r) writes
+    ∙ ap (λ v. let r : CellsView = record { row = new; writes = one_more c.args.self.now.writes; start = v } in r) start)
 
 pub returns-clause-small : goal.returns-clause-small
 returns-clause-small g c =

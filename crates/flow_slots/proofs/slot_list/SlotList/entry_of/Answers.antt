@@ -1,6 +1,6 @@
 use Rattle.std.proofs.Common.{ℕ, sym, ap, subst, ◌∙◌, Some, arith}
 use Rattle.flow_slots.specs.Period.{IsWithin, first_slot}
-use Rattle.flow_slots.specs.Lineup.{Slots, waiting_entry}
+use Rattle.flow_slots.specs.Lineup.{SlotListView, waiting_entry}
 use Rattle.flow_slots.proofs.Held.{entry-none, entry-waiting, entry-not}
 use Rattle.flow_slots.proofs.Kept.{EntriesWithin-row}
 use Rattle.flow_slots.proofs.Orderly.{row-lineup}
@@ -40,7 +40,7 @@ returns-in-Waiting-clause-within g c =
     let s = c.self.inside in
     let within = EntriesWithin-row s.first_slots s.cells.row c.self.invariant.kept.entries c.in_ok-place_of.field-0 c.in-Waiting.planned (sym c.in-Waiting.ensures.value) in
     let W : ℕ → Type 0 = λ e. IsWithin s.first_slots e in
-    let V : Slots → Type 0 = λ v. IsWithin v.lineup.period c.from_minutes.result in
+    let V : SlotListView → Type 0 = λ v. IsWithin v.lineup.period c.from_minutes.result in
     subst V c.self.view_is (subst W (sym c.from_minutes.ensures) within)
 
 pub returns-in_err-place_of-clause-lined : goal.returns-in_err-place_of-clause-lined

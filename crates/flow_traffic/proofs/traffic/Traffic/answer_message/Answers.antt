@@ -1,20 +1,20 @@
 use Rattle.std.proofs.Common.{◌≡◌, ◌≤◌, ◌<◌, ◌+◌, ◌∙◌, ◌∷◌, [], ℕ, List, map, length, refl, sym, ap, subst, arith, Option, Some}
 use Rattle.fpl_message.specs.Said.{said_message}
 use Rattle.fpl_message.specs.Reads.{msg}
-use Rattle.flow_plans.specs.Stores.{Store}
+use Rattle.flow_plans.specs.Stores.{PlanStoreView}
 use Rattle.flow_regulations.specs.Listing.{regulation_of}
 use Rattle.flow_regulations.specs.Awaiting.{Covers}
-use Rattle.flow_regulations.specs.Places.{ArePlaces}
+use Rattle.flow_regulations.specs.SlotStates.{ArePlaces}
 use Rattle.flow_regulations.specs.declared.notice.Told.{Told}
 use Rattle.flow_regulations.specs.declared.notice.Notice.{Notice}
 use Rattle.flow_regulations.proofs.ForTheDesk.{quiet-but-one}
 use Rattle.flow_regulations.proofs.Queues.{covers-more}
 use Rattle.flow_traffic.specs.declared.undo.Last.{Last}
 use Rattle.flow_traffic.specs.declared.undo.Last.TheVariants as reading
-use Rattle.flow_traffic.specs.Traffic.{Traffic, Undoable}
+use Rattle.flow_traffic.specs.Traffic.{Traffic, TrafficView}
 use Rattle.flow_traffic.specs.Answers.{Answers}
 use Rattle.flow_traffic.specs.State.{State, traffic_of}
-use Rattle.flow_traffic.specs.Undoing.{LastReading, past, told_past, undone, IsAgain, IsKeptWith}
+use Rattle.flow_traffic.specs.Undoing.{UndoingView, past, told_past, undone, IsAgain, IsKeptWith}
 use Rattle.flow_traffic.proofs.Telling.{told-others}
 use Rattle.flow_traffic.proofs.Noted.{one-noted}
 use Rattle.flow_traffic.proofs.TakenBack.{stands-again, plans-before, told-before, can-forget, was-kept, traffic-before, notices-before, one-within}
@@ -32,7 +32,7 @@ returns-in-Err g c =
     let notices : List Notice = c.make_room.new.notified.notices.items in
     let new : Traffic = traffic_of t told notices in
     let old : Traffic = traffic_of s i.notified.told.items i.notified.notices.items in
-    let was = ap (λ (v : Undoable). v.traffic) c.self.view_is in
+    let was = ap (λ (v : TrafficView). v.traffic) c.self.view_is in
     let same : new ≡ old = rw (c.change_plans.ensures.taxi, c.change_plans.ensures.limit, c.in-Err.ensures.err, c.make_room.ensures.told, c.make_room.ensures.notices) refl in
     let answers : Answers (msg (said_message c.args.message.now)) c.args.self.now.traffic new c.in_ok-verdict-in-Err.verdict =
     rw (sym was)
@@ -43,7 +43,7 @@ returns-in-Err g c =
     record {
       answers = answers;
       frozen = frozen-settled (msg (said_message c.args.message.now)) s i.notified.told.items i.notified.notices.items c.args.self.now.traffic new c.in_ok-verdict-in-Err.verdict was c.self.invariant.kept.settled_in answers;
-      before = ap W (ap (λ (v : LastReading). v.which) c.finish.ensures) ∙ ap Some (same ∙ was);
+      before = ap W (ap (λ (v : UndoingView). v.which) c.finish.ensures) ∙ ap Some (same ∙ was);
       err = tt;
       memory = tt;
       grow = omega (arith, count);
@@ -55,7 +55,7 @@ tell-requires-clause-quiet g c =
     let i = c.self.inside in
     let s : State = record { time = i.time; store = i.plans; listing = i.regulations; queue = i.queue } in
     let n : ℕ = c.in-Ok-change_plans.number in
-    let store : Store = c.change_plans.new.plans in
+    let store : PlanStoreView = c.change_plans.new.plans in
     let settled = c.settle_for.ensures.settled s refl (sym c.change_plans.ensures.taxi) refl c.self.invariant.kept.listed c.self.invariant.kept.settled_in c.in-Ok-change_plans.ensures.same in
     let place = rw c.make_room.ensures.told at (c.make_place.ensures.told store.plans (sym c.count-count.ensures.count)) in
     let each : length i.notified.told.items ≡ length i.plans.plans = c.self.invariant.kept.each in
@@ -76,14 +76,14 @@ invariant_of-self-2 g c =
     let s : State = record { time = i.time; store = i.plans; listing = i.regulations; queue = i.queue } in
     let t : State = record { time = i.time; store = c.change_plans.new.plans; listing = c.settle_for.new.regulations; queue = c.note_flight.new.queue } in
     let n : ℕ = c.in-Ok-change_plans.number in
-    let store : Store = c.change_plans.new.plans in
+    let store : PlanStoreView = c.change_plans.new.plans in
     let settled = c.settle_for.ensures.settled s refl (sym c.change_plans.ensures.taxi) refl c.self.invariant.kept.listed c.self.invariant.kept.settled_in c.in-Ok-change_plans.ensures.same in
     let place = rw c.make_room.ensures.told at (c.make_place.ensures.told store.plans (sym c.count-count.ensures.count)) in
-    let u : LastReading = record c.tell.new.self { which = reading.Message n } in
+    let u : UndoingView = record c.tell.new.self { which = reading.Message n } in
     let p : State = past (reading.Message n) u t in
     let told : List (Option Told) = c.tell.new.notified.told.items in
-    let same : c.tell.new.self.changed ≡ c.note.new.self.changed = ap (λ (v : LastReading). v.changed) c.tell.ensures.others in
-    let places : c.tell.new.self.places ≡ c.note.new.self.places = ap (λ (v : LastReading). v.places) c.tell.ensures.others in
+    let same : c.tell.new.self.changed ≡ c.note.new.self.changed = ap (λ (v : UndoingView). v.changed) c.tell.ensures.others in
+    let places : c.tell.new.self.places ≡ c.note.new.self.places = ap (λ (v : UndoingView). v.places) c.tell.ensures.others in
     let stand : ArePlaces n c.tell.new.self.places i.regulations.lists = rw places c.note.ensures.places in
     let plans_were : p.store.plans ≡ i.plans.plans = plans-before store i.plans.plans c.in-Ok-change_plans.ensures.before in
     let lists_were : p.listing.lists ≡ i.regulations.lists = stands-again n c.tell.new.self.places t.listing.lists i.regulations.lists stand c.settle_for.ensures.alone in
@@ -104,7 +104,7 @@ invariant_of-self-2 g c =
     let within : n ≤ t.listing.max_plans = omega (arith, c.in-Ok-change_plans.ensures.within, c.count-count.ensures.count, c.count-count.ensures.limit, c.change_plans.ensures.limit, c.self.invariant.kept.limit, c.settle_for.ensures.limit) in
     let covers = rw (sym c.make_room.ensures.flights) at c.self.invariant.kept.covers in
     let covers_old : Covers i.time i.plans.plans t.queue.flights = covers-more i.time i.plans.plans c.make_room.new.queue.flights t.queue.flights c.note_flight.ensures.kept covers in
-    let P : LastReading → Type 0 = λ v. IsKeptWith v t told in
+    let P : UndoingView → Type 0 = λ v. IsKeptWith v t told in
     subst P (sym c.finish-2.ensures) (record {
       kept = record {
         desk_time = c.self.invariant.kept.desk_time;
@@ -130,14 +130,14 @@ returns g c =
     let s : State = record { time = i.time; store = i.plans; listing = i.regulations; queue = i.queue } in
     let t : State = record { time = i.time; store = c.change_plans.new.plans; listing = c.settle_for.new.regulations; queue = c.note_flight.new.queue } in
     let n : ℕ = c.in-Ok-change_plans.number in
-    let store : Store = c.change_plans.new.plans in
+    let store : PlanStoreView = c.change_plans.new.plans in
     let settled = c.settle_for.ensures.settled s refl (sym c.change_plans.ensures.taxi) refl c.self.invariant.kept.listed c.self.invariant.kept.settled_in c.in-Ok-change_plans.ensures.same in
     let place = rw c.make_room.ensures.told at (c.make_place.ensures.told store.plans (sym c.count-count.ensures.count)) in
-    let u : LastReading = record c.tell.new.self { which = reading.Message n } in
+    let u : UndoingView = record c.tell.new.self { which = reading.Message n } in
     let p : State = past (reading.Message n) u t in
     let told : List (Option Told) = c.tell.new.notified.told.items in
-    let same : c.tell.new.self.changed ≡ c.note.new.self.changed = ap (λ (v : LastReading). v.changed) c.tell.ensures.others in
-    let places : c.tell.new.self.places ≡ c.note.new.self.places = ap (λ (v : LastReading). v.places) c.tell.ensures.others in
+    let same : c.tell.new.self.changed ≡ c.note.new.self.changed = ap (λ (v : UndoingView). v.changed) c.tell.ensures.others in
+    let places : c.tell.new.self.places ≡ c.note.new.self.places = ap (λ (v : UndoingView). v.places) c.tell.ensures.others in
     let stand : ArePlaces n c.tell.new.self.places i.regulations.lists = rw places c.note.ensures.places in
     let plans_were : p.store.plans ≡ i.plans.plans = plans-before store i.plans.plans c.in-Ok-change_plans.ensures.before in
     let lists_were : p.listing.lists ≡ i.regulations.lists = stands-again n c.tell.new.self.places t.listing.lists i.regulations.lists stand c.settle_for.ensures.alone in
@@ -152,11 +152,11 @@ returns g c =
     } in
     let told_were : told_past u p told ≡ i.notified.told.items =
     told-before u p told c.make_place.new.told.items i.notified.told.items store.plans i.plans.plans plans_were (rw same c.tell.ensures.again) place c.self.invariant.kept.each c.change_plans.ensures.one c.change_plans.ensures.more in
-    let issued : c.tell.new.self.issued ≡ length i.notified.notices.items = ap (λ (v : LastReading). v.issued) c.tell.ensures.others ∙ ap length c.make_room.ensures.notices in
+    let issued : c.tell.new.self.issued ≡ length i.notified.notices.items = ap (λ (v : UndoingView). v.issued) c.tell.ensures.others ∙ ap length c.make_room.ensures.notices in
     let more = rw c.make_room.ensures.notices at c.tell.ensures.notices in
     let taken = notices-before i.notified.notices.items c.tell.new.notified.notices.items _ c.tell.new.self.issued more issued in
-    let was = ap (λ (v : Undoable). v.traffic) c.self.view_is in
-    let P : LastReading → Type 0 = λ v. undone v.which v t told c.tell.new.notified.notices.items ≡ Some c.args.self.now.traffic in
+    let was = ap (λ (v : TrafficView). v.traffic) c.self.view_is in
+    let P : UndoingView → Type 0 = λ v. undone v.which v t told c.tell.new.notified.notices.items ≡ Some c.args.self.now.traffic in
     accepting (msg (said_message c.args.message.now)) c.args.self.now s i.notified.told.items i.notified.notices.items t told c.tell.new.notified.notices.items _ c.finish-2.new.self c.verdict_on-verdict.result
     was c.self.invariant.kept.settled_in
     (rw (sym was)

@@ -3,10 +3,10 @@ use Rattle.std.specs.Option.{option_map}
 use Rattle.std.specs.List.{AllByRecursion}
 use Rattle.std.proofs.lemmas.List.Elements.{recursion_from_All}
 use Rattle.flow_plans.specs.Plans.{status_of}
-use Rattle.flow_traffic.specs.Traffic.{Traffic, Undoable, told_of}
+use Rattle.flow_traffic.specs.Traffic.{Traffic, TrafficView, told_of}
 use Rattle.flow_traffic.specs.State.{State, traffic_of}
 use Rattle.flow_traffic.specs.Changes.{ChangeAtMost}
-use Rattle.flow_traffic.specs.Undoing.{LastReading, has_changed, past, told_past, undone, WasKept}
+use Rattle.flow_traffic.specs.Undoing.{UndoingView, has_changed, past, told_past, undone, WasKept}
 use Rattle.flow_traffic.proofs.Noted.{others-told}
 use Rattle.flow_traffic.proofs.TakenBack.{undone-was, undone-same, if-same}
 use Rattle.flow_traffic.proofs.traffic.Traffic.changed.Goals as goal
@@ -14,7 +14,7 @@ use Rattle.flow_traffic.proofs.traffic.Traffic.changed.Goals as goal
 pub returns-then-not-has_changed-clause-others : goal.returns-then-not-has_changed-clause-others
 returns-then-not-has_changed-clause-others g c =
     let i = c.self.inside in
-    let r : LastReading = i.undoing in
+    let r : UndoingView = i.undoing in
     let s : State = record { time = i.time; store = i.plans; listing = i.regulations; queue = i.queue } in
     let not : has_changed r.which ≡ false = sym c.has_changed.ensures ∙ c.if-not-has_changed.true in
     let t : Traffic = traffic_of s i.notified.told.items i.notified.notices.items in
@@ -25,7 +25,7 @@ returns-then-not-has_changed-clause-others g c =
 pub returns-then-not-has_changed-clause-each_before : goal.returns-then-not-has_changed-clause-each_before
 returns-then-not-has_changed-clause-each_before g c =
     let i = c.self.inside in
-    let r : LastReading = i.undoing in
+    let r : UndoingView = i.undoing in
     let s : State = record { time = i.time; store = i.plans; listing = i.regulations; queue = i.queue } in
     let not : has_changed r.which ≡ false = sym c.has_changed.ensures ∙ c.if-not-has_changed.true in
     let t : Traffic = traffic_of s i.notified.told.items i.notified.notices.items in
@@ -35,7 +35,7 @@ returns-then-not-has_changed-clause-each_before g c =
 pub returns-then-not-has_changed-clause-told : goal.returns-then-not-has_changed-clause-told
 returns-then-not-has_changed-clause-told g c =
     let i = c.self.inside in
-    let r : LastReading = i.undoing in
+    let r : UndoingView = i.undoing in
     let s : State = record { time = i.time; store = i.plans; listing = i.regulations; queue = i.queue } in
     let not : has_changed r.which ≡ false = sym c.has_changed.ensures ∙ c.if-not-has_changed.true in
     let t : Traffic = traffic_of s i.notified.told.items i.notified.notices.items in
@@ -45,7 +45,7 @@ returns-then-not-has_changed-clause-told g c =
 pub returns-clause-rising : goal.returns-clause-rising
 returns-clause-rising g c =
     let i = c.self.inside in
-    let r : LastReading = i.undoing in
+    let r : UndoingView = i.undoing in
     let s : State = record { time = i.time; store = i.plans; listing = i.regulations; queue = i.queue } in
     let yes : has_changed r.which ≡ true = sym c.has_changed.ensures ∙ c.if-not-has_changed.false in
     let p : State = past r.which r s in
@@ -55,17 +55,17 @@ returns-clause-rising g c =
 pub returns-clause-numbers : goal.returns-clause-numbers
 returns-clause-numbers g c =
     let i = c.self.inside in
-    let r : LastReading = i.undoing in
+    let r : UndoingView = i.undoing in
     let s : State = record { time = i.time; store = i.plans; listing = i.regulations; queue = i.queue } in
     let yes : has_changed r.which ≡ true = sym c.has_changed.ensures ∙ c.if-not-has_changed.false in
     let p : State = past r.which r s in
     let was : WasKept r s p i.notified.told.items = c.self.invariant.was yes in
-    rw (c.changed.ensures, sym (ap (λ (v : Undoable). v.traffic) c.self.view_is), sym c.self.invariant.kept.each) was.numbers
+    rw (c.changed.ensures, sym (ap (λ (v : TrafficView). v.traffic) c.self.view_is), sym c.self.invariant.kept.each) was.numbers
 
 pub returns-clause-others : goal.returns-clause-others
 returns-clause-others g c =
     let i = c.self.inside in
-    let r : LastReading = i.undoing in
+    let r : UndoingView = i.undoing in
     let s : State = record { time = i.time; store = i.plans; listing = i.regulations; queue = i.queue } in
     let yes : has_changed r.which ≡ true = sym c.has_changed.ensures ∙ c.if-not-has_changed.false in
     let p : State = past r.which r s in
@@ -80,7 +80,7 @@ returns-clause-others g c =
 pub returns-clause-told : goal.returns-clause-told
 returns-clause-told g c =
     let i = c.self.inside in
-    let r : LastReading = i.undoing in
+    let r : UndoingView = i.undoing in
     let s : State = record { time = i.time; store = i.plans; listing = i.regulations; queue = i.queue } in
     let yes : has_changed r.which ≡ true = sym c.has_changed.ensures ∙ c.if-not-has_changed.false in
     let p : State = past r.which r s in
@@ -90,7 +90,7 @@ returns-clause-told g c =
 pub returns-clause-each_before : goal.returns-clause-each_before
 returns-clause-each_before g c =
     let i = c.self.inside in
-    let r : LastReading = i.undoing in
+    let r : UndoingView = i.undoing in
     let s : State = record { time = i.time; store = i.plans; listing = i.regulations; queue = i.queue } in
     let yes : has_changed r.which ≡ true = sym c.has_changed.ensures ∙ c.if-not-has_changed.false in
     let p : State = past r.which r s in

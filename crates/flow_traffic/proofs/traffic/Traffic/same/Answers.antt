@@ -1,7 +1,7 @@
 use Rattle.std.proofs.Common.{◌≡◌, true, sym, ap, ◌∙◌, rules}
 use Rattle.std.proofs.lemmas.Bool.{false≢true}
 use Rattle.std.proofs.lemmas.Slice.Eq.{slice_eq-Decides}
-use Rattle.flow_traffic.specs.Traffic.{Undoable, Traffic}
+use Rattle.flow_traffic.specs.Traffic.{TrafficView, Traffic}
 use Rattle.flow_traffic.specs.Same.{standings, slot_lists, IsSame}
 use Rattle.flow_traffic.proofs.Alike.{kept-lists, same-lists}
 use Rattle.flow_traffic.proofs.traffic.Traffic.same.Goals.{then-eq, else-eq, then-eq-2, else-eq-2}
@@ -13,8 +13,8 @@ returns-then-stand_alike g c =
     let o = c.other.inside in
     let t : Traffic = c.args.self.now.traffic in
     let u : Traffic = c.args.other.now.traffic in
-    let mine = ap (λ (v : Undoable). v.traffic) c.self.view_is in
-    let theirs = ap (λ (v : Undoable). v.traffic) c.other.view_is in
+    let mine = ap (λ (v : TrafficView). v.traffic) c.self.view_is in
+    let theirs = ap (λ (v : TrafficView). v.traffic) c.other.view_is in
     let listed = rw c.self.invariant.kept.limit at c.self.invariant.kept.listed in
     let listed' = rw c.other.invariant.kept.limit at c.other.invariant.kept.listed in
     let lists : s.regulations.lists ≡ slot_lists t = sym (kept-lists s.plans.taxi s.plans.max_plans s.plans.plans s.regulations.lists listed) ∙ ap slot_lists mine in
@@ -40,8 +40,8 @@ pub returns-else-stand_alike : goal.returns-else-stand_alike
 returns-else-stand_alike g c =
     let t : Traffic = c.args.self.now.traffic in
     let u : Traffic = c.args.other.now.traffic in
-    let mine = ap (λ (v : Undoable). v.traffic) c.self.view_is in
-    let theirs = ap (λ (v : Undoable). v.traffic) c.other.view_is in
+    let mine = ap (λ (v : TrafficView). v.traffic) c.self.view_is in
+    let theirs = ap (λ (v : TrafficView). v.traffic) c.other.view_is in
     let notices = slice_eq-Decides (λ a b. search rules) c.as_slice.result.now c.as_slice-2.result.now c.eq.result c.eq.ensures in
     let all : IsSame t u → c.if-eq-2.value ≡ true = λ same. (elim c.if-eq-2.branch [
       | then-eq-2 w ↦ w.value-is ∙ w.stand_alike.ensures.1 (ap (λ (x : Traffic). standings x.plans) mine ∙ (same.plans ∙ sym (ap (λ (x : Traffic). standings x.plans) theirs)))

@@ -1,0 +1,5 @@
+pub mod Tolds
+pub mod Servings
+pub mod Pieces
+pub mod Followings
+pub mod Seats

@@ -1,0 +1,24 @@
+use Rattle.std.proofs.Common.{ap}
+use Rattle.flow_input.specs.NextFrame.{filing_kept}
+use Rattle.flow_live.proofs.Servings.{takes-long, takes-one, takes-all}
+use Rattle.flow_live.proofs.answering.take_in.Goals as goal
+
+pub returns-in_default : goal.returns-in_default
+returns-in_default g c = record {
+  next = takes-long c.append_line.result g.N.Name.setup (filing_kept c.args.input.now.item) c.args.pass.now c.answer_ready.new.pass c.args.batch.now.answers.items c.answer_ready.new.batch.answers.items c.append_line.new.answers.items c.too_long_line.result.now c.args.batch.now.ready.items c.answer_ready.new.batch.ready.items
+      (ap filing_kept c.in_default.ensures) c.in_ok-answer_ready.ensures.none c.too_long_line.ensures c.in_ok-answer_ready.ensures.served c.append_line.ensures;
+}
+
+pub returns-then-len-lt-AT_ONCE : goal.returns-then-len-lt-AT_ONCE
+returns-then-len-lt-AT_ONCE g c = record {
+  next = takes-one g.N.Name.setup (filing_kept c.args.input.now.item) c.in-Some.bytes.now c.args.pass.now c.args.batch.now.answers.items c.prepare.new.batch.answers.items c.args.batch.now.ready.items c.prepare.new.batch.ready.items
+      (ap filing_kept c.in-Some.ensures.0) c.in_ok-prepare.ensures.ready c.prepare.ensures.answers;
+}
+
+pub returns : goal.returns
+returns g c = record {
+  next = takes-all c.answer_ready-2.result g.N.Name.setup (filing_kept c.args.input.now.item) c.args.pass.now c.answer_ready-2.new.pass c.args.batch.now.answers.items c.prepare.new.batch.answers.items c.answer_ready-2.new.batch.answers.items c.args.batch.now.ready.items c.prepare.new.batch.ready.items c.answer_ready-2.new.batch.ready.items
+      (takes-one g.N.Name.setup (filing_kept c.args.input.now.item) c.in-Some.bytes.now c.args.pass.now c.args.batch.now.answers.items c.prepare.new.batch.answers.items c.args.batch.now.ready.items c.prepare.new.batch.ready.items
+      (ap filing_kept c.in-Some.ensures.0) c.in_ok-prepare.ensures.ready c.prepare.ensures.answers)
+      c.answer_ready-2.ensures.served c.answer_ready-2.ensures.none;
+}

@@ -1,0 +1,35 @@
+use Rattle.flow_core.proofs.Serves.{err_is}
+use Rattle.flow_live.proofs.Pieces.{Feeds-start, Piece-ends, Piece-goes, Fed-finished, Fed-fault}
+use Rattle.flow_live.proofs.feeding.serve_feed.Goals as goal
+
+pub pieces-init : goal.pieces-init
+pieces-init g c = record {
+  agrees = rw c.in-Ok.ensures (λ e. absurd (cc));
+  none = c.new-batch.ensures.0;
+  feeds = λ lawful. Feeds-start g.N.Name.setup c.args.pass.now (g.W.Write.contents c.args.writer.now.device) (g.R.Read.remaining c.args.reader.now.device) c.in-Ok.input lawful c.in-Ok.ensures;
+}
+
+pub returns-in-Ok-false : goal.returns-in-Ok-false
+returns-in-Ok-false g c = λ lawful.
+    Fed-finished g.N.Name.setup c.args.pass.now c.pieces.pass (g.W.Write.contents c.args.writer.now.device) (g.W.Write.contents c.pieces.writer.device) c.pieces.input (g.R.Read.remaining c.args.reader.now.device) (g.R.Read.remaining c.pieces.reader.device)
+    (c.pieces.invariant.feeds lawful) c.take_frame.new.input (g.R.Read.remaining c.take_frame.new.reader.device) (rw c.in-Ok-false.field-0-test at c.in-Ok-false.ensures.cuts) c.in-Ok-false.ensures.agrees
+
+pub returns-in-Err : goal.returns-in-Err
+returns-in-Err g c = rw c.end_of.ensures (
+    Fed-fault c.in-Err.fault g.N.Name.setup c.args.pass.now c.pieces.pass (g.W.Write.contents c.args.writer.now.device) (g.W.Write.contents c.pieces.writer.device) c.pieces.input (g.R.Read.remaining c.args.reader.now.device) (g.R.Read.remaining c.pieces.reader.device) (g.R.Read.remaining c.take_frame.new.reader.device)
+    c.pieces.invariant.feeds c.in-Err.ensures.going (λ e. c.in-Err.ensures.read (err_is e)) c.in-Err.ensures.err)
+
+pub returns-in-Err-answered : goal.returns-in-Err-answered
+returns-in-Err-answered g c = rw c.in-Err-answered.is at (
+    Piece-ends c.answer_piece-answered.result g.N.Name.setup c.args.pass.now c.pieces.pass c.answer_piece-answered.new.pass (g.W.Write.contents c.args.writer.now.device) (g.W.Write.contents c.pieces.writer.device) (g.W.Write.contents c.answer_piece-answered.new.writer.device)
+    c.pieces.input c.take_frame.new.input c.answer_piece-answered.new.input (g.R.Read.remaining c.args.reader.now.device) (g.R.Read.remaining c.pieces.reader.device) (g.R.Read.remaining c.take_frame.new.reader.device)
+    c.answer_piece-answered.ensures.piece c.pieces.invariant.feeds (rw c.in-Ok-true.field-0-test at c.in-Ok-true.ensures.cuts) c.in-Ok-true.ensures.agrees)
+
+pub pieces-preserved : goal.pieces-preserved
+pieces-preserved g c = record {
+  agrees = c.in_default-answered.ensures.agrees (g.R.Read.remaining c.take_frame.new.reader.device) c.in-Ok-true.ensures.agrees;
+  none = c.in_default-answered.ensures.none;
+  feeds = Piece-goes c.answer_piece-answered.result g.N.Name.setup c.args.pass.now c.pieces.pass c.answer_piece-answered.new.pass (g.W.Write.contents c.args.writer.now.device) (g.W.Write.contents c.pieces.writer.device) (g.W.Write.contents c.answer_piece-answered.new.writer.device)
+      c.pieces.input c.take_frame.new.input c.answer_piece-answered.new.input (g.R.Read.remaining c.args.reader.now.device) (g.R.Read.remaining c.pieces.reader.device) (g.R.Read.remaining c.take_frame.new.reader.device) c.in_default-answered.field-0 c.in_default-answered.is
+      c.answer_piece-answered.ensures.piece c.pieces.invariant.feeds (rw c.in-Ok-true.field-0-test at c.in-Ok-true.ensures.cuts) c.in-Ok-true.ensures.agrees;
+}

@@ -1,0 +1,3 @@
+pub mod Told
+pub mod Feeding
+pub mod Running

@@ -1,0 +1,226 @@
+//! Feeders at their desk, each with a source of its own, in a thread of its own.
+ghost use Rattle.std.specs.Prelude.{◌≡◌, ◌≤◌, ◌<◌, [], ℕ, List};
+ghost use Rattle.std.specs.Prelude.{Option, length, slice_index_or, IfErr, OnOk};
+ghost use Rattle.flow_input.specs.Writes.{Writes};
+ghost use Rattle.flow_input.specs.Reader.{Agrees};
+ghost use Rattle.flow_desk.specs.Histories.{IsLawful};
+ghost use Rattle.flow_live.specs.Feeding.{FedUnlessStopped, HasRun, PieceIs, end_by};
+
+use crate::answering::{Batch, answer_taken};
+use crate::bell::Bell;
+use crate::fault::{FeedEnd, LiveFault, Watch};
+use crate::feed::Feed;
+use flow_desk::{Desk, Name, Pass};
+use flow_input::{Counted, Input, IntakeFault, take_frame, write_bytes};
+use std::alloc::{Allocator, Global};
+use std::io::{Read, Write};
+use std::mem::replace;
+use std::sync::Wait;
+use std::thread;
+use std::thread::Threads;
+
+/// A feeder at the desk: its pass and its feed.
+#[derive(Drop)]
+pub(crate) struct Seated<N: Name, R, W, A: Allocator + Copy = Global> {
+    pub pass: Pass<N, A>,
+    pub feed: Feed<R, W>,
+}
+
+/// Writes the answers, and flushes them, since their reader may wait for them.
+fn hand_on<W: Write>(writer: &mut Counted<W>, answers: &[u8]) -> Result<(), FeedEnd>
+    ensures writes { Writes W.contents result writer.old writer.new answers.now }
+    ensures kind { IfErr result (λ e. e ≡ FeedEnd.Write) }
+{
+    if write_bytes(writer, answers).is_err() {
+        return Err(FeedEnd::Write);
+    }
+    match writer.flush() {
+        Ok(()) => Ok(()),
+        Err(_) => Err(FeedEnd::Write),
+    }
+}
+
+/// The end of a feed from which no frame came.
+fn end_of(fault: IntakeFault) -> FeedEnd
+    ensures { result ≡ end_by fault }
+{
+    match fault {
+        IntakeFault::Read => FeedEnd::Read,
+        IntakeFault::TooMuch => FeedEnd::TooMuch,
+        IntakeFault::OutOfMemory => FeedEnd::Stopped(LiveFault::OutOfMemory),
+    }
+}
+
+/// Files the frame that was taken last and the complete ones after it, and writes their answers.
+fn answer_piece<N: Name, Q: Wait + Drop, W: Write, H: Watch, P: Wait, A: Allocator + Copy>(
+    wait: &P,
+    alloc: A,
+    desk: &Desk<N, Q, A>,
+    bell: &Bell,
+    watch: &H,
+    input: &mut Input<A>,
+    batch: &mut Batch<A>,
+    pass: &mut Pass<N, A>,
+    writer: &mut Counted<W>,
+) -> Result<(), FeedEnd>
+    requires none { batch.old.ready.items ≡ [] }
+    ensures piece { PieceIs result N.setup pass.old pass.new (W.contents writer.old.device)
+        (W.contents writer.new.device) input.old input.new }
+    ensures agrees { OnOk result
+        ((rest : Option (List ℕ)) → Agrees input.old rest → Agrees input.new rest) }
+    ensures nearer { OnOk result (input.old.taken ≤ input.new.taken) }
+    ensures none { OnOk result (batch.new.ready.items ≡ []) }
+{
+    batch.answers.clear();
+    let Ok(()) = answer_taken(wait, alloc, desk, pass, input, batch) else {
+        return Err(FeedEnd::Stopped(bell.stop(wait, watch, LiveFault::OutOfMemory)));
+    };
+    if let Some(fault) = bell.ring(wait) {
+        return Err(FeedEnd::Stopped(fault));
+    }
+    hand_on(writer, batch.answers.as_slice())
+}
+
+/// Answers a feed until it ends. Returns how it ended.
+fn serve_feed<N: Name, Q: Wait + Drop, R: Read, W: Write, H: Watch, P: Wait, A: Allocator + Copy>(
+    wait: &P,
+    alloc: A,
+    desk: &Desk<N, Q, A>,
+    bell: &Bell,
+    watch: &H,
+    pass: &mut Pass<N, A>,
+    reader: &mut Counted<R>,
+    writer: &mut Counted<W>,
+) -> FeedEnd
+    ensures { IsLawful N.setup pass.old.seen → FedUnlessStopped N.setup pass.old pass.new result
+        (W.contents writer.old.device) (W.contents writer.new.device)
+        (R.remaining reader.old.device)
+        (R.remaining reader.new.device) }
+{
+    let Ok(mut input) = Input::new(alloc) else {
+        return FeedEnd::Stopped(bell.stop(wait, watch, LiveFault::OutOfMemory));
+    };
+    let mut batch = Batch::new(alloc);
+    'pieces: loop {
+        match take_frame(reader, &mut input) {
+            Ok(true) => {}
+            Ok(false) => return FeedEnd::Finished,
+            Err(fault) => return end_of(fault),
+        }
+        let answered = answer_piece(
+            wait, alloc, desk, bell, watch, &mut input, &mut batch, pass, writer,
+        );
+        if let Err(end) = answered {
+            return end;
+        }
+    }
+}
+
+/// Answers a feed until it ends, and records how it did.
+fn run_feed<N: Name, Q: Wait + Drop, R: Read, W: Write, H: Watch, P: Wait, A: Allocator + Copy>(
+    wait: &P,
+    alloc: A,
+    desk: &Desk<N, Q, A>,
+    bell: &Bell,
+    watch: &H,
+    seated: &mut Seated<N, R, W, A>,
+)
+    ensures { HasRun N.setup seated.old.pass seated.new.pass seated.new.feed.end
+        (W.contents seated.old.feed.writer.device) (W.contents seated.new.feed.writer.device)
+        (R.remaining seated.old.feed.reader.device) (R.remaining seated.new.feed.reader.device) }
+{
+    let Feed {
+        reader,
+        writer,
+        end,
+    } = &mut seated.feed;
+    *end = serve_feed(
+        wait,
+        alloc,
+        desk,
+        bell,
+        watch,
+        &mut seated.pass,
+        reader,
+        writer,
+    );
+    match *end {
+        FeedEnd::Read | FeedEnd::TooMuch | FeedEnd::Write => {
+            bell.tell(wait, watch, seated.pass.feeder(), *end);
+        }
+        FeedEnd::Open | FeedEnd::Finished | FeedEnd::Stopped(_) => {}
+    }
+}
+
+/// Runs the feeds of all seats at the same time, each in a thread of its own if one can be made.
+fn run_seats<
+    N: Name + Send + Sync,
+    Q: Wait + Drop + Send,
+    R: Read + Send,
+    W: Write + Send,
+    H: Watch + Sync,
+    T: Threads + Sync,
+    P: Wait + Sync,
+    A: Allocator + Copy + Send + Sync,
+>(
+    rt: &T,
+    wait: &P,
+    alloc: A,
+    desk: &Desk<N, Q, A>,
+    bell: &Bell,
+    watch: &H,
+    seated: &mut Vec<Seated<N, R, W, A>, A>,
+)
+    ensures len { length seated.new.items ≡ length seated.old.items }
+    ensures each { (i : ℕ) (d : _) → i < length seated.old.items
+        → HasRun N.setup (slice_index_or seated.old.items i d).pass
+        (slice_index_or seated.new.items i d).pass
+        (slice_index_or seated.new.items i d).feed.end
+        (W.contents (slice_index_or seated.old.items i d).feed.writer.device)
+        (W.contents (slice_index_or seated.new.items i d).feed.writer.device)
+        (R.remaining (slice_index_or seated.old.items i d).feed.reader.device)
+        (R.remaining (slice_index_or seated.new.items i d).feed.reader.device) }
+{
+    let threads = seated.len().max(1);
+    thread::for_each_mut(
+        rt,
+        seated.as_mut_slice(),
+        threads,
+        &|_, seated| run_feed(wait, alloc, desk, bell, watch, seated),
+    );
+}
+
+/// Runs all feeds at the same time, and wakes the follower when the last has ended. Returns the
+/// seats.
+pub(crate) fn run_all<
+    N: Name + Send + Sync,
+    Q: Wait + Drop + Send,
+    R: Read + Send,
+    W: Write + Send,
+    H: Watch + Sync,
+    T: Threads + Sync,
+    P: Wait + Sync,
+    A: Allocator + Copy + Send + Sync,
+>(
+    rt: &T,
+    wait: &P,
+    alloc: A,
+    desk: &Desk<N, Q, A>,
+    bell: &Bell,
+    watch: &H,
+    seated: &mut Vec<Seated<N, R, W, A>, A>,
+) -> Vec<Seated<N, R, W, A>, A>
+    ensures len { length result.items ≡ length seated.old.items }
+    ensures each { (i : ℕ) (d : _) → i < length seated.old.items
+        → HasRun N.setup (slice_index_or seated.old.items i d).pass
+        (slice_index_or result.items i d).pass
+        (slice_index_or result.items i d).feed.end
+        (W.contents (slice_index_or seated.old.items i d).feed.writer.device)
+        (W.contents (slice_index_or result.items i d).feed.writer.device)
+        (R.remaining (slice_index_or seated.old.items i d).feed.reader.device)
+        (R.remaining (slice_index_or result.items i d).feed.reader.device) }
+{
+    run_seats(rt, wait, alloc, desk, bell, watch, seated);
+    bell.close(wait);
+    replace(seated, Vec::new(alloc))
+}

@@ -1,0 +1,33 @@
+//! Feeders that are answered as they file: each has a source and a writer of its own, and all share
+//! one desk.
+//!
+//! **A feeder** takes the frames that its source shows whole, files them while it holds the lock of
+//! the desk once, and writes their answers before it reads on (`feeding`, `answering`). So a source
+//! that waits for an answer gets it, and a source that is silent holds up nobody.
+//!
+//! **All answers** go to one more writer, in the order of the journal, as entries are made. A
+//! thread of its own follows the history of the desk (`following`), and sleeps until a feeder rings
+//! (`bell`). It holds the lock only while it collects a few answers, so a slow reader of these
+//! holds up no feeder. What it hasn't written when the feeders have ended is written from the core
+//! (`run`).
+//!
+//! **A feeder that fails ends alone.** A failed allocation, or a failure of the writer of all
+//! answers, ends the run: nobody is answered from then on (`fault`).
+//!
+//! **What is proved** (`run_live`): there is one history. Of the frames that a feeder's source
+//! gave, its entries there are the first filings, and all of them unless the journal is full. What
+//! was written to the feeder answers frame by frame what the desk of one thread answers to these
+//! entries. The other writer has the answers to all entries, in their order.
+#![tactic(auto)]
+
+mod answering;
+mod bell;
+mod fault;
+mod feed;
+mod feeding;
+mod following;
+mod run;
+
+pub use fault::{FeedEnd, LiveFault, Watch};
+pub use feed::Feed;
+pub use run::run_live;

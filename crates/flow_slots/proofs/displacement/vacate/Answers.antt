@@ -1,0 +1,74 @@
+use Rattle.std.proofs.Common.{◌≡◌, refl, length, map, set, sym, ap, subst, ◌∙◌, arith}
+use Rattle.std.proofs.lemmas.List.{length-map, length-set, map-set}
+use Rattle.flow_slots.specs.declared.cell.Cell.TheVariants.{Empty, Waiting}
+use Rattle.flow_slots.specs.PackedCell.{from_start, flight_from, planned_in}
+use Rattle.flow_slots.specs.Period.{first_slot}
+use Rattle.flow_slots.specs.Changed.{gained}
+use Rattle.flow_slots.specs.Row.{IsTied}
+use Rattle.flow_slots.proofs.Behind.{IsTied-row, IsTied-cells, flight_at-row, gained-row}
+use Rattle.flow_slots.proofs.MovingUp.{Closing-start, Closing-move, close-stays, Closing-end}
+use Rattle.flow_slots.proofs.Tied.{IsTied-known, IsTied-other, flight_at-within}
+use Rattle.flow_slots.proofs.Started.{waits-started}
+use Rattle.flow_slots.proofs.displacement.vacate.Goals as goal
+
+pub bounds-places-flight : goal.bounds-places-flight
+bounds-places-flight g c =
+    omega (arith, IsTied-known c.args.places.now c.args.row.now.cells.now c.args.k c.args.flight c.requires.tied c.requires.stands)
+
+pub bounds-places-flight-in-Some : goal.bounds-places-flight-in-Some
+bounds-places-flight-in-Some g c =
+    let start = c.args.start in
+    let m = c.in-Some.ensures.found in
+    omega (arith, IsTied-other c.loop-next.places (map (from_start start) c.loop-next.row.cells.now) c.loop-next.hole c.in-Some.next.slot (flight_from start (planned_in c.in-Some.next.held)) c.loop-next.invariant.walk.tied m.after m.stands, c.flight.ensures)
+
+pub loop-next-init : goal.loop-next-init
+loop-next-init g c =
+    let start = c.args.start in
+    let cells = c.args.row.now.cells.now in
+    rw (c.none.ensures, c.requires.fresh) (record {
+      same_reference = refl;
+      walk = Closing-start c.args.shape.now (map (from_start start) cells) 0 c.args.places.now c.args.k c.args.flight (IsTied-row c.args.places.now start cells c.requires.tied) (flight_at-row start cells c.args.k ∙ c.requires.stands) c.requires.entries;
+      within = flight_at-within cells c.args.k c.args.flight c.requires.stands;
+      few = omega arith;
+    })
+
+pub loop-next-preserved : goal.loop-next-preserved
+loop-next-preserved g c =
+    let start = c.args.start in
+    let cells = c.loop-next.row.cells.now in
+    let held = c.in-Some.next.held in
+    let put : map (from_start start) (set cells c.loop-next.hole held) ≡ set (map (from_start start) cells) c.loop-next.hole (Waiting (flight_from start (planned_in held))) = map-set (from_start start) cells c.loop-next.hole held ∙ ap (set (map (from_start start) cells) c.loop-next.hole) (waits-started start held c.in-Some.ensures.waits) in
+    let moved = Closing-move _ _ _ _ _ _ _ _ c.loop-next.hole c.in-Some.next.slot (flight_from start (planned_in c.in-Some.next.held)) c.loop-next.invariant.walk c.in-Some.ensures.found in
+    rw (c.put.ensures.cells, c.put.ensures.written, c.of.ensures, c.flight.ensures, put) (record {
+      same_reference = c.put.ensures.same_reference ∙ c.loop-next.invariant.same_reference;
+      walk = moved;
+      within = omega (arith, c.in-Some.ensures.within, length-set cells c.loop-next.hole held);
+      few = omega (arith, c.loop-next.invariant.few, c.in-Some.ensures.found.after);
+    })
+
+pub returns-clause-tied : goal.returns-clause-tied
+returns-clause-tied g c =
+    let start = c.args.start in
+    let cells = c.loop-next.row.cells.now in
+    let put = map-set (from_start start) cells c.loop-next.hole Empty in
+    rw (c.put-2.ensures.cells, c.empty.ensures) (IsTied-cells c.loop-next.places start (set cells c.loop-next.hole Empty) (subst (IsTied c.loop-next.places) (sym put) c.loop-next.invariant.walk.tied))
+
+pub returns-clause-cells : goal.returns-clause-cells
+returns-clause-cells g c =
+    let start = c.args.start in
+    let cells = c.loop-next.row.cells.now in
+    let hole = c.loop-next.hole in
+    let put = map-set (from_start start) cells hole Empty in
+    let stays = close-stays (λ e. first_slot c.args.shape.now e) hole (map (from_start start) cells) (omega (arith, c.loop-next.invariant.within, length-map cells (from_start start))) c.in_default.ensures.none in
+    rw (c.put-2.ensures.cells, c.empty.ensures) (put ∙ (sym stays ∙ c.loop-next.invariant.walk.target))
+
+pub returns-clause-written : goal.returns-clause-written
+returns-clause-written g c =
+    let start = c.args.start in
+    let cells = c.loop-next.row.cells.now in
+    let new = set cells c.loop-next.hole Empty in
+    let put = map-set (from_start start) cells c.loop-next.hole Empty in
+    let end = Closing-end _ _ _ _ _ _ c.loop-next.row.written _ c.loop-next.hole c.loop-next.invariant.walk in
+    let same : length new ≡ length c.args.row.now.cells.now = length-set cells c.loop-next.hole Empty ∙ (sym (length-map cells (from_start start)) ∙ (c.loop-next.invariant.walk.len ∙ length-map c.args.row.now.cells.now (from_start start))) in
+    let raw = ap (gained (map (from_start start) c.args.row.now.cells.now)) (sym put) ∙ gained-row start c.args.row.now.cells.now new same in
+    rw (c.put-2.ensures.written, c.put-2.ensures.cells, c.empty.ensures) (omega (arith, end, raw))
