@@ -175,8 +175,8 @@ def main():
         print("cc isn't there: no request for memory is refused to %s" % args.program)
         return
     with tempfile.TemporaryDirectory() as folder:
-        library = shim(pathlib.Path(folder))
-        right = [refuse(args.program, library, name) for name in args.names]
+        program, library = pathlib.Path(args.program).resolve(), shim(pathlib.Path(folder))
+        right = [refuse(program, library, name) for name in args.names]
     sys.exit(0 if all(right) else 1)
 
 
