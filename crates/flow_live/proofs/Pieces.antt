@@ -13,11 +13,11 @@ use Rattle.flow_input.specs.declared.fault.IntakeFault.TheVariants as intake
 use Rattle.flow_input.proofs.Cuttings.{Cutting-start, Cutting-one, Cutting-end, CutFront-came, CutEnded-read}
 use Rattle.flow_input.proofs.Written.{Appends-none, Appends-both, AppendsFront-both}
 use Rattle.flow_desk.specs.Histories.{IsLawful}
-use Rattle.flow_desk.specs.FeederPasses.{PassView}
+use Rattle.flow_desk.specs.FeederPasses.{PassView, SawOthers}
 use Rattle.flow_live.specs.Feeding.{Answers, CutsMore, CutsTaken, Feeds, Fed, FedUnlessStopped, PieceIs, Prepares, Serves, end_by}
 use Rattle.flow_live.specs.declared.fault.FeedEnd.{FeedEnd}
 use Rattle.flow_live.specs.declared.fault.FeedEnd.TheVariants as end
-use Rattle.flow_live.proofs.Servings.{Serves-none, Serves-then}
+use Rattle.flow_live.proofs.Servings.{Serves-saw, Serves-then}
 
 -- ---- frames that were cut off
 
@@ -50,10 +50,10 @@ Cuts-first is ahead taken mid rest filing gave so =
 -- ---- a feed
 
 -- nothing was read yet
-pub Feeds-start : (s : SetupView) (p : PassView) (begun input : Option (List ℕ)) (ahead : InputView) → IsLawful s p.seen → ahead ≡ record { unread = []; taken = 0; ended = false; item = Some [] }
-    → Feeds s p p begun begun ahead input input
-Feeds-start s p begun input ahead lawful fresh =
-    record { done = []; text = []; served = Serves-none s p lawful; cutting = Cutting-start ahead input fresh; wrote = Appends-none begun }
+pub Feeds-start : (s : SetupView) (p q : PassView) (begun input : Option (List ℕ)) (ahead : InputView) → SawOthers p q → IsLawful s q.seen → ahead ≡ record { unread = []; taken = 0; ended = false; item = Some [] }
+    → Feeds s p q begun begun ahead input input
+Feeds-start s p q begun input ahead saw lawful fresh =
+    record { done = []; text = []; served = Serves-saw s p q saw lawful; cutting = Cutting-start ahead input fresh; wrote = Appends-none begun }
 
 module _ (s : SetupView) (p q : PassView) (begun written : Option (List ℕ)) (old : InputView) (input mid : Option (List ℕ)) (f : Feeds s p q begun written old input mid) where
   -- a piece was answered

@@ -13,6 +13,8 @@ pub enum LiveFault {
     NoReader,
     /// The writer of all answers failed, or took no byte.
     Write,
+    /// The store failed, or is full.
+    Store,
     /// Allocation failed.
     OutOfMemory,
 }

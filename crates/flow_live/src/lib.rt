@@ -11,13 +11,18 @@
 //! holds up no feeder. What it hasn't written when the feeders have ended is written from the core
 //! (`run`).
 //!
-//! **A feeder that fails ends alone.** A failed allocation, or a failure of the writer of all
-//! answers, ends the run: nobody is answered from then on (`fault`).
+//! **With a store** nothing is handed on before the entries that it answers are on the disk
+//! (`keeping`). One feeder appends all entries made so far, while others file and wait, so one sync
+//! serves all who wait.
+//!
+//! **A feeder that fails ends alone.** A failed allocation, or a failure of the store or of the
+//! writer of all answers, ends the run: nobody is answered from then on (`fault`).
 //!
 //! **What is proved** (`run_live`): there is one history. Of the frames that a feeder's source
 //! gave, its entries there are the first filings, and all of them unless the journal is full. What
 //! was written to the feeder answers frame by frame what the desk of one thread answers to these
-//! entries. The other writer has the answers to all entries, in their order.
+//! entries. The other writer has the answers to all entries, in their order. What is handed on
+//! answers no entry but those that are stored.
 #![tactic(auto)]
 
 mod answering;
@@ -26,6 +31,7 @@ mod fault;
 mod feed;
 mod feeding;
 mod following;
+mod keeping;
 mod run;
 
 pub use fault::{FeedEnd, LiveFault, Watch};

@@ -113,6 +113,7 @@ impl From<LiveFault> for Fault {
             LiveFault::NoReader => Fault::NoReader,
             LiveFault::Write => Fault::Write,
             LiveFault::OutOfMemory => Fault::OutOfMemory,
+            LiveFault::Store => Fault::Store,
         }
     }
 }
