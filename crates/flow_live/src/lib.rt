@@ -14,10 +14,11 @@
 //! **A feeder that fails ends alone.** A failed allocation, or a failure of the writer of all
 //! answers, ends the run: nobody is answered from then on (`fault`).
 //!
-//! **What is proved** (`run_live`): there is one history. Of the frames that a feeder's source
-//! gave, its entries there are the first filings, and all of them unless the journal is full. What
-//! was written to the feeder answers frame by frame what the desk of one thread answers to these
-//! entries. The other writer has the answers to all entries, in their order.
+//! **What is proved** (`run_live`, when it returns the core): there is one history. Of the frames
+//! that a feeder's source gave, its entries there are the first filings, and all of them unless the
+//! journal is full. What was written to the feeder answers frame by frame what the desk of one
+//! thread answers to these entries. The other writer has the answers to all entries, in their
+//! order.
 #![tactic(auto)]
 
 mod answering;

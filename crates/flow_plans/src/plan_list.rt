@@ -179,8 +179,8 @@ impl<A: Allocator + Copy> PlanList<A> {
     }
 
     /// Collects the flights to which a regulation of that point and period applies, by number, and
-    /// returns the earliest of their off-block times. At a departure of four letters it reads the
-    /// outlines alone.
+    /// returns a time that none of their off-block times is before. At a departure of four letters
+    /// it reads the outlines alone.
     pub(crate) fn note_coming(
         &self,
         taxi: u32,
@@ -302,8 +302,8 @@ impl<A: Allocator + Copy> PlanList<A> {
 }
 
 /// Collects the flights to which a regulation of that period applies at a departure aerodrome of
-/// these letters, by number, and returns the earliest of their off-block times. To read the plans
-/// takes over 40 % more instructions in 128 OPEN of 5,000 departures.
+/// these letters, by number, and returns a time that none of their off-block times is before. To
+/// read the plans takes over 40 % more instructions in 128 OPEN of 5,000 departures.
 #[inline(never)]
 fn note_departing<A: Allocator + Copy>(
     outlines: &[PlanIndexEntry],

@@ -356,9 +356,9 @@ impl<A: Allocator + Copy> PlanStore<A> {
     }
 
     /// Collects the flights to which a regulation of that point and period applies, by number, with
-    /// their entries, and returns the earliest of their off-block times, in minutes from 1970-01-01
-    /// 00:00 UTC. It mostly reads 24 bytes of each other plan. If allocation fails it collects
-    /// none.
+    /// their entries, and returns a time that none of their off-block times is before, in minutes
+    /// from 1970-01-01 00:00 UTC. It mostly reads 24 bytes of each other plan. If allocation fails
+    /// it collects none.
     pub fn coming_into(
         &self,
         spot: &Spot,
