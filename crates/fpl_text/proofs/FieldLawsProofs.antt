@@ -44,12 +44,11 @@ front_and_last text n h =
     ∙ at_drop_all (λ rest. take n text ++ (get_or text n 0 ∷ rest)) text (n + 1) (omega arith)
 
 -- what a text in brackets is
-spelled_from : (text : List ℕ) → is_bracketed text ≡ true → text ≡ 40 ∷ inside text ++ 41 ∷ []
-unfolding is_bracketed stands_in_brackets
-spelled_from [] h = absurd (false≢true h)
-spelled_from (b ∷ text) h =
-    let a = and_parts (leb 2 (length (b ∷ text)) && eqb b 40 && eqb (get_or (b ∷ text) (length (b ∷ text) - 1) 0) 41) (list_all (λ c. not (is_bracket c)) (inside (b ∷ text))) h in
-    let last = and_parts (leb 2 (length (b ∷ text)) && eqb b 40) (eqb (get_or (b ∷ text) (length (b ∷ text) - 1) 0) 41) a.0 in
+pub stands_spelled : (text : List ℕ) → stands_in_brackets text ≡ true → text ≡ 40 ∷ inside text ++ 41 ∷ []
+unfolding stands_in_brackets
+stands_spelled [] h = absurd (false≢true h)
+stands_spelled (b ∷ text) h =
+    let last = and_parts (leb 2 (length (b ∷ text)) && eqb b 40) (eqb (get_or (b ∷ text) (length (b ∷ text) - 1) 0) 41) h in
     let first = and_parts (leb 2 (length (b ∷ text))) (eqb b 40) last.0 in
     let long : 2 ≤ length (b ∷ text) = leb-true 2 (length (b ∷ text)) first.0 in
     let opens : b ≡ 40 = eqb-true b 40 first.1 in
@@ -61,7 +60,11 @@ spelled_from (b ∷ text) h =
     let whole = front_and_last text n (omega arith) in
     rw front (ap (λ c. c ∷ text) opens ∙ ap (λ t. 40 ∷ t) (whole ∙ ap (λ c. take n text ++ (c ∷ [])) last_is))
 
-no_bracket_from : (text : List ℕ) → is_bracketed text ≡ true → list_all (λ b. not (is_bracket b)) (inside text) ≡ true
+pub spelled_from : (text : List ℕ) → is_bracketed text ≡ true → text ≡ 40 ∷ inside text ++ 41 ∷ []
+unfolding is_bracketed
+spelled_from text h = stands_spelled text (and_parts (stands_in_brackets text) (list_all (λ c. not (is_bracket c)) (inside text)) h).0
+
+pub no_bracket_from : (text : List ℕ) → is_bracketed text ≡ true → list_all (λ b. not (is_bracket b)) (inside text) ≡ true
 unfolding is_bracketed stands_in_brackets
 no_bracket_from text h =
     (and_parts (leb 2 (length text) && eqb (get_or text 0 0) 40 && eqb (get_or text (length text - 1) 0) 41) (list_all (λ c. not (is_bracket c)) (inside text)) h).1

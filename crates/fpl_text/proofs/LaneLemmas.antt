@@ -13,7 +13,7 @@ use Rattle.std.proofs.lemmas.Bool.{cases_lt, leb-true, leb-false}
 use Rattle.std.proofs.lemmas.List.{length-map, get_or_past}
 use Rattle.std.proofs.Math.ListN.{get_or-map}
 use Rattle.fpl_text.specs.Bytes.{is_border, is_digit, is_letter, is_other_mark, is_plain}
-use Rattle.fpl_text.specs.Lanes.{HasLanes, HasFlags, flag, behind, is_kept}
+use Rattle.fpl_text.specs.Lanes.{HasLanes, HasFlags, flag}
 
 and_flags : (p q : Bool) → bit_and (flag p) (flag q) ≡ flag (p && q)
 and_flags true true = refl
@@ -89,15 +89,7 @@ flags-other t v x long =
     (λ k l. (λ i. cond (t (get_or v k 0) (get_or-replicate 16 k x 0 l i)) (get_or-replicate 16 k 0 0 l i) (get_or-replicate 16 k 255 0 l i)) ∙ unlike (t (get_or v k 0) x))
     (lanes-compared t v (replicate 16 x) (replicate 16 0) (replicate 16 255) long refl refl refl)
 
--- one byte in place of those for which the comparison with a splat holds
-pub lanes-chosen : (t : ℕ → ℕ → Bool) (v : List ℕ) (x y : ℕ) → length v ≡ 16
-    → HasLanes (sel_l (zip2 t v (replicate 16 x)) (replicate 16 y) v) (λ k. cond (t (get_or v k 0) x) y (get_or v k 0))
-lanes-chosen t v x y long =
-    lanes-same _ _ _
-    (λ k l. λ i. cond (t (get_or v k 0) (get_or-replicate 16 k x 0 l i)) (get_or-replicate 16 k y 0 l i) (get_or v k 0))
-    (lanes-compared t v (replicate 16 x) (replicate 16 y) v long refl refl long)
-
-abbrev is_set : ℕ → Bool
+abbrev pub is_set : ℕ → Bool
 is_set x = leb 128 x
 
 set_tells : (x : ℕ) (b : Bool) → leb 128 x ≡ b → (cond {A = ℕ} b 1 0 ≡ 1) ↔ (128 ≤ x)
@@ -171,125 +163,14 @@ front-from v m place long few bits small =
           absurd (omega (arith, t.1, shifted n, one)));
     }
 
-flag_is : (p : Bool) (x : ℕ) → (x ≡ 1) ↔ (128 ≤ flag p) → x < 2 → eqb x 1 ≡ p
-flag_is true x h l = let one : x ≡ 1 = h.1 (omega arith) in rw one refl
-flag_is false x h l = ⊎_elim (λ z. let none : x ≡ 0 = omega arith in rw none refl) (λ o. let past = h.0 (omega arith) in absurd (omega arith)) (cases_lt x 1)
-
--- a bit of a mask is that of the lane's flag
-pub mask-bit : (v : List ℕ) (m : ℕ) (p : ℕ → Bool) → IsMask v m → HasFlags v p → (k : ℕ) → k < 16 → eqb (bit_at m k) 1 ≡ p k
-mask-bit v m p inm flags k l = flag_is (p k) (bit_at m k) (rw (flags.each k l) at (inm.bits k)) (bit_at-lt m k)
-
-bit_below : (v : List ℕ) (m k : ℕ) → length v ≡ 16 → ((k : ℕ) → (bit_at m k ≡ 1) ↔ (128 ≤ get_or v k 0)) → bit_at m k ≡ 1 → k < 16
-bit_below v m k long bits one =
-    ⊎_elim (λ l. l) (λ h. let past : 128 ≤ 0 = rw (get_or_past v k 0 (omega arith)) at ((bits k).0 one) in absurd (omega arith)) (cases_lt k 16)
-
-is_one : (a b c d e : ℕ) → max (max a b) (min (min c d) e) ≡ 1 → a < 2 → b < 2 → c < 2 → d < 2 → e < 2
-    → (a ≡ 1) ⊎ ((b ≡ 1) ⊎ ((c ≡ 1) × ((d ≡ 1) × (e ≡ 1))))
-is_one a b c d e h l m n o p =
-    ⊎_elim
-    (λ z. ⊎_elim (λ y. inr (inr (omega arith, (omega arith, omega arith)))) (λ y. inr (inl (omega arith))) (cases_lt b 1))
-    (λ z. inl (omega arith))
-    (cases_lt a 1)
-
-kept_or : (p q r s t : Bool) → (p ≡ true) ⊎ ((q ≡ true) ⊎ ((r ≡ true) × ((s ≡ true) × (t ≡ true)))) → p || (q || (r && (s && t))) ≡ true
-kept_or p q r s t (inl h) = rw h refl
-kept_or true q r s t (inr h) = refl
-kept_or false q r s t (inr (inl h)) = rw h refl
-kept_or false true r s t (inr (inr h)) = refl
-kept_or false false r s t (inr (inr h)) = rw (h.0, h.1.0, h.1.1) refl
-
--- the bits of a vector's lanes, shifted up by one
-pub record IsBehind (before : Bool) (m b : ℕ) : Type 0 where
-  pub first : bit_at b 0 ≡ cond before 1 0
-  pub others : (k : ℕ) → bit_at b (k + 1) ≡ bit_at m k
-
-one_from : (p : Bool) → cond {A = ℕ} p 1 0 ≡ 1 → p ≡ true
+pub one_from : (p : Bool) → cond {A = ℕ} p 1 0 ≡ 1 → p ≡ true
 one_from true h = refl
 one_from false h = absurd (omega arith)
-
-behind-set : (v : List ℕ) (m b : ℕ) (first : Bool) (p : ℕ → Bool) → length v ≡ 16 → ((k : ℕ) → (bit_at m k ≡ 1) ↔ (128 ≤ get_or v k 0)) → IsBehind first m b
-    → HasFlags v p → (k : ℕ) → bit_at b k ≡ 1 → behind first p k ≡ true
-behind-set v m b first p long bits h flags zero one = one_from first (sym h.first ∙ one)
-behind-set v m b first p long bits h flags (suc k) one =
-    let step : suc k ≡ k + 1 = omega arith in
-    let below : bit_at m k ≡ 1 = sym (h.others k) ∙ (rw step at one) in
-    set_flag (p k) (rw (flags.each k (bit_below v m k long bits below)) at ((bits k).0 below))
-
--- the lowest bits of the mask of what is kept, the last lane's left out
-pub record IsKeptFront (v w u : List ℕ) (border : Bool) (n : ℕ) : Type 0 where
-  pub bound : n ≤ 15
-  pub each : (p q r : ℕ → Bool) → HasFlags v p → HasFlags w q → HasFlags u r → (k : ℕ) → k < n → is_kept border p q r k ≡ true
-
-pub front-kept : (v w u : List ℕ) (m n o b : ℕ) (border : Bool) → length v ≡ 16 → IsMask v m → IsMask w n → IsMask u o → IsBehind (not border) m b
-    → IsKeptFront v w u border (trailing_ones w64 (bit_and (bit_or (bit_or m n) (bit_and (bit_and o (m / 2 ^ 1)) b)) 32767))
-front-kept v w u m n o b border long inm inn ino inb =
-    let between = bit_and (bit_and o (m / 2 ^ 1)) b in
-    let all = bit_or (bit_or m n) between in
-    let low : bit_and all 32767 ≤ 32767 = and_le_r all 32767 in
-    let t = bit_at-trailing_ones w64 (bit_and all 32767) (omega arith) in
-    let count = trailing_ones w64 (bit_and all 32767) in
-    let masked : (k : ℕ) → k < count → min (bit_at all k) (bit_at 32767 k) ≡ 1 = (λ k l. rw (bit_at_and all 32767 k) at (t.2 k l)) in
-    let bound : count ≤ 15 = ⊎_elim (λ h. let last : bit_at 32767 15 ≡ 0 = refl in absurd (omega (arith, masked 15 h, last))) (λ h. h) (cases_lt 15 count) in
-    let parts : (k : ℕ) → k < count → (bit_at m k ≡ 1) ⊎ ((bit_at n k ≡ 1) ⊎ ((bit_at o k ≡ 1) × ((bit_at m (1 + k) ≡ 1) × (bit_at b k ≡ 1)))) = (λ k l.
-    let shifted : bit_at (m / 2 ^ 1) k ≡ bit_at m (1 + k) = ap (λ x. x % 2) (shr-shr m 1 k) in
-    let set : bit_at all k ≡ 1 = omega (arith, masked k l, bit_at-lt all k) in
-    let whole : max (max (bit_at m k) (bit_at n k)) (min (min (bit_at o k) (bit_at m (1 + k))) (bit_at b k)) ≡ 1 =
-    rw (bit_at_or (bit_or m n) between k, bit_at_or m n k, bit_at_and (bit_and o (m / 2 ^ 1)) b k, bit_at_and o (m / 2 ^ 1) k, shifted) at set in
-    is_one _ _ _ _ _ whole (bit_at-lt m k) (bit_at-lt n k) (bit_at-lt o k) (bit_at-lt m (1 + k)) (bit_at-lt b k)) in
-    let inside : (k : ℕ) → k < count → k < 16 = (λ k l. omega (arith, bound)) in
-    record {
-      bound = bound;
-      each = λ p q r hp hq hr k l.
-          kept_or (p k) (q k) (r k) (p (k + 1)) (behind (not border) p k)
-          (⊎_elim
-          (λ a. inl (set_flag (p k) (rw (hp.each k (inside k l)) at ((inm.bits k).0 a))))
-          (λ x. inr (⊎_elim
-          (λ a. inl (set_flag (q k) (rw (hq.each k (inside k l)) at ((inn.bits k).0 a))))
-          (λ a.
-          let next : 1 + k ≡ k + 1 = omega arith in
-          inr (
-            set_flag (r k) (rw (hr.each k (inside k l)) at ((ino.bits k).0 a.0)),
-            (
-              set_flag (p (k + 1)) (rw (next, hp.each (k + 1) (omega (arith, l, bound))) at ((inm.bits (1 + k)).0 a.1.0)),
-              behind-set v m b (not border) p long inm.bits inb hp k a.1.1,
-            ),
-          ))
-          x))
-          (parts k l));
-    }
-
--- whether the lane before one is set
-pub behind-bit : (w : List ℕ) (n b : ℕ) (first : Bool) (q : ℕ → Bool) → length w ≡ 16 → IsMask w n → IsBehind first n b → HasFlags w q → (k : ℕ) → k ≤ 16 → eqb (bit_at b k) 1 ≡ behind first q k
-behind-bit w n b first q long inn inb flags zero few = rw inb.first (first_is first)
-  where
-    first_is : (p : Bool) → eqb (cond {A = ℕ} p 1 0) 1 ≡ p
-    first_is true = refl
-    first_is false = refl
-behind-bit w n b first q long inn inb flags (suc k) few =
-    let step : suc k ≡ k + 1 = omega arith in
-    rw (step, inb.others k) (mask-bit w n q inn flags k (omega arith))
 
 -- how many lanes hold a byte
 pub lanes-count : (v : List ℕ) (byte : ℕ) → length v ≡ 16
     → count_ones (mask_l (map (top 7) (zip2 (λ a b. cond (eqb a b) 255 0) v (replicate 16 byte))) % 2 ^ 64) ≡ count_by (λ b. eqb b byte) v
 lanes-count v byte long = ap count_ones (bitmask_splat w8 eqb v 16 byte long (omega arith)) ∙ ones-mask_l (λ b. eqb b byte) v
-
-or_assoc : (p q r : Bool) → (p || q) || r ≡ p || (q || r)
-or_assoc true q r = refl
-or_assoc false q r = refl
-
--- one more byte
-or_more : (d m z : Bool) (last : Bool) → d || m ≡ z → d || (m || last) ≡ z || last
-or_more d m z last h = sym (or_assoc d m last) ∙ ap (λ b. b || last) h
-
-mark_range : (x : ℕ) → (leb 48 x && leb x 57) || (eqb x 47 || eqb x 46 || eqb x 58) ≡ leb 46 x && leb x 58
-mark_range x = grind arith
-
--- the digits and the marks, of which some are one range
-pub digits_and_marks : (x : ℕ) → (leb 46 x && leb x 58) || eqb x 44 || eqb x 39 || eqb x 63 || eqb x 43 || eqb x 61 ≡ is_digit x || is_other_mark x
-unfolding is_digit is_other_mark
-digits_and_marks x =
-    sym (or_more _ _ _ (eqb x 61) (or_more _ _ _ (eqb x 43) (or_more _ _ _ (eqb x 63) (or_more _ _ _ (eqb x 39) (or_more _ _ _ (eqb x 44) (mark_range x))))))
 
 pub letters_are : (x : ℕ) → (leb 65 x && leb x 90) ≡ is_letter x
 unfolding is_letter
@@ -298,18 +179,6 @@ letters_are x = refl
 pub digits_are : (x : ℕ) → (leb 48 x && leb x 57) ≡ is_digit x
 unfolding is_digit
 digits_are x = refl
-
-pub letters_and_others : (x : ℕ) → (leb 65 x && leb x 90) || (is_digit x || is_other_mark x) ≡ is_plain x
-unfolding is_plain is_letter
-letters_and_others x = sym (or_assoc (leb 65 x && leb x 90) (is_digit x) (is_other_mark x))
-
-pub borders_are : (x : ℕ) → eqb x 45 || eqb x 40 || eqb x 41 ≡ is_border x
-unfolding is_border
-borders_are x = refl
-
--- flags of 16 bytes of a text, by their offsets there
-pub flags-at : (test : ℕ → Bool) (text v flags : List ℕ) (at_place : ℕ) → HasLanes v (λ k. get_or text (at_place + k) 0) → HasFlags flags (λ k. test (get_or v k 0)) → HasFlags flags (λ k. test (get_or text (at_place + k) 0))
-flags-at test text v flags at_place held told = lanes-same _ _ _ (λ k l. ap (λ b. flag (test b)) (held.each k l)) told
 
 -- how many of 8 lanes precede the first space
 pub record IsBeforeSpace (v : List ℕ) (n : ℕ) : Type 0 where
@@ -320,7 +189,7 @@ pub record IsBeforeSpace (v : List ℕ) (n : ℕ) : Type 0 where
 abbrev is_space : ℕ → Bool
 is_space x = eqb x 32
 
-zero_from : (p : Bool) → cond {A = ℕ} p 1 0 ≡ 0 → p ≡ false
+pub zero_from : (p : Bool) → cond {A = ℕ} p 1 0 ≡ 0 → p ≡ false
 zero_from true h = absurd (omega arith)
 zero_from false h = refl
 

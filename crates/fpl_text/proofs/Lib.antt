@@ -1,4 +1,5 @@
 pub mod BordersLemmas
+pub mod CutLemmas
 pub mod DaysLemmas
 pub mod FieldLawsProofs
 pub mod FieldPartsProofs
@@ -6,7 +7,7 @@ pub mod PathLemmas
 pub mod PlacesLemmas
 pub mod TextLemmas
 pub mod SqueezingLemmas
-pub mod CommonLemmas
+pub mod ByteLemmas
 pub mod SqueezingLawsProofs
 pub mod WordsLemmas
 pub mod MomentsLemmas

@@ -1,59 +1,263 @@
--- The first border that a vector of 16 bytes has from a lane on.
-use Rattle.std.proofs.Common.{◌≡◌, ℕ, zero, suc, ◌+◌, ◌-◌, ◌*◌, ◌/◌, ◌%◌, ◌^◌, ◌<◌, ◌≤◌, List, true, false, eqb, get_or, refl, sym, ap, ◌∙◌, arith, ⊎_elim}
-use Rattle.std.specs.Int.{bit_at, trailing_zeros, w64}
-use Rattle.std.proofs.Math.Nat.{mod-lt, div-add-mod, div-le_self}
-use Rattle.std.proofs.lemmas.Nat.{pow_pos}
-use Rattle.std.proofs.lemmas.Bool.{cases_lt}
-use Rattle.std.proofs.lemmas.Nat.Bits.{bit_at-zero, bit_at_above, bit_at-trailing_zeros, bit_at_cat_high}
-use Rattle.fpl_text.specs.Bytes.{is_border}
-use Rattle.fpl_text.specs.Borders.{IsLook}
+-- What a look at 32 bytes holds at each lane.
+use Rattle.std.proofs.Common.{◌≡◌, ℕ, zero, suc, ◌+◌, ◌-◌, ◌*◌, ◌/◌, ◌%◌, ◌^◌, ◌<◌, ◌≤◌, List, [], ◌∷◌, Bool, true, false, not, cond, eqb, leb, ltb, map, ◌&&◌, ◌||◌, length, get_or, replicate, refl, sym, ap, ◌∙◌, arith, ⊎_elim, w8, w64, Fits, bit_and, bit_or, shr-shr}
+use Rattle.std.specs.Simd.Lanes.{zip2, sel_l, mask_l, Each1}
+use Rattle.std.specs.Int.{bit_at, bit_not, trailing_ones}
+use Rattle.std.proofs.lemmas.Nat.Bits.{bit_at-lt, bit_at_and, bit_at_or, bit_at_not, bit_at_ones, bit_at-trailing_ones}
+use Rattle.std.specs.Prelude.{max, min}
+use Rattle.std.proofs.lemmas.Simd.{length-sel_l, get_or-sel_l, bit_mask_l, mask_l-lt, length-zip2, get_or-zip2, get_or-replicate, length-swz_l, get_or-swz_l_below, swz_l, SwzOk, SwzOk-from_below, Each1-from_get_or, Each1-get_or}
+use Rattle.std.proofs.lemmas.Nat.{and_mask, and_le_r, or_lt, shr_le}
+use Rattle.std.proofs.lemmas.Bool.{agree_below_at}
+use Rattle.fpl_text.specs.Bytes.{is_letter, is_digit, is_blank, is_border, is_other_mark, is_plain, is_accepted}
+use Rattle.fpl_text.specs.Looks.{is_solid, IsClass, HasClasses, HasSpaces, as_space, IsBits, IsLook, behind, is_kept}
+use Rattle.fpl_text.specs.declared.looks.Look.{Look}
+use Rattle.fpl_text.proofs.ByteLemmas.{accepted-is, plain-no_border}
+use Rattle.fpl_text.specs.declared.looks.TheConstants.{BY_LOW_HALF, BY_HIGH_HALF}
+use Rattle.std.proofs.lemmas.Bool.{false≢true, eqb-true, eqb-false, leb-true, lt-leb, le-leb, cases_lt}
+use Rattle.std.proofs.lemmas.List.{get_or-map, length-map}
+use Rattle.fpl_text.proofs.LaneLemmas.{is_set, one_from, zero_from}
 
--- a bit of a word that is shifted
-shifted : (w k i : ℕ) → k ≤ i → bit_at (w / 2 ^ k) (i - k) ≡ bit_at w i
-shifted w k i h =
-    let parts : (w / 2 ^ k) * 2 ^ k + w % 2 ^ k ≡ w = omega (arith, div-add-mod w (2 ^ k)) in
-    sym (bit_at_cat_high (w / 2 ^ k) k (w % 2 ^ k) i (mod-lt w (pow_pos k)) h) ∙ ap (λ v. bit_at v i) parts
+-- an operator on a vector and a splat
+pub splat-at : (f : ℕ → ℕ → ℕ) (v : List ℕ) (x k : ℕ) → length v ≡ 32 → k < 32 → get_or (zip2 f v (replicate 32 x)) k 0 ≡ f (get_or v k 0) x
+splat-at f v x k long l = get_or-zip2 f v (replicate 32 x) k 0 0 0 (omega arith) l ∙ ap (f (get_or v k 0)) (get_or-replicate 32 k x 0 l)
 
-positive : (n : ℕ) → (n ≡ 0 → ⊥) → 0 < n
-positive zero f = absurd (f refl)
-positive (suc n) f = omega arith
+-- the halves of the lanes
+abbrev pub lower : List ℕ → List ℕ
+lower v = zip2 bit_and v (replicate 32 15)
 
--- the byte of a bit
-no_border : (text : List ℕ) (place bits : ℕ) → IsLook text place bits → (k : ℕ) → place ≤ k → k < place + 16 → bit_at bits (k - place) ≡ 0 → is_border (get_or text k 0) ≡ false
-no_border text place bits look k low high none =
-    let there : place + (k - place) ≡ k = omega arith in
-    sym (rw there at (look.each (k - place) (omega arith))) ∙ ap (λ x. eqb x 1) none
+abbrev pub upper : List ℕ → List ℕ
+upper v = zip2 (λ a b. a / 2 ^ b) v (replicate 32 4)
 
-pub look-none : (text : List ℕ) (place bits from : ℕ) → IsLook text place bits → place ≤ from → bits / 2 ^ (from - place) ≡ 0
-    → (k : ℕ) → from ≤ k → k < place + 16 → is_border (get_or text k 0) ≡ false
-look-none text place bits from look low none k h l =
-    no_border text place bits look k (omega arith) l
-    (sym (shifted bits (from - place) (k - place) (omega arith)) ∙ ap (λ v. bit_at v (k - place - (from - place))) none ∙ bit_at-zero (k - place - (from - place)))
+lane-fits : (v : List ℕ) (k : ℕ) → length v ≡ 32 → Each1 (Fits w8) v → k < 32 → get_or v k 0 < 256
+lane-fits v k long fits l = (Each1-get_or (Fits w8) v k 0 (omega arith) fits).fits
 
--- the first border from a lane on
-pub record IsFirst (text : List ℕ) (place from border : ℕ) : Type 0 where
-  pub within : border < place + 16
-  pub none : (k : ℕ) → from ≤ k → k < border → is_border (get_or text k 0) ≡ false
-  pub some : is_border (get_or text border 0) ≡ true
+lower-at : (v : List ℕ) (k : ℕ) → length v ≡ 32 → k < 32 → get_or (lower v) k 0 ≡ get_or v k 0 % 16
+lower-at v k long l = splat-at bit_and v 15 k long l ∙ and_mask (get_or v k 0) 4
 
-pub look-first : (text : List ℕ) (place bits from : ℕ) → IsLook text place bits → place ≤ from → (bits / 2 ^ (from - place) ≡ 0 → ⊥)
-    → IsFirst text place from (from + trailing_zeros w64 (bits / 2 ^ (from - place)))
-look-first text place bits from look low other =
-    let later = bits / 2 ^ (from - place) in
-    let less : later ≤ bits = div-le_self bits (2 ^ (from - place)) in
-    let zeros = trailing_zeros w64 later in
-    let t = bit_at-trailing_zeros w64 later (positive later other) (omega (arith, less, look.small)) in
-    let back : from - place + zeros - (from - place) ≡ zeros = omega arith in
-    let bit : bit_at bits (from - place + zeros) ≡ 1 =
-    sym (shifted bits (from - place) (from - place + zeros) (omega arith)) ∙ ap (bit_at later) back ∙ t.1 in
-    let inside : from - place + zeros < 16 =
-    ⊎_elim (λ l. l) (λ h. let none = bit_at_above bits 16 (from - place + zeros) look.small h in absurd (omega (arith, none, bit))) (cases_lt (from - place + zeros) 16) in
-    let there : place + (from - place + zeros) ≡ from + zeros = omega arith in
+upper-at : (v : List ℕ) (k : ℕ) → length v ≡ 32 → k < 32 → get_or (upper v) k 0 ≡ get_or v k 0 / 16
+upper-at v k long l = splat-at (λ a b. a / 2 ^ b) v 4 k long l
+
+pub lower-ok : (v : List ℕ) → length v ≡ 32 → SwzOk w8 16 32 0 (lower v)
+lower-ok v long =
+    let len : length (lower v) ≡ 32 = length-zip2 bit_and v (replicate 32 15) long ∙ long in
+    SwzOk-from_below w8 16 2 32 0 (lower v) refl (omega (arith, len)) (Each1-from_get_or (λ j. j < 16) (lower v) 0 (λ k l. omega (arith, lower-at v k long (omega (arith, l, len)))))
+
+pub upper-ok : (v : List ℕ) → length v ≡ 32 → Each1 (Fits w8) v → SwzOk w8 16 32 0 (upper v)
+upper-ok v long fits =
+    let len : length (upper v) ≡ 32 = length-zip2 (λ a b. a / 2 ^ b) v (replicate 32 4) long ∙ long in
+    SwzOk-from_below w8 16 2 32 0 (upper v) refl (omega (arith, len))
+    (Each1-from_get_or (λ j. j < 16) (upper v) 0 (λ k l. let in_range : k < 32 = omega (arith, l, len) in omega (arith, upper-at v k long in_range, lane-fits v k long fits in_range)))
+
+-- a look-up in a table that stands twice in its vector
+pub record IsLookUp (table vector : List ℕ) (f : ℕ → ℕ) : Type 0 where
+  pub long : length vector ≡ 32
+  pub each : (k : ℕ) → k < 32 → get_or vector k 0 ≡ get_or table (f k) 0
+
+looked-up : (table js : List ℕ) (f : ℕ → ℕ) → length js ≡ 32 → ((k : ℕ) → k < 32 → get_or js k 0 ≡ f k) → ((k : ℕ) → k < 32 → f k < 16)
+    → ((j : ℕ) → j < 16 → get_or table (16 + j) 0 ≡ get_or table j 0) → IsLookUp table (swz_l w8 16 table 0 js) f
+looked-up table js f long same small twice = record {
+  long = length-swz_l w8 16 table 0 js ∙ long;
+  each = λ k l.
+      get_or-swz_l_below w8 16 table 0 js k (omega (arith, long)) (omega (arith, same k l, small k l))
+      ∙ ap (λ j. get_or table (16 * ((0 + k) / 16) + j) 0) (same k l)
+      ∙ ⊎_elim
+      (λ low. let first : 16 * ((0 + k) / 16) + f k ≡ f k = omega arith in rw first refl)
+      (λ high. let second : 16 * ((0 + k) / 16) + f k ≡ 16 + f k = omega (arith, l) in rw second (twice (f k) (small k l)))
+      (cases_lt k 16);
+}
+
+pub by-low : (v : List ℕ) → length v ≡ 32 → IsLookUp BY_LOW_HALF (swz_l w8 16 BY_LOW_HALF 0 (lower v)) (λ k. get_or v k 0 % 16)
+by-low v long =
+    looked-up BY_LOW_HALF (lower v) (λ k. get_or v k 0 % 16) (length-zip2 bit_and v (replicate 32 15) long ∙ long) (λ k l. lower-at v k long l) (λ k l. omega arith)
+    (λ j l. eqb-true _ _ (agree_below_at (λ j. eqb (get_or BY_LOW_HALF (16 + j) 0) (get_or BY_LOW_HALF j 0)) (λ j. true) 16 j refl l))
+
+pub by-high : (v : List ℕ) → length v ≡ 32 → Each1 (Fits w8) v → IsLookUp BY_HIGH_HALF (swz_l w8 16 BY_HIGH_HALF 0 (upper v)) (λ k. get_or v k 0 / 16)
+by-high v long fits =
+    looked-up BY_HIGH_HALF (upper v) (λ k. get_or v k 0 / 16) (length-zip2 (λ a b. a / 2 ^ b) v (replicate 32 4) long ∙ long) (λ k l. upper-at v k long l)
+    (λ k l. omega (arith, lane-fits v k long fits l))
+    (λ j l. eqb-true _ _ (agree_below_at (λ j. eqb (get_or BY_HIGH_HALF (16 + j) 0) (get_or BY_HIGH_HALF j 0)) (λ j. true) 16 j refl l))
+
+-- the class of a byte
+abbrev pub class_at : ℕ → ℕ
+class_at b = bit_and (get_or BY_LOW_HALF (b % 16) 0) (get_or BY_HIGH_HALF (b / 16) 0)
+
+pub class-is : (b : ℕ) → b < 256 → IsClass b (class_at b)
+unfolding is_border is_plain is_accepted is_letter is_digit is_other_mark is_blank
+class-is b l = record {
+  most = leb-true _ _ (agree_below_at (λ x. leb (class_at x) 128) (λ x. true) 256 b refl l);
+  border = agree_below_at (λ x. leb 128 (class_at x)) (λ x. is_border x) 256 b refl l;
+  solid = agree_below_at (λ x. leb 8 (class_at x)) (λ x. is_solid x) 256 b refl l;
+  accepted = agree_below_at (λ x. leb 2 (class_at x)) (λ x. is_accepted x) 256 b refl l;
+}
+
+pub classes-are : (v low high : List ℕ) → length v ≡ 32 → Each1 (Fits w8) v → IsLookUp BY_LOW_HALF low (λ k. get_or v k 0 % 16) → IsLookUp BY_HIGH_HALF high (λ k. get_or v k 0 / 16)
+    → HasClasses (zip2 bit_and low high) (λ k. get_or v k 0)
+classes-are v low high long fits l h = record {
+  long = length-zip2 bit_and low high (l.long ∙ sym h.long) ∙ l.long;
+  each = λ k few.
+      let same : get_or (zip2 bit_and low high) k 0 ≡ class_at (get_or v k 0) =
+      get_or-zip2 bit_and low high k 0 0 0 (omega (arith, l.long)) (omega (arith, h.long)) ∙ (λ i. bit_and (l.each k few i) (h.each k few i)) in
+      rw same (class-is (get_or v k 0) (lane-fits v k long fits few));
+}
+
+-- a space for each lower byte
+pub spaces-are : (v : List ℕ) → length v ≡ 32 → HasSpaces (sel_l (zip2 ltb v (replicate 32 32)) (replicate 32 32) v) (λ k. get_or v k 0)
+spaces-are v long =
+    let len : length (zip2 ltb v (replicate 32 32)) ≡ 32 = length-zip2 ltb v (replicate 32 32) long ∙ long in
     record {
-      within = omega (arith, inside);
-      none = λ k h l.
-          let gone : k - place - (from - place) < zeros = omega arith in
-          no_border text place bits look k (omega arith) (omega (arith, inside))
-          (sym (shifted bits (from - place) (k - place) (omega arith)) ∙ t.2 (k - place - (from - place)) gone);
-      some = sym (rw there at (look.each (from - place + zeros) inside)) ∙ ap (λ x. eqb x 1) bit;
+      long = length-sel_l _ (replicate 32 32) v len (len ∙ sym long) ∙ len;
+      each = λ k l.
+          get_or-sel_l _ (replicate 32 32) v k 0 (omega (arith, len)) l (omega (arith, long))
+          ∙ (λ i. cond ((get_or-zip2 ltb v (replicate 32 32) k 0 0 false (omega (arith, long)) l ∙ ap (ltb (get_or v k 0)) (get_or-replicate 32 k 32 0 l)) i) (get_or-replicate 32 k 32 0 l i) (get_or v k 0));
     }
+
+-- the lanes that hold a class or a higher one
+same-test : (a b c d : ℕ) → (a ≤ b → c ≤ d) → (c ≤ d → a ≤ b) → leb a b ≡ leb c d
+same-test a b c d f g =
+    ⊎_elim
+    (λ less. lt-leb a b less ∙ sym (⊎_elim (λ l. lt-leb c d l) (λ h. absurd (omega (arith, g h, less))) (cases_lt d c)))
+    (λ more. le-leb a b more ∙ sym (le-leb c d (f more)))
+    (cases_lt b a)
+
+one-from : (p : Bool) → eqb (cond {A = ℕ} p 1 0) 1 ≡ p
+one-from true = refl
+one-from false = refl
+
+abbrev pub raised : List ℕ → ℕ → List ℕ
+raised v low = zip2 (λ a b. (a + b) % 2 ^ 8) v (replicate 32 (128 - low))
+
+pub length-raised : (v : List ℕ) (low : ℕ) → length v ≡ 32 → length (raised v low) ≡ 32
+length-raised v low long = length-zip2 (λ a b. (a + b) % 2 ^ 8) v (replicate 32 (128 - low)) long ∙ long
+
+pub bits-from : (v : List ℕ) (low : ℕ) → length v ≡ 32 → 1 ≤ low → low ≤ 128 → ((k : ℕ) → k < 32 → get_or v k 0 ≤ 128)
+    → IsBits (mask_l (map is_set (raised v low))) (λ k. leb low (get_or v k 0))
+bits-from v low long some few most =
+    let len = length-raised v low long in
+    record {
+      each = λ k l.
+          let here : get_or (raised v low) k 0 ≡ (get_or v k 0 + (128 - low)) % 2 ^ 8 = splat-at (λ a b. (a + b) % 2 ^ 8) v (128 - low) k long l in
+          let sum : (get_or v k 0 + (128 - low)) % 2 ^ 8 ≡ get_or v k 0 + (128 - low) = omega (arith, most k l, some) in
+          ap (λ x. eqb x 1) (bit_mask_l (map is_set (raised v low)) k) ∙ one-from (get_or (map is_set (raised v low)) k false)
+          ∙ get_or-map is_set (raised v low) k 0 false (omega (arith, len)) ∙ ap (λ x. leb 128 x) (here ∙ sum)
+          ∙ same-test 128 (get_or v k 0 + (128 - low)) low (get_or v k 0) (λ h. omega arith) (λ h. omega (arith, few));
+      small = rw (length-map (raised v low) is_set, len) at (mask_l-lt (map is_set (raised v low)));
+    }
+
+-- ---- what a pass keeps
+
+-- bits shifted up by one
+pub record IsBehind (before : Bool) (bits shifted : ℕ) : Type 0 where
+  pub first : bit_at shifted 0 ≡ cond before 1 0
+  pub others : (k : ℕ) → bit_at shifted (k + 1) ≡ bit_at bits k
+
+bit-from : (x : ℕ) (p : Bool) → x < 2 → eqb x 1 ≡ p → x ≡ cond p 1 0
+bit-from x true l h = eqb-true x 1 h
+bit-from x false l h = let other = eqb-false x 1 h in ⊎_elim (λ z. omega arith) (λ o. absurd (other (omega arith))) (cases_lt x 1)
+
+bit-is : (bits : ℕ) (p : ℕ → Bool) (k : ℕ) → IsBits bits p → k < 32 → bit_at bits k ≡ cond (p k) 1 0
+bit-is bits p k are l = bit-from (bit_at bits k) (p k) (bit_at-lt bits k) (are.each k l)
+
+behind-is : (before : Bool) (bits shifted : ℕ) (p : ℕ → Bool) (k : ℕ) → IsBits bits p → IsBehind before bits shifted → k ≤ 32 → bit_at shifted k ≡ cond (behind before p k) 1 0
+behind-is before bits shifted p zero are up l = up.first
+behind-is before bits shifted p (suc k) are up l = let step : suc k ≡ k + 1 = omega arith in rw step (up.others k) ∙ bit-is bits p k are (omega arith)
+
+min-cond : (p q : Bool) → min (cond {A = ℕ} p 1 0) (cond q 1 0) ≡ cond (p && q) 1 0
+min-cond true true = refl
+min-cond true false = refl
+min-cond false true = refl
+min-cond false false = refl
+
+max-cond : (p q : Bool) → max (cond {A = ℕ} p 1 0) (cond q 1 0) ≡ cond (p || q) 1 0
+max-cond true true = refl
+max-cond true false = refl
+max-cond false true = refl
+max-cond false false = refl
+
+less-cond : (p : Bool) → 1 - cond {A = ℕ} p 1 0 ≡ cond (not p) 1 0
+less-cond true = refl
+less-cond false = refl
+
+kept-cond : (s w p e d : Bool) → (p ≡ true → e ≡ false) → s || (((s || w) && (p || e)) && not (e || d)) ≡ s || (w && (p && not d))
+kept-cond true w p e d apart = refl
+kept-cond false false p e d apart = refl
+kept-cond false true true true d apart = absurd (false≢true (sym (apart refl)))
+kept-cond false true true false d apart = refl
+kept-cond false true false true d apart = refl
+kept-cond false true false false d apart = refl
+
+-- the bits of what is kept of the first 31
+abbrev pub kept_bits : Look → ℕ → ℕ
+kept_bits look shifted =
+    bit_and (bit_or look.solid (bit_and (bit_and look.accepted (look.solid / 2 ^ 1)) (bit_not w64 (bit_or (look.borders / 2 ^ 1) shifted)))) 2147483647
+
+next-bit : (bits : ℕ) (p : ℕ → Bool) (k : ℕ) → IsBits bits p → k < 31 → bit_at (bits / 2 ^ 1) k ≡ cond (p (k + 1)) 1 0
+next-bit bits p k are l = let place : 1 + k ≡ k + 1 = omega arith in ap (λ x. x % 2) (shr-shr bits 1 k) ∙ rw place (bit-is bits p (k + 1) are (omega arith))
+
+kept-bit : (look : Look) (f : ℕ → ℕ) (border : Bool) (shifted k : ℕ) → IsLook look f → IsBehind border look.borders shifted → shifted < 2 ^ 64 → k < 31
+    → bit_at (kept_bits look shifted) k ≡ cond (is_kept border f k) 1 0
+kept-bit look f border shifted k is up few l =
+    let solid = is_solid (f k) in
+    let blank = is_blank (f k) in
+    let plain = is_plain (f (k + 1)) in
+    let edge = is_border (f (k + 1)) in
+    let after = behind border (λ j. is_border (f j)) k in
+    let x = look.solid / 2 ^ 1 in
+    let y = bit_or (look.borders / 2 ^ 1) shifted in
+    let a : bit_at look.accepted k ≡ cond (solid || blank) 1 0 = bit-is look.accepted (λ j. is_accepted (f j)) k is.accepted (omega arith) ∙ ap (λ b. cond b 1 0) (accepted-is (f k)) in
+    let either : bit_at y k ≡ cond (edge || after) 1 0 =
+    bit_at_or (look.borders / 2 ^ 1) shifted k
+    ∙ (λ i. max (next-bit look.borders (λ j. is_border (f j)) k is.borders l i) (behind-is border look.borders shifted (λ j. is_border (f j)) k is.borders up (omega arith) i))
+    ∙ max-cond edge after in
+    let small : y < 2 ^ 64 = or_lt 64 (look.borders / 2 ^ 1) shifted (omega (arith, is.borders.small, shr_le look.borders 1)) few in
+    let n : bit_at (bit_not w64 y) k ≡ cond (not (edge || after)) 1 0 =
+    bit_at_not w64 y k small (omega arith) ∙ ap (λ b. 1 - b) either ∙ less-cond (edge || after) in
+    let between : bit_at (bit_and (bit_and look.accepted x) (bit_not w64 y)) k ≡ cond (((solid || blank) && (plain || edge)) && not (edge || after)) 1 0 =
+    bit_at_and (bit_and look.accepted x) (bit_not w64 y) k
+    ∙ (λ i. min ((bit_at_and look.accepted x k ∙ (λ j. min (a j) (next-bit look.solid (λ j. is_solid (f j)) k is.solid l j)) ∙ min-cond (solid || blank) (plain || edge)) i) (n i))
+    ∙ min-cond ((solid || blank) && (plain || edge)) (not (edge || after)) in
+    let every = bit_or look.solid (bit_and (bit_and look.accepted x) (bit_not w64 y)) in
+    let told : bit_at every k ≡ cond (is_kept border f k) 1 0 =
+    bit_at_or look.solid (bit_and (bit_and look.accepted x) (bit_not w64 y)) k
+    ∙ (λ i. max (bit-is look.solid (λ j. is_solid (f j)) k is.solid (omega arith) i) (between i))
+    ∙ max-cond solid (((solid || blank) && (plain || edge)) && not (edge || after))
+    ∙ ap (λ b. cond b 1 0) (kept-cond solid blank plain edge after (λ h. plain-no_border (f (k + 1)) h)) in
+    let low : bit_at 2147483647 k ≡ 1 = bit_at_ones 31 k l in
+    omega (arith, bit_at_and every 2147483647 k, low, told, bit_at-lt every k)
+
+-- how many of the first bytes are kept
+pub record IsFront (look : Look) (border : Bool) (count : ℕ) : Type 0 where
+  pub bound : count ≤ 31
+  pub each : (f : ℕ → ℕ) → IsLook look f → (k : ℕ) → k < count → is_kept border f k ≡ true
+  pub stops : (f : ℕ → ℕ) → IsLook look f → count < 31 → is_kept border f count ≡ false
+
+pub front-is : (look : Look) (border : Bool) (shifted : ℕ) → IsBehind border look.borders shifted → shifted < 2 ^ 64 → IsFront look border (trailing_ones w64 (kept_bits look shifted))
+front-is look border shifted up few =
+    let bits = kept_bits look shifted in
+    let every = bit_or look.solid (bit_and (bit_and look.accepted (look.solid / 2 ^ 1)) (bit_not w64 (bit_or (look.borders / 2 ^ 1) shifted))) in
+    let low : bits ≤ 2147483647 = and_le_r every 2147483647 in
+    let t = bit_at-trailing_ones w64 bits (omega arith) in
+    let count = trailing_ones w64 bits in
+    let bound : count ≤ 31 =
+    ⊎_elim
+    (λ h. let last : bit_at 2147483647 31 ≡ 0 = refl in absurd (omega (arith, t.2 31 h, bit_at_and every 2147483647 31, last)))
+    (λ h. h)
+    (cases_lt 31 count) in
+    record {
+      bound = bound;
+      each = λ f is k l. one_from (is_kept border f k) (sym (kept-bit look f border shifted k is up few (omega arith)) ∙ t.2 k l);
+      stops = λ f is l. zero_from (is_kept border f count) (sym (kept-bit look f border shifted count is up few l) ∙ t.1);
+    }
+
+pub last-is : (look : Look) (f : ℕ → ℕ) (border : Bool) (shifted count : ℕ) → IsLook look f → IsBehind border look.borders shifted → count ≤ 31 → eqb (bit_at shifted count) 1 ≡ behind border (λ k. is_border (f k)) count
+last-is look f border shifted count is up few =
+    ap (λ x. eqb x 1) (behind-is border look.borders shifted (λ j. is_border (f j)) count is.borders up (omega arith)) ∙ one-from (behind border (λ j. is_border (f j)) count)
+
+-- a look is made of the classes of its bytes
+pub look-is : (f : ℕ → ℕ) (v classes spaced : List ℕ) (borders solid accepted : ℕ) → ((k : ℕ) → k < 32 → f k ≡ get_or v k 0) → HasClasses classes (λ k. get_or v k 0) → HasSpaces spaced (λ k. get_or v k 0)
+    → IsBits borders (λ k. leb 128 (get_or classes k 0)) → IsBits solid (λ k. leb 8 (get_or classes k 0)) → IsBits accepted (λ k. leb 2 (get_or classes k 0))
+    → IsLook (record { spaced = spaced; borders = borders; solid = solid; accepted = accepted }) f
+look-is f v classes spaced borders solid accepted same held spaces b s a = record {
+  spaced = record { long = spaces.long; each = λ k l. spaces.each k l ∙ ap as_space (sym (same k l)) };
+  borders = record { each = λ k l. b.each k l ∙ (held.each k l).border ∙ ap is_border (sym (same k l)); small = b.small };
+  solid = record { each = λ k l. s.each k l ∙ (held.each k l).solid ∙ ap is_solid (sym (same k l)); small = s.small };
+  accepted = record { each = λ k l. a.each k l ∙ (held.each k l).accepted ∙ ap is_accepted (sym (same k l)); small = a.small };
+}

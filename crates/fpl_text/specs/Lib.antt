@@ -13,5 +13,6 @@ pub mod Places
 pub mod Moments
 pub mod Days
 pub mod Lanes
+pub mod Looks
 pub mod Passes
 pub mod Fronts

@@ -46,10 +46,6 @@ squeezed_or_fault text =
     if list_all is_blank text then Err Empty
     else squeezed_unless (position_from (λ b. not (is_accepted b)) 0 text) text
 
--- the length of what is kept between two bytes at most
-abbrev pub blanks : Bool → ℕ
-blanks blank = if blank then 1 else 0
-
 -- what is kept between two bytes with blanks between them, or without
 unfoldable pub space_between : Bool → ℕ → ℕ → List ℕ
 space_between blank before after =

@@ -2,16 +2,16 @@
 
 ghost use Rattle.std.specs.Prelude.{[], ◌≡◌, ◌<◌, List, ℕ};
 ghost use Rattle.std.specs.Prelude.{IsTrue, Some, length, slice_get, slice_index_or};
-ghost use Rattle.std.specs.Prelude.{MatchOption, IfOk, IfErr, Err, true, false};
+ghost use Rattle.std.specs.Prelude.{IfOk, IfErr, Err, true};
 ghost use Rattle.fpl_text.specs.Words.{words_of};
 ghost use Rattle.fpl_text.specs.Squeezing.{Gives};
-ghost use Rattle.fpl_text.specs.Borders.{parts, IsCut, IsMessage};
-ghost use Rattle.fpl_text.specs.Fields.{stands_in_brackets, is_bracketed, inside};
+ghost use Rattle.fpl_text.specs.Borders.{IsNoted, IsMessage};
+ghost use Rattle.fpl_text.specs.Fields.{is_bracketed};
 ghost use Rattle.fpl_text.specs.Fields.{fields_of, first_field, title_of};
 ghost use Rattle.fpl_text.specs.Fields.{begins_amendment, has_its_fields};
 ghost use Rattle.fpl_text.specs.Fields.{fields_or_fault, split_or_fault};
 
-use crate::borders::{Borders, borders_of};
+use crate::borders::Borders;
 use crate::byte::is_digit;
 use crate::fault::TextFault;
 use crate::squeezed::Squeezed;
@@ -37,7 +37,7 @@ pub enum Title {
 /// The fields of a message: a squeezed text in one pair of brackets, cut at its hyphens.
 #[derive(Drop)]
 pub struct Fields<A: Allocator + Copy = Global> {
-    text: Squeezed<A>,
+    text: Vec<u8, A>,
     borders: Borders,
     title: Title,
 }
@@ -45,22 +45,10 @@ pub struct Fields<A: Allocator + Copy = Global> {
 impl<A: Allocator + Copy> Model for Fields<A> {
     ghost Value = { List (List ℕ) };
 
-    ghost view = { λ f. fields_of f.text };
+    ghost view = { λ f. fields_of f.text.items };
 
-    ghost invariant = { λ f. IsMessage f.text f.borders.places.items f.borders.count f.title };
-}
-
-/// What is between an opening bracket at the beginning and a closing one at the end. `None` if
-/// either is missing.
-#[tactic(auto, unfolding(crate::specs::Fields::stands_in_brackets))]
-fn between_brackets(text: &[u8]) -> Option<&[u8]>
-    ensures value { MatchOption result (stands_in_brackets text.now ≡ false)
-        (λ between. (stands_in_brackets text.now ≡ true) × (between.now ≡ inside text.now)) }
-{
-    match text {
-        [b'(', between @ .., b')'] => Some(between),
-        _ => None,
-    }
+    ghost invariant = { λ f. IsNoted f.text.items (length f.borders.places.items) f.borders
+        × IsMessage f.text.items f.title };
 }
 
 /// The title with which the first field begins.
@@ -96,58 +84,36 @@ pub fn begins_amendment(field: &[u8]) -> bool
 }
 
 /// Whether a message of this title may have these fields.
-fn has_its_fields(title: Title, inside: &[u8], borders: &Borders) -> bool
-    requires { IsCut inside.now borders.now.places.items borders.now.count }
-    ensures { result ≡ has_its_fields title (parts inside.now) }
+fn has_its_fields(title: Title, text: &[u8], borders: &Borders) -> bool
+    requires noted { IsNoted text.now (length borders.now.places.items) borders.now }
+    requires bracketed { is_bracketed text.now ≡ true }
+    ensures { result ≡ has_its_fields title (fields_of text.now) }
 {
-    let count = borders.count;
+    let count = borders.field_count(text);
     match title {
         Title::Fpl => count == 9,
         Title::Dla | Title::Cnl | Title::Dep => count == 4 || count == 5,
-        Title::Chg => count > 5 || (count == 5 && begins_amendment(borders.part(inside, 4))),
+        Title::Chg => count > 5 || (count == 5 && begins_amendment(borders.field(text, 4))),
     }
 }
 
-/// Finds the borders of the fields of a text in one pair of brackets; `None` for any other text.
-#[tactic(auto, unfolding(crate::specs::Fields::is_bracketed))]
-fn borders_in_brackets<A: Allocator + Copy>(text: &Squeezed<A>) -> Option<Borders>
-    ensures { MatchOption result (is_bracketed text.now ≡ false)
-        (λ borders. (is_bracketed text.now ≡ true)
-        × IsCut (inside text.now) borders.places.items borders.count) }
-{
-    let Some(inside) = between_brackets(text.as_bytes()) else {
-        return None;
-    };
-    borders_of(text.with_room(), inside.len() + 1)
-}
-
-/// What is between the brackets of a text.
-#[tactic(auto, unfolding(crate::specs::Fields::is_bracketed, crate::specs::Fields::stands_in_brackets))]
-fn inside(text: &[u8]) -> &[u8]
-    requires { is_bracketed text.now ≡ true }
-    ensures { result.now ≡ inside text.now }
-{
-    &text[1..text.len() - 1]
-}
-
-/// Finds the title and the borders of a message, or its first fault.
-#[tactic(auto, unfolding(crate::specs::Fields::fields_or_fault, crate::specs::Fields::fields_of))]
-fn title_and_borders<A: Allocator + Copy>(text: &Squeezed<A>) -> Result<(Borders, Title), TextFault>
-    ensures ok { IfOk result
-        (λ found. IsMessage text.now found.0.places.items found.0.count found.1) }
+/// The title of a message, or its first fault.
+#[tactic(auto, unfolding(crate::specs::Fields::fields_or_fault))]
+fn title_in(text: &[u8], borders: &Borders) -> Result<Title, TextFault>
+    requires { IsNoted text.now (length borders.now.places.items) borders.now }
+    ensures ok { IfOk result (λ title. IsMessage text.now title) }
     ensures err { IfErr result (λ fault. fields_or_fault text.now ≡ Err fault) }
 {
-    let Some(borders) = borders_in_brackets(text) else {
+    if !borders.are_bracketed(text) {
         return Err(TextFault::NoBracket);
-    };
-    let inside = inside(text.as_bytes());
-    let Some(title) = title_of(borders.part(inside, 0)) else {
+    }
+    let Some(title) = title_of(borders.field(text, 0)) else {
         return Err(TextFault::UnknownTitle);
     };
-    if !has_its_fields(title, inside, &borders) {
+    if !has_its_fields(title, text, borders) {
         return Err(TextFault::FieldCount);
     }
-    Ok((borders, title))
+    Ok(title)
 }
 
 impl<A: Allocator + Copy> Fields<A> {
@@ -160,27 +126,27 @@ impl<A: Allocator + Copy> Fields<A> {
     }
 
     /// The number of fields.
-    #[tactic(auto, unfolding(crate::specs::Fields::fields_of))]
     pub fn count(&self) -> usize
         ensures { result ≡ length self.now }
     {
-        self.borders.count
+        self.borders.field_count(self.text.as_slice())
     }
 
     /// Field `i`, counted from 0.
-    #[tactic(auto, unfolding(crate::specs::Fields::fields_of))]
     pub fn field(&self, i: usize) -> &[u8]
         requires { i < length self.now }
         ensures { slice_get self.now i ≡ Some result.now }
     {
-        self.borders.part(inside(self.text.as_bytes()), i)
+        self.borders.field(self.text.as_slice(), i)
     }
 
     /// Discards the text and returns its empty buffer, for the next text.
     pub fn into_room(self) -> Vec<u8, A>
         ensures { result.items ≡ [] }
     {
-        self.text.into_room()
+        let mut room = self.text;
+        room.clear();
+        room
     }
 
     /// The words of field `i`, counted from 0.
@@ -196,13 +162,14 @@ impl<A: Allocator + Copy> Squeezed<A> {
     /// Cuts the text at its hyphens into the fields of a message. Refuses, in this order, a text
     /// that isn't in one pair of brackets, an unknown title, and a number of fields that the title
     /// doesn't have. Allocates nothing.
-    #[tactic(auto, unfolding(crate::specs::Fields::fields_of, crate::specs::Fields::fields_or_fault))]
+    #[tactic(auto, unfolding(crate::specs::Fields::fields_or_fault))]
     pub fn into_fields(self) -> Result<Fields<A>, TextFault>
         ensures { result ≡ fields_or_fault self }
     {
-        let (borders, title) = title_and_borders(&self)?;
+        let Squeezed { bytes, borders } = self;
+        let title = title_in(bytes.as_slice(), &borders)?;
         Ok(Fields {
-            text: self,
+            text: bytes,
             borders,
             title,
         })

@@ -4,9 +4,9 @@ ghost use Rattle.std.specs.Prelude.{◌≡◌, ◌≤◌, ◌<◌, ◌+◌, ◌�
 ghost use Rattle.std.specs.Prelude.{◌||◌, if◌then◌else◌, nat_le, not, ℕ, Bool};
 ghost use Rattle.std.specs.Prelude.{true, false, length, slice_index, take, drop, count_by};
 ghost use Rattle.std.specs.Int.{bit_at};
-ghost use Rattle.fpl_text.specs.Bytes.{is_border, is_common, is_letter};
+ghost use Rattle.fpl_text.specs.Bytes.{is_letter};
 ghost use Rattle.fpl_text.specs.Bytes.{is_letter_or_digit, is_path_byte};
-ghost use Rattle.fpl_text.specs.Lanes.{HasLanes, HasFlags, behind, is_kept};
+ghost use Rattle.fpl_text.specs.Lanes.{HasLanes, HasFlags};
 
 use std::simd::prelude::*;
 
@@ -81,14 +81,6 @@ fn or_equal_to(flags: u8x16, v: u8x16, byte: u8) -> u8x16
     either(flags, equal_to(v, byte))
 }
 
-/// Flags the borders.
-#[inline(always)]
-pub(crate) fn border_lanes(v: u8x16) -> u8x16
-    ensures { HasFlags result (λ k. is_border (slice_index v k)) }
-{
-    or_equal_to(or_equal_to(equal_to(v, b'-'), v, b'('), v, b')')
-}
-
 /// Flags the letters.
 #[inline(always)]
 pub(crate) fn letter_lanes(v: u8x16) -> u8x16
@@ -124,30 +116,6 @@ pub(crate) fn other_lanes(v: u8x16, byte: u8) -> u8x16
         .select(u8x16::splat(0), u8x16::splat(255))
 }
 
-/// Flags the common bytes.
-#[inline(always)]
-pub(crate) fn common_lanes(v: u8x16) -> u8x16
-    ensures { HasFlags result (λ k. is_common (slice_index v k)) }
-{
-    either(between(v, b'A', b'Z'), between(v, b'.', b':'))
-}
-
-/// Flags the spaces and line feeds.
-#[inline(always)]
-pub(crate) fn space_or_feed_lanes(v: u8x16) -> u8x16
-    ensures { HasFlags result (λ k. (slice_index v k == 32) || (slice_index v k == 10)) }
-{
-    or_equal_to(equal_to(v, b' '), v, b'\n')
-}
-
-/// Replaces line feeds by spaces.
-#[inline(always)]
-pub(crate) fn feeds_as_spaces(v: u8x16) -> u8x16
-    ensures { HasLanes result (λ k. if slice_index v k == 10 then 32 else slice_index v k) }
-{
-    v.simd_eq(u8x16::splat(b'\n')).select(u8x16::splat(b' '), v)
-}
-
 /// The number of consecutive lanes from `place` on that are flagged.
 #[inline(always)]
 pub(crate) fn set_lanes_from(flags: u8x16, place: usize) -> usize
@@ -158,53 +126,6 @@ pub(crate) fn set_lanes_from(flags: u8x16, place: usize) -> usize
         → p (place + result) ≡ false }
 {
     (top_bits(flags) >> place).trailing_ones() as usize
-}
-
-/// Returns the borders as bits: bit k for lane k.
-#[inline(always)]
-pub(crate) fn border_bits(v: u8x16) -> u64
-    ensures each { (k : ℕ) → k < 16 → (bit_at result k == 1) ≡ is_border (slice_index v k) }
-    ensures small { result < 65536 }
-{
-    top_bits(border_lanes(v))
-}
-
-/// Counts the first lanes, at most 15, that a pass keeps: plain bytes, borders, and a blank between
-/// two plain bytes. `border` says whether the byte before the vector is a border; the second result
-/// says so of the last lane that is kept, or repeats `border` if none is. Lane 15 only shows
-/// whether a plain byte follows a blank in lane 14.
-#[inline(always)]
-pub(crate) fn kept_front(plain: u8x16, borders: u8x16, blanks: u8x16, border: bool) -> (usize, bool)
-    ensures bound { result.0 ≤ 15 }
-    ensures each { (p q r : ℕ → Bool) → HasFlags plain p → HasFlags borders q → HasFlags blanks r
-        → (k : ℕ)
-        → k < result.0 → is_kept border p q r k ≡ true }
-    ensures last { (q : ℕ → Bool) → HasFlags borders q → result.1 ≡ behind border q result.0 }
-{
-    let plain = top_bits(plain);
-    let borders = top_bits(borders);
-    let between = top_bits(blanks) & (plain >> 1) & bits_behind(!border, plain);
-    let count = ((plain | borders | between) & 32767).trailing_ones() as usize;
-    (count, bit_is_set(bits_behind(border, borders), count))
-}
-
-/// Shifts the bits of 16 lanes up by one, with `first` as the lowest bit.
-#[inline(always)]
-fn bits_behind(first: bool, bits: u64) -> u64
-    requires { bits < 65536 }
-    ensures first { bit_at result 0 ≡ (if first then 1 else 0) }
-    ensures others { (k : ℕ) → bit_at result (k + 1) ≡ bit_at bits k }
-{
-    2 * bits + u64::from(first)
-}
-
-/// Whether bit `place` is set.
-#[inline(always)]
-fn bit_is_set(bits: u64, place: usize) -> bool
-    requires { place < 64 }
-    ensures { result ≡ (bit_at bits place == 1) }
-{
-    (bits >> place) & 1 == 1
 }
 
 /// The number of bytes before the first space among the 8 bytes at `at`, or 8.

@@ -7,11 +7,15 @@
 //! The forms are definitions in `specs/`, functions from texts to values, and each reader is exact:
 //! it returns what its definition gives, and refuses a text for which that gives nothing.
 //!
-//! - *One pass* (`squeezed`, `pass`, `lanes`): the pass reads sixteen bytes at a time. `lanes` says
-//!   what each lane of a vector holds, so its callers speak of kinds of bytes and of no bit of a
-//!   vector.
+//! - *One pass* (`squeezed`, `pass`, `looks`, `borders`): the pass looks at 32 bytes at a time,
+//!   whose kinds it reads from two tables, one for each half of a byte. Mostly it keeps all but
+//!   the last, which shows what follows the others. Else it looks again after the first that it
+//!   drops. Each look shows the hyphens and brackets, too, so the pass records where they are in
+//!   the squeezed text.
 //! - *Fields* (`fields`, `borders`, `words`): a field is a slice of the squeezed text between two
 //!   borders, and isn't copied.
+//! - *Vectors* (`lanes`, `looks`): their clauses say what each lane holds, so callers speak of
+//!   kinds of bytes and of no bit of a vector.
 //! - *Forms*: `heading` (field 3), `ident` (7), `craft` (8 and 9), `equipment` (10), `place` (13
 //!   and 16).
 //! - *Times* (`minute`, `day`, `date`, `time`): whole minutes since 1970-01-01 00:00 UTC.
@@ -30,6 +34,7 @@ mod heading;
 mod ident;
 mod lanes;
 pub mod laws;
+mod looks;
 mod minute;
 mod part;
 mod pass;

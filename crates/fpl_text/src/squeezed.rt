@@ -1,9 +1,10 @@
 //! Texts with their blanks squeezed.
 
-ghost use Rattle.std.specs.Prelude.{◌≡◌, ◌≤◌, ◌+◌, ◌++◌, [], List, ℕ, length, take, IfOk};
+ghost use Rattle.std.specs.Prelude.{◌≡◌, ◌++◌, [], List, ℕ, IfOk};
 ghost use Rattle.fpl_text.specs.Passes.{gap};
 ghost use Rattle.fpl_text.specs.Squeezing.{squeezed_or_fault, Gives};
 
+use crate::borders::Borders;
 use crate::fault::TextFault;
 use crate::pass::squeeze;
 use std::alloc::{AllocError, Allocator, Global};
@@ -13,23 +14,22 @@ use std::marker::Model;
 /// bracket.
 #[derive(Drop)]
 pub struct Squeezed<A: Allocator + Copy = Global> {
-    /// The text and at least 16 more bytes, so that a vector can be loaded at each of its bytes.
-    bytes: Vec<u8, A>,
-    /// The length of the text.
-    len: usize,
+    pub(crate) bytes: Vec<u8, A>,
+    pub(crate) borders: Borders,
 }
 
 impl<A: Allocator + Copy> Model for Squeezed<A> {
-    ghost use Rattle.std.specs.Prelude.{◌≤◌, ◌+◌, List, ℕ, take, length};
+    ghost use Rattle.std.specs.Prelude.{List, ℕ, length};
+    ghost use Rattle.fpl_text.specs.Borders.{IsNoted};
 
     ghost Value = { List ℕ };
 
-    ghost view = { λ s. take s.len s.bytes.items };
+    ghost view = { λ s. s.bytes.items };
 
-    ghost invariant = { λ s. s.len + 16 ≤ length s.bytes.items };
+    ghost invariant = { λ s. IsNoted s.bytes.items (length s.borders.places.items) s.borders };
 }
 
-/// Copies a text into this buffer between two paddings of 16 zeros. Grows the buffer if it is too
+/// Copies a text into this buffer between two paddings of 32 zeros. Grows the buffer if it is too
 /// small; returns `Err` if that allocation fails.
 fn between_gaps<A: Allocator + Copy>(
     room: Vec<u8, A>,
@@ -39,10 +39,10 @@ fn between_gaps<A: Allocator + Copy>(
 {
     let mut bytes = room;
     bytes.clear();
-    bytes.reserve_exact(text.len() + 32)?;
-    bytes.extend_from_slice(&[0; 16])?;
+    bytes.reserve_exact(text.len() + 64)?;
+    bytes.extend_from_slice(&[0; 32])?;
     bytes.extend_from_slice(text)?;
-    bytes.extend_from_slice(&[0; 16])?;
+    bytes.extend_from_slice(&[0; 32])?;
     Ok(bytes)
 }
 
@@ -65,14 +65,15 @@ impl<A: Allocator + Copy> Squeezed<A> {
         let Ok(mut bytes) = between_gaps(room, text) else {
             return Err(TextFault::OutOfMemory);
         };
-        let len = match squeeze(text, bytes.as_mut_slice()) {
-            Ok(len) => len,
+        let (len, borders) = match squeeze(text, bytes.as_mut_slice()) {
+            Ok(kept) => kept,
             Err(place) => return Err(TextFault::BadByte(place)),
         };
         if len == 0 {
             return Err(TextFault::Empty);
         }
-        Ok(Squeezed { bytes, len })
+        bytes.truncate(len);
+        Ok(Squeezed { bytes, borders })
     }
 }
 
@@ -80,14 +81,6 @@ impl<A: Allocator + Copy> Squeezed<A> {
     /// The squeezed text.
     pub fn as_bytes(&self) -> &[u8]
         ensures { result.now ≡ self.now }
-    {
-        &self.bytes[..self.len]
-    }
-
-    /// The squeezed text and at least 16 more bytes.
-    pub(crate) fn with_room(&self) -> &[u8]
-        ensures text { take (length self.now) result.now ≡ self.now }
-        ensures room { length self.now + 16 ≤ length result.now }
     {
         self.bytes.as_slice()
     }

@@ -1,12 +1,13 @@
-use Rattle.std.proofs.Common.{◌≡◌, ◌<◌, ◌-◌, length, false}
+use Rattle.std.proofs.Common.{◌-◌, length, take}
+use Rattle.fpl_text.specs.Borders.{IsNoted}
 use Rattle.fpl_text.specs.Passes.{IsPass}
 use Rattle.fpl_text.proofs.pass.squeeze.Given as goal
 
-abbrev pub invariant-passes : goal.invariant-passes
-invariant-passes l = record {
-  pass : IsPass l.text l.out l.pass;
-  inside : l.pass.place < length l.text → l.pass.blank ≡ false;
+abbrev pub invariant-looks : goal.invariant-looks
+invariant-looks l = record {
+  pass : IsPass l.text l.out l.place l.made l.border;
+  noted : IsNoted (take l.made l.out) l.most l.borders;
 }
 
-abbrev pub decreases-passes : goal.decreases-passes
-decreases-passes l = length l.text - l.pass.place
+abbrev pub decreases-looks : goal.decreases-looks
+decreases-looks l = length l.text - l.place
