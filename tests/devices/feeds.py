@@ -5,14 +5,16 @@
 
 - each of two terminals and two pairs of named pipes files one line after the other and is answered
   within a second, in its own file and on standard output, while the others stay silent and nobody
-  has opened a fifth pair; that one is answered at the end;
+  has opened a fifth pair; that one is answered at the end; with a store, too, and what each is
+  answered is in it then;
 - 64 feeders have 65 threads, and none of them is waited for by another;
 - a pipe that is opened for reading only after its filing gets its answer all the same;
 - a feeder whose reader goes has its line at once, the others go on, and the status is 1 after the
   journal and REPLAY;
 - standard output that is closed or full ends the run: its line comes at once, nobody is answered
   from then on, no journal and no REPLAY follow, and the process ends when each read has returned;
-- if no thread can be made feeds are answered one after the other;
+  so does a store that fails;
+- if no thread can be made feeds are answered one after the other, with a store, too;
 - a folder with a name that isn't UTF-8 is refused, and one with more than 64 pairs;
 - a round trip through two named pipes takes at most a millisecond more than through `cat`, by the
   medians;
@@ -29,6 +31,7 @@ import pty
 import resource
 import select
 import shutil
+import signal
 import statistics
 import subprocess
 import sys
@@ -120,15 +123,19 @@ def make_terminal(folder, name):
 
 
 @contextlib.contextmanager
-def desk(program, folder, *words, stdout=subprocess.PIPE):
+def desk(program, folder, *words, stdout=subprocess.PIPE, **how):
     words = [program, *WORDS, "--feeds", str(folder), *words]
-    pipe = subprocess.PIPE
-    silent = subprocess.DEVNULL
-    with subprocess.Popen(words, stdin=silent, stdout=stdout, stderr=pipe, bufsize=0) as child:
+    how |= {"stdin": subprocess.DEVNULL, "stdout": stdout, "stderr": subprocess.PIPE}
+    with subprocess.Popen(words, bufsize=0, **how) as child:
         try:
             yield child
         finally:
             child.kill()
+
+
+def stored(store):
+    """The words for a store, if there is one."""
+    return [] if store is None else ["--store", str(store)]
 
 
 def ask(sink, source, text, what):
@@ -147,11 +154,11 @@ def ended(child, status, what):
     expect(found == status, "%s: status %d, wanted %d" % (what, found, status))
 
 
-def silent_others(program, folder):
+def silent_others(program, folder, store=None):
     """Each of four feeders is answered while the others are silent."""
     make_pipes(folder, "pa", "pb", "late")
     terminals = {name: make_terminal(folder, name) for name in ("ta", "tb")}
-    with desk(program, folder) as child:
+    with desk(program, folder, *stored(store)) as child:
         out = child.stdout.fileno()
         ends = {name: (ours, ours) for name, (ours, _) in terminals.items()}
         for name in ("pa", "pb"):
@@ -167,6 +174,8 @@ def silent_others(program, folder):
                 expect(answer == wanted + b"\n", "%s got %r, wanted %r" % (name, answer, wanted))
                 told = read_until(out, wanted)
                 expect(told == wanted, "standard output got %r, wanted %r" % (told, wanted))
+                kept = store is None or filing(name.upper(), count).strip() in store.read_bytes()
+                expect(kept, "%s was answered and isn't in the store" % name)
         sink, source = writer_of(folder, "late"), reader_of(folder, "late")
         expect(ask(sink, source, filing("L", 1), "late") == b"101 OK FPL 101\n\n", "late")
         for name in ("ta", "tb"):
@@ -246,24 +255,33 @@ def broken_reader(program, folder):
     return "told at once, and 200 filings of two others answered"
 
 
-def failing_output(program, folder, device):
-    """Standard output that fails ends the run, and nobody is answered from then on."""
+def ends_all(program, folder, line, unanswered, *words, **how):
+    """A fault of the run has its line at once, and nobody is answered from then on."""
     make_pipes(folder, "a", "b")
-    with desk(program, folder, "--journal", stdout=device) as child:
+    with desk(program, folder, "--journal", *words, **how) as child:
         names = ("a", "b")
         ends = {name: (writer_of(folder, name), reader_of(folder, name)) for name in names}
         os.write(ends["a"][0], filing("A", 1))
-        line = read_until(child.stderr.fileno(), b"\n")
-        expect(line == b"slotdesk: write fault\n", "standard error got %r" % line)
-        os.write(ends["b"][0], filing("B", 1))
-        answer = read_until(ends["b"][1], b"\n\n", 0.3)
-        expect(answer == b"", "b was answered %r" % answer)
+        told = read_until(child.stderr.fileno(), b"\n")
+        expect(told == line, "standard error got %r" % told)
+        time.sleep(0.2)
         expect(child.poll() is None, "an end before each read has returned")
-        for name in ("a", "b"):
+        os.write(ends["b"][0], filing("B", 1))
+        for name in unanswered:
+            answer = read_until(ends[name][1], b"\n\n", 0.3)
+            expect(answer == b"", "%s was answered %r" % (name, answer))
+        for name in names:
             os.close(ends[name][0])
         ended(child, 1, "the desk")
         expect(child.stderr.read() == b"", "a second line on standard error")
+        output = child.stdout.read() if child.stdout else b""
+        expect(output == b"", "standard output got %r" % output)
     return "told at once, and nobody answered from then on"
+
+
+def failing_output(program, folder, device):
+    """Standard output that fails ends the run."""
+    return ends_all(program, folder, b"slotdesk: write fault\n", ("b",), stdout=device)
 
 
 def closed_output(program, folder):
@@ -280,6 +298,19 @@ def full_output(program, folder):
         return failing_output(program, folder, full)
 
 
+def let_no_file_grow():
+    """Lets a store be made, and no entry be added."""
+    signal.signal(signal.SIGXFSZ, signal.SIG_IGN)
+    resource.setrlimit(resource.RLIMIT_FSIZE, (60, 60))
+
+
+def failing_store(program, folder):
+    """A store that fails ends the run, and the filing that it didn't take isn't answered."""
+    words = stored(folder / "desk.store")
+    line, both = b"slotdesk: store fault\n", ("a", "b")
+    return ends_all(program, folder, line, both, *words, preexec_fn=let_no_file_grow)
+
+
 def make_no_thread():
     """Lets the process make none: as a user of its own, if it is root's, whom no limit binds."""
     if os.geteuid() == 0:
@@ -289,17 +320,18 @@ def make_no_thread():
     resource.setrlimit(resource.RLIMIT_NPROC, (1, 1))
 
 
-def no_threads(program, folder):
+def no_threads(program, folder, store=None):
     """If no thread can be made, feeds are answered one after the other."""
     own = shutil.copy(program, folder / "slotdesk")
     os.chmod(folder, 0o755)
     (folder / "feeds").mkdir()
+    os.chmod(folder / "feeds", 0o777)
     for name in ("a", "b", "c"):
         filed = filing(name.upper(), 1) + filing(name.upper(), 2)
         for end, text in ((".in", filed), (".out", b"")):
             (folder / "feeds" / (name + end)).write_bytes(text)
             os.chmod(folder / "feeds" / (name + end), 0o666)
-    words, pipe = [own, *WORDS, "--feeds", str(folder / "feeds")], subprocess.PIPE
+    pipe, words = subprocess.PIPE, [own, *WORDS, "--feeds", str(folder / "feeds"), *stored(store)]
     with subprocess.Popen(words, stdout=pipe, stderr=pipe, preexec_fn=make_no_thread) as child:
         try:
             output, errors = child.communicate(timeout=LIMIT)
@@ -312,6 +344,8 @@ def no_threads(program, folder):
     answers = [(folder / "feeds" / (name + ".out")).read_bytes() for name in ("a", "b", "c")]
     wanted = [b"%d OK FPL %d\n\n%d OK FPL %d\n\n" % (at, at, at + 1, at + 1) for at in (1, 3, 5)]
     expect(sorted(answers) == wanted, "answers %r" % answers)
+    kept = 6 if store is None else store.read_bytes().count(b"\nE ")
+    expect(kept == 6, "%d entries are in the store" % kept)
     return "answered one after the other"
 
 
@@ -409,12 +443,19 @@ def main():
     program, failed = str(pathlib.Path(args.program).resolve()), 0
     ways = {
         "others silent": silent_others,
+        "others silent, with a store": lambda program, folder: silent_others(
+            program, folder, folder / "desk.store"
+        ),
         "threads": own_threads,
         "a late reader": late_reader,
         "a broken reader": broken_reader,
         "standard output closed": closed_output,
         "standard output full": full_output,
+        "a store that fails": failing_store,
         "no threads": no_threads,
+        "no threads, with a store": lambda program, folder: no_threads(
+            program, folder, folder / "feeds" / "desk.store"
+        ),
         "a name that isn't UTF-8": name_not_text,
         "the most pairs": most_pairs,
         "round trip": lambda program, folder: round_trip(program, folder, args.trips),

@@ -1,14 +1,15 @@
 #!/usr/bin/env python3
 """Lets 64 feeders file over named pipes at the built program, and looks at journal and answers.
 
-    tests/devices/many_feeds.py PROGRAM [--filings N]
+    tests/devices/many_feeds.py PROGRAM [--filings N] [--store]
 
 One reads no answer until the others have all of theirs, one stops reading in the middle, and one is
 killed there. The desk must end with status 1 and the line of the feeder that stopped. For each
 feeder the entries of the journal must be the first of its filings, and all of them but for the
 broken and the killed one; what it was answered must be the answers to its entries, or a beginning
 of them. Standard output must be the answers that a desk with one feeder gives to the texts of the
-journal. Prints how many were filed and how long it took, and ends with 1 if anything was otherwise.
+journal. With --store the desk has one, which must hold the entries of the journal. Prints how many
+were filed and how long it took, and ends with 1 if anything was otherwise.
 """
 import argparse
 import fcntl
@@ -24,7 +25,7 @@ import time
 FEEDERS = 64
 SLOW, BROKEN, KILLED = 7, 21, 42
 WORDS = ["--start", "2409010500", "--plans", "20000"]
-HEAD = b"SLOTDESK JOURNAL 2\n"
+HEAD, STORE_HEAD = b"SLOTDESK JOURNAL 2\n", b"SLOTDESK STORE 1\n"
 LIMIT = 600
 # Files one text after the other, and waits for the answer to each. After the count of answers that
 # is given it reads no more.
@@ -117,7 +118,7 @@ def start_feeders(folder, texts):
     return processes
 
 
-def feed(program, folder, texts):
+def feed(program, folder, texts, store):
     """Runs the desk. Returns its status, None if it doesn't end, its lines of faults, whether none
     waited for another, and how long it took."""
     for feeder in range(FEEDERS):
@@ -126,6 +127,7 @@ def feed(program, folder, texts):
     begin = time.monotonic()
     with open(folder / "output", "wb") as output, open(folder / "errors", "wb") as errors:
         words = [program, *WORDS, "--journal", "--feeds", str(folder)]
+        words += ["--store", str(store)] if store else []
         silent = subprocess.DEVNULL
         child = subprocess.Popen(words, stdin=silent, stdout=output, stderr=errors)
     may_read = threading.Event()
@@ -166,7 +168,7 @@ def entries_of(journal):
     return entries, journal[at:]
 
 
-def findings(program, folder, texts, status, errors, free):
+def findings(program, folder, texts, store, status, errors, free):
     """What was otherwise than promised."""
     if not free:
         yield "somebody waited for the slow one"
@@ -181,6 +183,8 @@ def findings(program, folder, texts, status, errors, free):
     entries, end = entries_of(head + journal)
     if end != b"END %d\nREPLAY OK\n" % len(entries):
         yield "the journal ends with %r" % end[-100:]
+    if store and not store.read_bytes().startswith(STORE_HEAD + journal.removesuffix(end) + b"-"):
+        yield "the store hasn't the entries of the journal"
     answers = re.split(rb"^(?=\d)", output, flags=re.M)[1:]
     if len(answers) != len(entries):
         yield "%d answers to %d entries" % (len(answers), len(entries))
@@ -213,13 +217,15 @@ def main():
     parser = argparse.ArgumentParser(description=__doc__, formatter_class=way)
     parser.add_argument("program")
     parser.add_argument("--filings", type=int, default=20_000)
+    parser.add_argument("--store", action="store_true")
     args = parser.parse_args()
     program = str(pathlib.Path(args.program).resolve())
     texts = [texts_of(feeder, args.filings // FEEDERS) for feeder in range(FEEDERS)]
     with tempfile.TemporaryDirectory() as place:
         folder = pathlib.Path(place)
-        status, errors, free, wall = feed(program, folder, texts)
-        found = list(findings(program, folder, texts, status, errors, free))
+        store = folder / "desk.store" if args.store else None
+        status, errors, free, wall = feed(program, folder, texts, store)
+        found = list(findings(program, folder, texts, store, status, errors, free))
     for finding in found[:20]:
         print("many feeds: %s" % finding)
     end = sum(map(len, texts)), FEEDERS, wall, len(found)

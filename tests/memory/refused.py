@@ -3,12 +3,12 @@
 
     tests/memory/refused.py PROGRAM [NAME ..]
 
-NAME is a worked run in tests/cli/slotdesk; if none is named, some that file by themselves, with two feeders, over feeds, and going
-on from a journal. Where cc isn't there it says so, and refuses nothing.
+NAME is a worked run in tests/cli/slotdesk; if none is named, some that file by themselves, with two feeders, over feeds, over feeds
+with a store, and going on from a journal. Where cc isn't there it says so, and refuses nothing.
 The program asks the C library for its memory. A shim, built here with cc and loaded before that library, refuses the request
 number N, so that each N takes one short run; N rises until nothing is refused. A run must end as the worked run does, with its
-output, or with status 2, the line of want of memory and a beginning of that output, and so of what its feeds are answered; but
-never so where the journal is full. With feeders it may also end with the line of
+output, or with status 2, the line of want of memory and a beginning of that output, and so of what its feeds are answered and of
+the entries in its store; but never so where the journal is full. With feeders it may also end with the line of
 a thread that wasn't started, and what it has answered are then entries without a gap in their numbers and nothing behind them,
 since the filings of the other feeders go on. What the loader and the C library ask for before the program begins isn't counted.
 Prints for each worked run how many ended in which way, and ends with 1 if one ended in another, or none for want of memory.
@@ -33,6 +33,8 @@ CHOSEN = [
     "feeders-resumed-with-the-journal-full",
     "feeds-of-one-pair",
     "feeds-in-the-order-of-their-names",
+    "feeds-with-a-new-store",
+    "feeds-go-on-with-their-store",
 ]
 FULL, MEMORY, THREAD = b"- NO 91 JournalFull\n", b"slotdesk: out of memory\n", b"slotdesk: thread not started\n"
 SHIM = r"""
@@ -131,7 +133,12 @@ def run_placed(program, library, folder, count):
 def are_left(left, folder, whole):
     """Whether what is left in the files of a run is what the worked run leaves there, or, if it needn't be whole, begins so."""
     wanted = {name: text(folder / "after" / name) for name in left}
-    return all(left[name] == wanted[name] or not whole and wanted[name].startswith(left[name]) for name in left)
+    return all(left[name] == wanted[name] or not whole and wanted[name].startswith(front(name, left[name])) for name in left)
+
+
+def front(name, found):
+    """The bytes of a file that are to be a beginning: all, but the closed gate of a store."""
+    return found.removesuffix(b"-") if name.suffix == ".store" else found
 
 
 def ending(done, wanted, feeders):

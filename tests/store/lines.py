@@ -176,6 +176,39 @@ def few_feeders(f):
     f.run(["--store", "store", *two], FPL, 1, line=b"slotdesk: bad store\n", name="damage is before the feeders", store=third[:-1])
 
 
+def feeds(f):
+    """Feeders that are answered as they file and a store: what is refused and when, and going on in each way."""
+    path, words, replayed = f.folder / "store", ["--feeds", "feeds", "--store", "store"], b"REPLAY OK\n"
+    (f.folder / "feeds").mkdir()
+
+    def pairs(*filed):
+        for name, given in zip("ab", filed):
+            (f.folder / "feeds" / (name + ".in")).write_bytes(given)
+            (f.folder / "feeds" / (name + ".out")).write_bytes(b"")
+
+    pairs(FPL, b"")
+    f.run(["--feeds", "feeds", "--store", "none/store"], b"", 2, line=b"slotdesk: no store\n", name="feeds, no folder", files=["feeds"])
+    f.run(["--feeds", "feeds", "--store", "none/store", *START], b"", 1, line=b"slotdesk: store fault\n", name="feeds, no folder for a new one",
+          files=["feeds"])
+    f.run(["--feeds", "none", "--store", "none/store", *START], b"", 2, line=b"slotdesk: bad feeds\n", name="feeds before the store")
+    f.run([*words, *START], output=b"1 OK FPL 1\n" + replayed, name="a new store of feeds", store=HEAD + ENTRY + b"-", files=["feeds", "store"])
+    f.run(["--store", "store", "--feeders", "2"], b"TIME 2409010501\n", output=b"2 OK TIME\n" + replayed, name="two feeders after feeds",
+          store=HEAD + ENTRY + TIME + b"-")
+    pairs(b"", FPL)
+    with open(path, "rb") as held:
+        fcntl.flock(held, fcntl.LOCK_EX)
+        f.run(words, b"", 2, line=b"slotdesk: store in use\n", name="feeds, in use", store=HEAD + ENTRY + TIME + b"-")
+    f.run(words, output=b"3 NO 20 AlreadyHeld\n" + replayed, name="feeds after two feeders", store=HEAD + ENTRY + TIME + other(ENTRY, 1) + b"-")
+    pairs(b"", b"")
+    f.run([*words, "--journal"], output=JOURNAL.replace(b"END 1\n", TIME + other(ENTRY, 1) + b"END 3\n") + replayed, name="their journal",
+          store=HEAD + ENTRY + TIME + other(ENTRY, 1) + b"-", files=["feeds", "store"])
+    for end in ("in", "out"):
+        (f.folder / "feeds" / ("b." + end)).unlink()
+    f.run(words, b"", 2, line=b"slotdesk: bad feeders\n", name="a pair taken away", store=HEAD + ENTRY + TIME + other(ENTRY, 1) + b"-")
+    path.write_bytes(HEAD + other(ENTRY, 1))
+    f.run(words, b"", 1, line=b"slotdesk: bad store\n", name="damage is before the pairs")
+
+
 def other(entry, feeder):
     """The entry as that of another feeder."""
     return b"E %d" % feeder + entry[3:]
@@ -183,7 +216,7 @@ def other(entry, feeder):
 
 def main():
     program, failed, count = os.path.abspath(sys.argv[1]), [], 0
-    for rows in (makes_and_goes_on, resumes, damaged, refused, many_feeders, few_feeders):
+    for rows in (makes_and_goes_on, resumes, damaged, refused, many_feeders, few_feeders, feeds):
         with tempfile.TemporaryDirectory() as folder:
             f = Folder(program, folder)
             rows(f)

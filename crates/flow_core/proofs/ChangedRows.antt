@@ -1,9 +1,9 @@
 -- The changes of rows if it is known which plans may have changed.
-use Rattle.std.proofs.Common.{◌≡◌, ◌∙◌, ◌+◌, ◌-◌, ◌<◌, ◌≤◌, ℕ, zero, suc, List, [], ◌∷◌, ◌++◌, length, map, take, drop, get_or, refl, sym, ap, arith, Bool, true, false, ◌||◌, eqb, Option, Some, None, IsSome, IfSome, slice_get}
+use Rattle.std.proofs.Common.{◌≡◌, ◌∙◌, ◌+◌, ◌-◌, ◌<◌, ◌≤◌, ℕ, zero, suc, List, [], ◌∷◌, ◌++◌, length, map, take, drop, get_or, refl, sym, ap, arith, Bool, true, false, ◌||◌, eqb, Option, Some, None, IfSome, slice_get}
 use Rattle.std.specs.Option.{option_map, option_map_or, option_and_then}
 use Rattle.std.specs.List.{All, AllByRecursion, filter_map, cons_option}
 use Rattle.std.specs.List.Sorted.{IsStrictlyIncreasing}
-use Rattle.std.proofs.lemmas.Bool.{eq-eqb, eqb-true, true≢false, false≢true}
+use Rattle.std.proofs.lemmas.Bool.{eq-eqb, eqb-true, true≢false}
 use Rattle.std.proofs.lemmas.List.{take_more}
 use Rattle.std.proofs.lemmas.List.Elements.{recursion_from_All, filter_map-append}
 use Rattle.std.proofs.lemmas.Slice.Eq.{bytes_eq-Decides}
@@ -236,14 +236,6 @@ pub if-told : (o : Option Traffic) (ns : List ℕ) (ts : List (Option Told)) (j 
     → IfSome o (λ b. t ≡ told_of b.told (get_or ns j 0))
 if-told None ns ts j t h within at = tt
 if-told (Some b) ns ts j t h within at = at ∙ ap (λ (us : List (Option Told)). get_or us j t) h ∙ get-map (told_of b.told) ns j t within
-
-map-length : (f : ℕ → Option Told) (ns : List ℕ) → length (map f ns) ≡ length ns
-map-length f [] = refl
-map-length f (n ∷ ns) = ap suc (map-length f ns)
-
-pub if-each : (o : Option Traffic) (ns : List ℕ) (ts : List (Option Told)) → IsSome o → IfSome o (λ b. ts ≡ map (told_of b.told) ns) → length ts ≡ length ns
-if-each None ns ts some h = absurd (false≢true some)
-if-each (Some b) ns ts some h = ap length h ∙ map-length (told_of b.told) ns
 
 -- one more number
 pub if-more : (o : Option Traffic) (rows : List Row) (ns : List ℕ) (j : ℕ) (cs : List Change) (c : Option Change) → j < length ns

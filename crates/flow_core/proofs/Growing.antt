@@ -17,7 +17,7 @@ use Rattle.flow_regulations.specs.Regulations.{Regulation}
 use Rattle.flow_regulations.specs.Notices.{told_from}
 use Rattle.flow_regulations.specs.declared.notice.Told.{Told}
 use Rattle.flow_traffic.specs.Traffic.{Traffic}
-use Rattle.flow_traffic.specs.Asked.{Asked, asked, changed_by, asked_by_message, asked_to_open, asked_to_shut, asked_at}
+use Rattle.flow_traffic.specs.Asked.{Asked, asked, plans_changed_by, asked_by_message, asked_to_open, asked_to_shut, asked_at}
 use Rattle.flow_traffic.specs.Answers.{told_to, settle}
 use Rattle.flow_traffic.proofs.Changing.{ok-same, unless-ok}
 use Rattle.flow_core.specs.State.{State, Input, fresh, rows_of}
@@ -47,8 +47,8 @@ Grows max ps qs = (length ps ≤ length qs) × (length ps ≤ max → length qs 
 as-many : (max : ℕ) (ps qs : List PlanView) → length qs ≡ length ps → Grows max ps qs
 as-many max ps qs e = (omega (arith, e), λ few. omega (arith, e, few))
 
-changed-grows : (max now : ℕ) (ps : List PlanView) (m : Message) (c : Changed) → changed_by max now ps m ≡ Ok c → Grows max ps c.plans
-unfolding changed_by
+changed-grows : (max now : ℕ) (ps : List PlanView) (m : Message) (c : Changed) → plans_changed_by max now ps m ≡ Ok c → Grows max ps c.plans
+unfolding plans_changed_by
 changed-grows max now ps (fpl m) c e =
     let a = then-ok (filed max now ps m) _ c e in
     let made : Changed = record { plans = a.0; number = length a.0 } in
@@ -63,7 +63,7 @@ changed-grows max now ps (dep m) c e = as-many max ps c.plans (departed-count ps
 message-grows : (t : Traffic) (m : Message) (a : Asked) → asked_by_message t m ≡ Ok a → Grows t.max_plans t.plans a.plans
 unfolding asked_by_message
 message-grows t m a e =
-    let b = then-ok (changed_by t.max_plans t.now t.plans m) _ a e in
+    let b = then-ok (plans_changed_by t.max_plans t.now t.plans m) _ a e in
     subst (λ (d : Asked). Grows t.max_plans t.plans d.plans) (ok-same _ a b.2) (changed-grows t.max_plans t.now t.plans m b.0 b.1)
 
 ordered-grows : (t : Traffic) (b a : Asked) → b.plans ≡ t.plans → b ≡ a → Grows t.max_plans t.plans a.plans

@@ -1,5 +1,5 @@
 -- The row of one plan.
-use Rattle.std.proofs.Common.{◌≡◌, ℕ, zero, suc, List, [], ◌∷◌, length, refl, ap, ◌∙◌, arith, Option, Some, None, slice_get}
+use Rattle.std.proofs.Common.{◌≡◌, ℕ, zero, suc, List, [], ◌∷◌, refl, ap, ◌∙◌, Option, Some, None, slice_get}
 use Rattle.flow_plans.specs.Plans.{PlanView}
 use Rattle.flow_regulations.specs.declared.notice.Told.{Told}
 use Rattle.flow_traffic.specs.Same.{Standing, standing_of, standings}
@@ -18,13 +18,6 @@ rows-beyond [] ts i a = refl
 rows-beyond (q ∷ ps) [] i a = refl
 rows-beyond (q ∷ ps) (u ∷ ts) zero a = cc
 rows-beyond (q ∷ ps) (u ∷ ts) (suc i) a = rows-beyond ps ts i a
-
--- each plan has its index
-pub told-there : (ps : List PlanView) (ts : List (Option Told)) (i : ℕ) (p : PlanView) → length ts ≡ length ps → slice_get ps i ≡ Some p → slice_get ts i ≡ None → ⊥
-told-there [] ts i p e a b = cc
-told-there (q ∷ ps) [] i p e a b = absurd (omega (arith, e))
-told-there (q ∷ ps) (u ∷ ts) zero p e a b = cc
-told-there (q ∷ ps) (u ∷ ts) (suc i) p e a b = told-there ps ts i p (omega (arith, e)) a b
 
 -- the row of a plan with this status
 abbrev told_to : Standing → Option Told → Row

@@ -2,7 +2,6 @@
 use Rattle.std.proofs.Common.{◌≡◌, ◌≤◌, ℕ, ◌⊎◌, inl, inr, Bool, true, false, cond, List, [], ◌∷◌, ◌++◌, length, arith, refl, sym, ap, ◌∙◌, subst, Option, Some, None, append_assoc, ltb, leb, codes, IfSome, Result, Err, IsErrOf}
 use Rattle.std.specs.Result.{IsErrAnd}
 use Rattle.std.proofs.lemmas.Result.{err_from_is_err_and}
-use Rattle.std.proofs.lemmas.Bool.{le-leb}
 use Rattle.std.proofs.lemmas.List.{append-nil}
 use Rattle.std.specs.Io.KnownBytes.{Appends, Keeps}
 use Rattle.std.proofs.KnownBytes.{Appends-nil, Appends-trans, Consumes-nil}
@@ -75,10 +74,6 @@ module _ (s : State) (frame : List ℕ) where
       by true e = rw r refl
       by false e = absurd (cc)
 
--- the filing of a frame that isn't too long
-pub filing-fits : (frame : List ℕ) → length frame ≤ 2000 → filing_of frame ≡ Some (second frame)
-filing-fits frame h = rw (le-leb (length frame) 2000 h) refl
-
 -- ---- lists of frames
 
 output-append : (s : State) (fs gs : List (List ℕ)) → output s (fs ++ gs) ≡ output s fs ++ output (after s fs) gs
@@ -94,10 +89,6 @@ after-append s (f ∷ fs) gs = after-append (served s f) fs gs
 output-one : (s : State) (f : List ℕ) → output s (f ∷ []) ≡ said s f
 unfolding output
 output-one s f = append-nil (said s f)
-
-output-cons : (s : State) (f : List ℕ) (fs : List (List ℕ)) → output s (f ∷ fs) ≡ said s f ++ output (served s f) fs
-unfolding output
-output-cons s f fs = refl
 
 after-one : (s : State) (f : List ℕ) → after s (f ∷ []) ≡ served s f
 unfolding after

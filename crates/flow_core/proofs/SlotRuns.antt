@@ -31,7 +31,7 @@ use Rattle.flow_slots.proofs.Served.{all-in, in-all, in-right, planned, in-slot_
 use Rattle.flow_slots.proofs.Sound.{served, none_twice, held_within, held_number}
 use Rattle.flow_slots.proofs.StaysSound.{BySlot-insert, FixedApart-insert, all-insert_fixed, sound-insert}
 use Rattle.flow_regulations.specs.Regulations.{Regulation, subject_to, has_flight, with_entry, waiting_from, lineup_of}
-use Rattle.flow_regulations.specs.Settling.{stays, kept, is_due_at, insert_all, assigned_around, settled, pairs_of, frozen_at_departure}
+use Rattle.flow_regulations.specs.Settling.{keeps_pair, kept, is_due_flight, insert_all, assigned_around, settled, pairs_of, frozen_at_departure}
 use Rattle.flow_regulations.proofs.FixedOnes.{all-map}
 use Rattle.flow_regulations.proofs.ForTheDesk.{all-last}
 use Rattle.flow_regulations.proofs.Subjects.{subject-within}
@@ -40,7 +40,7 @@ use Rattle.flow_traffic.specs.declared.verdict.Kind.TheVariants as kind
 use Rattle.flow_traffic.specs.declared.opening.TheConstants.{MAX_REGULATIONS}
 use Rattle.flow_traffic.specs.Traffic.{Traffic, regulation_named, slots_of}
 use Rattle.flow_traffic.specs.Opening.{has_period, regulation_by}
-use Rattle.flow_traffic.specs.Asked.{Asked, asked, asked_by_message, asked_to_open, asked_to_shut, asked_at, changed_by, departing, is_called, is_departure, ordered, verdict_on}
+use Rattle.flow_traffic.specs.Asked.{Asked, asked, asked_by_message, asked_to_open, asked_to_shut, asked_at, plans_changed_by, departing, is_called, is_departure, ordered, verdict_on}
 use Rattle.flow_traffic.specs.Answers.{settle}
 use Rattle.flow_traffic.proofs.Changing.{ok-same, unless-ok}
 use Rattle.flow_core.specs.State.{State, Input, fresh}
@@ -210,12 +210,12 @@ settled-fit : (max taxi now : ℕ) (plans : List PlanView) (r : Regulation) → 
 unfolding settled
 settled-fit max taxi now plans r few fit =
     let fixed = kept taxi now plans r in
-    let left = kept-left max r.period (stays taxi now plans r) r.fixed fit.kept in
+    let left = kept-left max r.period (keeps_pair taxi now plans r) r.fixed fit.kept in
     let l = around max r fixed (waiting_from 1 taxi r fixed plans) in
     let sound = waiting-sound max taxi 1 r fixed plans (omega arith) (omega arith) fit.regular left in
     record {
       regular = fit.regular;
-      kept = keep-all max r.period (filter (is_due_at now plans) (assigned_around taxi plans r fixed)) fixed left (may-left max r.period fixed (is_due_at now plans) (served l) (served-may l sound));
+      kept = keep-all max r.period (filter (λ (a : Placed). is_due_flight now plans a.flight) (assigned_around taxi plans r fixed)) fixed left (may-left max r.period fixed (λ (a : Placed). is_due_flight now plans a.flight) (served l) (served-may l sound));
     }
 
 all-settled-fit : (max taxi now : ℕ) (plans : List PlanView) (rs : List Regulation) → length plans ≤ max → AllByRecursion (IsFit max) rs → AllByRecursion (IsFit max) (map (settled taxi now plans) rs)
@@ -278,7 +278,7 @@ opened-fit max text m e a b =
 
 message-fit : (t : Traffic) (m : Message) (x : Asked) → Fits t → asked_by_message t m ≡ Ok x → AreFit t.max_plans x
 unfolding asked_by_message
-message-fit t m x fits e = by (changed_by t.max_plans t.now t.plans m) e where
+message-fit t m x fits e = by (plans_changed_by t.max_plans t.now t.plans m) e where
   made : Changed → Asked
   made c = record { plans = c.plans; now = t.now; regulations = departing (is_departure m) c.number t.taxi t.max_plans t.plans t.regulations; verdict = verdict_on t.told m c.number }
 

@@ -68,6 +68,6 @@ pub record Enters (setup : SetupView) (old : Traffic) (new : TrafficView) (journ
 
 -- There is capacity for the rows of all plans, and if the last filing can be undone these are the
 -- rows that it changed.
-pub record IsNoted (h : History) (changes : List Change) (capacity : ℕ) : Type 0 where
+pub record HasNoted (h : History) (changes : List Change) (capacity : ℕ) : Type 0 where
   pub room : h.setup.max_plans ≤ capacity
   pub changed : h.undoable ≡ true → changes ≡ changes_between (rows_at (without_last_filing h)) (rows_at h)

@@ -14,11 +14,6 @@ use Rattle.flow_desk.specs.Locks.{Counts}
 pub own-append : (k : ℕ) (xs ys : List EntryView) → own k (xs ++ ys) ≡ own k xs ++ own k ys
 own-append k xs ys = filter-append (λ (e : EntryView). e.input.feeder == k) xs ys
 
-pub own_more : (k : ℕ) (xs ys : List EntryView) → IsPrefix xs ys → length (own k xs) ≤ length (own k ys)
-own_more k xs ys p =
-    let e : own k ys ≡ own k xs ++ own k p.0 = ap (own k) (sym p.1) ∙ own-append k xs p.0 in
-    omega (arith, ap length e, length-append (own k xs) (own k p.0))
-
 pub own_short : (k : ℕ) (xs : List EntryView) → length (own k xs) ≤ length xs
 own_short k xs = omega (arith, length-filter (λ (e : EntryView). e.input.feeder == k) xs, count_by-le-length (λ (e : EntryView). e.input.feeder == k) xs)
 
@@ -64,10 +59,3 @@ count_small n xs cs k c in_n = omega (arith, c.each k in_n, own_short k xs)
 empty : {A : Type 0} (xs : List A) → length xs ≡ 0 → xs ≡ []
 empty [] e = refl
 empty (x ∷ xs) e = absurd (omega arith)
-
--- if a history has no more of a feeder's than its prefix, it has the same
-pub own_same : (k n : ℕ) (xs ys : List EntryView) → IsPrefix xs ys → length (own k ys) ≡ n → n ≤ length (own k xs) → own k ys ≡ own k xs
-own_same k n xs ys p all had =
-    let e : own k ys ≡ own k xs ++ own k p.0 = ap (own k) (sym p.1) ∙ own-append k xs p.0 in
-    let none : own k p.0 ≡ [] = empty (own k p.0) (omega (arith, ap length e, length-append (own k xs) (own k p.0))) in
-    e ∙ (ap (λ zs. own k xs ++ zs) none ∙ append-nil (own k xs))

@@ -22,7 +22,7 @@ seen_from None = []
 seen_from (Some s) = s.read
 
 -- what is true of the fields of a pass
-pub record IsPass (book : Book) (setup : SetupView) (feeders feeder receipts : ℕ) (seat : Option SeatView) : Type 0 where
+pub record IsFeederPass (book : Book) (setup : SetupView) (feeders feeder receipts : ℕ) (seat : Option SeatView) : Type 0 where
   pub below : feeder < feeders
   pub seated : MatchOption seat ⊥ (λ s. (s.knows ≡ true) × (s.book ≡ book) × (s.setup ≡ setup))
   pub own_seen : receipts ≤ length (own feeder (seen_from seat))

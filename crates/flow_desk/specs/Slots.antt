@@ -10,14 +10,14 @@ use Rattle.flow_desk.specs.declared.slots.SlotRow.{SlotRow}
 use Rattle.flow_desk.specs.Histories.{after}
 
 -- whether a flight has a frozen slot
-abbrev pub is_kept : Option ℕ → Bool
-is_kept None = false
-is_kept (Some slot) = true
+abbrev pub is_listed : Option ℕ → Bool
+is_listed None = false
+is_listed (Some slot) = true
 
 -- the slot of this number, if a flight holds it
 abbrev pub held_at : Lineup → ℕ → Option ℕ → List SlotRow
 held_at l slot None = []
-held_at l slot (Some flight) = record { slot = slot; at = slot_time l.period slot; plan = flight; frozen = is_kept (fixed_slot l flight) } ∷ []
+held_at l slot (Some flight) = record { slot = slot; at = slot_time l.period slot; plan = flight; frozen = is_listed (fixed_slot l flight) } ∷ []
 
 -- the held ones among `count` slots from this one on
 abbrev pub held_from : Lineup → ℕ → ℕ → List SlotRow

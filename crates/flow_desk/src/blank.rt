@@ -9,8 +9,10 @@ ghost use Rattle.flow_desk.specs.Locks.{Counts};
 ghost use Rattle.flow_desk.specs.Blanks.{IsFree, IsBlank, first_beyond};
 ghost use Rattle.flow_desk.specs.declared.blank.DeskFault.TheVariants.{OutOfMemory};
 
+use crate::follower::Follower;
 use crate::history::{Front, Head, open_history};
 use crate::locked::count_one;
+use crate::name::Name;
 use crate::seat::{Publisher, Seat};
 use flow_core::{Core, MAX_FEEDERS};
 use flow_plans::Setup;
@@ -250,5 +252,13 @@ impl<R: Wait + Drop, A: Allocator + Copy> Blank<R, A> {
             Some(number) => Err((DeskFault::FeederBeyond(number), core)),
             None => made_of(rt, alloc, core, feeders),
         }
+    }
+
+    /// A follower of the desk that `N` will name, which has seen the entries so far.
+    pub fn follower<N: Name>(&self) -> Follower<N>
+        requires { self.now.book ≡ N.book }
+        ensures { result ≡ self.now.entries }
+    {
+        Follower::new(self.parts.front.again(), self.core.entries())
     }
 }

@@ -46,6 +46,7 @@ mod pass;
 mod rule;
 mod seat;
 mod slots;
+mod stored;
 
 pub use blank::{Blank, DeskFault, first_feeder_beyond};
 pub use desk::{CloseFault, Desk};
@@ -56,3 +57,4 @@ pub use name::Name;
 pub use pass::Pass;
 pub use seat::NoVersion;
 pub use slots::SlotRow;
+pub use stored::{Stored, StoredBlank, StoredHistory};

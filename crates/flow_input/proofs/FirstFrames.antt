@@ -4,7 +4,7 @@ use Rattle.std.proofs.lemmas.Bool.{ne_eqb, ltb-false}
 use Rattle.std.proofs.lemmas.List.{take-append-drop, take_rest, drop-drop, length-drop, length-take}
 use Rattle.std.specs.List.{position_or_len}
 use Rattle.std.specs.Prelude.{IfSome}
-use Rattle.flow_input.specs.Frames.{Cut, until, since, closed, order_cut, cut, first_cut, is_text, is_bracket, ends_order}
+use Rattle.flow_input.specs.Frames.{Cut, until, since, closed, order_cut, cut, first_cut, is_not_blank, is_parenthesis, ends_order}
 use Rattle.flow_input.specs.FirstFrame.{EndsAt, Shows}
 use Rattle.flow_input.proofs.Runs.{since-run, until-run, none-before-found, stop-behind-found, text-at, position-within, drop-at}
 
@@ -25,20 +25,20 @@ module _ (stops : ℕ → Bool) (bytes : List ℕ) (at : ℕ) (found : position 
   since-at = ap (since stops) (sym (take-append-drop at bytes)) ∙ since-run stops (take at bytes) (drop at bytes) (none-before-found stops bytes at is-found) (stop-behind-found stops bytes at is-found) ∙ drop-at bytes at (position-within stops bytes at found)
 
 -- a message that a bracket closes, and one that ends before the next
-module _ (behind : List ℕ) (at : ℕ) (found : position is_bracket behind ≡ Some at) where
+module _ (behind : List ℕ) (at : ℕ) (found : position is_parenthesis behind ≡ Some at) where
   cut-at : (b : ℕ) → get_or behind at 0 ≡ b → cut (40 ∷ behind) ≡ Some (closed (take at behind) (b ∷ drop (at + 1) behind))
-  cut-at b is = ap Some (ap (λ (body : List ℕ). closed body (since is_bracket behind)) (until-at is_bracket behind at found) ∙ ap (closed (take at behind)) (since-at is_bracket behind at found ∙ ap (λ (x : ℕ). x ∷ drop (at + 1) behind) is))
+  cut-at b is = ap Some (ap (λ (body : List ℕ). closed body (since is_parenthesis behind)) (until-at is_parenthesis behind at found) ∙ ap (closed (take at behind)) (since-at is_parenthesis behind at found ∙ ap (λ (x : ℕ). x ∷ drop (at + 1) behind) is))
 
   message-closed : get_or behind at 0 ≡ 41 → EndsAt (40 ∷ behind) (at + 2)
   message-closed is =
-      let within : at < length behind = position-within is_bracket behind at found in
+      let within : at < length behind = position-within is_parenthesis behind at found in
       let n : at + 2 ≡ suc (at + 1) = omega arith in
       let tail : take (at + 1) behind ≡ take at behind ++ 41 ∷ [] = take-next behind at within ∙ ap (λ (b : ℕ). take at behind ++ b ∷ []) is in
       rw n (record { some = omega arith; within = omega arith; is = cut-at 41 is ∙ ap (λ (body : List ℕ). Some (record { frame = 40 ∷ body; rest = drop (at + 1) behind; ended = true })) (sym tail) })
 
   message-open : (get_or behind at 0 ≡ 41 → ⊥) → EndsAt (40 ∷ behind) (at + 1)
   message-open other =
-      let within : at < length behind = position-within is_bracket behind at found in
+      let within : at < length behind = position-within is_parenthesis behind at found in
       let n : at + 1 ≡ suc at = omega arith in
       record {
         some = omega arith;
@@ -64,24 +64,24 @@ pub order-in : (bytes : List ℕ) (at : ℕ) → (get_or bytes 0 0 ≡ 40 → �
 order-in [] at other found = absurd (cc)
 order-in (b ∷ bs) at other found = order-ended b bs at other (rw (take_rest (b ∷ bs) 1) at found)
 
-pub closed-in : (bytes : List ℕ) (at : ℕ) → get_or bytes 0 0 ≡ 40 → position is_bracket (take (length bytes - 1) (drop 1 bytes)) ≡ Some at → get_or (take (length bytes - 1) (drop 1 bytes)) at 0 ≡ 41
+pub closed-in : (bytes : List ℕ) (at : ℕ) → get_or bytes 0 0 ≡ 40 → position is_parenthesis (take (length bytes - 1) (drop 1 bytes)) ≡ Some at → get_or (take (length bytes - 1) (drop 1 bytes)) at 0 ≡ 41
     → EndsAt bytes (at + 2)
 closed-in [] at is found close = absurd (cc)
 closed-in (b ∷ bs) at is found close =
     subst (λ (x : ℕ). EndsAt (x ∷ bs) (at + 2)) (sym is) (message-closed bs at (rw (take_rest (b ∷ bs) 1) at found) (rw (take_rest (b ∷ bs) 1) at close))
 
-pub open-in : (bytes : List ℕ) (at : ℕ) → get_or bytes 0 0 ≡ 40 → position is_bracket (take (length bytes - 1) (drop 1 bytes)) ≡ Some at → (get_or (take (length bytes - 1) (drop 1 bytes)) at 0 ≡ 41 → ⊥)
+pub open-in : (bytes : List ℕ) (at : ℕ) → get_or bytes 0 0 ≡ 40 → position is_parenthesis (take (length bytes - 1) (drop 1 bytes)) ≡ Some at → (get_or (take (length bytes - 1) (drop 1 bytes)) at 0 ≡ 41 → ⊥)
     → EndsAt bytes (at + 1)
 open-in [] at is found other = absurd (cc)
 open-in (b ∷ bs) at is found other =
     subst (λ (x : ℕ). EndsAt (x ∷ bs) (at + 1)) (sym is) (message-open bs at (rw (take_rest (b ∷ bs) 1) at found) (rw (take_rest (b ∷ bs) 1) at other))
 
 -- past the blanks
-pub shown : (bytes : List ℕ) (begin len : ℕ) → position is_text bytes ≡ Some begin → EndsAt (take (length bytes - begin) (drop begin bytes)) len → Shows bytes begin (begin + len)
+pub shown : (bytes : List ℕ) (begin len : ℕ) → position is_not_blank bytes ≡ Some begin → EndsAt (take (length bytes - begin) (drop begin bytes)) len → Shows bytes begin (begin + len)
 unfolding first_cut
 shown bytes begin len text here =
     let ends : EndsAt (drop begin bytes) len = rw (take_rest bytes begin) at here in
-    let within : begin < length bytes = position-within is_text bytes begin text in
+    let within : begin < length bytes = position-within is_not_blank bytes begin text in
     let n : begin + len - begin ≡ len = omega arith in
     record {
       some = omega (arith, ends.some);
@@ -106,20 +106,20 @@ since-none stops bytes none = by (ltb (position_or_len stops bytes) (length byte
     by true l e = absurd (cc)
     by false l e = since-past stops bytes (ltb-false (position_or_len stops bytes) (length bytes) l)
 
-pub none-in : (bytes : List ℕ) → position is_text bytes ≡ None → IfSome (first_cut bytes) (λ c. c.ended ≡ false)
+pub none-in : (bytes : List ℕ) → position is_not_blank bytes ≡ None → IfSome (first_cut bytes) (λ c. c.ended ≡ false)
 unfolding first_cut
-none-in bytes none = rw (since-none is_text bytes none) tt
+none-in bytes none = rw (since-none is_not_blank bytes none) tt
 
-pub message-going : (bytes : List ℕ) → get_or bytes 0 0 ≡ 40 → position is_bracket (take (length bytes - 1) (drop 1 bytes)) ≡ None → IfSome (cut bytes) (λ c. c.ended ≡ false)
+pub message-going : (bytes : List ℕ) → get_or bytes 0 0 ≡ 40 → position is_parenthesis (take (length bytes - 1) (drop 1 bytes)) ≡ None → IfSome (cut bytes) (λ c. c.ended ≡ false)
 message-going [] is none = tt
 message-going (b ∷ bs) is none =
-    let nothing : since is_bracket bs ≡ [] = since-none is_bracket bs (rw (take_rest (b ∷ bs) 1) at none) in
+    let nothing : since is_parenthesis bs ≡ [] = since-none is_parenthesis bs (rw (take_rest (b ∷ bs) 1) at none) in
     subst (λ (x : ℕ). IfSome (cut (x ∷ bs)) (λ c. c.ended ≡ false)) (sym is) (rw nothing refl)
 
 pub order-going : (bytes : List ℕ) → (get_or bytes 0 0 ≡ 40 → ⊥) → position ends_order (take (length bytes - 1) (drop 1 bytes)) ≡ None → IfSome (cut bytes) (λ c. c.ended ≡ false)
 order-going [] other none = tt
 order-going (b ∷ bs) other none = rw (ne_eqb b 40 other, since-none ends_order bs (rw (take_rest (b ∷ bs) 1) at none)) refl
 
-pub going-past : (bytes : List ℕ) (begin : ℕ) → position is_text bytes ≡ Some begin → IfSome (cut (take (length bytes - begin) (drop begin bytes))) (λ c. c.ended ≡ false) → IfSome (first_cut bytes) (λ c. c.ended ≡ false)
+pub going-past : (bytes : List ℕ) (begin : ℕ) → position is_not_blank bytes ≡ Some begin → IfSome (cut (take (length bytes - begin) (drop begin bytes))) (λ c. c.ended ≡ false) → IfSome (first_cut bytes) (λ c. c.ended ≡ false)
 unfolding first_cut
 going-past bytes begin text here = rw (text-at bytes begin text) (rw (take_rest bytes begin) at here)

@@ -1,20 +1,20 @@
 -- The first frame of the bytes that are there.
 use Rattle.std.proofs.Common.{◌≡◌, ℕ, inl, inr, Bool, true, false, cond, List, [], ◌∷◌, ◌++◌, refl, sym, ap, ◌∙◌, Option, Some, IfSome, IsTrue, eqb, ◌+◌, length, length-append, arith}
 use Rattle.std.proofs.lemmas.Bool.{ne_eqb}
-use Rattle.flow_input.specs.Frames.{Cut, until, since, closed, order_cut, cut, is_bracket, ends_order}
+use Rattle.flow_input.specs.Frames.{Cut, until, since, closed, order_cut, cut, is_parenthesis, ends_order}
 use Rattle.flow_input.specs.Reader.{InputView, NoneStops, BeginsWithStop, BeginsWithOther, Took, TakesIf, Finished, Unfinished}
 use Rattle.flow_input.proofs.Runs.{since-run, until-run}
 
 -- what a message is cut to, once the bytes up to a bracket were taken
-message-is : (all run rest : List ℕ) → all ≡ run ++ rest → NoneStops is_bracket run → BeginsWithStop is_bracket rest → cut (40 ∷ all) ≡ Some (closed run rest)
+message-is : (all run rest : List ℕ) → all ≡ run ++ rest → NoneStops is_parenthesis run → BeginsWithStop is_parenthesis rest → cut (40 ∷ all) ≡ Some (closed run rest)
 message-is all run rest e none at =
-    ap (λ (bs : List ℕ). Some (closed bs (since is_bracket all))) (ap (until is_bracket) e ∙ until-run is_bracket run rest none at)
-    ∙ ap (λ (bs : List ℕ). Some (closed run bs)) (ap (since is_bracket) e ∙ since-run is_bracket run rest none at)
+    ap (λ (bs : List ℕ). Some (closed bs (since is_parenthesis all))) (ap (until is_parenthesis) e ∙ until-run is_parenthesis run rest none at)
+    ∙ ap (λ (bs : List ℕ). Some (closed run bs)) (ap (since is_parenthesis) e ∙ since-run is_parenthesis run rest none at)
 
 -- and an order, once those up to its end were
 order-is : (first : ℕ) (all run rest : List ℕ) → eqb first 40 ≡ false → all ≡ run ++ rest → NoneStops ends_order run → BeginsWithStop ends_order rest → cut (first ∷ all) ≡ Some (order_cut (first ∷ run) rest)
 order-is first all run rest o e none at =
-    ap (λ (b : Bool). Some (cond {A = Cut} b (closed (until is_bracket all) (since is_bracket all)) (order_cut (first ∷ until ends_order all) (since ends_order all)))) o
+    ap (λ (b : Bool). Some (cond {A = Cut} b (closed (until is_parenthesis all) (since is_parenthesis all)) (order_cut (first ∷ until ends_order all) (since ends_order all)))) o
     ∙ ap (λ (bs : List ℕ). Some (order_cut (first ∷ bs) (since ends_order all))) (ap (until ends_order) e ∙ until-run ends_order run rest none at)
     ∙ ap (λ (bs : List ℕ). Some (order_cut (first ∷ run) bs)) (ap (since ends_order) e ∙ since-run ends_order run rest none at)
 
@@ -31,7 +31,7 @@ lengths old new before after t = omega (arith, t.count, ap length t.whole, lengt
 
 module _ (old mid new : InputView) (before after : Option (List ℕ)) where
   -- a message that was taken with its closing bracket
-  message-closed : Took is_bracket old mid before after → BeginsWithStop is_bracket mid.unread → mid.unread ≡ 41 ∷ new.unread → new.taken ≡ mid.taken + 1 → Finished 40 old new before after
+  message-closed : Took is_parenthesis old mid before after → BeginsWithStop is_parenthesis mid.unread → mid.unread ≡ 41 ∷ new.unread → new.taken ≡ mid.taken + 1 → Finished 40 old new before after
   message-closed t at e one =
       record {
         came = t.came;
@@ -44,7 +44,7 @@ module _ (old mid new : InputView) (before after : Option (List ℕ)) where
       }
 
   -- and one that ends before another byte, or at the end
-  message-open : (u : List ℕ) → Took is_bracket old mid before after → BeginsWithStop is_bracket mid.unread → (mid.unread ≡ [] → IsTrue mid.ended) → mid.unread ≡ u → BeginsWithOther 41 u → new ≡ mid
+  message-open : (u : List ℕ) → Took is_parenthesis old mid before after → BeginsWithStop is_parenthesis mid.unread → (mid.unread ≡ [] → IsTrue mid.ended) → mid.unread ≡ u → BeginsWithOther 41 u → new ≡ mid
       → Finished 40 old new before after
   message-open [] t at end e other same =
       record {
@@ -67,7 +67,7 @@ module _ (old mid new : InputView) (before after : Option (List ℕ)) where
         count = ap (λ (a : InputView). a.taken + length a.unread) same ∙ lengths old mid before after t;
       }
 
-  pub Finished-message : Took is_bracket old mid before after → BeginsWithStop is_bracket mid.unread → (mid.unread ≡ [] → IsTrue mid.ended) → TakesIf 41 mid new → Finished 40 old new before after
+  pub Finished-message : Took is_parenthesis old mid before after → BeginsWithStop is_parenthesis mid.unread → (mid.unread ≡ [] → IsTrue mid.ended) → TakesIf 41 mid new → Finished 40 old new before after
   Finished-message t at end (inl h) = message-closed t at h.0 h.1
   Finished-message t at end (inr h) = message-open mid.unread t at end refl h.0 h.1
 
@@ -101,9 +101,9 @@ if_some : (o : Option Cut) (c : Cut) → o ≡ Some c → c.ended ≡ false → 
 if_some o c e h = rw e h
 
 -- a message that the reader's failure cut off, and an order
-pub Unfinished-message : (old mid : InputView) (before after : Option (List ℕ)) → mid.unread ≡ [] → Took is_bracket old mid before after → Unfinished 40 old before after
+pub Unfinished-message : (old mid : InputView) (before after : Option (List ℕ)) → mid.unread ≡ [] → Took is_parenthesis old mid before after → Unfinished 40 old before after
 Unfinished-message old mid before after e t =
-    let at : BeginsWithStop is_bracket mid.unread = rw e tt in (
+    let at : BeginsWithStop is_parenthesis mid.unread = rw e tt in (
       t.came,
       t.consumed,
       if_some (cut (40 ∷ (old.unread ++ t.came))) (closed t.run []) (message-is (old.unread ++ t.came) t.run mid.unread t.whole t.none at ∙ ap (λ (bs : List ℕ). Some (closed t.run bs)) e) refl,

@@ -1,7 +1,7 @@
 -- Frames, one after the other.
 use Rattle.std.proofs.Common.{◌≡◌, ℕ, zero, suc, ◌<◌, ◌≤◌, Bool, true, false, cond, List, [], ◌∷◌, ◌++◌, length, refl, sym, ap, ◌∙◌, subst, arith, Option, Some, None, IfSome, eqb}
 use Rattle.std.specs.Option.{option_map_or}
-use Rattle.flow_input.specs.Frames.{Cut, until, since, closed, order_cut, cut, first_cut, frames_in, frames, ended_in, ended_frames, is_text, is_bracket, ends_order}
+use Rattle.flow_input.specs.Frames.{Cut, until, since, closed, order_cut, cut, first_cut, frames_in, frames, ended_in, ended_frames, is_not_blank, is_parenthesis, ends_order}
 
 cond-length : (t : Bool) (xs ys : List ℕ) (n : ℕ) → length xs ≤ n → length ys ≤ n → length (cond t xs ys) ≤ n
 cond-length true xs ys n h k = h
@@ -26,17 +26,17 @@ order-rest frame (b ∷ rest) = omega arith
 cut-shorter : (bs : List ℕ) (c : Cut) → cut bs ≡ Some c → length c.rest < length bs
 cut-shorter [] c e = absurd (cc)
 cut-shorter (b ∷ bs) c e =
-    let first : Cut = closed (until is_bracket bs) (since is_bracket bs) in
+    let first : Cut = closed (until is_parenthesis bs) (since is_parenthesis bs) in
     let other : Cut = order_cut (b ∷ until ends_order bs) (since ends_order bs) in
     let is : cond {A = Cut} (eqb b 40) first other ≡ c = cc in
     let le : length (cond {A = Cut} (eqb b 40) first other).rest ≤ length bs =
-    cond-rest (eqb b 40) first other (length bs) (omega (arith, closed-rest (until is_bracket bs) (since is_bracket bs), length-since is_bracket bs)) (omega (arith, order-rest (b ∷ until ends_order bs) (since ends_order bs), length-since ends_order bs)) in
+    cond-rest (eqb b 40) first other (length bs) (omega (arith, closed-rest (until is_parenthesis bs) (since is_parenthesis bs), length-since is_parenthesis bs)) (omega (arith, order-rest (b ∷ until ends_order bs) (since ends_order bs), length-since ends_order bs)) in
     let le' = subst (λ (d : Cut). length d.rest ≤ length bs) is le in
     omega (arith, le')
 
 pub first_cut-shorter : (bs : List ℕ) (c : Cut) → first_cut bs ≡ Some c → length c.rest < length bs
 unfolding first_cut
-first_cut-shorter bs c e = omega (arith, cut-shorter (since is_text bs) c e, length-since is_text bs)
+first_cut-shorter bs c e = omega (arith, cut-shorter (since is_not_blank bs) c e, length-since is_not_blank bs)
 
 fuel-some : (n m : ℕ) (bs : List ℕ) (r : Option Cut) → first_cut bs ≡ r → ((c : Cut) → first_cut bs ≡ Some c → frames_in n c.rest ≡ frames_in m c.rest)
     → option_map_or (λ c. c.frame ∷ frames_in n c.rest) r [] ≡ option_map_or (λ c. c.frame ∷ frames_in m c.rest) r []
@@ -150,14 +150,14 @@ closed-more body x rest more = by (eqb x 41)
     by true = refl
     by false = refl
 
-message-more : (bs more u : List ℕ) → since is_bracket bs ≡ u → (closed (until is_bracket bs) (since is_bracket bs)).ended ≡ true
-    → closed (until is_bracket (bs ++ more)) (since is_bracket (bs ++ more)) ≡ extended (closed (until is_bracket bs) (since is_bracket bs)) more
-message-more bs more [] e t = let f : false ≡ true = ap (λ (v : List ℕ). (closed (until is_bracket bs) v).ended) (sym e) ∙ t in absurd (cc)
+message-more : (bs more u : List ℕ) → since is_parenthesis bs ≡ u → (closed (until is_parenthesis bs) (since is_parenthesis bs)).ended ≡ true
+    → closed (until is_parenthesis (bs ++ more)) (since is_parenthesis (bs ++ more)) ≡ extended (closed (until is_parenthesis bs) (since is_parenthesis bs)) more
+message-more bs more [] e t = let f : false ≡ true = ap (λ (v : List ℕ). (closed (until is_parenthesis bs) v).ended) (sym e) ∙ t in absurd (cc)
 message-more bs more (x ∷ rest) e t =
-    ap (λ (v : List ℕ). closed (until is_bracket (bs ++ more)) v) (since-more is_bracket x bs rest more e)
-    ∙ ap (λ (w : List ℕ). closed w (x ∷ (rest ++ more))) (until-more is_bracket x bs rest more e)
-    ∙ closed-more (until is_bracket bs) x rest more
-    ∙ ap (λ (v : List ℕ). extended (closed (until is_bracket bs) v) more) (sym e)
+    ap (λ (v : List ℕ). closed (until is_parenthesis (bs ++ more)) v) (since-more is_parenthesis x bs rest more e)
+    ∙ ap (λ (w : List ℕ). closed w (x ∷ (rest ++ more))) (until-more is_parenthesis x bs rest more e)
+    ∙ closed-more (until is_parenthesis bs) x rest more
+    ∙ ap (λ (v : List ℕ). extended (closed (until is_parenthesis bs) v) more) (sym e)
 
 order-more : (b : ℕ) (bs more u : List ℕ) → since ends_order bs ≡ u → (order_cut (b ∷ until ends_order bs) (since ends_order bs)).ended ≡ true
     → order_cut (b ∷ until ends_order (bs ++ more)) (since ends_order (bs ++ more)) ≡ extended (order_cut (b ∷ until ends_order bs) (since ends_order bs)) more
@@ -175,18 +175,18 @@ cond-more false p q p' q' more t h k = k t
 cut-more : (bs more : List ℕ) (c : Cut) → cut bs ≡ Some c → c.ended ≡ true → cut (bs ++ more) ≡ Some (extended c more)
 cut-more [] more c e t = absurd (cc)
 cut-more (b ∷ bs) more c e t =
-    let first : Cut = closed (until is_bracket bs) (since is_bracket bs) in
+    let first : Cut = closed (until is_parenthesis bs) (since is_parenthesis bs) in
     let other : Cut = order_cut (b ∷ until ends_order bs) (since ends_order bs) in
     let is : cond {A = Cut} (eqb b 40) first other ≡ c = cc in
     ap (λ (d : Cut). Some d)
-    (cond-more (eqb b 40) first other (closed (until is_bracket (bs ++ more)) (since is_bracket (bs ++ more))) (order_cut (b ∷ until ends_order (bs ++ more)) (since ends_order (bs ++ more))) more
-    (ap (λ (d : Cut). d.ended) is ∙ t) (message-more bs more (since is_bracket bs) refl) (order-more b bs more (since ends_order bs) refl)
+    (cond-more (eqb b 40) first other (closed (until is_parenthesis (bs ++ more)) (since is_parenthesis (bs ++ more))) (order_cut (b ∷ until ends_order (bs ++ more)) (since ends_order (bs ++ more))) more
+    (ap (λ (d : Cut). d.ended) is ∙ t) (message-more bs more (since is_parenthesis bs) refl) (order-more b bs more (since ends_order bs) refl)
     ∙ ap (λ (d : Cut). extended d more) is)
 
-text-more : (bs more u : List ℕ) (c : Cut) → since is_text bs ≡ u → cut u ≡ Some c → c.ended ≡ true → cut (since is_text (bs ++ more)) ≡ Some (extended c more)
+text-more : (bs more u : List ℕ) (c : Cut) → since is_not_blank bs ≡ u → cut u ≡ Some c → c.ended ≡ true → cut (since is_not_blank (bs ++ more)) ≡ Some (extended c more)
 text-more bs more [] c e k t = absurd (cc)
-text-more bs more (b ∷ rest) c e k t = ap cut (since-more is_text b bs rest more e) ∙ cut-more (b ∷ rest) more c k t
+text-more bs more (b ∷ rest) c e k t = ap cut (since-more is_not_blank b bs rest more e) ∙ cut-more (b ∷ rest) more c k t
 
 pub first_cut-more : (bs more : List ℕ) (c : Cut) → first_cut bs ≡ Some c → c.ended ≡ true → first_cut (bs ++ more) ≡ Some (extended c more)
 unfolding first_cut
-first_cut-more bs more c e t = text-more bs more (since is_text bs) c refl e t
+first_cut-more bs more c e t = text-more bs more (since is_not_blank bs) c refl e t

@@ -3,7 +3,7 @@ use Rattle.std.proofs.Common.{◌≡◌, ℕ, ◌+◌, ◌-◌, ◌<◌, ◌≤�
 use Rattle.std.proofs.lemmas.Bool.{lt-leb}
 use Rattle.std.proofs.KnownBytes.{Consumes-nil, Consumes-trans}
 use Rattle.std.specs.Io.KnownBytes.{Consumes}
-use Rattle.flow_input.specs.Frames.{Cut, until, since, closed, order_cut, cut, first_cut, ended_frames, is_text, is_bracket, ends_order, kept_of}
+use Rattle.flow_input.specs.Frames.{Cut, until, since, closed, order_cut, cut, first_cut, ended_frames, is_not_blank, is_parenthesis, ends_order, kept_of}
 use Rattle.flow_input.specs.FirstFrame.{Shows}
 use Rattle.flow_input.specs.Reader.{InputView, Agrees, Came, CameTooMuch, BeginsWithStop, Filled, NoneStops, TookRun, Finished, Unfinished}
 use Rattle.flow_input.specs.NextFrame.{second, filing_kept, filing_of, IsFiled, GaveFirst, GaveNone, Cuts, Starves}
@@ -22,27 +22,17 @@ pub record Sought (old now : InputView) (before during : Option (List ℕ)) : Ty
   pub count : now.taken + length now.unread ≡ old.taken + length old.unread + length came
   pub going : old.ended ≡ false
 
-pub Sought-start : (old : InputView) (before : Option (List ℕ)) → old.ended ≡ false → Sought old old before before
-Sought-start old before going =
-    record {
-      came = [];
-      consumed = Consumes-nil before;
-      same = λ more. ap (λ (bs : List ℕ). first_cut (bs ++ more)) (append-nil old.unread);
-      count = omega arith;
-      going = going;
-    }
-
 since-past : (stops : ℕ → Bool) (run rest : List ℕ) → NoneStops stops run → since stops (run ++ rest) ≡ since stops rest
 since-past stops [] rest none = refl
 since-past stops (x ∷ xs) rest none = rw none.0 (since-past stops xs rest none.1)
 
 -- blanks change nothing
-pub blanks-past : (old new : InputView) (more : List ℕ) → TookRun is_text old new → first_cut (old.unread ++ more) ≡ first_cut (new.unread ++ more)
+pub blanks-past : (old new : InputView) (more : List ℕ) → TookRun is_not_blank old new → first_cut (old.unread ++ more) ≡ first_cut (new.unread ++ more)
 unfolding first_cut
 blanks-past old new more t =
-    ap cut (ap (since is_text) (ap (λ (bs : List ℕ). bs ++ more) t.whole ∙ append_assoc t.run new.unread more) ∙ since-past is_text t.run (new.unread ++ more) t.none)
+    ap cut (ap (since is_not_blank) (ap (λ (bs : List ℕ). bs ++ more) t.whole ∙ append_assoc t.run new.unread more) ∙ since-past is_not_blank t.run (new.unread ++ more) t.none)
 
-module _ (old now mid new : InputView) (still : mid ≡ now) (t : TookRun is_text mid new) where
+module _ (old now mid new : InputView) (still : mid ≡ now) (t : TookRun is_not_blank mid new) where
   pub Sought-blanks : (before during : Option (List ℕ)) → Sought old now before during → Sought old new before during
   Sought-blanks before during s =
       record {
@@ -154,12 +144,12 @@ GaveFirst-shown old new before begin end agrees shows rest count is =
 pub true-not : (b : Bool) → IsTrue b → b ≡ false → ⊥
 true-not b t f = cc
 
-text-first : (bs : List ℕ) → BeginsWithStop is_text bs → since is_text bs ≡ bs
+text-first : (bs : List ℕ) → BeginsWithStop is_not_blank bs → since is_not_blank bs ≡ bs
 text-first [] at = refl
 text-first (b ∷ bs) at = rw at refl
 
 -- what is left at the end of the input is a frame
-module _ (old now new : InputView) (before after : Option (List ℕ)) (s : Sought old now before after) (at : BeginsWithStop is_text now.unread) where
+module _ (old now new : InputView) (before after : Option (List ℕ)) (s : Sought old now before after) (at : BeginsWithStop is_not_blank now.unread) where
   is-now : first_cut (old.unread ++ s.came) ≡ cut now.unread
   unfolding first_cut
   is-now =
@@ -207,7 +197,7 @@ module _ (old now new : InputView) (before after : Option (List ℕ)) (s : Sough
       }
 
 -- whether any is left
-pub Cuts-rest : (found : Bool) (old now new : InputView) (before after : Option (List ℕ)) → Sought old now before after → BeginsWithStop is_text now.unread → IfSome (first_cut now.unread) (λ c. c.ended ≡ false) → IsTrue new.ended
+pub Cuts-rest : (found : Bool) (old now new : InputView) (before after : Option (List ℕ)) → Sought old now before after → BeginsWithStop is_not_blank now.unread → IfSome (first_cut now.unread) (λ c. c.ended ≡ false) → IsTrue new.ended
     → (found ≡ true → (new.unread ≡ []) × (new.item ≡ kept_of now.unread) × (new.taken ≡ now.taken + length now.unread) × (now.unread ≡ [] → ⊥)) → (found ≡ false → (now.unread ≡ []) × (new ≡ now)) → Cuts found new.item old new before after
 Cuts-rest true old now new before after s at goes ended some none = let h = some refl in GaveFirst-rest old now new before after s at goes h.3 h.0 h.1 h.2 ended
 Cuts-rest false old now new before after s at goes ended some none = let h = none refl in GaveNone-rest old now new before after s at h.0 h.1 ended
@@ -221,7 +211,7 @@ pub GaveNone-ended : (old : InputView) (before : Option (List ℕ)) → Agrees o
 unfolding first_cut
 GaveNone-ended old before agrees e =
     let empty : old.unread ++ [] ≡ [] = append-nil old.unread ∙ (agrees e).0 in
-    record { came = []; consumed = Consumes-nil before; is = ap (λ (bs : List ℕ). cut (since is_text bs)) empty; ended = e; count = omega arith; quiet = λ _. refl }
+    record { came = []; consumed = Consumes-nil before; is = ap (λ (bs : List ℕ). cut (since is_not_blank bs)) empty; ended = e; count = omega arith; quiet = λ _. refl }
 
 -- ---- frames that are too long
 
@@ -261,14 +251,14 @@ order-length frame (b ∷ rest) = omega arith
 longer : (bs more : List ℕ) (c : Cut) → IfSome (cut bs) (λ d. d.ended ≡ false) → cut (bs ++ more) ≡ Some c → (bs ≡ [] → ⊥) → length bs ≤ length c.frame
 longer [] more c goes e some = absurd (some refl)
 longer (b ∷ bs) more c goes e some =
-    let is : cond {A = Cut} (eqb b 40) (closed (until is_bracket (bs ++ more)) (since is_bracket (bs ++ more))) (order_cut (b ∷ until ends_order (bs ++ more)) (since ends_order (bs ++ more))) ≡ c = cc in
+    let is : cond {A = Cut} (eqb b 40) (closed (until is_parenthesis (bs ++ more)) (since is_parenthesis (bs ++ more))) (order_cut (b ∷ until ends_order (bs ++ more)) (since ends_order (bs ++ more))) ≡ c = cc in
     subst (λ (d : Cut). suc (length bs) ≤ length d.frame) is (by (eqb b 40) goes)
   where
-    by : (t : Bool) → (cond {A = Cut} t (closed (until is_bracket bs) (since is_bracket bs)) (order_cut (b ∷ until ends_order bs) (since ends_order bs))).ended ≡ false
-        → suc (length bs) ≤ length (cond {A = Cut} t (closed (until is_bracket (bs ++ more)) (since is_bracket (bs ++ more))) (order_cut (b ∷ until ends_order (bs ++ more)) (since ends_order (bs ++ more)))).frame
+    by : (t : Bool) → (cond {A = Cut} t (closed (until is_parenthesis bs) (since is_parenthesis bs)) (order_cut (b ∷ until ends_order bs) (since ends_order bs))).ended ≡ false
+        → suc (length bs) ≤ length (cond {A = Cut} t (closed (until is_parenthesis (bs ++ more)) (since is_parenthesis (bs ++ more))) (order_cut (b ∷ until ends_order (bs ++ more)) (since ends_order (bs ++ more)))).frame
     by true h =
-        let body = until-open is_bracket bs more (closed-going (until is_bracket bs) (since is_bracket bs) h) in
-        omega (arith, closed-length (until is_bracket (bs ++ more)) (since is_bracket (bs ++ more)), ap length body, length-append bs (until is_bracket more))
+        let body = until-open is_parenthesis bs more (closed-going (until is_parenthesis bs) (since is_parenthesis bs) h) in
+        omega (arith, closed-length (until is_parenthesis (bs ++ more)) (since is_parenthesis (bs ++ more)), ap length body, length-append bs (until is_parenthesis more))
     by false h =
         let body = until-open ends_order bs more (order-going (b ∷ until ends_order bs) (since ends_order bs) h) in
         omega (arith, order-length (b ∷ until ends_order (bs ++ more)) (since ends_order (bs ++ more)), ap length body, length-append bs (until ends_order more))
@@ -281,15 +271,15 @@ first-is [] h = absurd (omega arith)
 first-is (b ∷ bs) h = refl
 
 -- the first byte of a frame that is too long was taken, then the others as they came
-module _ (old then : InputView) (first : ℕ) (at : BeginsWithStop is_text old.unread) (is : first ≡ get_or old.unread 0 0) (rest : then.unread ≡ drop 1 old.unread) (taken : then.taken ≡ old.taken + 1) (long : 2000 < length old.unread) where
+module _ (old then : InputView) (first : ℕ) (at : BeginsWithStop is_not_blank old.unread) (is : first ≡ get_or old.unread 0 0) (rest : then.unread ≡ drop 1 old.unread) (taken : then.taken ≡ old.taken + 1) (long : 2000 < length old.unread) where
   was : old.unread ≡ first ∷ then.unread
   was = first-is old.unread long ∙ ap (λ (b : ℕ). b ∷ drop 1 old.unread) (sym is) ∙ ap (λ (bs : List ℕ). first ∷ bs) (sym rest)
 
   cut-is : (came : List ℕ) → first_cut (old.unread ++ came) ≡ cut (first ∷ (then.unread ++ came))
   unfolding first_cut
   cut-is came =
-      let begins : BeginsWithStop is_text (first ∷ then.unread) = subst (λ (bs : List ℕ). BeginsWithStop is_text bs) was at in
-      ap (λ (bs : List ℕ). cut (since is_text (bs ++ came))) was ∙ ap cut (text-first (first ∷ (then.unread ++ came)) begins)
+      let begins : BeginsWithStop is_not_blank (first ∷ then.unread) = subst (λ (bs : List ℕ). BeginsWithStop is_not_blank bs) was at in
+      ap (λ (bs : List ℕ). cut (since is_not_blank (bs ++ came))) was ∙ ap cut (text-first (first ∷ (then.unread ++ came)) begins)
 
   pub GaveFirst-long : (new : InputView) (before after : Option (List ℕ)) → old.ended ≡ false → IfSome (first_cut old.unread) (λ c. c.ended ≡ false) → Finished first then new before after → new.item ≡ None → GaveFirst (filing_kept new.item) old new before after
   GaveFirst-long new before after going goes f item =
@@ -310,6 +300,3 @@ module _ (old then : InputView) (first : ℕ) (at : BeginsWithStop is_text old.u
 
   pub Starves-long : (before after : Option (List ℕ)) → Unfinished first then before after → Starves old before after
   Starves-long before after u = (u.0, u.1, ended-none (old.unread ++ u.0) (subst (λ (o : Option Cut). IfSome o (λ c. c.ended ≡ false)) (sym (cut-is u.0)) u.2))
-
-  pub CameTooMuch-long : (before after : Option (List ℕ)) → CameTooMuch then before after → CameTooMuch old before after
-  CameTooMuch-long before after m = (m.0, m.1, omega (arith, m.2, taken, ap length was))

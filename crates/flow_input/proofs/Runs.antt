@@ -3,7 +3,7 @@ use Rattle.std.proofs.Common.{◌≡◌, ℕ, ◌+◌, ◌<◌, ◌≤◌, zero,
 use Rattle.std.specs.List.{position_or_len, prefix_len}
 use Rattle.std.proofs.lemmas.Bool.{ltb-false, ltb-true}
 use Rattle.std.proofs.lemmas.List.{take-append-drop}
-use Rattle.flow_input.specs.Frames.{until, since, is_text}
+use Rattle.flow_input.specs.Frames.{until, since, is_not_blank}
 use Rattle.flow_input.specs.Reader.{NoneStops, BeginsWithStop}
 
 prefix-le : (p : ℕ → Bool) (xs : List ℕ) → prefix_len p xs ≤ length xs
@@ -67,10 +67,10 @@ module _ (stops : ℕ → Bool) (xs : List ℕ) (count : ℕ) (found : count ≡
   found-within = omega (arith, found, stop-is stops xs, stop-within stops xs)
 
 -- where a search finds its byte
-pub text-at : (bytes : List ℕ) (k : ℕ) → position is_text bytes ≡ Some k → since is_text bytes ≡ drop k bytes
+pub text-at : (bytes : List ℕ) (k : ℕ) → position is_not_blank bytes ≡ Some k → since is_not_blank bytes ≡ drop k bytes
 text-at bytes k e =
-    let found : k ≡ unwrap_or (position is_text bytes) (length bytes) = sym (ap (λ (o : Option ℕ). unwrap_or o (length bytes)) e) in
-    ap (since is_text) (sym (take-append-drop k bytes)) ∙ since-run is_text (take k bytes) (drop k bytes) (none-before-found is_text bytes k found) (stop-behind-found is_text bytes k found)
+    let found : k ≡ unwrap_or (position is_not_blank bytes) (length bytes) = sym (ap (λ (o : Option ℕ). unwrap_or o (length bytes)) e) in
+    ap (since is_not_blank) (sym (take-append-drop k bytes)) ∙ since-run is_not_blank (take k bytes) (drop k bytes) (none-before-found is_not_blank bytes k found) (stop-behind-found is_not_blank bytes k found)
 
 pub position-within : (test : ℕ → Bool) (bytes : List ℕ) (k : ℕ) → position test bytes ≡ Some k → k < length bytes
 position-within test bytes k e = by (ltb (position_or_len test bytes) (length bytes)) refl e

@@ -2,7 +2,6 @@
 use Rattle.std.proofs.Common.{◌≡◌, ℕ, ◌+◌, ◌≤◌, Bool, List, [], ◌∷◌, ◌++◌, length, sym, ap, ◌∙◌, subst, arith, Option, IsTrue, append_assoc, append-nil, length-append, take, drop}
 use Rattle.std.proofs.lemmas.List.{take-append-drop, length-take}
 use Rattle.std.proofs.KnownBytes.{Consumes-nil, Consumes-trans}
-use Rattle.std.specs.Io.KnownBytes.{Consumes}
 use Rattle.flow_input.specs.Reader.{InputView, Agrees, CameTooMuch, Filled, NoneStops, TookRun, Took}
 use Rattle.flow_input.proofs.Runs.{NoneStops-append}
 
@@ -23,19 +22,6 @@ Took-more stops old mid filled new before during after t f same r =
           ∙ ap (λ (bs : List ℕ). t.run ++ bs) (sym f.2 ∙ r.whole) ∙ sym (append_assoc t.run r.run new.unread);
       none = NoneStops-append stops t.run r.run t.none r.none;
       count = omega (arith, r.count, t.count, same, length-append t.run r.run);
-    }
-
--- the reader failed, so no piece came
-pub Took-still : (stops : ℕ → Bool) (old mid new : InputView) (before during after : Option (List ℕ))
-    → Took stops old mid before during → Consumes during after [] → new.unread ≡ mid.unread → new.taken ≡ mid.taken → Took stops old new before after
-Took-still stops old mid new before during after t f same taken =
-    record {
-      came = t.came ++ [];
-      consumed = Consumes-trans before during after t.came [] t.consumed f;
-      run = t.run;
-      whole = ap (λ (bs : List ℕ). old.unread ++ bs) (append-nil t.came) ∙ t.whole ∙ ap (λ (bs : List ℕ). t.run ++ bs) (sym same);
-      none = t.none;
-      count = taken ∙ t.count;
     }
 
 -- bytes were read meanwhile

@@ -4,7 +4,7 @@ use Rattle.std.specs.List.{filter, concat}
 use Rattle.std.specs.Option.{option_map_or}
 use Rattle.std.proofs.lemmas.Bool.{eqb-true}
 use Rattle.std.proofs.lemmas.List.Elements.{filter-append}
-use Rattle.flow_input.specs.Frames.{Cut, until, since, closed, order_cut, cut, first_cut, frames_in, frames, ended_in, ended_frames, is_text, is_bracket, ends_order}
+use Rattle.flow_input.specs.Frames.{Cut, until, since, closed, order_cut, cut, first_cut, frames_in, frames, ended_in, ended_frames, is_not_blank, is_parenthesis, ends_order}
 use Rattle.flow_input.proofs.FrameLists.{extended, first_cut-shorter, first_cut-more, frames-some}
 
 until-since : (stops : ℕ → Bool) (bs : List ℕ) → until stops bs ++ since stops bs ≡ bs
@@ -33,29 +33,29 @@ order-joins frame (b ∷ rest) = refl
 pub cut-joins : (bs : List ℕ) (c : Cut) → cut bs ≡ Some c → c.frame ++ c.rest ≡ bs
 cut-joins [] c e = absurd (cc)
 cut-joins (b ∷ bs) c e =
-    let is : cond {A = Cut} (eqb b 40) (closed (until is_bracket bs) (since is_bracket bs)) (order_cut (b ∷ until ends_order bs) (since ends_order bs)) ≡ c = cc in
+    let is : cond {A = Cut} (eqb b 40) (closed (until is_parenthesis bs) (since is_parenthesis bs)) (order_cut (b ∷ until ends_order bs) (since ends_order bs)) ≡ c = cc in
     ap (λ (d : Cut). d.frame ++ d.rest) (sym is) ∙ by (eqb b 40) refl
   where
     by : (t : Bool) → eqb b 40 ≡ t
-        → (cond {A = Cut} t (closed (until is_bracket bs) (since is_bracket bs)) (order_cut (b ∷ until ends_order bs) (since ends_order bs))).frame
-        ++ (cond {A = Cut} t (closed (until is_bracket bs) (since is_bracket bs)) (order_cut (b ∷ until ends_order bs) (since ends_order bs))).rest
+        → (cond {A = Cut} t (closed (until is_parenthesis bs) (since is_parenthesis bs)) (order_cut (b ∷ until ends_order bs) (since ends_order bs))).frame
+        ++ (cond {A = Cut} t (closed (until is_parenthesis bs) (since is_parenthesis bs)) (order_cut (b ∷ until ends_order bs) (since ends_order bs))).rest
         ≡ b ∷ bs
-    by true e = closed-joins (until is_bracket bs) (since is_bracket bs) ∙ ap (λ (ys : List ℕ). 40 ∷ ys) (until-since is_bracket bs) ∙ ap (λ (x : ℕ). x ∷ bs) (sym (eqb-true b 40 e))
+    by true e = closed-joins (until is_parenthesis bs) (since is_parenthesis bs) ∙ ap (λ (ys : List ℕ). 40 ∷ ys) (until-since is_parenthesis bs) ∙ ap (λ (x : ℕ). x ∷ bs) (sym (eqb-true b 40 e))
     by false e = order-joins (b ∷ until ends_order bs) (since ends_order bs) ∙ ap (λ (ys : List ℕ). b ∷ ys) (until-since ends_order bs)
 
-text-since : (bs : List ℕ) → filter is_text (since is_text bs) ≡ filter is_text bs
+text-since : (bs : List ℕ) → filter is_not_blank (since is_not_blank bs) ≡ filter is_not_blank bs
 text-since [] = refl
-text-since (b ∷ bs) = by (is_text b) refl (text-since bs)
+text-since (b ∷ bs) = by (is_not_blank b) refl (text-since bs)
   where
-    by : (t : Bool) → is_text b ≡ t → filter is_text (since is_text bs) ≡ filter is_text bs → filter is_text (cond t (b ∷ bs) (since is_text bs)) ≡ cond t (b ∷ filter is_text bs) (filter is_text bs)
-    by true e h = ap (λ (t : Bool). cond t (b ∷ filter is_text bs) (filter is_text bs)) e
+    by : (t : Bool) → is_not_blank b ≡ t → filter is_not_blank (since is_not_blank bs) ≡ filter is_not_blank bs → filter is_not_blank (cond t (b ∷ bs) (since is_not_blank bs)) ≡ cond t (b ∷ filter is_not_blank bs) (filter is_not_blank bs)
+    by true e h = ap (λ (t : Bool). cond t (b ∷ filter is_not_blank bs) (filter is_not_blank bs)) e
     by false e h = h
 
 cut-none : (bs : List ℕ) → cut bs ≡ None → bs ≡ []
 cut-none [] e = refl
 cut-none (b ∷ bs) e = absurd (cc)
 
-text-in : (n : ℕ) (bs : List ℕ) → length bs ≤ n → filter is_text (concat (frames_in n bs)) ≡ filter is_text bs
+text-in : (n : ℕ) (bs : List ℕ) → length bs ≤ n → filter is_not_blank (concat (frames_in n bs)) ≡ filter is_not_blank bs
 unfolding frames_in first_cut
 text-in zero [] h = refl
 text-in zero (b ∷ bs) h = absurd (omega arith)
@@ -64,15 +64,15 @@ text-in (suc n) bs h = by (first_cut bs) refl (λ c e. text-in n c.rest (shorter
     shorter : (c : Cut) → first_cut bs ≡ Some c → length c.rest ≤ n
     shorter c e = omega (arith, first_cut-shorter bs c e)
 
-    by : (r : Option Cut) → first_cut bs ≡ r → ((c : Cut) → first_cut bs ≡ Some c → filter is_text (concat (frames_in n c.rest)) ≡ filter is_text c.rest)
-        → filter is_text (concat (option_map_or (λ c. c.frame ∷ frames_in n c.rest) r [])) ≡ filter is_text bs
-    by None e more = ap (filter is_text) (sym (cut-none (since is_text bs) e)) ∙ text-since bs
+    by : (r : Option Cut) → first_cut bs ≡ r → ((c : Cut) → first_cut bs ≡ Some c → filter is_not_blank (concat (frames_in n c.rest)) ≡ filter is_not_blank c.rest)
+        → filter is_not_blank (concat (option_map_or (λ c. c.frame ∷ frames_in n c.rest) r [])) ≡ filter is_not_blank bs
+    by None e more = ap (filter is_not_blank) (sym (cut-none (since is_not_blank bs) e)) ∙ text-since bs
     by (Some c) e more =
-        filter-append is_text c.frame (concat (frames_in n c.rest)) ∙ ap (λ (ys : List ℕ). filter is_text c.frame ++ ys) (more c e)
-        ∙ sym (filter-append is_text c.frame c.rest) ∙ ap (filter is_text) (cut-joins (since is_text bs) c e) ∙ text-since bs
+        filter-append is_not_blank c.frame (concat (frames_in n c.rest)) ∙ ap (λ (ys : List ℕ). filter is_not_blank c.frame ++ ys) (more c e)
+        ∙ sym (filter-append is_not_blank c.frame c.rest) ∙ ap (filter is_not_blank) (cut-joins (since is_not_blank bs) c e) ∙ text-since bs
 
 -- the frames have all bytes of the input but blanks, in their order
-pub frames-text : (bs : List ℕ) → filter is_text (concat (frames bs)) ≡ filter is_text bs
+pub frames-text : (bs : List ℕ) → filter is_not_blank (concat (frames bs)) ≡ filter is_not_blank bs
 unfolding frames
 frames-text bs = text-in (length bs) bs (omega arith)
 
@@ -116,12 +116,12 @@ order-open frame (b ∷ rest) e = absurd (cc)
 pub cut-open : (bs : List ℕ) (c : Cut) → cut bs ≡ Some c → c.ended ≡ false → c.rest ≡ []
 cut-open [] c e f = absurd (cc)
 cut-open (b ∷ bs) c e f =
-    let is : cond {A = Cut} (eqb b 40) (closed (until is_bracket bs) (since is_bracket bs)) (order_cut (b ∷ until ends_order bs) (since ends_order bs)) ≡ c = cc in
+    let is : cond {A = Cut} (eqb b 40) (closed (until is_parenthesis bs) (since is_parenthesis bs)) (order_cut (b ∷ until ends_order bs) (since ends_order bs)) ≡ c = cc in
     ap (λ (d : Cut). d.rest) (sym is) ∙ by (eqb b 40) (ap (λ (d : Cut). d.ended) is ∙ f)
   where
-    by : (t : Bool) → (cond {A = Cut} t (closed (until is_bracket bs) (since is_bracket bs)) (order_cut (b ∷ until ends_order bs) (since ends_order bs))).ended ≡ false
-        → (cond {A = Cut} t (closed (until is_bracket bs) (since is_bracket bs)) (order_cut (b ∷ until ends_order bs) (since ends_order bs))).rest ≡ []
-    by true h = closed-open (until is_bracket bs) (since is_bracket bs) h
+    by : (t : Bool) → (cond {A = Cut} t (closed (until is_parenthesis bs) (since is_parenthesis bs)) (order_cut (b ∷ until ends_order bs) (since ends_order bs))).ended ≡ false
+        → (cond {A = Cut} t (closed (until is_parenthesis bs) (since is_parenthesis bs)) (order_cut (b ∷ until ends_order bs) (since ends_order bs))).rest ≡ []
+    by true h = closed-open (until is_parenthesis bs) (since is_parenthesis bs) h
     by false h = order-open (b ∷ until ends_order bs) (since ends_order bs) h
 
 nothing-in : (n : ℕ) → frames_in n [] ≡ []
@@ -140,7 +140,7 @@ last-in (suc n) bs h = by (first_cut bs) refl (λ c e. last-in n c.rest (shorter
     one : (c : Cut) → first_cut bs ≡ Some c → (t : Bool) → c.ended ≡ t → length (frames_in n c.rest) ≤ length (ended_in n c.rest) + 1
         → suc (length (frames_in n c.rest)) ≤ length (cond t (c.frame ∷ ended_in n c.rest) []) + 1
     one c e true k rest = omega (arith, rest)
-    one c e false k rest = omega (arith, ap length (ap (frames_in n) (cut-open (since is_text bs) c e k) ∙ nothing-in n))
+    one c e false k rest = omega (arith, ap length (ap (frames_in n) (cut-open (since is_not_blank bs) c e k) ∙ nothing-in n))
 
     by : (r : Option Cut) → first_cut bs ≡ r → ((c : Cut) → first_cut bs ≡ Some c → length (frames_in n c.rest) ≤ length (ended_in n c.rest) + 1)
         → length (option_map_or (λ c. c.frame ∷ frames_in n c.rest) r []) ≤ length (option_map_or (λ c. cond c.ended (c.frame ∷ ended_in n c.rest) []) r []) + 1

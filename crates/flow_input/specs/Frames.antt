@@ -19,12 +19,12 @@ since stops [] = []
 since stops (b ∷ bs) = if stops b then b ∷ bs else since stops bs
 
 -- a byte that is no blank
-abbrev pub is_text : ℕ → Bool
-is_text b = not ((b == 32) || (b == 13) || (b == 10))
+abbrev pub is_not_blank : ℕ → Bool
+is_not_blank b = not ((b == 32) || (b == 13) || (b == 10))
 
 -- a message goes to the next bracket
-abbrev pub is_bracket : ℕ → Bool
-is_bracket b = (b == 40) || (b == 41)
+abbrev pub is_parenthesis : ℕ → Bool
+is_parenthesis b = (b == 40) || (b == 41)
 
 -- an order goes to the end of the line or to a message
 abbrev pub ends_order : ℕ → Bool
@@ -48,11 +48,11 @@ order_cut frame (b ∷ rest) = record { frame = frame; rest = b ∷ rest; ended 
 -- the first frame of bytes that begin with no blank
 abbrev pub cut : List ℕ → Option Cut
 cut [] = None
-cut (b ∷ bs) = Some (if b == 40 then closed (until is_bracket bs) (since is_bracket bs) else order_cut (b ∷ until ends_order bs) (since ends_order bs))
+cut (b ∷ bs) = Some (if b == 40 then closed (until is_parenthesis bs) (since is_parenthesis bs) else order_cut (b ∷ until ends_order bs) (since ends_order bs))
 
 -- the first frame, past the blanks before it
 unfoldable pub first_cut : List ℕ → Option Cut
-first_cut bytes = cut (since is_text bytes)
+first_cut bytes = cut (since is_not_blank bytes)
 
 -- the first frames, each of which takes a byte at least
 unfoldable pub frames_in : ℕ → List ℕ → List (List ℕ)

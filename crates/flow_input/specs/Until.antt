@@ -2,8 +2,8 @@
 use Rattle.std.specs.Prelude.{ℕ, Bool}
 use Rattle.flow_input.specs.declared.scan.Until.{Until}
 use Rattle.flow_input.specs.declared.scan.Until.TheVariants as until
-use Rattle.flow_input.specs.Frames.{is_bracket, ends_order}
+use Rattle.flow_input.specs.Frames.{is_parenthesis, ends_order}
 
 abbrev pub stops_at : Until → ℕ → Bool
-stops_at until.Bracket b = is_bracket b
+stops_at until.Bracket b = is_parenthesis b
 stops_at until.OrderEnd b = ends_order b

@@ -3,14 +3,15 @@
 ghost use Rattle.std.specs.Prelude.{◌≡◌, ◌≤◌, ◌↔◌, ◌+◌, ◌++◌, ℕ, List, []};
 ghost use Rattle.std.specs.Prelude.{◌∷◌, Option, None, Some, length, take};
 ghost use Rattle.std.specs.List.{concat, filter};
-ghost use Rattle.flow_input.specs.Frames.{Cut, ended_frames, first_cut, frames, is_text};
+ghost use Rattle.flow_input.specs.Frames.{Cut, ended_frames, first_cut, frames, is_not_blank};
 ghost use Rattle.flow_input.specs.InTurn.{AnswerInTurn, filings_of};
 ghost use Rattle.flow_input.specs.declared.input.TheConstants.{MAX_INPUT};
 ghost use Rattle.fpl_message.specs.Filings.{FilingView};
 
 /// The frames of an input have all its bytes except blanks, each once and in their order.
 pub fn no_byte_is_lost()
-    ensures { (bytes : List ℕ) → filter is_text (concat (frames bytes)) ≡ filter is_text bytes }
+    ensures { (bytes : List ℕ) → filter is_not_blank (concat (frames bytes))
+        ≡ filter is_not_blank bytes }
 {}
 
 /// The frames that have ended in some bytes are the first frames of the input, however it

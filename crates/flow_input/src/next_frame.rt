@@ -3,7 +3,7 @@ ghost use Rattle.std.specs.Prelude.{◌≡◌, ◌≢◌, ◌≤◌, ◌<◌, �
 ghost use Rattle.std.specs.Prelude.{false, true, IsTrue, OnErr, OnOk};
 ghost use Rattle.std.specs.Prelude.{IfOk, IsErrOf, Err, None, Some, IfSome};
 ghost use Rattle.std.specs.Io.KnownBytes.{Consumes, IsAtEnd};
-ghost use Rattle.flow_input.specs.Frames.{first_cut, is_text, kept_of};
+ghost use Rattle.flow_input.specs.Frames.{first_cut, is_not_blank, kept_of};
 ghost use Rattle.flow_input.specs.NextFrame.{Cuts, GaveFirst, Starves, filing_kept};
 ghost use Rattle.flow_input.specs.Reader.{Agrees, BeginsWithStop, Came};
 ghost use Rattle.flow_input.specs.Reader.{CameTooMuch, Filled, Finished, TakesIf};
@@ -148,7 +148,7 @@ fn pass_long<R: Read, A: Allocator>(
     input: &mut Input<A>,
 ) -> Result<(), IntakeFault>
     requires going { input.old.ended ≡ false }
-    requires text { BeginsWithStop is_text input.old.unread }
+    requires text { BeginsWithStop is_not_blank input.old.unread }
     requires goes { IfSome (first_cut input.old.unread) (λ c. c.ended ≡ false) }
     requires long { MAX_BYTES < length input.old.unread }
     ensures gave { OnOk result (GaveFirst (filing_kept input.new.item) input.old input.new
@@ -171,8 +171,8 @@ fn pass_long<R: Read, A: Allocator>(
 
 /// Drops the blanks before the next frame.
 fn skip_blanks<A: Allocator>(input: &mut Input<A>)
-    ensures took { TookRun is_text input.old input.new }
-    ensures stop { BeginsWithStop is_text input.new.unread }
+    ensures took { TookRun is_not_blank input.old input.new }
+    ensures stop { BeginsWithStop is_not_blank input.new.unread }
     ensures ended { input.new.ended ≡ input.old.ended }
     ensures within { input.new.taken ≤ MAX_INPUT }
 {

@@ -2,7 +2,7 @@
 ghost use Rattle.std.specs.Prelude.{◌≡◌};
 ghost use Rattle.std.specs.List.{position};
 ghost use Rattle.memchr.specs.Find.{is_byte2};
-ghost use Rattle.flow_input.specs.Frames.{is_text};
+ghost use Rattle.flow_input.specs.Frames.{is_not_blank};
 ghost use Rattle.flow_input.specs.Until.{stops_at};
 
 use std::simd::prelude::*;
@@ -20,7 +20,7 @@ pub(crate) enum Until {
 /// gain nothing.
 #[inline]
 pub(crate) fn text_in(bytes: &[u8]) -> Option<usize>
-    ensures { result ≡ position is_text bytes.now }
+    ensures { result ≡ position is_not_blank bytes.now }
 {
     bytes.iter().position(|byte| !(*byte == b' ' || *byte == b'\r' || *byte == b'\n'))
 }

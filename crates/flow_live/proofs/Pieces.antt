@@ -13,11 +13,11 @@ use Rattle.flow_input.specs.declared.fault.IntakeFault.TheVariants as intake
 use Rattle.flow_input.proofs.Cuttings.{Cutting-start, Cutting-one, Cutting-end, CutFront-came, CutEnded-read}
 use Rattle.flow_input.proofs.Written.{Appends-none, Appends-both, AppendsFront-both}
 use Rattle.flow_desk.specs.Histories.{IsLawful}
-use Rattle.flow_desk.specs.FeederPasses.{PassView}
-use Rattle.flow_live.specs.Feeding.{Answers, CutsMore, CutsTaken, Feeds, Fed, FedUnlessStopped, PieceIs, Prepares, Serves, end_by}
+use Rattle.flow_desk.specs.FeederPasses.{PassView, SawOthers}
+use Rattle.flow_live.specs.Feeding.{AnswersWith, CutsMore, CutsTaken, Feeds, Fed, FedUnlessStopped, PieceIs, Prepares, Serves, end_by}
 use Rattle.flow_live.specs.declared.fault.FeedEnd.{FeedEnd}
 use Rattle.flow_live.specs.declared.fault.FeedEnd.TheVariants as end
-use Rattle.flow_live.proofs.Servings.{Serves-none, Serves-then}
+use Rattle.flow_live.proofs.Servings.{Serves-saw, Serves-then}
 
 -- ---- frames that were cut off
 
@@ -50,14 +50,14 @@ Cuts-first is ahead taken mid rest filing gave so =
 -- ---- a feed
 
 -- nothing was read yet
-pub Feeds-start : (s : SetupView) (p : PassView) (begun input : Option (List ℕ)) (ahead : InputView) → IsLawful s p.seen → ahead ≡ record { unread = []; taken = 0; ended = false; item = Some [] }
-    → Feeds s p p begun begun ahead input input
-Feeds-start s p begun input ahead lawful fresh =
-    record { done = []; text = []; served = Serves-none s p lawful; cutting = Cutting-start ahead input fresh; wrote = Appends-none begun }
+pub Feeds-start : (s : SetupView) (p q : PassView) (begun input : Option (List ℕ)) (ahead : InputView) → SawOthers p q → IsLawful s q.seen → ahead ≡ record { unread = []; taken = 0; ended = false; item = Some [] }
+    → Feeds s p q begun begun ahead input input
+Feeds-start s p q begun input ahead saw lawful fresh =
+    record { done = []; text = []; served = Serves-saw s p q saw lawful; cutting = Cutting-start ahead input fresh; wrote = Appends-none begun }
 
 module _ (s : SetupView) (p q : PassView) (begun written : Option (List ℕ)) (old : InputView) (input mid : Option (List ℕ)) (f : Feeds s p q begun written old input mid) where
   -- a piece was answered
-  pub Feeds-more : (r : PassView) (now : Option (List ℕ)) (new : InputView) (rest : Option (List ℕ)) → CutsMore (λ more. Answers s q more r (λ text. Appends written now text)) old new mid rest
+  pub Feeds-more : (r : PassView) (now : Option (List ℕ)) (new : InputView) (rest : Option (List ℕ)) → CutsMore (λ more. AnswersWith s q more r (λ text. Appends written now text)) old new mid rest
       → Feeds s p r begun now new input rest
   Feeds-more r now new rest c =
       let a = c.true_of in
@@ -70,7 +70,7 @@ module _ (s : SetupView) (p q : PassView) (begun written : Option (List ℕ)) (o
       }
 
   -- a piece was answered, and not all of it written
-  pub Fed-write : (r : PassView) (now : Option (List ℕ)) (new : InputView) (rest : Option (List ℕ)) → CutsMore (λ more. Answers s q more r (λ text. AppendsFront written now text)) old new mid rest
+  pub Fed-write : (r : PassView) (now : Option (List ℕ)) (new : InputView) (rest : Option (List ℕ)) → CutsMore (λ more. AnswersWith s q more r (λ text. AppendsFront written now text)) old new mid rest
       → Fed s p r end.Write begun now input rest
   Fed-write r now new rest c =
       let a = c.true_of in
@@ -115,10 +115,10 @@ pub Piece-all : {T : Type 0} (result : Result T FeedEnd) (s : SetupView) (p q : 
     → CutsTaken s p (λ more. Serves s p more q text) taken left → OnOk result (Appends written now text) → OnErr result (AppendsFront written now text) → IfErr result (λ e. e ≡ end.Write)
     → PieceIs result s p q written now taken left
 Piece-all (Ok x) s p q text written now taken left cuts all part kind = λ lawful ahead mid rest gave agrees.
-    Cuts-so (λ more. Serves s p more q text) (λ more. Answers s p more q (λ t. Appends written now t)) ahead left mid rest (cuts lawful ahead mid rest gave agrees)
+    Cuts-so (λ more. Serves s p more q text) (λ more. AnswersWith s p more q (λ t. Appends written now t)) ahead left mid rest (cuts lawful ahead mid rest gave agrees)
     (λ fs h. record { text = text; served = h; text_wrote = all })
 Piece-all (Err end.Write) s p q text written now taken left cuts all part kind = λ lawful ahead mid rest gave agrees.
-    Cuts-so (λ more. Serves s p more q text) (λ more. Answers s p more q (λ t. AppendsFront written now t)) ahead left mid rest (cuts lawful ahead mid rest gave agrees)
+    Cuts-so (λ more. Serves s p more q text) (λ more. AnswersWith s p more q (λ t. AppendsFront written now t)) ahead left mid rest (cuts lawful ahead mid rest gave agrees)
     (λ fs h. record { text = text; served = h; text_wrote = part })
 Piece-all (Err end.Open) s p q text written now taken left cuts all part kind = absurd (cc (kind))
 Piece-all (Err end.Finished) s p q text written now taken left cuts all part kind = absurd (cc (kind))

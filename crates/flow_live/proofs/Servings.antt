@@ -14,9 +14,9 @@ use Rattle.flow_input.specs.Filings.{filings}
 use Rattle.flow_input.proofs.Filings.{filings-append, one-whole, one-long, is-long, is-whole, whole-is}
 use Rattle.flow_core.specs.State.{EntryView}
 use Rattle.flow_core.specs.Output.{answer_of, too_long_line}
-use Rattle.flow_desk.specs.Followers.{newest, newest_answers, answers_with}
+use Rattle.flow_desk.specs.Followers.{newest_entries, newest_answers, answers_with}
 use Rattle.flow_desk.specs.Histories.{own, after, IsLawful}
-use Rattle.flow_desk.specs.FeederPasses.{PassView, FiledInTurn, FiledFront, entry}
+use Rattle.flow_desk.specs.FeederPasses.{PassView, SawOthers, FiledInTurn, FiledFront, entry}
 use Rattle.flow_desk.proofs.Collecting.{answer-early}
 use Rattle.flow_desk.proofs.Fronts.{prefix_self, prefix_trans, prefix_length}
 use Rattle.flow_desk.proofs.Owning.{own-append, own-snoc}
@@ -100,6 +100,21 @@ texts-length es = length-map es (λ (e : EntryView). e.input.text)
 
 texts-append : (es fs : List EntryView) → texts (es ++ fs) ≡ texts es ++ texts fs
 texts-append es fs = map-append (λ (e : EntryView). e.input.text) es fs
+
+-- none were, though others' entries were seen
+pub Serves-saw : (s : SetupView) (p q : PassView) → SawOthers p q → IsLawful s q.seen → Serves s p [] q []
+unfolding filings
+Serves-saw s p q saw lawful = record {
+  entries = [];
+  later = saw.more.later;
+  feeder = saw.more.feeder;
+  own_are = saw.none_own ∙ sym (append-nil (own p.feeder p.seen));
+  lawful = lawful;
+  front = ([], refl);
+  whole = λ _. refl;
+  full = λ _. refl;
+  text_is = sym (told-none (after s q.seen) []);
+}
 
 -- none were
 pub Serves-none : (s : SetupView) (p : PassView) → IsLawful s p.seen → Serves s p [] p []
@@ -218,7 +233,7 @@ module _ (s : SetupView) (p q : PassView) (waiting : List (List ℕ)) (ready lef
       sym (ap (λ (ts : List FilingView). length ts) (front_is ∙ are)) ∙ (length-append (texts es) left ∙ ap (λ (n : ℕ). n + length left) (texts-length es)) in
       let seen_many : length q.seen ≡ length saw.seen + length es = ap (λ (ls : List EntryView). length ls) e.seen ∙ length-append saw.seen es in
       let index : length q.seen - (length ready - length left) ≡ length saw.seen = omega (arith, many, seen_many) in
-      let newest_is : newest (length ready - length left) q.seen ≡ es = ap (λ (n : ℕ). drop n q.seen) index ∙ (ap (λ (ls : List EntryView). drop (length saw.seen) ls) e.seen ∙ drop-append_seam saw.seen es) in
+      let newest_is : newest_entries (length ready - length left) q.seen ≡ es = ap (λ (n : ℕ). drop n q.seen) index ∙ (ap (λ (ls : List EntryView). drop (length saw.seen) ls) e.seen ∙ drop-append_seam saw.seen es) in
       record {
         entries = es;
         later = prefix_trans p.seen saw.seen q.seen h.others.more.later (es, sym e.seen);

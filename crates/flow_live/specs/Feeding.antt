@@ -16,7 +16,7 @@ use Rattle.flow_desk.specs.FeederPasses.{PassView}
 use Rattle.flow_live.specs.Told.{told, texts}
 use Rattle.flow_input.specs.declared.fault.IntakeFault.{IntakeFault}
 use Rattle.flow_input.specs.declared.fault.IntakeFault.TheVariants as intake
-use Rattle.flow_live.specs.declared.fault.LiveFault.TheVariants as live
+use Rattle.flow_live.specs.declared.fault.StopFault.TheVariants as stop
 use Rattle.flow_live.specs.declared.fault.FeedEnd.{FeedEnd}
 use Rattle.flow_live.specs.declared.fault.FeedEnd.TheVariants as end
 
@@ -65,15 +65,15 @@ CutsTaken setup p is taken left =
     → GaveFirst (filing_kept taken.item) ahead taken mid rest → Agrees taken rest → CutsMore is ahead left mid rest
 
 -- frames were answered so, and this is true of the text
-pub record Answers (setup : SetupView) (p : PassView) (done : List (List ℕ)) (q : PassView) (wrote : List ℕ → Type 0) : Type 0 where
+pub record AnswersWith (setup : SetupView) (p : PassView) (done : List (List ℕ)) (q : PassView) (wrote : List ℕ → Type 0) : Type 0 where
   pub text : List ℕ
   pub served : Serves setup p done q text
   pub text_wrote : wrote text
 
 -- what was written of the answers to a piece: all, or a prefix if the writer failed
 abbrev pub PieceIs : {T : Type 0} → Result T FeedEnd → SetupView → PassView → PassView → Option (List ℕ) → Option (List ℕ) → InputView → InputView → Type 0
-PieceIs (Ok _) setup p q written now taken left = CutsTaken setup p (λ more. Answers setup p more q (λ text. Appends written now text)) taken left
-PieceIs (Err end.Write) setup p q written now taken left = CutsTaken setup p (λ more. Answers setup p more q (λ text. AppendsFront written now text)) taken left
+PieceIs (Ok _) setup p q written now taken left = CutsTaken setup p (λ more. AnswersWith setup p more q (λ text. Appends written now text)) taken left
+PieceIs (Err end.Write) setup p q written now taken left = CutsTaken setup p (λ more. AnswersWith setup p more q (λ text. AppendsFront written now text)) taken left
 PieceIs (Err (end.Stopped fault)) setup p q written now taken left = Unit {0}
 PieceIs (Err _) setup p q written now taken left = ⊥
 
@@ -83,14 +83,14 @@ PieceIs (Err _) setup p q written now taken left = ⊥
 abbrev pub end_by : IntakeFault → FeedEnd
 end_by intake.Read = end.Read
 end_by intake.TooMuch = end.TooMuch
-end_by intake.OutOfMemory = end.Stopped live.OutOfMemory
+end_by intake.OutOfMemory = end.Stopped stop.OutOfMemory
 
 -- which frames of the input were answered when the feed ended so: all, those whose end was read, or
 -- the first of them
-abbrev pub Took : FeedEnd → List (List ℕ) → Option (List ℕ) → Option (List ℕ) → Type 0
-Took end.Finished done input rest = IfSome input (λ bytes. done ≡ frames bytes)
-Took end.Read done input rest = CutEnded done input rest
-Took _ done input rest = CutFront done input rest
+abbrev pub TookFrames : FeedEnd → List (List ℕ) → Option (List ℕ) → Option (List ℕ) → Type 0
+TookFrames end.Finished done input rest = IfSome input (λ bytes. done ≡ frames bytes)
+TookFrames end.Read done input rest = CutEnded done input rest
+TookFrames _ done input rest = CutFront done input rest
 
 -- what was written then of the text that answers them: all, or a prefix if the writer failed
 abbrev pub Wrote : FeedEnd → Option (List ℕ) → Option (List ℕ) → List ℕ → Type 0
@@ -102,7 +102,7 @@ pub record Fed (setup : SetupView) (p q : PassView) (end : FeedEnd) (begun writt
   pub done : List (List ℕ)
   pub text : List ℕ
   pub served : Serves setup p done q text
-  pub took : Took end done input rest
+  pub took : TookFrames end done input rest
   pub wrote : Wrote end begun written text
 
 -- a feed ended so, or the run was stopped
@@ -112,7 +112,7 @@ FedUnlessStopped setup p q end.Open begun written input rest = ⊥
 FedUnlessStopped setup p q how begun written input rest = Fed setup p q how begun written input rest
 
 -- the feed of a pass that had seen a lawful history ended so, unless the run was stopped
-pub record HasRun (setup : SetupView) (p q : PassView) (end : FeedEnd) (begun written input rest : Option (List ℕ)) : Type 0 where
+pub record HasServed (setup : SetupView) (p q : PassView) (end : FeedEnd) (begun written input rest : Option (List ℕ)) : Type 0 where
   pub fed : IsLawful setup p.seen → FedUnlessStopped setup p q end begun written input rest
 
 -- as far as a feed has come

@@ -1,3 +1,4 @@
 pub mod Told
 pub mod Feeding
+pub mod Keeping
 pub mod Running

@@ -6,9 +6,10 @@ ghost use Rattle.flow_input.specs.Reader.{Agrees};
 ghost use Rattle.flow_core.specs.Output.{too_long_line, journal_full_line};
 ghost use Rattle.flow_live.specs.Told.{full_lines};
 ghost use Rattle.flow_live.specs.Feeding.{Prepares, Serves, TakesNext, CutsTaken};
+ghost use Rattle.flow_live.specs.Keeping.{AnswersSeen};
 
 use flow_core::{StepFault, journal_full_line, too_long_line};
-use flow_desk::{Desk, Name, Pass};
+use flow_desk::{Desk, Follower, Name, Pass};
 use flow_input::Input;
 use fpl_message::{FiledText, Filing};
 use std::alloc::{AllocError, Allocator, Global};
@@ -21,22 +22,26 @@ const AT_ONCE: usize = 64;
 
 /// The filings of a feeder that are ready to be filed, and the answers to those that were.
 #[derive(Drop)]
-pub(crate) struct Batch<A: Allocator + Copy = Global> {
+pub(crate) struct Batch<N: Name, A: Allocator + Copy = Global> {
     /// The buffer in which texts are read.
     room: Vec<u8, A>,
     ready: VecDeque<Filing<A>, A>,
     pub answers: Vec<u8, A>,
+    /// What the feeder's pass has seen.
+    pub seen: Follower<N>,
 }
 
-impl<A: Allocator + Copy> Batch<A> {
-    /// Creates an empty batch.
-    pub fn new(alloc: A) -> Self
-        ensures { (result.ready.items ≡ []) × (result.answers.items ≡ []) }
+impl<N: Name, A: Allocator + Copy> Batch<N, A> {
+    /// Creates an empty batch of a feeder whose pass has seen this.
+    pub fn new(alloc: A, seen: Follower<N>) -> Self
+        ensures none { (result.ready.items ≡ []) × (result.answers.items ≡ []) }
+        ensures seen { result.seen ≡ seen }
     {
         Batch {
             room: Vec::new(alloc),
             ready: VecDeque::new(alloc),
             answers: Vec::new(alloc),
+            seen,
         }
     }
 }
@@ -71,17 +76,22 @@ fn answer_ready<N: Name, Q: Wait + Drop, P: Wait, A: Allocator + Copy>(
     alloc: A,
     desk: &Desk<N, Q, A>,
     pass: &mut Pass<N, A>,
-    batch: &mut Batch<A>,
+    batch: &mut Batch<N, A>,
 ) -> Result<(), AllocError>
+    requires { AnswersSeen N.setup pass.old batch.old.seen batch.old.answers.items }
     ensures served { OnOk result ((p : _) (done : List (List ℕ))
         → Prepares N.setup p done pass.old batch.old.answers.items batch.old.ready.items
         → Serves N.setup p done pass.new batch.new.answers.items) }
     ensures none { OnOk result (batch.new.ready.items ≡ []) }
+    ensures seen { OnOk result
+        (AnswersSeen N.setup pass.new batch.new.seen batch.new.answers.items) }
 {
     if batch.ready.is_empty() {
         return Ok(());
     }
-    match desk.answer_all(wait, alloc, pass, &mut batch.ready, &mut batch.answers) {
+    let (answered, seen) = desk.answer_all(wait, alloc, pass, &mut batch.ready, &mut batch.answers);
+    batch.seen = seen;
+    match answered {
         Ok(()) => Ok(()),
         Err(StepFault::JournalFull) => answer_left(&mut batch.ready, &mut batch.answers),
         Err(StepFault::OutOfMemory) => Err(AllocError),
@@ -89,15 +99,16 @@ fn answer_ready<N: Name, Q: Wait + Drop, P: Wait, A: Allocator + Copy>(
 }
 
 /// Reads a frame, to be filed with others.
-fn prepare<A: Allocator + Copy>(
+fn prepare<N: Name, A: Allocator + Copy>(
     alloc: A,
     frame: &[u8],
-    batch: &mut Batch<A>,
+    batch: &mut Batch<N, A>,
 ) -> Result<(), AllocError>
     requires { length frame.now ≤ MAX_BYTES }
     ensures ready { OnOk result
         (batch.new.ready.items ≡ batch.old.ready.items ++ second frame.now ∷ []) }
     ensures answers { batch.new.answers.items ≡ batch.old.answers.items }
+    ensures seen { batch.new.seen ≡ batch.old.seen }
 {
     batch.ready.reserve(1)?;
     let Ok(text) = FiledText::new(alloc, frame) else {
@@ -118,11 +129,14 @@ fn take_in<N: Name, Q: Wait + Drop, P: Wait, A: Allocator + Copy>(
     desk: &Desk<N, Q, A>,
     pass: &mut Pass<N, A>,
     input: &Input<A>,
-    batch: &mut Batch<A>,
+    batch: &mut Batch<N, A>,
 ) -> Result<(), AllocError>
+    requires { AnswersSeen N.setup pass.old batch.old.seen batch.old.answers.items }
     ensures next { OnOk result (TakesNext N.setup (filing_kept input.now.item) pass.old
         batch.old.answers.items batch.old.ready.items pass.new batch.new.answers.items
         batch.new.ready.items) }
+    ensures seen { OnOk result
+        (AnswersSeen N.setup pass.new batch.new.seen batch.new.answers.items) }
 {
     let Some(bytes) = input.frame() else {
         answer_ready(wait, alloc, desk, pass, batch)?;
@@ -142,9 +156,10 @@ pub(crate) fn answer_taken<N: Name, Q: Wait + Drop, P: Wait, A: Allocator + Copy
     desk: &Desk<N, Q, A>,
     pass: &mut Pass<N, A>,
     input: &mut Input<A>,
-    batch: &mut Batch<A>,
+    batch: &mut Batch<N, A>,
 ) -> Result<(), AllocError>
     requires none { (batch.old.ready.items ≡ []) × (batch.old.answers.items ≡ []) }
+    requires seen { AnswersSeen N.setup pass.old batch.old.seen batch.old.answers.items }
     ensures serving { OnOk result (CutsTaken N.setup pass.old
         (λ more. Serves N.setup pass.old more pass.new batch.new.answers.items) input.old
         input.new) }
@@ -152,6 +167,8 @@ pub(crate) fn answer_taken<N: Name, Q: Wait + Drop, P: Wait, A: Allocator + Copy
         → Agrees input.new rest) }
     ensures nearer { OnOk result (input.old.taken ≤ input.new.taken) }
     ensures none { OnOk result (batch.new.ready.items ≡ []) }
+    ensures seen { OnOk result
+        (AnswersSeen N.setup pass.new batch.new.seen batch.new.answers.items) }
 {
     take_in(wait, alloc, desk, pass, input, batch)?;
     'frames: while input.take_whole() {

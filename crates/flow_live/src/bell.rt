@@ -1,7 +1,7 @@
 //! Wakes the thread that follows the history, and stops all when the run ends.
 ghost use Rattle.std.specs.Prelude.{◌≡◌};
 
-use crate::fault::{FeedEnd, LiveFault, Watch};
+use crate::fault::{FeedEnd, LiveFault, StopFault, Watch};
 use std::sync::{Condvar, Mutex, Wait};
 
 /// What the follower of a run learns.
@@ -12,7 +12,7 @@ pub(crate) struct Heard {
     /// Whether a feed hasn't ended yet.
     pub is_open: bool,
     /// The fault with which the run ended, if it did.
-    pub fault: Option<LiveFault>,
+    pub fault: Option<StopFault>,
 }
 
 /// A bell that a feeder rings after it has filed.
@@ -37,7 +37,7 @@ impl Bell {
 
     /// Wakes the follower: there are entries. Returns the fault with which the run ended, if it
     /// did.
-    pub fn ring<P: Wait>(&self, wait: &P) -> Option<LiveFault> {
+    pub fn ring<P: Wait>(&self, wait: &P) -> Option<StopFault> {
         let mut heard = self.heard.lock(wait);
         heard.rings = heard.rings.wrapping_add(1);
         self.changed.notify_all();
@@ -57,13 +57,13 @@ impl Bell {
     }
 
     /// Ends the run with this fault, if it hasn't ended yet. Returns the fault.
-    pub fn stop<P: Wait, H: Watch>(&self, wait: &P, watch: &H, fault: LiveFault) -> LiveFault
+    pub fn stop<P: Wait, H: Watch>(&self, wait: &P, watch: &H, fault: StopFault) -> StopFault
         ensures { result ≡ fault }
     {
         let mut heard = self.heard.lock(wait);
         if heard.fault.is_none() {
             heard.fault = Some(fault);
-            watch.run_ended(fault);
+            watch.run_ended(LiveFault::Stopped(fault));
         }
         self.changed.notify_all();
         fault

@@ -1,27 +1,45 @@
 //! How feeds end, and why a run does.
 ghost use Rattle.std.specs.Prelude.{◌≡◌};
-ghost use Rattle.flow_live.specs.declared.fault.LiveFault.TheVariants.{OutOfMemory};
+ghost use Rattle.flow_live.specs.declared.fault.StopFault.TheVariants.{OutOfMemory};
+ghost use Rattle.flow_live.specs.declared.fault.LiveFault.TheVariants.{Stopped};
 
 use std::alloc::AllocError;
 
 /// Why a run ended before its feeds did.
+#[derive(Clone, Copy, Debug, PartialEq, Eq)]
+pub enum StopFault {
+    /// The writer of all answers failed, or took no byte.
+    Write,
+    /// The store failed, or is full.
+    Store,
+    /// Allocation failed.
+    OutOfMemory,
+}
+
+impl From<AllocError> for StopFault {
+    ghost from_gives = { λ _ made. made ≡ OutOfMemory };
+
+    fn from(_error: AllocError) -> StopFault {
+        StopFault::OutOfMemory
+    }
+}
+
+/// Why there was no run, or it ended before its feeds did.
 #[derive(Clone, Copy, Debug, PartialEq, Eq)]
 pub enum LiveFault {
     /// Not 1 to 64 feeds, or an entry of the core has a feeder that isn't below their number.
     Feeds,
     /// A feeder can't be registered as a reader of the board.
     NoReader,
-    /// The writer of all answers failed, or took no byte.
-    Write,
-    /// Allocation failed.
-    OutOfMemory,
+    /// The run ended.
+    Stopped(StopFault),
 }
 
-impl From<AllocError> for LiveFault {
-    ghost from_gives = { λ _ made. made ≡ OutOfMemory };
+impl From<StopFault> for LiveFault {
+    ghost from_gives = { λ fault made. made ≡ Stopped fault };
 
-    fn from(_error: AllocError) -> LiveFault {
-        LiveFault::OutOfMemory
+    fn from(fault: StopFault) -> LiveFault {
+        LiveFault::Stopped(fault)
     }
 }
 
@@ -39,7 +57,7 @@ pub enum FeedEnd {
     /// Its writer failed, or took no byte.
     Write,
     /// The run ended with this fault.
-    Stopped(LiveFault),
+    Stopped(StopFault),
 }
 
 /// Is called when a fault comes, by one thread at a time.
@@ -47,6 +65,6 @@ pub trait Watch {
     /// The feed of this feeder ended with a fault of its own.
     fn feed_ended(&self, feeder: u8, end: FeedEnd);
 
-    /// The run ends with this fault: nobody is answered any more.
+    /// There is no run, or it ends with this fault: nobody is answered any more.
     fn run_ended(&self, fault: LiveFault);
 }

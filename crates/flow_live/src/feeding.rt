@@ -4,14 +4,17 @@ ghost use Rattle.std.specs.Prelude.{Option, length, slice_index_or, IfErr, OnOk}
 ghost use Rattle.flow_input.specs.Writes.{Writes};
 ghost use Rattle.flow_input.specs.Reader.{Agrees};
 ghost use Rattle.flow_desk.specs.Histories.{IsLawful};
-ghost use Rattle.flow_live.specs.Feeding.{FedUnlessStopped, HasRun, PieceIs, end_by};
+ghost use Rattle.flow_live.specs.Feeding.{FedUnlessStopped, HasServed, PieceIs, end_by};
+ghost use Rattle.flow_live.specs.Keeping.{AnswersOnly, AnswersSeen};
 
 use crate::answering::{Batch, answer_taken};
 use crate::bell::Bell;
-use crate::fault::{FeedEnd, LiveFault, Watch};
+use crate::fault::{FeedEnd, StopFault, Watch};
 use crate::feed::Feed;
-use flow_desk::{Desk, Name, Pass};
-use flow_input::{Counted, Input, IntakeFault, take_frame, write_bytes};
+use crate::keeping::{Keeping, hand_on};
+use flow_desk::{Desk, Name, Pass, Stored};
+use flow_input::{Counted, Input, IntakeFault, take_frame};
+use flow_log::Outside;
 use std::alloc::{Allocator, Global};
 use std::io::{Read, Write};
 use std::mem::replace;
@@ -26,12 +29,17 @@ pub(crate) struct Seated<N: Name, R, W, A: Allocator + Copy = Global> {
     pub feed: Feed<R, W>,
 }
 
-/// Writes the answers, and flushes them, since their reader may wait for them.
-fn hand_on<W: Write>(writer: &mut Counted<W>, answers: &[u8]) -> Result<(), FeedEnd>
+/// Writes answers, and flushes them, since their reader may wait for them.
+fn answer<N: Name, W: Write>(
+    writer: &mut Counted<W>,
+    answers: &[u8],
+    stored: &Stored<N>,
+) -> Result<(), FeedEnd>
+    requires { AnswersOnly N.setup stored.now answers.now }
     ensures writes { Writes W.contents result writer.old writer.new answers.now }
     ensures kind { IfErr result (λ e. e ≡ FeedEnd.Write) }
 {
-    if write_bytes(writer, answers).is_err() {
+    if hand_on(writer, answers, stored).is_err() {
         return Err(FeedEnd::Write);
     }
     match writer.flush() {
@@ -47,45 +55,72 @@ fn end_of(fault: IntakeFault) -> FeedEnd
     match fault {
         IntakeFault::Read => FeedEnd::Read,
         IntakeFault::TooMuch => FeedEnd::TooMuch,
-        IntakeFault::OutOfMemory => FeedEnd::Stopped(LiveFault::OutOfMemory),
+        IntakeFault::OutOfMemory => FeedEnd::Stopped(StopFault::OutOfMemory),
     }
 }
 
-/// Files the frame that was taken last and the complete ones after it, and writes their answers.
-fn answer_piece<N: Name, Q: Wait + Drop, W: Write, H: Watch, P: Wait, A: Allocator + Copy>(
+/// Files the frame that was taken last and the complete ones after it, and writes their answers
+/// when their entries are stored.
+fn answer_piece<
+    N: Name,
+    Q: Wait + Drop,
+    K: Outside + Drop,
+    W: Write,
+    H: Watch,
+    P: Wait,
+    A: Allocator + Copy,
+>(
     wait: &P,
     alloc: A,
     desk: &Desk<N, Q, A>,
+    keeping: &Keeping<N, K, A>,
     bell: &Bell,
     watch: &H,
     input: &mut Input<A>,
-    batch: &mut Batch<A>,
+    batch: &mut Batch<N, A>,
     pass: &mut Pass<N, A>,
     writer: &mut Counted<W>,
 ) -> Result<(), FeedEnd>
     requires none { batch.old.ready.items ≡ [] }
+    requires seen { AnswersSeen N.setup pass.old batch.old.seen batch.old.answers.items }
     ensures piece { PieceIs result N.setup pass.old pass.new (W.contents writer.old.device)
         (W.contents writer.new.device) input.old input.new }
     ensures agrees { OnOk result
         ((rest : Option (List ℕ)) → Agrees input.old rest → Agrees input.new rest) }
     ensures nearer { OnOk result (input.old.taken ≤ input.new.taken) }
     ensures none { OnOk result (batch.new.ready.items ≡ []) }
+    ensures seen { OnOk result
+        (AnswersSeen N.setup pass.new batch.new.seen batch.new.answers.items) }
 {
     batch.answers.clear();
     let Ok(()) = answer_taken(wait, alloc, desk, pass, input, batch) else {
-        return Err(FeedEnd::Stopped(bell.stop(wait, watch, LiveFault::OutOfMemory)));
+        return Err(FeedEnd::Stopped(bell.stop(wait, watch, StopFault::OutOfMemory)));
+    };
+    let stored = match keeping.commit(wait, alloc, desk, &batch.seen) {
+        Ok(stored) => stored,
+        Err(fault) => return Err(FeedEnd::Stopped(bell.stop(wait, watch, fault))),
     };
     if let Some(fault) = bell.ring(wait) {
         return Err(FeedEnd::Stopped(fault));
     }
-    hand_on(writer, batch.answers.as_slice())
+    answer(writer, batch.answers.as_slice(), &stored)
 }
 
 /// Answers a feed until it ends. Returns how it ended.
-fn serve_feed<N: Name, Q: Wait + Drop, R: Read, W: Write, H: Watch, P: Wait, A: Allocator + Copy>(
+fn serve_feed<
+    N: Name,
+    Q: Wait + Drop,
+    K: Outside + Drop,
+    R: Read,
+    W: Write,
+    H: Watch,
+    P: Wait,
+    A: Allocator + Copy,
+>(
     wait: &P,
     alloc: A,
     desk: &Desk<N, Q, A>,
+    keeping: &Keeping<N, K, A>,
     bell: &Bell,
     watch: &H,
     pass: &mut Pass<N, A>,
@@ -98,9 +133,9 @@ fn serve_feed<N: Name, Q: Wait + Drop, R: Read, W: Write, H: Watch, P: Wait, A: 
         (R.remaining reader.new.device) }
 {
     let Ok(mut input) = Input::new(alloc) else {
-        return FeedEnd::Stopped(bell.stop(wait, watch, LiveFault::OutOfMemory));
+        return FeedEnd::Stopped(bell.stop(wait, watch, StopFault::OutOfMemory));
     };
-    let mut batch = Batch::new(alloc);
+    let mut batch = Batch::new(alloc, desk.follower_of(wait, pass));
     'pieces: loop {
         match take_frame(reader, &mut input) {
             Ok(true) => {}
@@ -108,7 +143,7 @@ fn serve_feed<N: Name, Q: Wait + Drop, R: Read, W: Write, H: Watch, P: Wait, A: 
             Err(fault) => return end_of(fault),
         }
         let answered = answer_piece(
-            wait, alloc, desk, bell, watch, &mut input, &mut batch, pass, writer,
+            wait, alloc, desk, keeping, bell, watch, &mut input, &mut batch, pass, writer,
         );
         if let Err(end) = answered {
             return end;
@@ -117,15 +152,25 @@ fn serve_feed<N: Name, Q: Wait + Drop, R: Read, W: Write, H: Watch, P: Wait, A: 
 }
 
 /// Answers a feed until it ends, and records how it did.
-fn run_feed<N: Name, Q: Wait + Drop, R: Read, W: Write, H: Watch, P: Wait, A: Allocator + Copy>(
+fn run_feed<
+    N: Name,
+    Q: Wait + Drop,
+    K: Outside + Drop,
+    R: Read,
+    W: Write,
+    H: Watch,
+    P: Wait,
+    A: Allocator + Copy,
+>(
     wait: &P,
     alloc: A,
     desk: &Desk<N, Q, A>,
+    keeping: &Keeping<N, K, A>,
     bell: &Bell,
     watch: &H,
     seated: &mut Seated<N, R, W, A>,
 )
-    ensures { HasRun N.setup seated.old.pass seated.new.pass seated.new.feed.end
+    ensures { HasServed N.setup seated.old.pass seated.new.pass seated.new.feed.end
         (W.contents seated.old.feed.writer.device) (W.contents seated.new.feed.writer.device)
         (R.remaining seated.old.feed.reader.device) (R.remaining seated.new.feed.reader.device) }
 {
@@ -138,6 +183,7 @@ fn run_feed<N: Name, Q: Wait + Drop, R: Read, W: Write, H: Watch, P: Wait, A: Al
         wait,
         alloc,
         desk,
+        keeping,
         bell,
         watch,
         &mut seated.pass,
@@ -156,6 +202,7 @@ fn run_feed<N: Name, Q: Wait + Drop, R: Read, W: Write, H: Watch, P: Wait, A: Al
 fn run_seats<
     N: Name + Send + Sync,
     Q: Wait + Drop + Send,
+    K: Outside + Drop + Send,
     R: Read + Send,
     W: Write + Send,
     H: Watch + Sync,
@@ -167,13 +214,14 @@ fn run_seats<
     wait: &P,
     alloc: A,
     desk: &Desk<N, Q, A>,
+    keeping: &Keeping<N, K, A>,
     bell: &Bell,
     watch: &H,
     seated: &mut Vec<Seated<N, R, W, A>, A>,
 )
     ensures len { length seated.new.items ≡ length seated.old.items }
     ensures each { (i : ℕ) (d : _) → i < length seated.old.items
-        → HasRun N.setup (slice_index_or seated.old.items i d).pass
+        → HasServed N.setup (slice_index_or seated.old.items i d).pass
         (slice_index_or seated.new.items i d).pass
         (slice_index_or seated.new.items i d).feed.end
         (W.contents (slice_index_or seated.old.items i d).feed.writer.device)
@@ -186,7 +234,7 @@ fn run_seats<
         rt,
         seated.as_mut_slice(),
         threads,
-        &|_, seated| run_feed(wait, alloc, desk, bell, watch, seated),
+        &|_, seated| run_feed(wait, alloc, desk, keeping, bell, watch, seated),
     );
 }
 
@@ -195,6 +243,7 @@ fn run_seats<
 pub(crate) fn run_all<
     N: Name + Send + Sync,
     Q: Wait + Drop + Send,
+    K: Outside + Drop + Send,
     R: Read + Send,
     W: Write + Send,
     H: Watch + Sync,
@@ -206,13 +255,14 @@ pub(crate) fn run_all<
     wait: &P,
     alloc: A,
     desk: &Desk<N, Q, A>,
+    keeping: &Keeping<N, K, A>,
     bell: &Bell,
     watch: &H,
     seated: &mut Vec<Seated<N, R, W, A>, A>,
 ) -> Vec<Seated<N, R, W, A>, A>
     ensures len { length result.items ≡ length seated.old.items }
     ensures each { (i : ℕ) (d : _) → i < length seated.old.items
-        → HasRun N.setup (slice_index_or seated.old.items i d).pass
+        → HasServed N.setup (slice_index_or seated.old.items i d).pass
         (slice_index_or result.items i d).pass
         (slice_index_or result.items i d).feed.end
         (W.contents (slice_index_or seated.old.items i d).feed.writer.device)
@@ -220,7 +270,7 @@ pub(crate) fn run_all<
         (R.remaining (slice_index_or seated.old.items i d).feed.reader.device)
         (R.remaining (slice_index_or result.items i d).feed.reader.device) }
 {
-    run_seats(rt, wait, alloc, desk, bell, watch, seated);
+    run_seats(rt, wait, alloc, desk, keeping, bell, watch, seated);
     bell.close(wait);
     replace(seated, Vec::new(alloc))
 }

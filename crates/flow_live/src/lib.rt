@@ -11,14 +11,18 @@
 //! holds up no feeder. What it hasn't written when the feeders have ended is written from the core
 //! (`run`).
 //!
-//! **A feeder that fails ends alone.** A failed allocation, or a failure of the writer of all
-//! answers, ends the run: nobody is answered from then on (`fault`).
+//! **With a store** no answer is written before its entry, and all before it, are on the disk
+//! (`keeping`). One feeder appends all entries made so far, while others file and wait, so one sync
+//! serves all who wait.
+//!
+//! **A feeder that fails ends alone.** A failed allocation, or a failure of the store or of the
+//! writer of all answers, ends the run: nobody is answered from then on (`fault`).
 //!
 //! **What is proved** (`run_live`, when it returns the core): there is one history. Of the frames
 //! that a feeder's source gave, its entries there are the first filings, and all of them unless the
 //! journal is full. What was written to the feeder answers frame by frame what the desk of one
 //! thread answers to these entries. The other writer has the answers to all entries, in their
-//! order.
+//! order. All that is written answers entries that were stored before it was.
 #![tactic(auto)]
 
 mod answering;
@@ -27,8 +31,9 @@ mod fault;
 mod feed;
 mod feeding;
 mod following;
+mod keeping;
 mod run;
 
-pub use fault::{FeedEnd, LiveFault, Watch};
+pub use fault::{FeedEnd, LiveFault, StopFault, Watch};
 pub use feed::Feed;
 pub use run::run_live;

@@ -6,7 +6,7 @@ use Rattle.std.proofs.lemmas.Bool.Decides.{Decides-eqb}
 use Rattle.std.proofs.lemmas.List.{get_or-set_same, get_or-set_other}
 use Rattle.flow_plans.specs.declared.chains.FlightName.{FlightName}
 use Rattle.flow_plans.specs.Plans.{PlanView, is_held}
-use Rattle.flow_plans.specs.Chains.{ChainsView, newest, IsUpdated, IsForgotten, same_flight, flight_of_key, is_held_under, is_held_there, newest_held, AreChained}
+use Rattle.flow_plans.specs.Chains.{ChainsView, newest, IsUpdated, same_flight, flight_of_key, is_held_under, is_held_there, newest_held, AreChained}
 use Rattle.flow_plans.proofs.LastNumbers.{last-le, last-passes, last-above, last-same, last-lower, last-low, last-skipped, last-stays, last-high, last-new}
 use Rattle.flow_plans.proofs.Matches.{passes_at-within}
 
@@ -303,9 +303,3 @@ updated-names heads later own n updates q none = by (same_flight own q) (sym (up
   by : (b : Bool) → cond b (Some n) (lookup (same_flight q) heads) ≡ None → lookup (same_flight q) heads ≡ None
   by true e = absurd (cc)
   by false e = e
-
--- no other flight is forgotten
-pub forgotten-others : (heads later : List (FlightName × ℕ)) (own : FlightName) → IsForgotten heads later own
-    → (q : FlightName) → same_flight own q ≡ false → lookup (same_flight q) later ≡ None → lookup (same_flight q) heads ≡ None
-forgotten-others heads later own gone q other none =
-    ap (λ (b : Bool). cond b None (lookup (same_flight q) heads)) (sym other) ∙ sym (gone q) ∙ none

@@ -1,5 +1,5 @@
 -- A walk over a chain.
-use Rattle.std.proofs.Common.{◌≡◌, ℕ, zero, suc, ◌+◌, ◌-◌, ◌<◌, ◌≤◌, Bool, true, false, ◌&&◌, ◌==◌, not, ◌⊎◌, inl, inr, List, [], ◌∷◌, length, get_or, Some, slice_get, slice_set, refl, sym, ap, subst, ◌∙◌, arith}
+use Rattle.std.proofs.Common.{◌≡◌, ℕ, zero, suc, ◌+◌, ◌-◌, ◌<◌, ◌≤◌, Bool, true, false, ◌&&◌, ◌==◌, not, ◌⊎◌, inl, inr, List, [], ◌∷◌, length, get_or, slice_set, refl, sym, ap, subst, ◌∙◌, arith}
 use Rattle.std.specs.List.{list_any}
 use Rattle.std.specs.Str.{bytes_eq}
 use Rattle.std.proofs.lemmas.Bool.Decides.{nat_tests}
@@ -21,12 +21,6 @@ use Rattle.flow_plans.specs.Changes.{others}
 use Rattle.flow_plans.proofs.LastNumbers.{last-none, last-passes}
 use Rattle.flow_plans.proofs.ChainLemmas.{and-left, and-right, same_flight-refl}
 use Rattle.flow_plans.proofs.Matches.{counted-more, counted-here, neither-here, passes_at-past, any-none, any-one}
-
--- the plan that passes at an index
-passing : (test : PlanView → Bool) (ps : List PlanView) (k : ℕ) → passes_at test ps k ≡ true → (p : PlanView) × (slice_get ps k ≡ Some p) × (test p ≡ true)
-passing test [] k t = absurd (cc)
-passing test (p ∷ ps) zero t = (p, refl, t)
-passing test (p ∷ ps) (suc k) t = passing test ps k t
 
 named-equally : (i d e i' d' e' : List ℕ) → bytes_eq i i' ≡ true → bytes_eq d d' ≡ true → bytes_eq e e' ≡ true → flight_named i d e ≡ flight_named i' d' e'
 named-equally i d e i' d' e' a b c =
@@ -92,12 +86,6 @@ no-holder key ps k f = free-there (is_held_as key) (flight_of_key key) ps k (λ 
 pub free-of : (place but : ℕ) (b : Bool) → (not (place == but) && b) ≡ false → (place ≡ but → ⊥) → b ≡ false
 free-of place but true h apart = absurd (apart (grind (arith, nat_tests, h)))
 free-of place but false h apart = refl
-
-pub held-beside : (key : Key) (ps : List PlanView) (place but : ℕ) → (not (place == but) && passes_at (is_held_as key) ps place) ≡ true → IsHeldBeside key ps but
-held-beside key ps place but h = (place, apart (place == but) refl (and-left (not (place == but)) _ h), and-right (not (place == but)) _ h) where
-  apart : (b : Bool) → (place == but) ≡ b → not b ≡ true → place ≡ but → ⊥
-  apart true e n same = absurd (cc)
-  apart false e n same = absurd (grind (arith, nat_tests, e, same))
 
 -- what the search in a chain says of all plans
 pub held-searched : (key : Key) (ps : List PlanView) (b : Bool) → (b ≡ true → IsHeldBeside key ps (length ps)) → (b ≡ false → (k : ℕ) → IsFreeAt key ps (length ps) k) → b ≡ list_any (is_held_as key) ps

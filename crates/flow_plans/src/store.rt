@@ -13,6 +13,7 @@ ghost use Rattle.flow_plans.specs.Plans.{changed_at, with_state, with_off_block}
 ghost use Rattle.fpl_message.specs.declared.order.Spot.{Spot};
 ghost use Rattle.flow_plans.specs.Near.{table_row, word_at, HasBitsOf};
 ghost use Rattle.flow_plans.specs.Matching.{matching};
+ghost use Rattle.flow_plans.specs.Stores.{ChangesPlan};
 ghost use Rattle.flow_plans.specs.Times.{delayed_to, off_blocks_end};
 ghost use Rattle.flow_plans.specs.Changes.{plan_of, asked_off_block, filed, cancelled};
 ghost use Rattle.flow_plans.specs.Changes.{departed, delayed, amended, IsRefusal};
@@ -168,16 +169,9 @@ impl<A: Allocator + Copy> PlanStore<A> {
     /// Doesn't allocate. After an `Err`, as of `find`, the store is unchanged.
     #[tactic(auto, unfolding(crate::specs::Changes::cancelled))]
     pub fn cancel(&mut self, message: &Cnl) -> Result<u32, PlanFault>
-        ensures ok { IfOk result (λ n. cancelled self.old.plans message.now
-            ≡ Ok (record { plans = self.new.plans; number = n })) }
-        ensures within { IfOk result (λ n. (0 < n) × (n ≤ length self.new.plans)) }
-        ensures refused { IfErr result (λ e.
-            IsJustRefusal e (cancelled self.old.plans message.now)) }
-        ensures before { OnOk result (self.new.before ≡ Some self.old.plans) }
-        ensures err { OnErr result (self.new ≡ self.old) }
-        ensures count { length self.new.plans ≡ length self.old.plans }
-        ensures limit { self.new.max_plans ≡ self.old.max_plans }
-        ensures taxi { self.new.taxi ≡ self.old.taxi }
+        ensures change { ChangesPlan result (cancelled self.old.plans message.now)
+            self.old self.new }
+        ensures memory { IfErr result (λ e. e ≢ PlanFault.OutOfMemory) }
     {
         let number = end_plan(
             &mut self.plans,
@@ -193,16 +187,9 @@ impl<A: Allocator + Copy> PlanStore<A> {
     /// allocate. After an `Err`, as of `find`, the store is unchanged.
     #[tactic(auto, unfolding(crate::specs::Changes::departed))]
     pub fn depart(&mut self, message: &Dep) -> Result<u32, PlanFault>
-        ensures ok { IfOk result (λ n. departed self.old.plans message.now
-            ≡ Ok (record { plans = self.new.plans; number = n })) }
-        ensures within { IfOk result (λ n. (0 < n) × (n ≤ length self.new.plans)) }
-        ensures refused { IfErr result (λ e.
-            IsJustRefusal e (departed self.old.plans message.now)) }
-        ensures before { OnOk result (self.new.before ≡ Some self.old.plans) }
-        ensures err { OnErr result (self.new ≡ self.old) }
-        ensures count { length self.new.plans ≡ length self.old.plans }
-        ensures limit { self.new.max_plans ≡ self.old.max_plans }
-        ensures taxi { self.new.taxi ≡ self.old.taxi }
+        ensures change { ChangesPlan result (departed self.old.plans message.now)
+            self.old self.new }
+        ensures memory { IfErr result (λ e. e ≢ PlanFault.OutOfMemory) }
     {
         let number = end_plan(
             &mut self.plans,
@@ -225,16 +212,9 @@ impl<A: Allocator + Copy> PlanStore<A> {
     /// - `Past` for a time before the desk's, `TooEarly` for one more than 120 hours after it.
     pub fn delay(&mut self, message: &Dla, now: Minute) -> Result<u32, PlanFault>
         requires { IsDeskTime now }
-        ensures ok { IfOk result (λ n. delayed now self.old.plans message.now
-            ≡ Ok (record { plans = self.new.plans; number = n })) }
-        ensures within { IfOk result (λ n. (0 < n) × (n ≤ length self.new.plans)) }
-        ensures refused { IfErr result (λ e.
-            IsJustRefusal e (delayed now self.old.plans message.now)) }
-        ensures before { OnOk result (self.new.before ≡ Some self.old.plans) }
-        ensures err { OnErr result (self.new ≡ self.old) }
-        ensures count { length self.new.plans ≡ length self.old.plans }
-        ensures limit { self.new.max_plans ≡ self.old.max_plans }
-        ensures taxi { self.new.taxi ≡ self.old.taxi }
+        ensures change { ChangesPlan result (delayed now self.old.plans message.now)
+            self.old self.new }
+        ensures memory { IfErr result (λ e. e ≢ PlanFault.OutOfMemory) }
     {
         let (number, off_block) = delay_plan(&mut self.plans, &self.chains, message, now)?;
         self.last = LastChange::Delayed { number, off_block };
@@ -254,17 +234,10 @@ impl<A: Allocator + Copy> PlanStore<A> {
     /// - `OutOfMemory` if an allocation fails.
     pub fn amend(&mut self, message: &Chg<A>, now: Minute) -> Result<u32, PlanFault>
         requires { IsDeskTime now }
-        ensures ok { IfOk result (λ n. amended now self.old.plans message.now
-            ≡ Ok (record { plans = self.new.plans; number = n })) }
-        ensures within { IfOk result (λ n. (0 < n) × (n ≤ length self.new.plans)) }
-        ensures refused { IfErr result (λ e. IsRefusal e (amended now self.old.plans message.now)) }
+        ensures change { ChangesPlan result (amended now self.old.plans message.now)
+            self.old self.new }
         ensures memory { IfErr result (λ e. e ≡ PlanFault.OutOfMemory
             → IsOk (amended now self.old.plans message.now)) }
-        ensures before { OnOk result (self.new.before ≡ Some self.old.plans) }
-        ensures err { OnErr result (self.new ≡ self.old) }
-        ensures count { length self.new.plans ≡ length self.old.plans }
-        ensures limit { self.new.max_plans ≡ self.old.max_plans }
-        ensures taxi { self.new.taxi ≡ self.old.taxi }
     {
         amend_plan(
             self.alloc,

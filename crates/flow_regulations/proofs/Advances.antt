@@ -14,8 +14,8 @@ use Rattle.flow_slots.specs.Assignment.{Placed, is_in}
 use Rattle.flow_slots.specs.Lineup.{Lineup, NoneIs, held_slot, fixed_slot}
 use Rattle.flow_slots.specs.ChangeList.{fixed_there}
 use Rattle.flow_regulations.specs.Regulations.{Regulation, subject_to, has_flight, waiting_from}
-use Rattle.flow_regulations.specs.Settling.{is_due, keeps, stays, settled, pairs_of}
-use Rattle.flow_regulations.specs.Listing.{RegulationView, regulation_of, IsListedIn, IsListed, is_due_flight, IsSettledIn, IsSettled, with_lineup, Walked, IsFixedWaiting, AreRenewed, HaveCapacity, AllStay, NoneDue, IsAdvanced, IsAdvancing, is_below, is_among, fixed_waiting, all_fixed_waiting, with_fixed_waiting, HoldNewlyDue, pairs_in}
+use Rattle.flow_regulations.specs.Settling.{is_due, keeps, keeps_pair, settled, pairs_of, is_due_flight}
+use Rattle.flow_regulations.specs.Listing.{RegulationView, regulation_of, IsListedIn, IsListed, IsSettledIn, IsSettled, with_lineup, Walked, IsFixedWaiting, AreRenewed, HaveCapacity, AllStay, NoneDue, IsAdvanced, IsAdvancing, is_below, is_among, fixed_waiting, all_fixed_waiting, with_fixed_waiting, HoldNewlyDue, pairs_in}
 use Rattle.flow_regulations.specs.Marks.{IsOut}
 use Rattle.flow_regulations.proofs.Waiting.{all-with_entry, all-with_entry-back, waiting-from}
 use Rattle.flow_regulations.proofs.FixedOnes.{all-map, all-both}
@@ -218,7 +218,7 @@ keeps-later taxi earlier now k r p h e = cases (is_departed p.state) e where
 
 pub stays-later : (taxi earlier now : ℕ) (plans : List PlanView) (l : RegulationView) → earlier ≤ now → IsSettledIn taxi earlier plans l → AllStay taxi now plans l
 stays-later taxi earlier now plans l h s =
-    all-map (λ a. (0 < a.flight) × (stays taxi earlier plans (regulation_of l) a ≡ true)) (λ a. (0 < a.flight) × (stays taxi now plans (regulation_of l) a ≡ true)) l.lineup.fixed
+    all-map (λ a. (0 < a.flight) × (keeps_pair taxi earlier plans (regulation_of l) a ≡ true)) (λ a. (0 < a.flight) × (keeps_pair taxi now plans (regulation_of l) a ≡ true)) l.lineup.fixed
     (λ a q. (q.0, cases a (plan_at plans a.flight) q.1)) s.fixed
   where
     cases : (a : Placed) (o : Option PlanView) → option_map_or (keeps taxi earlier (regulation_of l) a.slot) o false ≡ true → option_map_or (keeps taxi now (regulation_of l) a.slot) o false ≡ true

@@ -9,7 +9,7 @@ use Rattle.std.proofs.lemmas.Slice.Eq.{bytes_eq-Decides}
 use Rattle.flow_plans.specs.Plans.{PlanView, plan_at}
 use Rattle.flow_slots.specs.Assignment.{Placed, is_in}
 use Rattle.flow_slots.specs.Lineup.{Lineup, slot_in, fixed_slot}
-use Rattle.flow_regulations.specs.Settling.{keeps, stays, pairs_of}
+use Rattle.flow_regulations.specs.Settling.{keeps, keeps_pair, pairs_of}
 use Rattle.flow_regulations.specs.Listing.{RegulationView, regulation_of, IsSettled, is_named, lineup_named, names_in, AreApart}
 use Rattle.flow_regulations.proofs.FixedOnes.{slot_in-none}
 use Rattle.flow_regulations.proofs.Fixes.{pairs-none}
@@ -50,7 +50,7 @@ unnamed-pairs f id (l ∷ ls) e = cases (unnamed-pairs f id ls) (is_named id l) 
   cases again false q k = (λ t. absurd (true≢false (sym t ∙ q)), again k)
 
 -- a flight that may keep its slot has a plan
-has-plan : (taxi now n : ℕ) (plans : List PlanView) (l : RegulationView) (xs : List Placed) → AllByRecursion (λ a. (0 < a.flight) × (stays taxi now plans (regulation_of l) a ≡ true)) xs → IsSome (slot_in n xs) → (0 < n) × (n ≤ length plans)
+has-plan : (taxi now n : ℕ) (plans : List PlanView) (l : RegulationView) (xs : List Placed) → AllByRecursion (λ a. (0 < a.flight) × (keeps_pair taxi now plans (regulation_of l) a ≡ true)) xs → IsSome (slot_in n xs) → (0 < n) × (n ≤ length plans)
 has-plan taxi now n plans l [] a h = absurd (false≢true h)
 has-plan taxi now n plans l (x ∷ xs) a h = cases (has-plan taxi now n plans l xs a.1) (eqb x.flight n) refl h where
   within : (o : Option PlanView) → plan_at plans x.flight ≡ o → option_map_or (keeps taxi now (regulation_of l) x.slot) o false ≡ true → x.flight - 1 < length plans

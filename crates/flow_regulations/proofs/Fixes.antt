@@ -13,8 +13,8 @@ use Rattle.flow_slots.specs.Lineup.{Lineup, IsLineup, NoneIs, NoneFixed, slot_in
 use Rattle.flow_slots.specs.ChangeList.{fixed_there}
 use Rattle.flow_slots.proofs.Periods.{first_slot-first, slot_time-later}
 use Rattle.flow_regulations.specs.Regulations.{Regulation, subject_to, has_flight, with_entry, waiting_from, lineup_of}
-use Rattle.flow_regulations.specs.Settling.{is_due, keeps, stays, kept, is_due_at, insert_all, settled, pairs_of, frozen_at_departure}
-use Rattle.flow_regulations.specs.Listing.{RegulationView, regulation_of, IsListedIn, is_due_flight, with_lineup, fixed_waiting, IsFrozen}
+use Rattle.flow_regulations.specs.Settling.{is_due, keeps, keeps_pair, kept, is_due_flight, insert_all, settled, pairs_of, frozen_at_departure}
+use Rattle.flow_regulations.specs.Listing.{RegulationView, regulation_of, IsListedIn, with_lineup, fixed_waiting, IsFrozen}
 use Rattle.flow_regulations.proofs.Waiting.{mark, with_entry-kept, waiting-fixed, waiting-like, waiting-apart, waiting-none, without-insert, all-with_entry-back}
 use Rattle.flow_regulations.proofs.FixedOnes.{all-map, has-none, has-insert, all-insert_fixed, slot_in-none, has-some, filter-all}
 use Rattle.flow_regulations.proofs.Subjects.{subject-within}
@@ -172,7 +172,7 @@ module _ (taxi max n : ℕ) (plans : List PlanView) (l : RegulationView) (listed
           regulation = sym d.frozen;
           listed = listed;
           settled_but = λ now s. record {
-            fixed = all-map (λ a. (0 < a.flight) × (stays taxi now plans r a ≡ true)) (λ a. (0 < a.flight) × ((a.flight ≡ n → ⊥) → stays taxi now plans r a ≡ true)) fs (λ a h. (h.0, λ _. h.1)) s.fixed;
+            fixed = all-map (λ a. (0 < a.flight) × (keeps_pair taxi now plans r a ≡ true)) (λ a. (0 < a.flight) × ((a.flight ≡ n → ⊥) → keeps_pair taxi now plans r a ≡ true)) fs (λ a h. (h.0, λ _. h.1)) s.fixed;
             waiting = all-map (λ w. is_due_flight now plans w.flight ≡ false) (λ w. (w.flight ≡ n → ⊥) → is_due_flight now plans w.flight ≡ false) l.lineup.waiting (λ w h _. h) s.waiting;
           };
         })
@@ -185,7 +185,7 @@ module _ (taxi max n : ℕ) (plans : List PlanView) (l : RegulationView) (listed
           regulation = sym d.frozen;
           listed = listed-more e k d;
           settled_but = λ now s. record {
-            fixed = all-insert_fixed (λ a. (0 < a.flight) × ((a.flight ≡ n → ⊥) → stays taxi now plans r a ≡ true)) (pair e k d) fs (positive, λ ne. absurd (ne refl)) (all-map (λ a. (0 < a.flight) × (stays taxi now plans r a ≡ true)) (λ a. (0 < a.flight) × ((a.flight ≡ n → ⊥) → stays taxi now plans r a ≡ true)) fs (λ a h. (h.0, λ _. h.1)) s.fixed);
+            fixed = all-insert_fixed (λ a. (0 < a.flight) × ((a.flight ≡ n → ⊥) → keeps_pair taxi now plans r a ≡ true)) (pair e k d) fs (positive, λ ne. absurd (ne refl)) (all-map (λ a. (0 < a.flight) × (keeps_pair taxi now plans r a ≡ true)) (λ a. (0 < a.flight) × ((a.flight ≡ n → ⊥) → keeps_pair taxi now plans r a ≡ true)) fs (λ a h. (h.0, λ _. h.1)) s.fixed);
             waiting =
                 let P : Planned → Type 0 = λ w. is_due_flight now plans w.flight ≡ false in
                 let Q : List Planned → Type 0 = λ ws. AllByRecursion P ws in
@@ -194,12 +194,12 @@ module _ (taxi max n : ℕ) (plans : List PlanView) (l : RegulationView) (listed
         })
 
   -- of a regulation in which no pair is dropped, what is fixed is settled as before
-  module _ (now : ℕ) (stay : AllByRecursion (λ a. (0 < a.flight) × (stays taxi now plans r a ≡ true)) fs) where
+  module _ (now : ℕ) (stay : AllByRecursion (λ a. (0 < a.flight) × (keeps_pair taxi now plans r a ≡ true)) fs) where
     kept-all : kept taxi now plans r ≡ fs
-    kept-all = filter-all (stays taxi now plans r) fs (all-map (λ a. (0 < a.flight) × (stays taxi now plans r a ≡ true)) (λ a. stays taxi now plans r a ≡ true) fs (λ _ h. h.1) stay)
+    kept-all = filter-all (keeps_pair taxi now plans r) fs (all-map (λ a. (0 < a.flight) × (keeps_pair taxi now plans r a ≡ true)) (λ a. keeps_pair taxi now plans r a ≡ true) fs (λ _ h. h.1) stay)
 
     abbrev pub new_fixed : List Planned → List Placed → List Placed
-    new_fixed ws gs = insert_all (filter (is_due_at now plans) (greedy first (slots gs) ws)) gs
+    new_fixed ws gs = insert_all (filter (λ (a : Placed). is_due_flight now plans a.flight) (greedy first (slots gs) ws)) gs
 
     pub settled-is : settled taxi now plans r ≡ record { id = r.id; spot = r.spot; period = r.period; fixed = new_fixed l.lineup.waiting fs }
     unfolding settled
@@ -213,9 +213,9 @@ module _ (taxi max n : ℕ) (plans : List PlanView) (l : RegulationView) (listed
     settled-done h = settled-is ∙ ap (λ xs. let q : Regulation = record { id = r.id; spot = r.spot; period = r.period; fixed = insert_all xs fs } in q) (greedy-none (is_due_flight now plans) first (slots fs) l.lineup.waiting h)
 
     module _ (e k : ℕ) (d : Does e k) (due : is_due_flight now plans n ≡ true) (apart : IsLineup l.lineup) (regular : IsRegular l.lineup.period) where
-      stays-pair : stays taxi now plans r (pair e k d) ≡ true
+      stays-pair : keeps_pair taxi now plans r (pair e k d) ≡ true
       stays-pair = cases (plan_at plans n) refl d.entry due where
-        cases : (o : Option PlanView) → plan_at plans n ≡ o → option_and_then (subject_to taxi r) o ≡ Some e → option_map_or (is_due now) o false ≡ true → stays taxi now plans r (pair e k d) ≡ true
+        cases : (o : Option PlanView) → plan_at plans n ≡ o → option_and_then (subject_to taxi r) o ≡ Some e → option_map_or (is_due now) o false ≡ true → keeps_pair taxi now plans r (pair e k d) ≡ true
         cases None at s q = absurd cc
         cases (Some p) at s q =
             let within = subject-within taxi l.spot l.lineup.period.start l.lineup.period.end e p s in
@@ -223,8 +223,8 @@ module _ (taxi max n : ℕ) (plans : List PlanView) (l : RegulationView) (listed
             let entry : option_map_or (λ entry. leb entry (slot_time r.period k)) (subject_to taxi r p) false ≡ true = ap (λ o. option_map_or (λ entry. leb entry (slot_time r.period k)) o false) s ∙ le-leb e (slot_time r.period k) late in
             ap (λ o. option_map_or (keeps taxi now r k) o false) at ∙ or_right (is_departed p.state) (is_due now p && option_map_or (λ entry. leb entry (slot_time r.period k)) (subject_to taxi r p) false) (and_from (is_due now p) (option_map_or (λ entry. leb entry (slot_time r.period k)) (subject_to taxi r p) false) q entry)
 
-      pub stay-more : AllByRecursion (λ a. (0 < a.flight) × (stays taxi now plans r a ≡ true)) (more e k d)
-      stay-more = all-insert_fixed (λ a. (0 < a.flight) × (stays taxi now plans r a ≡ true)) (pair e k d) fs (positive, stays-pair) stay
+      pub stay-more : AllByRecursion (λ a. (0 < a.flight) × (keeps_pair taxi now plans r a ≡ true)) (more e k d)
+      stay-more = all-insert_fixed (λ a. (0 < a.flight) × (keeps_pair taxi now plans r a ≡ true)) (pair e k d) fs (positive, stays-pair) stay
 
       held-greedy : slot_in n (greedy first (slots fs) l.lineup.waiting) ≡ Some k
       held-greedy = sym (slot_in-after n fs (greedy first (slots fs) l.lineup.waiting) (slot_in-none n fs d.unfixed)) ∙ d.held
@@ -232,5 +232,5 @@ module _ (taxi max n : ℕ) (plans : List PlanView) (l : RegulationView) (listed
       pub same-fixed : new_fixed others (more e k d) ≡ new_fixed l.lineup.waiting fs
       same-fixed =
           ap (λ ws. new_fixed ws (more e k d)) (sym (out e k d))
-          ∙ (ap (λ xs. insert_all (filter (is_due_at now plans) xs) (more e k d)) (greedy-fixed first fs (slots (more e k d)) (slots fs) n k l.lineup.waiting apart.waiting_apart held-greedy (λ j. slots-insert j (pair e k d) fs))
+          ∙ (ap (λ xs. insert_all (filter (λ (a : Placed). is_due_flight now plans a.flight) xs) (more e k d)) (greedy-fixed first fs (slots (more e k d)) (slots fs) n k l.lineup.waiting apart.waiting_apart held-greedy (λ j. slots-insert j (pair e k d) fs))
           ∙ insert_all-first (is_due_flight now plans) first fs (slots fs) n k l.lineup.waiting fs due apart.waiting_apart held-greedy)

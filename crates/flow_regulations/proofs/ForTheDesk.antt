@@ -2,11 +2,9 @@
 -- that it isn't about.
 use Rattle.std.proofs.Common.{◌≡◌, ℕ, ◌+◌, ◌<◌, ◌||◌, ◌&&◌, Bool, true, false, not, cond, leb, List, [], ◌∷◌, ◌++◌, map, length, Option, Some, None, refl, sym, ap, subst, ◌∙◌, arith}
 use Rattle.std.specs.List.{AllByRecursion, filter, list_any}
-use Rattle.std.specs.List.Sorted.{IsNonDecreasing, IsStrictlyIncreasing}
 use Rattle.std.specs.Option.{option_map, option_map_or}
 use Rattle.std.proofs.lemmas.List.{append-nil}
 use Rattle.std.proofs.lemmas.Slice.Eq.{bytes_eq-Decides}
-use Rattle.std.proofs.lemmas.Map.Keys.{non_decreasing_from_sorted, sorted_from_strictly_increasing}
 use Rattle.std.specs.Str.{bytes_eq}
 use Rattle.std.proofs.lemmas.Bool.{eq-eqb, and_parts, true≢false, false≢true}
 use Rattle.flow_plans.specs.Plans.{PlanView, plan_at, is_filed, is_departed}
@@ -17,17 +15,17 @@ use Rattle.flow_slots.specs.Assignment.{Placed, is_in}
 use Rattle.flow_slots.specs.Lineup.{assigned}
 use Rattle.flow_regulations.specs.declared.notice.Told.{Told}
 use Rattle.flow_regulations.specs.Regulations.{Regulation, subject_to, has_flight, lineup_of}
-use Rattle.flow_regulations.specs.Settling.{is_due, keeps, stays, insert_all, settled, frozen_at_departure, pairs_of}
-use Rattle.flow_regulations.specs.Listing.{RegulationView, regulation_of, IsListedIn, IsListed, IsSettledIn, IsSettled, IsOpened, AreSameBut, is_due_flight, is_named, without_named, without_in, pairs_in}
+use Rattle.flow_regulations.specs.Settling.{is_due, keeps, keeps_pair, insert_all, settled, frozen_at_departure, pairs_of, is_due_flight}
+use Rattle.flow_regulations.specs.Listing.{RegulationView, regulation_of, IsListedIn, IsListed, IsSettledIn, IsSettled, IsOpened, AreSameBut, is_named, without_named, pairs_in}
 use Rattle.flow_regulations.specs.Advice.{caused_by, delay_in, worse, worst, advice}
-use Rattle.flow_regulations.specs.Quiet.{told_at, AreQuietBut, AllQuiet, KeepsSlots}
+use Rattle.flow_regulations.specs.Quiet.{told_at, AreQuietBut, AllQuiet, HasSameSlots}
 use Rattle.flow_regulations.proofs.FixedOnes.{all-map}
 use Rattle.flow_regulations.proofs.Fixes.{pairs-none, settled-done}
 use Rattle.flow_regulations.proofs.Names.{settled-name}
 use Rattle.flow_regulations.proofs.Stays.{advice-same, advice-other, caused-none, quiet-untouched}
 
 -- a change of regulations that leaves their names, points and periods
-keeps-mapped : (f : ℕ) (g : Regulation → Regulation) → ((r : Regulation) → (r.id ≡ (g r).id) × (r.spot ≡ (g r).spot) × (r.period ≡ (g r).period)) → (old new : List RegulationView) → map regulation_of new ≡ map g (map regulation_of old) → pairs_in f new ≡ pairs_in f old → KeepsSlots f (map regulation_of old) (map regulation_of new)
+keeps-mapped : (f : ℕ) (g : Regulation → Regulation) → ((r : Regulation) → (r.id ≡ (g r).id) × (r.spot ≡ (g r).spot) × (r.period ≡ (g r).period)) → (old new : List RegulationView) → map regulation_of new ≡ map g (map regulation_of old) → pairs_in f new ≡ pairs_in f old → HasSameSlots f (map regulation_of old) (map regulation_of new)
 keeps-mapped f g h [] [] e p = tt
 keeps-mapped f g h [] (n ∷ ns) e p = absurd cc
 keeps-mapped f g h (o ∷ os) [] e p = absurd cc
@@ -44,7 +42,7 @@ keeps-mapped f g h (o ∷ os) (n ∷ ns) e p =
       keeps-mapped f g h os ns rest pairs,
     )
 
-pub kept-slots-settled : (f taxi now : ℕ) (plans : List PlanView) (old new : List RegulationView) → map regulation_of new ≡ map (settled taxi now plans) (map regulation_of old) → pairs_in f new ≡ pairs_in f old → KeepsSlots f (map regulation_of old) (map regulation_of new)
+pub kept-slots-settled : (f taxi now : ℕ) (plans : List PlanView) (old new : List RegulationView) → map regulation_of new ≡ map (settled taxi now plans) (map regulation_of old) → pairs_in f new ≡ pairs_in f old → HasSameSlots f (map regulation_of old) (map regulation_of new)
 unfolding settled
 kept-slots-settled f taxi now plans old new e p = keeps-mapped f (settled taxi now plans) (λ r. (refl, refl, refl)) old new e p
 
@@ -55,7 +53,7 @@ frozen-same taxi max flight before r = cases (has_flight flight r.fixed) (record
   cases true s h = (refl, refl, refl)
   cases false s h = h
 
-pub kept-slots-frozen : (f taxi max : ℕ) (before : List PlanView) (flight : ℕ) (old new : List RegulationView) → map regulation_of new ≡ map (frozen_at_departure taxi max before flight) (map regulation_of old) → pairs_in f new ≡ pairs_in f old → KeepsSlots f (map regulation_of old) (map regulation_of new)
+pub kept-slots-frozen : (f taxi max : ℕ) (before : List PlanView) (flight : ℕ) (old new : List RegulationView) → map regulation_of new ≡ map (frozen_at_departure taxi max before flight) (map regulation_of old) → pairs_in f new ≡ pairs_in f old → HasSameSlots f (map regulation_of old) (map regulation_of new)
 kept-slots-frozen f taxi max before flight old new e p = keeps-mapped f (frozen_at_departure taxi max before flight) (frozen-same taxi max flight before) old new e p
 
 -- a settled regulation is settled to itself
@@ -69,13 +67,13 @@ already-settled taxi max now plans (l ∷ ls) h s =
 pub nothing-to-advise : (taxi now : ℕ) (plans : List PlanView) (ls : List RegulationView) (f : ℕ) → IsSettled taxi now plans ls → is_due_flight now plans f ≡ false → option_map_or (λ p. is_departed p.state) (plan_at plans f) false ≡ false → AllByRecursion (λ r. pairs_of f r.fixed ≡ []) (map regulation_of ls)
 nothing-to-advise taxi now plans [] f s due gone = tt
 nothing-to-advise taxi now plans (l ∷ ls) f s due gone =
-    (pairs-none f l.lineup.fixed (all-map (λ a. (0 < a.flight) × (stays taxi now plans (regulation_of l) a ≡ true)) (λ a. a.flight ≡ f → ⊥) l.lineup.fixed (λ a h e. goes a e h.1) s.0.fixed), nothing-to-advise taxi now plans ls f s.1 due gone)
+    (pairs-none f l.lineup.fixed (all-map (λ a. (0 < a.flight) × (keeps_pair taxi now plans (regulation_of l) a ≡ true)) (λ a. a.flight ≡ f → ⊥) l.lineup.fixed (λ a h e. goes a e h.1) s.0.fixed), nothing-to-advise taxi now plans ls f s.1 due gone)
   where
     leaves : (a : Placed) (o : Option PlanView) → option_map_or (is_due now) o false ≡ false → option_map_or (λ p. is_departed p.state) o false ≡ false → option_map_or (keeps taxi now (regulation_of l) a.slot) o false ≡ true → ⊥
     leaves a None d g e = false≢true e
     leaves a (Some p) d g e = false≢true (sym (ap (λ b. b || (is_due now p && option_map_or (λ entry. leb entry (slot_time l.lineup.period a.slot)) (subject_to taxi (regulation_of l) p) false)) g ∙ ap (λ b. b && option_map_or (λ entry. leb entry (slot_time l.lineup.period a.slot)) (subject_to taxi (regulation_of l) p) false) d) ∙ e)
 
-    goes : (a : Placed) → a.flight ≡ f → stays taxi now plans (regulation_of l) a ≡ true → ⊥
+    goes : (a : Placed) → a.flight ≡ f → keeps_pair taxi now plans (regulation_of l) a ≡ true → ⊥
     goes a e h = leaves a (plan_at plans f) due gone (ap (λ j. option_map_or (keeps taxi now (regulation_of l) a.slot) (plan_at plans j) false) (sym e) ∙ h)
 
 -- one more of which it holds
@@ -137,14 +135,14 @@ apart : (f n : ℕ) → is_in f (n ∷ []) ≡ false → f ≡ n → ⊥
 apart f n out e = true≢false (sym (ap (λ b. b || false) (eq-eqb n f (sym e))) ∙ out)
 
 -- a message about one flight, which leaves the slots of all others
-pub quiet-but-one : (n taxi : ℕ) (before after : List Regulation) (plans plans_after : List PlanView) (told told_after : List (Option Told)) → AreSameBut n plans plans_after → ((f : ℕ) → 0 < f → (f ≡ n → ⊥) → told_at told_after f ≡ told_at told f) → ((f : ℕ) → 0 < f → (f ≡ n → ⊥) → KeepsSlots f before after) → AllQuiet taxi before plans told → AreQuietBut (n ∷ []) taxi after plans_after told_after
+pub quiet-but-one : (n taxi : ℕ) (before after : List Regulation) (plans plans_after : List PlanView) (told told_after : List (Option Told)) → AreSameBut n plans plans_after → ((f : ℕ) → 0 < f → (f ≡ n → ⊥) → told_at told_after f ≡ told_at told f) → ((f : ℕ) → 0 < f → (f ≡ n → ⊥) → HasSameSlots f before after) → AllQuiet taxi before plans told → AreQuietBut (n ∷ []) taxi after plans_after told_after
 quiet-but-one n taxi before after plans plans_after told told_after same told_same keep quiet f positive out =
     let ne = apart f n out in
     quiet-untouched taxi f before plans told after plans_after told_after
     (same f positive ne, told_same f positive ne, λ p _. advice-same taxi f p before after (keep f positive ne)) (quiet f positive)
 
 -- flights that became due were fixed, and the slots of all others stayed
-pub quiet-but-due : (taxi : ℕ) (changed : List ℕ) (before after : List Regulation) (plans : List PlanView) (told : List (Option Told)) → ((f : ℕ) → is_in f changed ≡ false → KeepsSlots f before after) → AllQuiet taxi before plans told → AreQuietBut changed taxi after plans told
+pub quiet-but-due : (taxi : ℕ) (changed : List ℕ) (before after : List Regulation) (plans : List PlanView) (told : List (Option Told)) → ((f : ℕ) → is_in f changed ≡ false → HasSameSlots f before after) → AllQuiet taxi before plans told → AreQuietBut changed taxi after plans told
 quiet-but-due taxi changed before after plans told keep quiet f positive out =
     quiet-untouched taxi f before plans told after plans told (refl, refl, λ p _. advice-same taxi f p before after (keep f out)) (quiet f positive)
 
@@ -161,14 +159,6 @@ newly-due-unfixed taxi earlier now f plans ls s then_not now_is = nothing-to-adv
   filed : (o : Option PlanView) → option_map_or (is_due now) o false ≡ true → option_map_or (λ p. is_departed p.state) o false ≡ false
   filed None e = refl
   filed (Some p) e = apart-states p (and_parts (is_filed p.state) (leb p.off_block (now + 120)) e).0
-
--- numbers that rise strictly do not fall
-pub rising-numbers : (xs : List ℕ) → IsStrictlyIncreasing xs → IsNonDecreasing xs
-rising-numbers xs h = non_decreasing_from_sorted xs (sorted_from_strictly_increasing xs h)
-
--- the other flights are unchanged over one change after another
-pub alone-in-turn : (n : ℕ) (first middle last : List RegulationView) → map (without_in n) middle ≡ map (without_in n) first → map (without_in n) last ≡ map (without_in n) middle → map (without_in n) last ≡ map (without_in n) first
-alone-in-turn n first middle last a b = b ∙ a
 
 -- a regulation is shut: of the other flights than those with frozen slots in it the advice stays
 pub quiet-but-shut : (taxi : ℕ) (id : List ℕ) (ls : List RegulationView) (plans : List PlanView) (told : List (Option Told)) (changed : List ℕ) → ((f : ℕ) → is_in f changed ≡ false → AllByRecursion (λ l. is_named id l ≡ true → pairs_of f l.lineup.fixed ≡ []) ls) → AllQuiet taxi (map regulation_of ls) plans told → AreQuietBut changed taxi (map regulation_of (without_named id ls)) plans told

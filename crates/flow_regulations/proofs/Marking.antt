@@ -227,13 +227,6 @@ ones-below k f = λ i l s. s
 pub ones-move : (k f : ℕ) → MaskMovesUp k 18_446_744_073_709_551_615 18_446_744_073_709_551_615
 ones-move k f = (λ i l s. s, λ i l s. ones-stand i)
 
--- a vector of masks and one of regulations that were written back whole
-pub written-marked : (i j : ℕ) (ws vs : List ℕ) (ns ls : List RegulationView) → i ≡ length ws → j ≡ length ns → AreMarked ws ns → AreMarked (take i (ws ++ vs)) (take j (ns ++ ls))
-written-marked i j ws vs ns ls a b h =
-    let M : List RegulationView → Type 0 = λ ms. AreMarked (take i (ws ++ vs)) ms in
-    let V : List ℕ → Type 0 = λ us. AreMarked us ns in
-    subst M (sym (written-back j ns ls b)) (subst V (sym (written-back i ws vs a)) h)
-
 pub written-words : (i : ℕ) (ws vs : List ℕ) (ls : List RegulationView) → i ≡ length ws → AreMarked ws ls → AreMarked (take i (ws ++ vs)) ls
 written-words i ws vs ls a h = (let V : List ℕ → Type 0 = λ us. AreMarked us ls in subst V (sym (written-back i ws vs a)) h)
 
@@ -244,9 +237,3 @@ marked-word n w us ws ls ms a b e h =
     let L : List RegulationView → Type 0 = λ xs. IsMarked (mask_of us n) n 0 xs in
     let V : List ℕ → Type 0 = λ vs. IsMarked (mask_of vs n) n 0 ls in
     subst C (sym e) (subst L (sym b) (subst V (sym a) (h n)))
-
-pub marked-both : (us ws : List ℕ) (ls ms : List RegulationView) → us ≡ ws → ms ≡ ls → AreMarked ws ls → AreMarked us ms
-marked-both us ws ls ms a b h =
-    let L : List RegulationView → Type 0 = λ xs. AreMarked us xs in
-    let V : List ℕ → Type 0 = λ vs. AreMarked vs ls in
-    subst L (sym b) (subst V (sym a) h)

@@ -3,7 +3,7 @@ use Rattle.std.proofs.Common.{◌≡◌, ℕ, ◌⊎◌, inl, inr, Bool, true, f
 use Rattle.std.specs.Option.{is_some}
 use Rattle.std.proofs.lemmas.Bool.{ne_eqb, cases_eq}
 use Rattle.flow_slots.specs.Assignment.{Placed}
-use Rattle.flow_slots.specs.Lineup.{Lineup, held_slot, fixed_slot, without_fixed, insert_fixed, with_waiting, without_flight}
+use Rattle.flow_slots.specs.Lineup.{Lineup, held_slot, fixed_slot, without_fixed, insert_fixed, with_waiting}
 use Rattle.flow_slots.specs.ChangeList.{fixed_there}
 use Rattle.flow_regulations.specs.Settling.{pairs_of}
 use Rattle.flow_regulations.specs.Listing.{RegulationView, with_lineup, placed, fixed_waiting}
@@ -34,13 +34,6 @@ pub pairs-placed : (f n : ℕ) (o : Option ℕ) (d : Bool) (l : Lineup) → (f �
 pairs-placed f n None d l ne = refl
 pairs-placed f n (Some e) false l ne = refl
 pairs-placed f n (Some e) true l ne = pairs-there f n (held_slot (with_waiting (record { entry = e; flight = n }) l) n) (with_waiting (record { entry = e; flight = n }) l) ne
-
--- removed, and inserted again
-pub pairs-out : (f n : ℕ) (l t : RegulationView) → (f ≡ n → ⊥) → t ≡ with_lineup (without_flight n l.lineup) l → pairs_of f t.lineup.fixed ≡ pairs_of f l.lineup.fixed
-pairs-out f n l t ne e = ap (λ v. pairs_of f v.lineup.fixed) e ∙ pairs-without f n l.lineup.fixed ne
-
-pub pairs-in : (f n : ℕ) (o : Option ℕ) (d : Bool) (l t : RegulationView) → (f ≡ n → ⊥) → t ≡ with_lineup (placed o d n l.lineup) l → pairs_of f t.lineup.fixed ≡ pairs_of f l.lineup.fixed
-pairs-in f n o d l t ne e = ap (λ v. pairs_of f v.lineup.fixed) e ∙ pairs-placed f n o d l.lineup ne
 
 pub pairs-waiting : (f n : ℕ) (l : Lineup) → (f ≡ n → ⊥) → pairs_of f (fixed_waiting n l).fixed ≡ pairs_of f l.fixed
 pairs-waiting f n l ne = cases (is_some (fixed_slot l n)) where

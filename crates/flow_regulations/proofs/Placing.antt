@@ -79,22 +79,5 @@ keeps-open o f l m n w a b h =
     let C : ℕ → Type 0 = λ k. k ≤ 20000 in
     (subst IsRegular p h.0, subst C c h.1)
 
--- a flight that keeps its slot stays, and another is frozen in its provisional slot
-pub fixes-none : (f : ℕ) (l : Lineup) → IsSome (fixed_slot l f) → fixed_waiting f l ≡ l
-fixes-none f l h = cases (fixed_slot l f) h where
-  cases : (o : Option ℕ) → IsSome o → cond (is_some o) l (fixed_there (held_slot l f) f l) ≡ l
-  cases None h = absurd (false≢true h)
-  cases (Some k) h = refl
-
 pub fixes-there : (f : ℕ) (l : Lineup) (o : Option ℕ) → fixed_slot l f ≡ None → held_slot l f ≡ o → fixed_waiting f l ≡ fixed_there o f l
 fixes-there f l o a b = ap (λ v. cond (is_some v) l (fixed_there (held_slot l f) f l)) a ∙ ap (λ v. fixed_there v f l) b
-
-pub is_some-from : (o : Option ℕ) (b : Bool) → b ≡ is_some o → b ≡ true → IsSome o
-is_some-from o b e f = sym e ∙ f
-
-pub keeps-open-fixed : (o : Option ℕ) (f : ℕ) (m n : Lineup) → n ≡ fixed_there o f m → IsRegular m.period × (m.capacity ≤ 20000) → IsRegular n.period × (n.capacity ≤ 20000)
-keeps-open-fixed o f m n b h =
-    let p : m.period ≡ n.period = sym (ap (λ v. v.period) b ∙ there-period o f m) in
-    let c : m.capacity ≡ n.capacity = sym (ap (λ v. v.capacity) b ∙ there-capacity o f m) in
-    let C : ℕ → Type 0 = λ k. k ≤ 20000 in
-    (subst IsRegular p h.0, subst C c h.1)

@@ -13,8 +13,8 @@ use Rattle.std.proofs.lemmas.List.Sorted.{Contains-permutation}
 use Rattle.flow_plans.specs.Plans.{PlanView, plan_at, is_filed}
 use Rattle.flow_slots.specs.Assignment.{is_in}
 use Rattle.flow_regulations.specs.declared.due_queue.PendingFlight.{PendingFlight}
-use Rattle.flow_regulations.specs.Settling.{is_due}
-use Rattle.flow_regulations.specs.Listing.{is_due_flight, AreSameBut, AreDue, HoldNewlyDue}
+use Rattle.flow_regulations.specs.Settling.{is_due, is_due_flight}
+use Rattle.flow_regulations.specs.Listing.{AreSameBut, AreDue, HoldNewlyDue}
 use Rattle.flow_regulations.specs.Awaiting.{Covers, awaits, BecameDue, AreHeld, earlier_first}
 
 -- no time is before the first one's
@@ -45,9 +45,6 @@ to-view xs x c = (let r = mapped c.0 xs x c.1 c.2 in (c.0, r.0, r.1))
 abbrev pub TakenSoFar : ℕ → ℕ → List PlanView → List (Reverse PendingFlight) → List (Reverse PendingFlight) → List ℕ → Type 0
 TakenSoFar limit earlier plans first rest due =
     (x : Reverse PendingFlight) → Contains first x → Contains rest x ⊎ ((x.0.off_block ≤ limit) × (awaits earlier plans x.0 ≡ true → Contains due x.0.number))
-
-pub taken-start : (limit earlier : ℕ) (plans : List PlanView) (first : List (Reverse PendingFlight)) (due : List ℕ) → TakenSoFar limit earlier plans first first due
-taken-start limit earlier plans first due x c = inl c
 
 cons-cases : (y x : Reverse PendingFlight) (xs : List (Reverse PendingFlight)) → Contains (y ∷ xs) x → (y ≡ x) ⊎ Contains xs x
 cons-cases y x xs (zero, h, e) = inl e
@@ -156,10 +153,6 @@ contains-first x xs = (zero, omega arith, refl)
 pub contains-later : (y x : Reverse PendingFlight) (xs : List (Reverse PendingFlight)) → Contains xs x → Contains (y ∷ xs) x
 contains-later y x xs (k, h, e) = (suc k, omega (arith, h), e)
 
--- a queue that covers the plans still does when time advances
-pub covers-later : (earlier now : ℕ) (plans : List PlanView) (flights : List PendingFlight) → earlier ≤ now → Covers earlier plans flights → Covers now plans flights
-covers-later earlier now plans flights h covers number p some at filed late = covers number p some at filed (omega (arith, h, late))
-
 -- and when it holds more flights
 pub covers-more : (now : ℕ) (plans : List PlanView) (flights new : List PendingFlight) → ((a : PendingFlight) → Contains flights a → Contains new a) → Covers now plans flights → Covers now plans new
 covers-more now plans flights new more covers number p some at filed late = more (record { off_block = p.off_block; number = number }) (covers number p some at filed late)
@@ -183,15 +176,6 @@ covers-noted now n off_block before plans flights new same is moved covers numbe
       let C : PendingFlight → Type 0 = λ v. Contains new v in
       subst C pair (Contains-permutation (a ∷ flights) new a moved (zero, omega arith, refl))
 
--- a plan that isn't filed any more needs no element
-pub covers-ended : (now n : ℕ) (before plans : List PlanView) (flights : List PendingFlight) → AreSameBut n before plans → ((p : PlanView) → plan_at plans n ≡ Some p → is_filed p.state ≡ false) → Covers now before flights → Covers now plans flights
-covers-ended now n before plans flights same ended covers number p some at filed late = ⊎_elim own other (cases_eq number n) where
-  own : number ≡ n → Contains flights (record { off_block = p.off_block; number = number })
-  own e = absurd (true≢false (sym filed ∙ ended p (ap (plan_at plans) (sym e) ∙ at)))
-
-  other : (number ≡ n → ⊥) → Contains flights (record { off_block = p.off_block; number = number })
-  other ne = covers number p some (sym (same number some ne) ∙ at) filed late
-
 -- no plans, no flights
 pub covers-none : (now : ℕ) (flights : List PendingFlight) → Covers now [] flights
 covers-none now flights number p some at filed late = absurd cc
@@ -211,16 +195,3 @@ became-within earlier now plans due all k d h =
     let p = due-there now (get_or due k d) plans r.1 in
     let w = at-within plans (get_or due k d - 1) p.0 p.1 in
     (r.0, omega (arith, w, r.0)))
-
--- a plan that was filed before and didn't move is held already
-pub covers-unmoved : (now n : ℕ) (before plans : List PlanView) (flights : List PendingFlight) → AreSameBut n before plans
-    → ((p : PlanView) → plan_at plans n ≡ Some p → (q : PlanView) × (plan_at before n ≡ Some q) × (is_filed q.state ≡ true) × (q.off_block ≡ p.off_block)) → Covers now before flights → Covers now plans flights
-covers-unmoved now n before plans flights same unmoved covers number p some at filed late = ⊎_elim own other (cases_eq number n) where
-  own : number ≡ n → Contains flights (record { off_block = p.off_block; number = number })
-  own e =
-      let q = unmoved p (ap (plan_at plans) (sym e) ∙ at) in
-      let C : ℕ → Type 0 = λ b. Contains flights (record { off_block = b; number = number }) in
-      subst C q.3 (covers number q.0 some (ap (plan_at before) e ∙ q.1) q.2 (omega (arith, q.3, late)))
-
-  other : (number ≡ n → ⊥) → Contains flights (record { off_block = p.off_block; number = number })
-  other ne = covers number p some (sym (same number some ne) ∙ at) filed late

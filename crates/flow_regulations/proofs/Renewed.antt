@@ -13,8 +13,8 @@ use Rattle.flow_slots.specs.Lineup.{Lineup, FixedApart, NoneIs, slot_in, held_sl
 use Rattle.flow_slots.specs.ChangeList.{fixed_there}
 use Rattle.flow_slots.proofs.Periods.{first_slot-first, slot_time-later}
 use Rattle.flow_regulations.specs.Regulations.{Regulation, subject_to, has_flight, with_entry, waiting_from}
-use Rattle.flow_regulations.specs.Settling.{is_due, keeps, stays, kept, is_due_at, insert_all, assigned_around, settled}
-use Rattle.flow_regulations.specs.Listing.{RegulationView, regulation_of, IsListedIn, is_due_flight, IsSettledBut, with_lineup, IsRenewed, AreSameBut, keeps_slot, placed, looked_again}
+use Rattle.flow_regulations.specs.Settling.{is_due, keeps, keeps_pair, kept, is_due_flight, insert_all, assigned_around, settled}
+use Rattle.flow_regulations.specs.Listing.{RegulationView, regulation_of, IsListedIn, IsSettledBut, with_lineup, IsRenewed, AreSameBut, keeps_slot, placed, looked_again}
 use Rattle.flow_regulations.proofs.Waiting.{mark, with_entry-kept, waiting-fixed, waiting-like, waiting-apart, waiting-others, waiting-none, waiting-from, without-with_entry, without-insert, all-insert, all-with_entry-back}
 use Rattle.flow_regulations.proofs.FixedOnes.{all-map, all-both, all-without, none-without, has-none, has-mark_without, has-insert, all-insert_fixed, slot_in-none, has-some, one-slot, filter-all, filter-without}
 use Rattle.flow_regulations.proofs.Subjects.{subject-within}
@@ -27,8 +27,8 @@ lined l ws fs = record { period = l.period; capacity = l.capacity; waiting = ws;
 -- what has to be shown of them
 record IsMade (taxi max now : ℕ) (plans : List PlanView) (l : RegulationView) (ws : List Planned) (fs : List Placed) : Type 0 where
   waits : ws ≡ waiting_from 1 taxi (regulation_of l) fs plans
-  keeps_them : insert_all (filter (is_due_at now plans) (assigned_around taxi plans (regulation_of l) (kept taxi now plans (regulation_of l)))) (kept taxi now plans (regulation_of l)) ≡ fs
-  fixed : AllByRecursion (λ a. (0 < a.flight) × (stays taxi now plans (regulation_of l) a ≡ true)) fs
+  keeps_them : insert_all (filter (λ (a : Placed). is_due_flight now plans a.flight) (assigned_around taxi plans (regulation_of l) (kept taxi now plans (regulation_of l)))) (kept taxi now plans (regulation_of l)) ≡ fs
+  fixed : AllByRecursion (λ a. (0 < a.flight) × (keeps_pair taxi now plans (regulation_of l) a ≡ true)) fs
   waiting : AllByRecursion (λ w. is_due_flight now plans w.flight ≡ false) ws
 
 renewed-made : (taxi max now : ℕ) (plans : List PlanView) (l : RegulationView) (ws : List Planned) (fs : List Placed) → l.lineup.capacity ≡ max → IsMade taxi max now plans l ws fs → IsRenewed taxi max now plans l (lined l.lineup ws fs)
@@ -93,13 +93,13 @@ module _ (taxi max now n : ℕ) (before plans : List PlanView) (l : RegulationVi
       (λ w k. ap (λ o. option_map_or (is_due now) o false) (h.same w.flight (omega (arith, k.1.1)) k.1.0) ∙ k.0 k.1.0)
       (all-both P (λ w. (w.flight ≡ n → ⊥) × (1 ≤ w.flight)) others old (all-both (λ w. w.flight ≡ n → ⊥) (λ w. 1 ≤ w.flight) others none (waiting-from 1 1 taxi r (mark n ∷ fs) before (omega arith))))
 
-  stays-now : AllByRecursion (λ a. (0 < a.flight) × ((a.flight ≡ n → ⊥) → stays taxi now plans r a ≡ true)) fs
+  stays-now : AllByRecursion (λ a. (0 < a.flight) × ((a.flight ≡ n → ⊥) → keeps_pair taxi now plans r a ≡ true)) fs
   stays-now =
-      all-map (λ a. (0 < a.flight) × ((a.flight ≡ n → ⊥) → stays taxi now before r a ≡ true)) (λ a. (0 < a.flight) × ((a.flight ≡ n → ⊥) → stays taxi now plans r a ≡ true)) fs
+      all-map (λ a. (0 < a.flight) × ((a.flight ≡ n → ⊥) → keeps_pair taxi now before r a ≡ true)) (λ a. (0 < a.flight) × ((a.flight ≡ n → ⊥) → keeps_pair taxi now plans r a ≡ true)) fs
       (λ a k. (k.0, λ ne. ap (λ o. option_map_or (keeps taxi now r a.slot) o false) (h.same a.flight k.0 ne) ∙ k.1 ne)) h.settled_but.fixed
 
   -- the flight's own pair
-  stays-own : (a : Placed) → a.flight ≡ n → stays taxi now plans r a ≡ keeps taxi now r a.slot p
+  stays-own : (a : Placed) → a.flight ≡ n → keeps_pair taxi now plans r a ≡ keeps taxi now r a.slot p
   stays-own a e = ap (λ f. option_map_or (keeps taxi now r a.slot) (plan_at plans f) false) e ∙ ap (λ o. option_map_or (keeps taxi now r a.slot) o false) h.plan
 
   capacity : l.lineup.capacity ≡ max
@@ -109,11 +109,11 @@ module _ (taxi max now n : ℕ) (before plans : List PlanView) (l : RegulationVi
   kept-slot : (k : ℕ) → slot_in n fs ≡ Some k → keeps taxi now r k p ≡ true → IsMade taxi max now plans l l.lineup.waiting fs
   kept-slot k at keeps_it =
       let own = one-slot n k fs (h.apart k at) at in
-      let stay : AllByRecursion (λ a. (0 < a.flight) × (stays taxi now plans r a ≡ true)) fs =
-      all-map (λ a. ((0 < a.flight) × ((a.flight ≡ n → ⊥) → stays taxi now plans r a ≡ true)) × (a.flight ≡ n → a.slot ≡ k)) (λ a. (0 < a.flight) × (stays taxi now plans r a ≡ true)) fs
+      let stay : AllByRecursion (λ a. (0 < a.flight) × (keeps_pair taxi now plans r a ≡ true)) fs =
+      all-map (λ a. ((0 < a.flight) × ((a.flight ≡ n → ⊥) → keeps_pair taxi now plans r a ≡ true)) × (a.flight ≡ n → a.slot ≡ k)) (λ a. (0 < a.flight) × (keeps_pair taxi now plans r a ≡ true)) fs
       (λ a q. (q.0.0, ⊎_elim (λ e. stays-own a e ∙ (ap (λ j. keeps taxi now r j p) (q.1 e) ∙ keeps_it)) q.0.1 (cases_eq a.flight n)))
-      (all-both (λ a. (0 < a.flight) × ((a.flight ≡ n → ⊥) → stays taxi now plans r a ≡ true)) (λ a. a.flight ≡ n → a.slot ≡ k) fs stays-now own) in
-      let same : kept taxi now plans r ≡ fs = filter-all (stays taxi now plans r) fs (all-map (λ a. (0 < a.flight) × (stays taxi now plans r a ≡ true)) (λ a. stays taxi now plans r a ≡ true) fs (λ _ k. k.1) stay) in
+      (all-both (λ a. (0 < a.flight) × ((a.flight ≡ n → ⊥) → keeps_pair taxi now plans r a ≡ true)) (λ a. a.flight ≡ n → a.slot ≡ k) fs stays-now own) in
+      let same : kept taxi now plans r ≡ fs = filter-all (keeps_pair taxi now plans r) fs (all-map (λ a. (0 < a.flight) × (keeps_pair taxi now plans r a ≡ true)) (λ a. keeps_pair taxi now plans r a ≡ true) fs (λ _ k. k.1) stay) in
       let has : has_flight n fs ≡ true = has-some n k fs at in
       let old : l.lineup.waiting ≡ others = waiting-before ∙ (ap (λ b. with_entry (option_and_then (subject_to taxi r) (plan_at before n)) b n others) has ∙ with_entry-kept (option_and_then (subject_to taxi r) (plan_at before n)) n others) in
       let new : waiting_from 1 taxi r fs plans ≡ others = waiting-now fs (λ f. refl) ∙ (ap (λ b. with_entry (subject_to taxi r p) b n others) has ∙ with_entry-kept (subject_to taxi r p) n others) in
@@ -121,32 +121,32 @@ module _ (taxi max now n : ℕ) (before plans : List PlanView) (l : RegulationVi
       record {
         waits = old ∙ sym new;
         keeps_them =
-            ap (λ gs. insert_all (filter (is_due_at now plans) (assigned_around taxi plans r gs)) gs) same
-            ∙ ap (λ xs. insert_all xs fs) (ap (λ ws. filter (is_due_at now plans) (greedy (λ e. first_slot r.period e) (slots fs) ws)) new ∙ greedy-none (is_due_flight now plans) (λ e. first_slot r.period e) (slots fs) others not-due);
+            ap (λ gs. insert_all (filter (λ (a : Placed). is_due_flight now plans a.flight) (assigned_around taxi plans r gs)) gs) same
+            ∙ ap (λ xs. insert_all xs fs) (ap (λ ws. filter (λ (a : Placed). is_due_flight now plans a.flight) (greedy (λ e. first_slot r.period e) (slots fs) ws)) new ∙ greedy-none (is_due_flight now plans) (λ e. first_slot r.period e) (slots fs) others not-due);
         fixed = stay;
         waiting = subst Q (sym old) not-due;
       }
 
   -- if it does not, its pair is dropped
-  gone : (o : Option ℕ) → slot_in n fs ≡ o → option_map_or (λ k. keeps taxi now r k p) o false ≡ false → AllByRecursion (λ a. a.flight ≡ n → stays taxi now plans r a ≡ false) fs
-  gone None at e = all-map (λ a. a.flight ≡ n → ⊥) (λ a. a.flight ≡ n → stays taxi now plans r a ≡ false) fs (λ a ne q. absurd (ne q)) (slot_in-none n fs at)
+  gone : (o : Option ℕ) → slot_in n fs ≡ o → option_map_or (λ k. keeps taxi now r k p) o false ≡ false → AllByRecursion (λ a. a.flight ≡ n → keeps_pair taxi now plans r a ≡ false) fs
+  gone None at e = all-map (λ a. a.flight ≡ n → ⊥) (λ a. a.flight ≡ n → keeps_pair taxi now plans r a ≡ false) fs (λ a ne q. absurd (ne q)) (slot_in-none n fs at)
   gone (Some k) at e =
-      all-map (λ a. a.flight ≡ n → a.slot ≡ k) (λ a. a.flight ≡ n → stays taxi now plans r a ≡ false) fs
+      all-map (λ a. a.flight ≡ n → a.slot ≡ k) (λ a. a.flight ≡ n → keeps_pair taxi now plans r a ≡ false) fs
       (λ a own q. stays-own a q ∙ (ap (λ j. keeps taxi now r j p) (own q) ∙ e)) (one-slot n k fs (h.apart k at) at)
 
   abbrev rest : List Placed
   rest = without_fixed n fs
 
-  kept-rest : AllByRecursion (λ a. a.flight ≡ n → stays taxi now plans r a ≡ false) fs → kept taxi now plans r ≡ rest
+  kept-rest : AllByRecursion (λ a. a.flight ≡ n → keeps_pair taxi now plans r a ≡ false) fs → kept taxi now plans r ≡ rest
   kept-rest g =
-      filter-without (stays taxi now plans r) n fs
-      (all-map (λ a. ((0 < a.flight) × ((a.flight ≡ n → ⊥) → stays taxi now plans r a ≡ true)) × (a.flight ≡ n → stays taxi now plans r a ≡ false)) (λ a. ((a.flight ≡ n → ⊥) → stays taxi now plans r a ≡ true) × (a.flight ≡ n → stays taxi now plans r a ≡ false)) fs (λ a q. (q.0.1, q.1))
-      (all-both (λ a. (0 < a.flight) × ((a.flight ≡ n → ⊥) → stays taxi now plans r a ≡ true)) (λ a. a.flight ≡ n → stays taxi now plans r a ≡ false) fs stays-now g))
+      filter-without (keeps_pair taxi now plans r) n fs
+      (all-map (λ a. ((0 < a.flight) × ((a.flight ≡ n → ⊥) → keeps_pair taxi now plans r a ≡ true)) × (a.flight ≡ n → keeps_pair taxi now plans r a ≡ false)) (λ a. ((a.flight ≡ n → ⊥) → keeps_pair taxi now plans r a ≡ true) × (a.flight ≡ n → keeps_pair taxi now plans r a ≡ false)) fs (λ a q. (q.0.1, q.1))
+      (all-both (λ a. (0 < a.flight) × ((a.flight ≡ n → ⊥) → keeps_pair taxi now plans r a ≡ true)) (λ a. a.flight ≡ n → keeps_pair taxi now plans r a ≡ false) fs stays-now g))
 
-  rest-stays : AllByRecursion (λ a. (0 < a.flight) × (stays taxi now plans r a ≡ true)) rest
+  rest-stays : AllByRecursion (λ a. (0 < a.flight) × (keeps_pair taxi now plans r a ≡ true)) rest
   rest-stays =
-      let P : Placed → Type 0 = λ a. (0 < a.flight) × ((a.flight ≡ n → ⊥) → stays taxi now plans r a ≡ true) in
-      all-map (λ a. (a.flight ≡ n → ⊥) × P a) (λ a. (0 < a.flight) × (stays taxi now plans r a ≡ true)) rest (λ a q. (q.1.0, q.1.1 q.0)) (all-without P n fs stays-now)
+      let P : Placed → Type 0 = λ a. (0 < a.flight) × ((a.flight ≡ n → ⊥) → keeps_pair taxi now plans r a ≡ true) in
+      all-map (λ a. (a.flight ≡ n → ⊥) × P a) (λ a. (0 < a.flight) × (keeps_pair taxi now plans r a ≡ true)) rest (λ a q. (q.1.0, q.1.1 q.0)) (all-without P n fs stays-now)
 
   out : without n l.lineup.waiting ≡ others
   out = ap (without n) waiting-before ∙ without-with_entry (option_and_then (subject_to taxi r) (plan_at before n)) (has_flight n fs) n others none
@@ -154,16 +154,16 @@ module _ (taxi max now n : ℕ) (before plans : List PlanView) (l : RegulationVi
   waiting-rest : (o : Option ℕ) → subject_to taxi r p ≡ o → waiting_from 1 taxi r rest plans ≡ with_entry o false n others
   waiting-rest o e = waiting-now rest (λ f. has-mark_without f n fs) ∙ (ap (λ b. with_entry (subject_to taxi r p) b n others) (has-none n rest (none-without n fs)) ∙ ap (λ v. with_entry v false n others) e)
 
-  keeps-rest : AllByRecursion (λ a. a.flight ≡ n → stays taxi now plans r a ≡ false) fs → (o : Option ℕ) → subject_to taxi r p ≡ o
-      → insert_all (filter (is_due_at now plans) (assigned_around taxi plans r (kept taxi now plans r))) (kept taxi now plans r) ≡ insert_all (filter (is_due_at now plans) (greedy (λ e. first_slot r.period e) (slots rest) (with_entry o false n others))) rest
+  keeps-rest : AllByRecursion (λ a. a.flight ≡ n → keeps_pair taxi now plans r a ≡ false) fs → (o : Option ℕ) → subject_to taxi r p ≡ o
+      → insert_all (filter (λ (a : Placed). is_due_flight now plans a.flight) (assigned_around taxi plans r (kept taxi now plans r))) (kept taxi now plans r) ≡ insert_all (filter (λ (a : Placed). is_due_flight now plans a.flight) (greedy (λ e. first_slot r.period e) (slots rest) (with_entry o false n others))) rest
   keeps-rest g o e =
-      ap (λ gs. insert_all (filter (is_due_at now plans) (assigned_around taxi plans r gs)) gs) (kept-rest g)
-      ∙ ap (λ ws. insert_all (filter (is_due_at now plans) (greedy (λ e. first_slot r.period e) (slots rest) ws)) rest) (waiting-rest o e)
+      ap (λ gs. insert_all (filter (λ (a : Placed). is_due_flight now plans a.flight) (assigned_around taxi plans r gs)) gs) (kept-rest g)
+      ∙ ap (λ ws. insert_all (filter (λ (a : Placed). is_due_flight now plans a.flight) (greedy (λ e. first_slot r.period e) (slots rest) ws)) rest) (waiting-rest o e)
 
   due-own : is_due_flight now plans n ≡ is_due now p
   due-own = ap (λ o. option_map_or (is_due now) o false) h.plan
 
-  made-out : AllByRecursion (λ a. a.flight ≡ n → stays taxi now plans r a ≡ false) fs → subject_to taxi r p ≡ None → IsMade taxi max now plans l others rest
+  made-out : AllByRecursion (λ a. a.flight ≡ n → keeps_pair taxi now plans r a ≡ false) fs → subject_to taxi r p ≡ None → IsMade taxi max now plans l others rest
   made-out g e = record {
     waits = sym (waiting-rest None e);
     keeps_them = keeps-rest g None e ∙ ap (λ xs. insert_all xs rest) (greedy-none (is_due_flight now plans) (λ e. first_slot r.period e) (slots rest) others not-due);
@@ -171,7 +171,7 @@ module _ (taxi max now n : ℕ) (before plans : List PlanView) (l : RegulationVi
     waiting = not-due;
   }
 
-  made-waiting : AllByRecursion (λ a. a.flight ≡ n → stays taxi now plans r a ≡ false) fs → (e : ℕ) → subject_to taxi r p ≡ Some e → is_due now p ≡ false → IsMade taxi max now plans l (insert (record { entry = e; flight = n }) others) rest
+  made-waiting : AllByRecursion (λ a. a.flight ≡ n → keeps_pair taxi now plans r a ≡ false) fs → (e : ℕ) → subject_to taxi r p ≡ Some e → is_due now p ≡ false → IsMade taxi max now plans l (insert (record { entry = e; flight = n }) others) rest
   made-waiting g e s d =
       let none_due = all-insert (λ w. is_due_flight now plans w.flight ≡ false) (record { entry = e; flight = n }) others (due-own ∙ d) not-due in
       record {
@@ -182,14 +182,14 @@ module _ (taxi max now n : ℕ) (before plans : List PlanView) (l : RegulationVi
       }
 
   -- the slot that it is fixed in is not before its entry
-  stays-fixed : (e k : ℕ) → subject_to taxi r p ≡ Some e → is_due now p ≡ true → first_slot r.period e ≤ k → stays taxi now plans r (record { flight = n; slot = k }) ≡ true
+  stays-fixed : (e k : ℕ) → subject_to taxi r p ≡ Some e → is_due now p ≡ true → first_slot r.period e ≤ k → keeps_pair taxi now plans r (record { flight = n; slot = k }) ≡ true
   stays-fixed e k s d from =
       let within = subject-within taxi l.spot l.lineup.period.start l.lineup.period.end e p s in
       let late : e ≤ slot_time r.period k = omega (arith, (first_slot-first l.lineup.period e (h.regular e s) within.0).0, slot_time-later l.lineup.period (first_slot r.period e) k (h.regular e s) from) in
       let entry : option_map_or (λ entry. leb entry (slot_time r.period k)) (subject_to taxi r p) false ≡ true = ap (λ o. option_map_or (λ entry. leb entry (slot_time r.period k)) o false) s ∙ le-leb e (slot_time r.period k) late in
       stays-own (record { flight = n; slot = k }) refl ∙ or_right (is_departed p.state) (is_due now p && option_map_or (λ entry. leb entry (slot_time r.period k)) (subject_to taxi r p) false) (and_from (is_due now p) (option_map_or (λ entry. leb entry (slot_time r.period k)) (subject_to taxi r p) false) d entry)
 
-  made-fixed : AllByRecursion (λ a. a.flight ≡ n → stays taxi now plans r a ≡ false) fs → (e k : ℕ) → subject_to taxi r p ≡ Some e → is_due now p ≡ true
+  made-fixed : AllByRecursion (λ a. a.flight ≡ n → keeps_pair taxi now plans r a ≡ false) fs → (e k : ℕ) → subject_to taxi r p ≡ Some e → is_due now p ≡ true
       → IsFound (is_due_flight now plans) (λ e. first_slot r.period e) (slots rest) (record { entry = e; flight = n }) (insert (record { entry = e; flight = n }) others) k
       → IsMade taxi max now plans l others (insert_fixed (record { flight = n; slot = k }) rest)
   made-fixed g e k s d f =
@@ -199,7 +199,7 @@ module _ (taxi max now n : ℕ) (before plans : List PlanView) (l : RegulationVi
       record {
         waits = sym (waiting-now (insert_fixed a rest) has ∙ (ap (λ b. with_entry (subject_to taxi r p) b n others) here ∙ with_entry-kept (subject_to taxi r p) n others));
         keeps_them = keeps-rest g (Some e) s ∙ ap (λ xs. insert_all xs rest) f.picked;
-        fixed = all-insert_fixed (λ a. (0 < a.flight) × (stays taxi now plans r a ≡ true)) a rest (h.number, stays-fixed e k s d f.not_before) rest-stays;
+        fixed = all-insert_fixed (λ a. (0 < a.flight) × (keeps_pair taxi now plans r a ≡ true)) a rest (h.number, stays-fixed e k s d f.not_before) rest-stays;
         waiting = not-due;
       }
     where
@@ -207,7 +207,7 @@ module _ (taxi max now n : ℕ) (before plans : List PlanView) (l : RegulationVi
       twice true c = refl
       twice false c = refl
 
-  renewed-placed : AllByRecursion (λ a. a.flight ≡ n → stays taxi now plans r a ≡ false) fs → (o : Option ℕ) (d : Bool) → subject_to taxi r p ≡ o → is_due now p ≡ d → IsRenewed taxi max now plans l (placed o d n (without_flight n l.lineup))
+  renewed-placed : AllByRecursion (λ a. a.flight ≡ n → keeps_pair taxi now plans r a ≡ false) fs → (o : Option ℕ) (d : Bool) → subject_to taxi r p ≡ o → is_due now p ≡ d → IsRenewed taxi max now plans l (placed o d n (without_flight n l.lineup))
   renewed-placed g None d s q =
       let R : List Planned → Type 0 = λ ws. IsRenewed taxi max now plans l (lined l.lineup ws rest) in
       subst R (sym out) (renewed-made taxi max now plans l others rest capacity (made-out g s))

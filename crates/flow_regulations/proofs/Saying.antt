@@ -15,14 +15,6 @@ says-none (Some old) None = λ e. cc
 says-none (Some old) (Some new) =
     elim (eqb old.ctot new.ctot) as (λ b. cond b None (Some (Srm new)) ≡ None → cond b (Some old) (Some new) ≡ Some old) [ true ↦ (λ e. refl) | false ↦ (λ e. cc) ]
 
--- if there is a notice, the advice is issued
-pub says-some : (t a : Option Told) (s : Said) → says t a ≡ Some s → told_then t a ≡ a
-says-some None None s = λ e. cc
-says-some None (Some new) s = λ e. refl
-says-some (Some old) None s = λ e. refl
-says-some (Some old) (Some new) s =
-    elim (eqb old.ctot new.ctot) as (λ b. cond b None (Some (Srm new)) ≡ Some s → cond b (Some old) (Some new) ≡ Some new) [ true ↦ (λ e. cc) | false ↦ (λ e. refl) ]
-
 -- the same advice once more says nothing
 says-again : (t a : Option Told) → says (told_then t a) a ≡ None
 says-again None None = refl

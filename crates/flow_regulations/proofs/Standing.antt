@@ -9,7 +9,7 @@ use Rattle.flow_slots.specs.Assignment.{Placed}
 use Rattle.flow_slots.specs.Lineup.{Lineup, IsLineup, NoneFixed, WaitingApart, slot_in, held_slot, fixed_slot, entry_in, waiting_entry, without_fixed, insert_fixed, with_waiting, without_flight}
 use Rattle.flow_slots.specs.ChangeList.{fixed_there}
 use Rattle.flow_slots.proofs.TakenBack.{removed-inserted}
-use Rattle.flow_regulations.specs.Listing.{RegulationView, with_lineup, placed, fixed_waiting}
+use Rattle.flow_regulations.specs.Listing.{placed, fixed_waiting}
 use Rattle.flow_regulations.proofs.Placing.{fixes-there}
 
 -- a list without a flight, after the flight is inserted or removed
@@ -91,7 +91,3 @@ pub stands : (d : Bool) (f e : ℕ) (l : Lineup) → IsLineup l → waiting_entr
 stands d f e l lined h =
     ap (λ v. cond d (fixed_there (held_slot v f) f v) v) (removed-inserted l (record { entry = e; flight = f }) lined h)
     ∙ ap (λ v. cond d v l) (sym (fixes-there f l (held_slot l f) (waits-unfixed f e l lined h) refl))
-
--- the flight is removed, whatever it had
-pub stands-out : (f : ℕ) (l t m : RegulationView) (o : Option ℕ) (d : Bool) → t ≡ with_lineup (without_flight f l.lineup) l → m ≡ with_lineup (placed o d f t.lineup) t → m ≡ with_lineup (placed o d f (without_flight f l.lineup)) l
-stands-out f l t m o d a b = b ∙ ap (λ v. with_lineup (placed o d f v.lineup) v) a

@@ -3,7 +3,7 @@ use Rattle.std.proofs.Common.{◌≡◌, ℕ, ◌-◌, cond, eqb, true, false, L
 use Rattle.std.specs.Option.{option_map}
 use Rattle.std.specs.List.{AllByRecursion}
 use Rattle.fpl_message.specs.declared.order.Spot.{Spot}
-use Rattle.flow_plans.specs.Plans.{PlanView, plan_at, is_departed}
+use Rattle.flow_plans.specs.Plans.{PlanView, plan_at}
 use Rattle.flow_plans.specs.Entries.{entry_at}
 use Rattle.flow_slots.specs.Period.{Period, slot_time}
 use Rattle.flow_slots.specs.Assignment.{Placed}
@@ -12,8 +12,8 @@ use Rattle.flow_regulations.specs.declared.notice.Told.{Told}
 use Rattle.flow_regulations.specs.Regulations.{Regulation}
 use Rattle.flow_regulations.specs.Settling.{pairs_of}
 use Rattle.flow_regulations.specs.Advice.{delay_among, delay_in, caused_by, worse, worst, advice}
-use Rattle.flow_regulations.specs.Notices.{notices_to, notice_of, says}
-use Rattle.flow_regulations.specs.Quiet.{IsQuiet, IsQuietAt, told_at, IsUntouched, KeepsSlots}
+use Rattle.flow_regulations.specs.Notices.{notices_to}
+use Rattle.flow_regulations.specs.Quiet.{IsQuiet, IsQuietAt, told_at, IsUntouched, HasSameSlots}
 
 -- the delay of a flight's first pair
 abbrev delay_of : ℕ → PlanView → Spot → Period → List Placed → Option ℕ
@@ -45,7 +45,7 @@ caused-same taxi f p r s i o t k =
     ∙ ap (λ (pairs : List Placed). delay_caused taxi p s.id s.spot s.period pairs) k
     ∙ sym (caused-pairs taxi f p s)
 
-worst-same : (taxi f : ℕ) (p : PlanView) (rs ss : List Regulation) → KeepsSlots f rs ss → worst taxi f p rs ≡ worst taxi f p ss
+worst-same : (taxi f : ℕ) (p : PlanView) (rs ss : List Regulation) → HasSameSlots f rs ss → worst taxi f p rs ≡ worst taxi f p ss
 worst-same taxi f p [] [] k = refl
 worst-same taxi f p [] (s ∷ ss) k = absurd k
 worst-same taxi f p (r ∷ rs) [] k = absurd k
@@ -53,11 +53,11 @@ worst-same taxi f p (r ∷ rs) (s ∷ ss) k =
     ap (λ d. worse d (worst taxi f p rs)) (caused-same taxi f p r s k.0 k.1 k.2 k.3)
     ∙ ap (λ e. worse (option_map (caused_by s) (delay_in taxi f p s)) e) (worst-same taxi f p rs ss k.4)
 
-pub advice-same : (taxi f : ℕ) (p : PlanView) (rs ss : List Regulation) → KeepsSlots f rs ss → advice taxi f p ss ≡ advice taxi f p rs
+pub advice-same : (taxi f : ℕ) (p : PlanView) (rs ss : List Regulation) → HasSameSlots f rs ss → advice taxi f p ss ≡ advice taxi f p rs
 unfolding advice
 advice-same taxi f p rs ss k = ap (option_map _) (sym (worst-same taxi f p rs ss k))
 
-pub quiet-same : (taxi f : ℕ) (p : PlanView) (told : Option Told) (rs ss : List Regulation) → KeepsSlots f rs ss → IsQuiet taxi f rs p told → IsQuiet taxi f ss p told
+pub quiet-same : (taxi f : ℕ) (p : PlanView) (told : Option Told) (rs ss : List Regulation) → HasSameSlots f rs ss → IsQuiet taxi f rs p told → IsQuiet taxi f ss p told
 quiet-same taxi f p told rs ss k q = ap (λ a. notices_to p told a) (advice-same taxi f p rs ss k) ∙ q
 
 pub caused-none : (taxi f : ℕ) (p : PlanView) (r : Regulation) → pairs_of f r.fixed ≡ [] → option_map (caused_by r) (delay_in taxi f p r) ≡ None
@@ -74,9 +74,6 @@ pub advice-other : (taxi f : ℕ) (p : PlanView) (r : Regulation) (before after 
 unfolding advice
 advice-other taxi f p r before after none = ap (option_map _) (worst-other taxi f p r before after none)
 
-pub quiet-departed : (taxi f : ℕ) (rs : List Regulation) (p : PlanView) (told : Option Told) → is_departed p.state ≡ true → IsQuiet taxi f rs p told
-quiet-departed taxi f rs p told gone = ap (λ b. cond b [] (notice_of p (says told (advice taxi f p rs)))) gone
-
 pub quiet-untouched : (taxi n : ℕ) (rs : List Regulation) (ps : List PlanView) (ts : List (Option Told)) (ss : List Regulation) (qs : List PlanView) (us : List (Option Told))
     → IsUntouched taxi rs ps ts ss qs us n → IsQuietAt taxi rs ps ts n → IsQuietAt taxi ss qs us n
 quiet-untouched taxi n rs ps ts ss qs us same h = rw (same.0, same.1) (at (plan_at ps n) refl h)
@@ -89,11 +86,11 @@ quiet-untouched taxi n rs ps ts ss qs us same h = rw (same.0, same.1) (at (plan_
     at None e q = tt
     at (Some p) e q = told p (same.2 p e) (told_at ts n) q
 
-pub keeps-refl : (f : ℕ) (rs : List Regulation) → KeepsSlots f rs rs
+pub keeps-refl : (f : ℕ) (rs : List Regulation) → HasSameSlots f rs rs
 keeps-refl f [] = tt
 keeps-refl f (r ∷ rs) = (refl, refl, refl, refl, keeps-refl f rs)
 
-pub keeps-trans : (f : ℕ) (rs ss us : List Regulation) → KeepsSlots f rs ss → KeepsSlots f ss us → KeepsSlots f rs us
+pub keeps-trans : (f : ℕ) (rs ss us : List Regulation) → HasSameSlots f rs ss → HasSameSlots f ss us → HasSameSlots f rs us
 keeps-trans f [] [] [] k l = tt
 keeps-trans f [] [] (u ∷ us) k l = absurd l
 keeps-trans f [] (s ∷ ss) us k l = absurd k
@@ -101,7 +98,7 @@ keeps-trans f (r ∷ rs) [] us k l = absurd k
 keeps-trans f (r ∷ rs) (s ∷ ss) [] k l = absurd l
 keeps-trans f (r ∷ rs) (s ∷ ss) (u ∷ us) k l = (k.0 ∙ l.0, k.1 ∙ l.1, k.2 ∙ l.2, k.3 ∙ l.3, keeps-trans f rs ss us k.4 l.4)
 
-pub keeps-join : (f : ℕ) (rs ss us vs : List Regulation) → KeepsSlots f rs ss → KeepsSlots f us vs → KeepsSlots f (rs ++ us) (ss ++ vs)
+pub keeps-join : (f : ℕ) (rs ss us vs : List Regulation) → HasSameSlots f rs ss → HasSameSlots f us vs → HasSameSlots f (rs ++ us) (ss ++ vs)
 keeps-join f [] [] us vs k l = l
 keeps-join f [] (s ∷ ss) us vs k l = absurd k
 keeps-join f (r ∷ rs) [] us vs k l = absurd k

@@ -5,8 +5,8 @@ use Rattle.std.specs.List.{slice_get}
 use Rattle.std.specs.Prelude.{slice_set}
 use Rattle.std.specs.Option.{option_map_or}
 use Rattle.flow_plans.specs.Plans.{PlanView, plan_at, with_plan, changed_at}
-use Rattle.flow_regulations.specs.Settling.{stays}
-use Rattle.flow_regulations.specs.Listing.{RegulationView, regulation_of, IsListedIn, IsListed, IsSettledIn, IsSettled, IsSettledBut, AreSettledBut, AreSameBut, is_due_flight, without_named}
+use Rattle.flow_regulations.specs.Settling.{keeps_pair, is_due_flight}
+use Rattle.flow_regulations.specs.Listing.{RegulationView, regulation_of, IsListedIn, IsListed, IsSettledIn, IsSettled, IsSettledBut, AreSettledBut, AreSameBut, without_named}
 use Rattle.flow_regulations.proofs.FixedOnes.{all-map}
 use Rattle.flow_regulations.proofs.Closings.{all-named}
 
@@ -43,7 +43,7 @@ pub settled-but : (n taxi now : ℕ) (plans : List PlanView) (ls : List Regulati
 settled-but n taxi now plans ls s =
     all-map (IsSettledIn taxi now plans) (IsSettledBut n taxi now plans) ls
     (λ l h. record {
-      fixed = all-map (λ a. (0 < a.flight) × (stays taxi now plans (regulation_of l) a ≡ true)) (λ a. (0 < a.flight) × ((a.flight ≡ n → ⊥) → stays taxi now plans (regulation_of l) a ≡ true)) l.lineup.fixed (λ a q. (q.0, λ _. q.1)) h.fixed;
+      fixed = all-map (λ a. (0 < a.flight) × (keeps_pair taxi now plans (regulation_of l) a ≡ true)) (λ a. (0 < a.flight) × ((a.flight ≡ n → ⊥) → keeps_pair taxi now plans (regulation_of l) a ≡ true)) l.lineup.fixed (λ a q. (q.0, λ _. q.1)) h.fixed;
       waiting = all-map (λ w. is_due_flight now plans w.flight ≡ false) (λ w. (w.flight ≡ n → ⊥) → is_due_flight now plans w.flight ≡ false) l.lineup.waiting (λ w q _. q) h.waiting;
     }) s
 

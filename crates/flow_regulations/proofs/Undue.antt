@@ -7,8 +7,8 @@ use Rattle.flow_plans.specs.Plans.{PlanView, plan_at, is_filed}
 use Rattle.flow_plans.specs.Entries.{NoneEarlier}
 use Rattle.flow_slots.specs.declared.cell.Planned.{Planned}
 use Rattle.flow_regulations.specs.Regulations.{coming_from}
-use Rattle.flow_regulations.specs.Settling.{is_due}
-use Rattle.flow_regulations.specs.Listing.{RegulationView, regulation_of, opened, is_due_flight, AreUndue, NoneDue}
+use Rattle.flow_regulations.specs.Settling.{is_due, is_due_flight}
+use Rattle.flow_regulations.specs.Listing.{RegulationView, regulation_of, opened, AreUndue, NoneDue}
 use Rattle.flow_regulations.specs.declared.due.TheConstants.{ISSUE_LEAD}
 use Rattle.flow_regulations.proofs.Coming.{waiting-all}
 

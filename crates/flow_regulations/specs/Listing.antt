@@ -11,7 +11,7 @@ use Rattle.flow_slots.specs.Assignment.{Placed, is_in}
 use Rattle.flow_slots.specs.Lineup.{Lineup, IsLineup, held_slot, fixed_slot, with_waiting, without_flight}
 use Rattle.flow_slots.specs.ChangeList.{fixed_there}
 use Rattle.flow_regulations.specs.Regulations.{Regulation, subject_to, waiting_from, lineup_of}
-use Rattle.flow_regulations.specs.Settling.{is_due, keeps, stays, settled, frozen_at_departure, pairs_of}
+use Rattle.flow_regulations.specs.Settling.{is_due, is_due_flight, keeps, keeps_pair, settled, frozen_at_departure, pairs_of}
 
 -- an open regulation with its slot list
 pub record RegulationView : Type 0 where
@@ -35,12 +35,9 @@ IsListedIn taxi max plans l = l.lineup ≡ lineup_of taxi max plans (regulation_
 abbrev pub IsListed : ℕ → ℕ → List PlanView → List RegulationView → Type 0
 IsListed taxi max plans lists = AllByRecursion (IsListedIn taxi max plans) lists
 
-abbrev pub is_due_flight : ℕ → List PlanView → ℕ → Bool
-is_due_flight now plans flight = option_map_or (is_due now) (plan_at plans flight) false
-
 -- the frozen flights may all keep their slots, and no flight with a provisional slot is due
 pub record IsSettledIn (taxi now : ℕ) (plans : List PlanView) (l : RegulationView) : Type 0 where
-  pub fixed : AllByRecursion (λ a. (0 < a.flight) × (stays taxi now plans (regulation_of l) a ≡ true)) l.lineup.fixed
+  pub fixed : AllByRecursion (λ a. (0 < a.flight) × (keeps_pair taxi now plans (regulation_of l) a ≡ true)) l.lineup.fixed
   pub waiting : AllByRecursion (λ w. is_due_flight now plans w.flight ≡ false) l.lineup.waiting
 
 abbrev pub IsSettled : ℕ → ℕ → List PlanView → List RegulationView → Type 0
@@ -48,7 +45,7 @@ IsSettled taxi now plans lists = AllByRecursion (IsSettledIn taxi now plans) lis
 
 -- the same of all flights but one
 pub record IsSettledBut (number taxi now : ℕ) (plans : List PlanView) (l : RegulationView) : Type 0 where
-  pub fixed : AllByRecursion (λ a. (0 < a.flight) × ((a.flight ≡ number → ⊥) → stays taxi now plans (regulation_of l) a ≡ true)) l.lineup.fixed
+  pub fixed : AllByRecursion (λ a. (0 < a.flight) × ((a.flight ≡ number → ⊥) → keeps_pair taxi now plans (regulation_of l) a ≡ true)) l.lineup.fixed
   pub waiting : AllByRecursion (λ w. (w.flight ≡ number → ⊥) → is_due_flight now plans w.flight ≡ false) l.lineup.waiting
 
 abbrev pub AreSettledBut : ℕ → ℕ → ℕ → List PlanView → List RegulationView → Type 0
@@ -142,7 +139,7 @@ pub record AreFrozen (taxi max flight : ℕ) (before : List PlanView) (lists new
 
 -- all frozen flights may keep their slots at this time
 abbrev pub AllStay : ℕ → ℕ → List PlanView → RegulationView → Type 0
-AllStay taxi now plans l = AllByRecursion (λ a. (0 < a.flight) × (stays taxi now plans (regulation_of l) a ≡ true)) l.lineup.fixed
+AllStay taxi now plans l = AllByRecursion (λ a. (0 < a.flight) × (keeps_pair taxi now plans (regulation_of l) a ≡ true)) l.lineup.fixed
 
 -- none of these flights is due
 abbrev pub AreUndue : ℕ → List PlanView → List Planned → Type 0
@@ -255,8 +252,8 @@ lineup_named id [] = None
 lineup_named id (l ∷ ls) = if is_named id l then Some l.lineup else lineup_named id ls
 
 -- whether a flight has a frozen slot in the first regulation of this name
-abbrev pub keeps_slot_in : List ℕ → List RegulationView → ℕ → Bool
-keeps_slot_in id lists flight = option_map_or (λ l. is_some (fixed_slot l flight)) (lineup_named id lists) false
+abbrev pub is_frozen_in : List ℕ → List RegulationView → ℕ → Bool
+is_frozen_in id lists flight = option_map_or (λ l. is_some (fixed_slot l flight)) (lineup_named id lists) false
 
 -- the pairs of a flight, regulation by regulation
 abbrev pub pairs_in : ℕ → List RegulationView → List (List Placed)

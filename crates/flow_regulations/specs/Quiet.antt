@@ -29,13 +29,13 @@ abbrev pub AllQuiet : ℕ → List Regulation → List PlanView → List (Option
 AllQuiet taxi regulations plans told = (number : ℕ) → 0 < number → IsQuietAt taxi regulations plans told number
 
 -- the same regulations before and after, and the flight keeps the same slots in them
-abbrev pub KeepsSlots : ℕ → List Regulation → List Regulation → Type 0
-KeepsSlots flight [] [] = Unit {0}
-KeepsSlots flight [] (s ∷ ss) = ⊥
-KeepsSlots flight (r ∷ rs) [] = ⊥
-KeepsSlots flight (r ∷ rs) (s ∷ ss) =
+abbrev pub HasSameSlots : ℕ → List Regulation → List Regulation → Type 0
+HasSameSlots flight [] [] = Unit {0}
+HasSameSlots flight [] (s ∷ ss) = ⊥
+HasSameSlots flight (r ∷ rs) [] = ⊥
+HasSameSlots flight (r ∷ rs) (s ∷ ss) =
     (r.id ≡ s.id) × (r.spot ≡ s.spot) × (r.period ≡ s.period) × (pairs_of flight r.fixed ≡ pairs_of flight s.fixed)
-    × KeepsSlots flight rs ss
+    × HasSameSlots flight rs ss
 
 -- a plan is unchanged, with the CTOT last issued to it and its advice
 abbrev pub IsUntouched : ℕ → List Regulation → List PlanView → List (Option Told) → List Regulation → List PlanView → List (Option Told) → ℕ → Type 0

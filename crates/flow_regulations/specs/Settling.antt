@@ -13,6 +13,9 @@ use Rattle.flow_regulations.specs.declared.due.TheConstants.{ISSUE_LEAD}
 abbrev pub is_due : ℕ → PlanView → Bool
 is_due now p = is_filed p.state && nat_le p.off_block (now + ISSUE_LEAD)
 
+abbrev pub is_due_flight : ℕ → List PlanView → ℕ → Bool
+is_due_flight now plans flight = option_map_or (is_due now) (plan_at plans flight) false
+
 -- a flight keeps its slot when it has departed, or while it is subject and due and its slot is not
 -- before its entry
 abbrev pub keeps : ℕ → ℕ → Regulation → ℕ → PlanView → Bool
@@ -20,14 +23,11 @@ keeps taxi now r slot p =
     is_departed p.state
     || (is_due now p && option_map_or (λ entry. nat_le entry (slot_time r.period slot)) (subject_to taxi r p) false)
 
-abbrev pub stays : ℕ → ℕ → List PlanView → Regulation → Placed → Bool
-stays taxi now plans r a = option_map_or (keeps taxi now r a.slot) (plan_at plans a.flight) false
+abbrev pub keeps_pair : ℕ → ℕ → List PlanView → Regulation → Placed → Bool
+keeps_pair taxi now plans r a = option_map_or (keeps taxi now r a.slot) (plan_at plans a.flight) false
 
 abbrev pub kept : ℕ → ℕ → List PlanView → Regulation → List Placed
-kept taxi now plans r = filter (stays taxi now plans r) r.fixed
-
-abbrev pub is_due_at : ℕ → List PlanView → Placed → Bool
-is_due_at now plans a = option_map_or (is_due now) (plan_at plans a.flight) false
+kept taxi now plans r = filter (keeps_pair taxi now plans r) r.fixed
 
 -- more frozen flights, each inserted by its slot
 abbrev pub insert_all : List Placed → List Placed → List Placed
@@ -42,7 +42,7 @@ assigned_around taxi plans r fixed = greedy (λ e. first_slot r.period e) (slots
 unfoldable pub settled : ℕ → ℕ → List PlanView → Regulation → Regulation
 settled taxi now plans r =
     let fixed = kept taxi now plans r in
-    record r { fixed = insert_all (filter (is_due_at now plans) (assigned_around taxi plans r fixed)) fixed }
+    record r { fixed = insert_all (filter (λ a. is_due_flight now plans a.flight) (assigned_around taxi plans r fixed)) fixed }
 
 -- the pair of a flight among these
 abbrev pub pairs_of : ℕ → List Placed → List Placed

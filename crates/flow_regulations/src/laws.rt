@@ -6,12 +6,13 @@ ghost use Rattle.std.specs.List.{AllByRecursion};
 ghost use Rattle.flow_plans.specs.Plans.{PlanView, is_departed};
 ghost use Rattle.flow_slots.specs.Assignment.{Placed, is_in};
 ghost use Rattle.flow_regulations.specs.Regulations.{Regulation};
-ghost use Rattle.flow_regulations.specs.Settling.{pairs_of, stays, settled, frozen_at_departure};
+ghost use Rattle.flow_regulations.specs.Settling.{keeps_pair, pairs_of, settled};
+ghost use Rattle.flow_regulations.specs.Settling.{frozen_at_departure};
 ghost use Rattle.flow_regulations.specs.Listing.{HasPair};
 ghost use Rattle.flow_regulations.specs.Advice.{advice};
 ghost use Rattle.flow_regulations.specs.Notices.{told_to_plan, notices_from, told_from};
 ghost use Rattle.flow_regulations.specs.Quiet.{IsQuiet, AreQuietBut, AllQuiet};
-ghost use Rattle.flow_regulations.specs.Quiet.{KeepsSlots, IsUntouched};
+ghost use Rattle.flow_regulations.specs.Quiet.{HasSameSlots, IsUntouched};
 ghost use Rattle.flow_regulations.specs.declared.notice.Told.{Told};
 
 /// A frozen flight keeps its slot while it has departed, or is filed, subject and due with a slot
@@ -19,7 +20,7 @@ ghost use Rattle.flow_regulations.specs.declared.notice.Told.{Told};
 /// removes none.
 pub fn frozen_pairs_stay()
     ensures settling { (taxi now : ℕ) (plans : List PlanView) (r : Regulation) (a : Placed)
-        → stays taxi now plans r a ≡ true → HasPair a r.fixed
+        → keeps_pair taxi now plans r a ≡ true → HasPair a r.fixed
         → HasPair a (settled taxi now plans r).fixed }
     ensures departing { (taxi max flight : ℕ) (before : List PlanView) (r : Regulation) (a : Placed)
         → HasPair a r.fixed → HasPair a (frozen_at_departure taxi max before flight r).fixed }
@@ -29,11 +30,11 @@ pub fn frozen_pairs_stay()
 /// its frozen slots are unchanged.
 pub fn quiet_stays()
     ensures advice { (taxi number : ℕ) (p : PlanView) (before after : List Regulation)
-        → KeepsSlots number before after
+        → HasSameSlots number before after
         → advice taxi number p after ≡ advice taxi number p before }
     ensures quiet { (taxi number : ℕ) (p : PlanView) (told : Option Told)
         (before after : List Regulation)
-        → KeepsSlots number before after
+        → HasSameSlots number before after
         → IsQuiet taxi number before p told → IsQuiet taxi number after p told }
 {}
 
@@ -90,12 +91,12 @@ pub fn nowhere_frozen()
 /// of regulations if it does over each.
 pub fn slots_are_kept()
     ensures same { (number : ℕ) (regulations : List Regulation)
-        → KeepsSlots number regulations regulations }
+        → HasSameSlots number regulations regulations }
     ensures in_turn { (number : ℕ) (first middle last : List Regulation)
-        → KeepsSlots number first middle
-        → KeepsSlots number middle last → KeepsSlots number first last }
+        → HasSameSlots number first middle
+        → HasSameSlots number middle last → HasSameSlots number first last }
     ensures joined { (number : ℕ) (before after others others_after : List Regulation)
-        → KeepsSlots number before after
-        → KeepsSlots number others others_after
-        → KeepsSlots number (before ++ others) (after ++ others_after) }
+        → HasSameSlots number before after
+        → HasSameSlots number others others_after
+        → HasSameSlots number (before ++ others) (after ++ others_after) }
 {}

@@ -12,14 +12,14 @@ ghost use Rattle.flow_slots.specs.Period.{IsWithin, IsRegular};
 ghost use Rattle.flow_regulations.specs.SlotStates.{IsPlaceOf, MayStand, stood};
 ghost use Rattle.flow_regulations.specs.Marks.{IsOut, IsInOrder};
 ghost use Rattle.flow_regulations.specs.Regulations.{subject_to, coming_from};
-ghost use Rattle.flow_regulations.specs.Settling.{is_due, pairs_of};
+ghost use Rattle.flow_regulations.specs.Settling.{is_due, pairs_of, is_due_flight};
 ghost use Rattle.flow_regulations.specs.Listing.{RegulationView, regulation_of, with_lineup};
 ghost use Rattle.flow_regulations.specs.Listing.{without_in, released_in};
 ghost use Rattle.flow_regulations.specs.Listing.{keeps_slot, placed, with_no_flights};
 ghost use Rattle.flow_regulations.specs.Listing.{is_named, fixed_waiting};
 ghost use Rattle.flow_regulations.specs.Listing.{IsListedIn, IsSettledBut, AreSameBut};
 ghost use Rattle.flow_regulations.specs.Listing.{IsRenewed, IsFixedWaiting};
-ghost use Rattle.flow_regulations.specs.Listing.{IsLookedAgain, is_due_flight};
+ghost use Rattle.flow_regulations.specs.Listing.{IsLookedAgain};
 ghost use Rattle.flow_plans.specs.declared.setup.TheConstants.{MAX_PLANS};
 ghost use Rattle.flow_slots.specs.Period.{most_slots};
 

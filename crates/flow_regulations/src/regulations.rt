@@ -20,7 +20,7 @@ ghost use Rattle.flow_regulations.specs.Listing.{NoneDue};
 ghost use Rattle.flow_regulations.specs.Listing.{HoldNewlyDue, HaveCapacity, names_in};
 ghost use Rattle.flow_regulations.specs.Listing.{IsReleased, IsOpened, opened};
 ghost use Rattle.flow_regulations.specs.Listing.{is_named, without_named, lineup_named};
-ghost use Rattle.flow_regulations.specs.Listing.{keeps_slot_in, IsNamedAt};
+ghost use Rattle.flow_regulations.specs.Listing.{is_frozen_in, IsNamedAt};
 ghost use Rattle.flow_regulations.specs.Listing.{MayReopen, pairs_in, regulation_of};
 ghost use Rattle.flow_regulations.specs.Marks.{IsMarked, AreMarked, AreInRows, MarksNear};
 ghost use Rattle.flow_regulations.specs.Settling.{pairs_of};
@@ -179,7 +179,7 @@ impl<A: Allocator + Copy> Regulations<A> {
     pub fn note_fixed(&self, id: &Text<8>, flights: &mut Vec<u32, A>) -> Result<(), AllocError>
         ensures rising { OnOk result (IsStrictlyIncreasing flights.new.items) }
         ensures each { OnOk result
-            (All (λ n. keeps_slot_in id.now self.now.lists n ≡ true) flights.new.items) }
+            (All (λ n. is_frozen_in id.now self.now.lists n ≡ true) flights.new.items) }
         ensures numbers { OnOk result
             ((taxi now : ℕ) (plans : List PlanView) → IsSettled taxi now plans self.now.lists
             → All (λ n. (0 < n) × (n ≤ length plans)) flights.new.items) }

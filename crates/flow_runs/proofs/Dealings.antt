@@ -112,16 +112,3 @@ replicate-length (suc n) x = ap suc (replicate-length n x)
 pub AreDealt-none : (n : ℕ) (feeds : List (List FilingView)) → feeds ≡ replicate n [] → AreDealt n [] feeds
 unfolding dealt
 AreDealt-none n feeds e = subst (λ (q : List (List FilingView)). AreDealt n [] q) (sym e) (record { wide = replicate-length n []; each = λ k in_k. replicate-get n k [] in_k })
-
--- one more at the end
-pub map-snoc : {V W : Type 0} (v : V → W) (xs : List V) (x : V) → map v (xs ++ x ∷ []) ≡ map v xs ++ v x ∷ []
-map-snoc v [] x = refl
-map-snoc v (y ∷ ys) x = ap (λ q. v y ∷ q) (map-snoc v ys x)
-
--- one more feed that is empty
-pub replicate-next : {V : Type 0} (v : V → List FilingView) (feeds : List V) (n : ℕ) (x : V) → map v feeds ≡ replicate n [] → v x ≡ [] → map v (feeds ++ x ∷ []) ≡ replicate (n + 1) []
-replicate-next v feeds n x e empty = rw (add-one n) (map-snoc v feeds x ∙ (ap (λ (q : List (List FilingView)). q ++ v x ∷ []) e ∙ (ap (λ (q : List FilingView). replicate n [] ++ q ∷ []) empty ∙ more n)))
-  where
-    more : (n : ℕ) → replicate n [] ++ [] ∷ [] ≡ replicate {A = List FilingView} (suc n) []
-    more zero = refl
-    more (suc n) = ap (λ (q : List (List FilingView)). [] ∷ q) (more n)

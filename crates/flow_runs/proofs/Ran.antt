@@ -23,7 +23,7 @@ use Rattle.flow_runs.proofs.Readings.{ToldFirst-none, ToldEnded-none, ToldFront-
 use Rattle.flow_runs.specs.Filing.{HasFiled}
 use Rattle.flow_runs.specs.declared.fault.RunFault.{RunFault}
 use Rattle.flow_runs.specs.declared.fault.RunFault.TheVariants as fault
-use Rattle.flow_runs.specs.ManyRuns.{answers, answered, ended, ended_before_replay, end_lines, end_before_replay, answers_and_end, WritesWithReplay, RanMany, RanOn, OverrunAfter, HoldsBeyond, HoldsSome}
+use Rattle.flow_runs.specs.ManyRuns.{answers, answered_now, ended, ended_before_replay, end_lines, end_before_replay, answers_and_end, WritesWithReplay, RanMany, RanOn, OverrunAfter, HoldsBeyond, HoldsSome}
 use Rattle.flow_runs.specs.ManyRuns.{HaveFiled, FiledAll, IsCutShort, AnsweredUntil, EndedByMemory, EndedBy, EndedBehind, EndedOnBy}
 
 drop-length : {X : Type 0} (xs ys : List X) → drop (length xs) (xs ++ ys) ≡ ys
@@ -59,7 +59,7 @@ module _ (setup : SetupView) (read : List EntryView) (feeders : ℕ) (journal : 
       }
 
   -- so are the answers alone, and what precedes the replay
-  same-answered : long_lines input ++ answers (state_of core) (drop r (state_of core).journal) ≡ answered setup read input f.entries
+  same-answered : long_lines input ++ answers (state_of core) (drop r (state_of core).journal) ≡ answered_now setup read input f.entries
   same-answered =
       ap (λ (q : List EntryView). long_lines input ++ answers (state_of core) q) behind ∙ ap (λ (q : State). long_lines input ++ answers q f.entries) f.one_thread
 
@@ -87,7 +87,7 @@ module _ (setup : SetupView) (read : List EntryView) (feeders : ℕ) (journal : 
 
   cut-short : (stop ≢ None) × Appends mid written (answers (state_of core) (drop r (state_of core).journal)) → IsCutShort setup read input begun written f.entries
   cut-short a =
-      (f.room a.0, Appends-both begun mid written (long_lines input) (answers (state_of core) (drop r (state_of core).journal)) (answered setup read input f.entries) h.told a.1 same-answered)
+      (f.room a.0, Appends-both begun mid written (long_lines input) (answers (state_of core) (drop r (state_of core).journal)) (answered_now setup read input f.entries) h.told a.1 same-answered)
 
   pub answers-filed : (stop ≢ None) × Appends mid written (answers (state_of core) (drop r (state_of core).journal)) → HaveFiled setup read feeders input (λ entries. IsCutShort setup read input begun written entries)
   answers-filed a = filed-so (λ entries. IsCutShort setup read input begun written entries) (cut-short a)
@@ -208,9 +208,6 @@ pub EndedBehind-made : (setup : SetupView) (filed : List Input) (e : RunFault) (
 EndedBehind-made setup filed e feeders journal begun written input mid rest others h within ended =
     ended-on e feeders journal begun written input rest others (record { setup = setup; filed = filed; mid = mid; holds = h; within = within; ended = ended })
 
-pub OverrunAfter-made : (setup : SetupView) (filed : List Input) (input mid rest : Option (List ℕ)) → HoldsJournal setup filed input mid → Overrun mid rest → OverrunAfter input rest
-OverrunAfter-made setup filed input mid rest h o = record { setup = setup; filed = filed; mid = mid; holds = h; overrun = o }
-
 pub HoldsBeyond-made : (setup : SetupView) (filed : List Input) (feeders number : ℕ) (input rest : Option (List ℕ)) → HoldsJournal setup filed input rest → first_beyond feeders 1 (run setup filed).journal ≡ Some number → HoldsBeyond feeders input rest
 HoldsBeyond-made setup filed feeders number input rest h b = record { setup = setup; filed = filed; holds = h; number = number; beyond = b }
 
@@ -227,10 +224,6 @@ on_ok_two (Err e) f p q = tt
 pub if_err_map : {T E : Type 0} {P Q : E → Type 0} (r : Result T E) → ((e : E) → P e → Q e) → IfErr r P → IfErr r Q
 if_err_map (Ok x) f p = tt
 if_err_map (Err e) f p = f e p
-
-pub if_err_both : {T E : Type 0} {P Q S : E → Type 0} (r : Result T E) → ((e : E) → P e → Q e → S e) → IfErr r P → IfErr r Q → IfErr r S
-if_err_both (Ok x) f p q = tt
-if_err_both (Err e) f p q = f e p q
 
 -- ---- a run at the desk that was just made
 
@@ -249,10 +242,6 @@ ended-behind (Ok x) setup s filed es feeders journal begun written input mid res
 ended-behind (Err e) setup s filed es feeders journal begun written input mid rest h within same equal others ended =
     EndedBehind-made setup filed e feeders journal begun written input mid rest others h within
     (subst (λ (q : SetupView). EndedBy e q (run setup filed).journal feeders journal begun written mid rest) same (subst (λ (q : List EntryView). EndedBy e s q feeders journal begun written mid rest) equal ended))
-
--- an allocation failure is none of these
-pub memory-others : (e : RunFault) → e ≡ fault.OutOfMemory → (e ≢ fault.BadJournal) × (e ≢ fault.BadFeeders) × (e ≢ fault.NoReader)
-memory-others e is = (λ b. absurd (cc (is, b)), λ b. absurd (cc (is, b)), λ b. absurd (cc (is, b)))
 
 -- it doesn't end since the board has no reader left
 pub no-reader : {T : Type 0} (r : Result T RunFault) → IfErr r (λ e. (e ≢ fault.BadJournal) × (e ≢ fault.BadFeeders) × (e ≢ fault.NoReader)) → IsErrOf r fault.NoReader → ⊥

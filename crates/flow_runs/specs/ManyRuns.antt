@@ -63,8 +63,8 @@ answers_and_end s read count journal = answers s (drop read s.journal) ++ end_li
 
 -- for an input: a line for each frame that is too long, and the answers to these entries, which
 -- follow those read
-abbrev pub answered : SetupView → List EntryView → List (List ℕ) → List EntryView → List ℕ
-answered setup read input entries = long_lines input ++ answers (after setup (read ++ entries)) entries
+abbrev pub answered_now : SetupView → List EntryView → List (List ℕ) → List EntryView → List ℕ
+answered_now setup read input entries = long_lines input ++ answers (after setup (read ++ entries)) entries
 
 -- and what follows the last answer, with its last line or without it
 abbrev pub ended : SetupView → List EntryView → Bool → List (List ℕ) → List EntryView → List ℕ
@@ -139,7 +139,7 @@ FiledAll setup read feeders input entries = length (read ++ entries) < setup.max
 -- if an allocation for a feed failed or it was never begun, and the journal isn't full: the answers
 -- were written and nothing more
 abbrev pub IsCutShort : SetupView → List EntryView → List (List ℕ) → Option (List ℕ) → Option (List ℕ) → List EntryView → Type 0
-IsCutShort setup read input begun written entries = (length (read ++ entries) < setup.max_entries) × Appends begun written (answered setup read input entries)
+IsCutShort setup read input begun written entries = (length (read ++ entries) < setup.max_entries) × Appends begun written (answered_now setup read input entries)
 
 -- The answers to the core's entries after the first `read`, if `count` filings were dealt, and a
 -- feed ended with a fault or none did: those that were written, and what follows them, if this

@@ -4,7 +4,7 @@ ghost use Rattle.flow_plans.specs.Settings.{SetupView};
 ghost use Rattle.flow_log.specs.Left.{Left};
 ghost use Rattle.flow_core.specs.History.{History, state_of};
 ghost use Rattle.flow_core.specs.State.{State, EntryView};
-ghost use Rattle.flow_store.specs.Serving.{IsSafe, IsKept};
+ghost use Rattle.flow_store.specs.Serving.{IsSafe, HasKept};
 ghost use Rattle.flow_store.specs.Store.{IsStoreFile};
 ghost use Rattle.flow_runs.specs.StoredRuns.{IsSafeRun, IsKeptRun, HasAll};
 
@@ -22,9 +22,9 @@ pub fn stored_runs_keep_all()
     // What was answered by one feeder, and what by many, stays in a file that has all entries.
     ensures later_one { (first : State) (begun : List ℕ) (input : Option (List ℕ))
         (given file new : List ℕ) (opened : History)
-        → IsKept first begun input given file → IsStoreFile opened.setup opened.filed file
+        → HasKept first begun input given file → IsStoreFile opened.setup opened.filed file
         → HasAll opened new
-        → IsKept first begun input given new }
+        → HasKept first begun input given new }
     ensures answered { (setup : SetupView) (read : List EntryView) (feeders : ℕ) (journal : Bool)
         (input : List (List ℕ))
         (begun : List ℕ) (l : Left) → IsSafeRun setup read feeders journal input begun l

@@ -91,17 +91,6 @@ passed-count row from k (suc n) next x e h p =
 pub passed-earlier : (row : List Cell) (from k next : ℕ) (x : Planned) → k ≤ next → ((i : ℕ) → k ≤ i → i < next → waits_before x (get_or row i Empty) ≡ true) → Passed row from x k → Passed row from x next
 passed-earlier row from k next x l h p = passed-count row from k (next - k) next x (omega arith) h p
 
--- so is a frozen one
-pub passed-fixed : (row : List Cell) (from k : ℕ) (x : Planned) → Passed row from x k → IsFixedCell (get_or row k Empty) → Passed row from x (k + 1)
-passed-fixed row from k x p h = by (get_or row k Empty) refl h where
-  l : k < length row
-  l = has_empty-within row k p.room
-
-  by : (c : Cell) → c ≡ get_or row k Empty → IsFixedCell c → Passed row from x (k + 1)
-  by Empty e h = absurd h
-  by (Waiting w) e h = absurd h
-  by (Fixed f) e h = record { same = sym (displace-fixed row k f x l e) ∙ p.same; room = sym (has_empty-fixed row k f l e) ∙ p.room; reached = omega (arith, p.reached) }
-
 -- it comes to a cell that is neither
 pub comes-in : (row : List Cell) (from k : ℕ) (x : Planned) → Passed row from x k → waits_before x (get_or row k Empty) ≡ false → (IsFixedCell (get_or row k Empty) → ⊥) → AllFollow (drop from row) → ComesIn row from x k
 comes-in row from k x p b n a = by (get_or row k Empty) refl b n where

@@ -179,17 +179,6 @@ fixed_found-none f o (suc k) w (Waiting v ∷ cs) e n a = fixed_found-none f (o 
 fixed_found-none f o (suc k) w (Fixed g ∷ cs) e n a =
     slot_in-other f (record { flight = g; slot = o }) (fixed_of (o + 1) cs) (λ s. StandsOnlyAt-first f k (Fixed g) cs a (ap Some s)) ∙ fixed_found-none f (o + 1) k w cs e n (StandsOnlyAt-tail f k (Fixed g) cs a)
 
-fixed_flight-is : (f o k i : ℕ) (cs : List Cell) → i ≡ o + k → cell_at cs k ≡ Fixed f → flight_in i (fixed_of o cs) ≡ Some f
-fixed_flight-is f o k i [] q e = cc
-fixed_flight-is f o zero i (Empty ∷ cs) q e = cc
-fixed_flight-is f o zero i (Waiting w ∷ cs) q e = cc
-fixed_flight-is f o zero i (Fixed g ∷ cs) q e =
-    flight_in-here i (record { flight = g; slot = o }) (fixed_of (o + 1) cs) (omega arith) ∙ ap Some (let s : g ≡ f = cc in s)
-fixed_flight-is f o (suc k) i (Empty ∷ cs) q e = fixed_flight-is f (o + 1) k i cs (omega arith) e
-fixed_flight-is f o (suc k) i (Waiting w ∷ cs) q e = fixed_flight-is f (o + 1) k i cs (omega arith) e
-fixed_flight-is f o (suc k) i (Fixed g ∷ cs) q e =
-    flight_in-other i (record { flight = g; slot = o }) (fixed_of (o + 1) cs) (λ s. omega arith) ∙ fixed_flight-is f (o + 1) k i cs (omega arith) e
-
 pub stands_only : (places : List (Option ℕ)) (row : List Cell) (f k : ℕ) → IsTied places row → flight_at row k ≡ Some f → StandsOnlyAt f k row
 stands_only places row f k t e = λ j q. (let here : place_at places f ≡ Some k = (t.each f k).1 e in let there : place_at places f ≡ Some j = (t.each f j).1 q in cc)
 
@@ -209,9 +198,6 @@ fixed_slot-waiting places row f k w t e h =
     let stands : flight_at row k ≡ Some f = (t.each f k).0 e in
     let same : Some w.flight ≡ Some f = sym (ap flight_of h) ∙ stands in
     fixed_found-none f 0 k w row h (let is : w.flight ≡ f = cc in is) (stands_only places row f k t stands)
-
-pub fixed_flight-fixed : (row : List Cell) (f k : ℕ) → cell_at row k ≡ Fixed f → flight_in k (fixed_of 0 row) ≡ Some f
-fixed_flight-fixed row f k h = fixed_flight-is f 0 k k row (omega arith) h
 
 -- the cell of a flight that isn't frozen
 pub record Waits (row : List Cell) (f k : ℕ) : Type 0 where

@@ -25,7 +25,7 @@ use Rattle.flow_traffic.specs.Traffic.{Traffic}
 use Rattle.flow_traffic.specs.State.{State, with_lists, traffic_of}
 use Rattle.flow_slots.specs.Limits.{rates_fit}
 use Rattle.flow_traffic.specs.Opening.{has_period, regulation_by}
-use Rattle.flow_traffic.specs.Asked.{Asked, asked, changed_by, verdict_on, is_departure, departing, asked_by_message, asked_to_open, asked_to_shut, asked_at, is_called, ordered}
+use Rattle.flow_traffic.specs.Asked.{Asked, asked, plans_changed_by, verdict_on, is_departure, departing, asked_by_message, asked_to_open, asked_to_shut, asked_at, is_called, ordered}
 use Rattle.flow_traffic.specs.declared.opening.TheConstants.{MAX_REGULATIONS}
 use Rattle.flow_traffic.specs.Answers.{settle, told_to, Answers}
 use Rattle.flow_traffic.specs.Kept.{IsSettledFor}
@@ -51,12 +51,12 @@ settled-traffic t a taxi max regulations told1 told2 notices2 e5 e6 e1 e2 e3 e4 
 
 -- ---- messages
 
-pub message-asked : (t : Traffic) (m : Message) (c : Changed) → changed_by t.max_plans t.now t.plans m ≡ Ok c
+pub message-asked : (t : Traffic) (m : Message) (c : Changed) → plans_changed_by t.max_plans t.now t.plans m ≡ Ok c
     → asked t (msg m) ≡ Ok (record { plans = c.plans; now = t.now; regulations = departing (is_departure m) c.number t.taxi t.max_plans t.plans t.regulations; verdict = verdict_on t.told m c.number })
 unfolding asked_by_message
 message-asked t m c e = rw e refl
 
-pub message-refused : (t : Traffic) (m : Message) (r : Refusal) → changed_by t.max_plans t.now t.plans m ≡ Err r → asked t (msg m) ≡ Err r
+pub message-refused : (t : Traffic) (m : Message) (r : Refusal) → plans_changed_by t.max_plans t.now t.plans m ≡ Err r → asked t (msg m) ≡ Err r
 unfolding asked_by_message
 message-refused t m r e = rw e refl
 
@@ -118,7 +118,7 @@ opened-map taxi max now plans r lists new h listed settled_in =
 -- after an accepted message
 pub message-answers : (s : State) (store : PlanStoreView) (lists : List RegulationView) (told told1 told2 : List (Option Told)) (notices notices2 : List Notice) (m : Message) (n : ℕ) (v : Verdict) (departs : Bool)
     → store.taxi ≡ s.store.taxi → store.max_plans ≡ s.store.max_plans → s.listing.max_plans ≡ s.store.max_plans → departs ≡ is_departure m
-    → changed_by s.store.max_plans s.time s.store.plans m ≡ Ok (record { plans = store.plans; number = n }) → v ≡ verdict_on told m n
+    → plans_changed_by s.store.max_plans s.time s.store.plans m ≡ Ok (record { plans = store.plans; number = n }) → v ≡ verdict_on told m n
     → IsSettledFor departs n s store.plans lists → told1 ≡ told_to store.plans told
     → told2 ≡ told_from 1 store.taxi (map regulation_of lists) store.plans told1 → notices2 ≡ notices ++ notices_from 1 store.taxi (map regulation_of lists) store.plans told1
     → Answers (msg m) (traffic_of s told notices) (traffic_of (with_lists lists (record s { store = store })) told2 notices2) v
@@ -171,19 +171,19 @@ shape-refused t m r (inr h) = rw h.0 (rate-refused t m h.1 h.2)
 
 -- a fault of the plans
 pub fault-answers : {E : Type 0} (t new : Traffic) (m : Message) (fault : PlanFault) (v : Result Verdict E) → new ≡ t
-    → MatchOption (refusal_of fault) (IsErr v) (λ r. v ≡ Ok (Refused r)) → IsRefusal fault (changed_by t.max_plans t.now t.plans m)
+    → MatchOption (refusal_of fault) (IsErr v) (λ r. v ≡ Ok (Refused r)) → IsRefusal fault (plans_changed_by t.max_plans t.now t.plans m)
     → IfOk v (Answers (msg m) t new)
 fault-answers {E} t new m fault v same h e = by (refusal_of fault) h e where
   refused-none : (v : Result Verdict E) → IsErr v → IfOk v (Answers (msg m) t new)
   refused-none (Ok x) e = absurd (cc)
   refused-none (Err x) e = tt
 
-  by : (o : Option Refusal) → MatchOption o (IsErr v) (λ r. v ≡ Ok (Refused r)) → Refuses o (changed_by t.max_plans t.now t.plans m) → IfOk v (Answers (msg m) t new)
+  by : (o : Option Refusal) → MatchOption o (IsErr v) (λ r. v ≡ Ok (Refused r)) → Refuses o (plans_changed_by t.max_plans t.now t.plans m) → IfOk v (Answers (msg m) t new)
   by None h e = refused-none v h
   by (Some r) h e = rw (h, same) (refused (msg m) t r (message-refused t m r e))
 
 pub fault-ok : {E : Type 0} (t new : Traffic) (m : Message) (fault : PlanFault) (o : Result Verdict E) (v : Verdict) → new ≡ t → o ≡ Ok v
-    → MatchOption (refusal_of fault) (IsErr o) (λ r. o ≡ Ok (Refused r)) → IsRefusal fault (changed_by t.max_plans t.now t.plans m)
+    → MatchOption (refusal_of fault) (IsErr o) (λ r. o ≡ Ok (Refused r)) → IsRefusal fault (plans_changed_by t.max_plans t.now t.plans m)
     → Answers (msg m) t new v
 fault-ok {E} t new m fault o v same is h e = let P : Result Verdict E → Type 0 = λ w. IfOk w (Answers (msg m) t new) in subst P is (fault-answers t new m fault o same h e)
 

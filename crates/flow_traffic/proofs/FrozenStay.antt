@@ -20,7 +20,7 @@ use Rattle.flow_plans.proofs.Distincts.{filed-count}
 use Rattle.flow_slots.specs.Assignment.{Placed}
 use Rattle.flow_slots.specs.Lineup.{assigned}
 use Rattle.flow_regulations.specs.Regulations.{Regulation, has_flight, lineup_of}
-use Rattle.flow_regulations.specs.Settling.{keeps, stays, settled, frozen_at_departure, insert_all, pairs_of}
+use Rattle.flow_regulations.specs.Settling.{keeps, keeps_pair, settled, frozen_at_departure, insert_all, pairs_of}
 use Rattle.flow_regulations.specs.Listing.{RegulationView, regulation_of, IsSettled, AreSameBut, HasPair}
 use Rattle.flow_regulations.specs.declared.notice.Told.{Told}
 use Rattle.flow_regulations.specs.declared.notice.Notice.{Notice}
@@ -37,7 +37,7 @@ use Rattle.flow_traffic.specs.Traffic.{Traffic, regulation_named}
 use Rattle.flow_traffic.specs.State.{State, traffic_of}
 use Rattle.flow_slots.specs.Limits.{rates_fit}
 use Rattle.flow_traffic.specs.Opening.{has_period, regulation_by}
-use Rattle.flow_traffic.specs.Asked.{Asked, asked, asked_by_message, asked_to_open, asked_to_shut, asked_at, changed_by, departing, is_called, is_departure, ordered, verdict_on}
+use Rattle.flow_traffic.specs.Asked.{Asked, asked, asked_by_message, asked_to_open, asked_to_shut, asked_at, plans_changed_by, departing, is_called, is_departure, ordered, verdict_on}
 use Rattle.flow_traffic.specs.declared.opening.TheConstants.{MAX_REGULATIONS}
 use Rattle.flow_traffic.specs.Answers.{Answers, settle}
 use Rattle.flow_traffic.specs.Frozen.{frozen_pairs, IsFrozenStill, FrozenPairsStay}
@@ -47,7 +47,7 @@ use Rattle.flow_traffic.proofs.Changing.{ok-same, unless-ok, filed-same, delayed
 
 -- all frozen pairs of these regulations may stay by this time and these plans
 abbrev pub MayStay : ℕ → ℕ → List PlanView → List Regulation → Type 0
-MayStay taxi at plans regulations = AllByRecursion (λ r. AllByRecursion (λ a. (0 < a.flight) × (stays taxi at plans r a ≡ true)) r.fixed) regulations
+MayStay taxi at plans regulations = AllByRecursion (λ r. AllByRecursion (λ a. (0 < a.flight) × (keeps_pair taxi at plans r a ≡ true)) r.fixed) regulations
 
 -- those of settled regulations may, from then on
 pub may-stay : (taxi now at : ℕ) (plans : List PlanView) (lists : List RegulationView) → now ≤ at → IsSettled taxi now plans lists → MayStay taxi at plans (map regulation_of lists)
@@ -61,33 +61,33 @@ pair-of P a (x ∷ xs) all (inr h) = pair-of P a xs all.1 h
 
 -- the pair may stay if it is frozen
 abbrev AStays : ℕ → ℕ → List PlanView → Placed → Regulation → Type 0
-AStays taxi at plans a r = HasPair a r.fixed → (0 < a.flight) × (stays taxi at plans r a ≡ true)
+AStays taxi at plans a r = HasPair a r.fixed → (0 < a.flight) × (keeps_pair taxi at plans r a ≡ true)
 
 this-stays : (taxi at : ℕ) (plans : List PlanView) (a : Placed) (rs : List Regulation) → MayStay taxi at plans rs → AllByRecursion (AStays taxi at plans a) rs
 this-stays taxi at plans a rs all =
-    all-map (λ r. AllByRecursion (λ b. (0 < b.flight) × (stays taxi at plans r b ≡ true)) r.fixed) (AStays taxi at plans a) rs
-    (λ r each has. pair-of (λ b. (0 < b.flight) × (stays taxi at plans r b ≡ true)) a r.fixed each has) all
+    all-map (λ r. AllByRecursion (λ b. (0 < b.flight) × (keeps_pair taxi at plans r b ≡ true)) r.fixed) (AStays taxi at plans a) rs
+    (λ r each has. pair-of (λ b. (0 < b.flight) × (keeps_pair taxi at plans r b ≡ true)) a r.fixed each has) all
 
 -- it is of a plan that there is
-stays-within : (taxi at : ℕ) (plans : List PlanView) (r : Regulation) (a : Placed) → stays taxi at plans r a ≡ true → (p : PlanView) × (plan_at plans a.flight ≡ Some p)
+stays-within : (taxi at : ℕ) (plans : List PlanView) (r : Regulation) (a : Placed) → keeps_pair taxi at plans r a ≡ true → (p : PlanView) × (plan_at plans a.flight ≡ Some p)
 stays-within taxi at plans r a h = by (plan_at plans a.flight) h where
   by : (o : Option PlanView) → option_map_or (keeps taxi at r a.slot) o false ≡ true → (p : PlanView) × (o ≡ Some p)
   by None e = absurd (cc)
   by (Some p) e = (p, refl)
 
 -- if its plan is as before, it may stay
-stays-same : (taxi at : ℕ) (plans later : List PlanView) (r : Regulation) (a : Placed) → plan_at later a.flight ≡ plan_at plans a.flight → stays taxi at plans r a ≡ true → stays taxi at later r a ≡ true
+stays-same : (taxi at : ℕ) (plans later : List PlanView) (r : Regulation) (a : Placed) → plan_at later a.flight ≡ plan_at plans a.flight → keeps_pair taxi at plans r a ≡ true → keeps_pair taxi at later r a ≡ true
 stays-same taxi at plans later r a same h = ap (λ (o : Option PlanView). option_map_or (keeps taxi at r a.slot) o false) same ∙ h
 
 -- and if its flight has departed
-stays-departed : (taxi at : ℕ) (later : List PlanView) (r : Regulation) (a : Placed) (p : PlanView) → plan_at later a.flight ≡ Some (with_state state.Departed p) → stays taxi at later r a ≡ true
+stays-departed : (taxi at : ℕ) (later : List PlanView) (r : Regulation) (a : Placed) (p : PlanView) → plan_at later a.flight ≡ Some (with_state state.Departed p) → keeps_pair taxi at later r a ≡ true
 stays-departed taxi at later r a p gone = ap (λ (o : Option PlanView). option_map_or (keeps taxi at r a.slot) o false) gone
 
 -- freezing a departing flight removes none, and changes no period
-stays-frozen : (taxi at max n : ℕ) (before later : List PlanView) (r : Regulation) (a : Placed) → stays taxi at later r a ≡ true → stays taxi at later (frozen_at_departure taxi max before n r) a ≡ true
+stays-frozen : (taxi at max n : ℕ) (before later : List PlanView) (r : Regulation) (a : Placed) → keeps_pair taxi at later r a ≡ true → keeps_pair taxi at later (frozen_at_departure taxi max before n r) a ≡ true
 unfolding frozen_at_departure
 stays-frozen taxi at max n before later r a h = by (has_flight n r.fixed) where
-  by : (b : Bool) → stays taxi at later (if b then r else record r { fixed = insert_all (pairs_of n (assigned (lineup_of taxi max before r))) r.fixed }) a ≡ true
+  by : (b : Bool) → keeps_pair taxi at later (if b then r else record r { fixed = insert_all (pairs_of n (assigned (lineup_of taxi max before r))) r.fixed }) a ≡ true
   by true = h
   by false = h
 
@@ -148,7 +148,7 @@ all-left P test (r ∷ rs) all = by (test r) (all-left P test rs all.1) where
 
 -- a pair that may stay by the plans before and also by those after is there after settling
 pairs-settled : (taxi at : ℕ) (plans later : List PlanView) (rs : List Regulation) (id : List ℕ) (a : Placed) → AllByRecursion (AStays taxi at plans a) rs
-    → ((r : Regulation) → 0 < a.flight → stays taxi at plans r a ≡ true → stays taxi at later r a ≡ true)
+    → ((r : Regulation) → 0 < a.flight → keeps_pair taxi at plans r a ≡ true → keeps_pair taxi at later r a ≡ true)
     → HasPair a (frozen_pairs id rs) → HasPair a (frozen_pairs id (map (settled taxi at later) rs))
 pairs-settled taxi at plans later rs id a all on =
     pairs-mapped (settled taxi at later) id a rs (λ r. settled-name taxi at later r)
@@ -157,7 +157,7 @@ pairs-settled taxi at plans later rs id a all on =
 
 -- the same if one flight departs
 pairs-departing : (taxi max at n : ℕ) (plans later : List PlanView) (rs : List Regulation) (id : List ℕ) (a : Placed) → AllByRecursion (AStays taxi at plans a) rs
-    → ((r : Regulation) → 0 < a.flight → stays taxi at plans r a ≡ true → stays taxi at later r a ≡ true)
+    → ((r : Regulation) → 0 < a.flight → keeps_pair taxi at plans r a ≡ true → keeps_pair taxi at later r a ≡ true)
     → HasPair a (frozen_pairs id rs) → HasPair a (frozen_pairs id (map (settled taxi at later) (map (frozen_at_departure taxi max plans n) rs)))
 pairs-departing taxi max at n plans later rs id a all on h =
     let freeze : Regulation → Regulation = frozen_at_departure taxi max plans n in
@@ -173,20 +173,20 @@ pairs-departing taxi max at n plans later rs id a all on h =
 
 module _ (t : Traffic) (id : List ℕ) (a : Placed) (all : MayStay t.taxi t.now t.plans t.regulations) (h : HasPair a (frozen_pairs id t.regulations)) where
   -- of the plan of another number
-  other-stays : (n : ℕ) (later : List PlanView) → AreSameBut n t.plans later → (a.flight ≡ n → ⊥) → (r : Regulation) → 0 < a.flight → stays t.taxi t.now t.plans r a ≡ true → stays t.taxi t.now later r a ≡ true
+  other-stays : (n : ℕ) (later : List PlanView) → AreSameBut n t.plans later → (a.flight ≡ n → ⊥) → (r : Regulation) → 0 < a.flight → keeps_pair t.taxi t.now t.plans r a ≡ true → keeps_pair t.taxi t.now later r a ≡ true
   other-stays n later same apart r some may = stays-same t.taxi t.now t.plans later r a (same a.flight some apart) may
 
   filed-stays : (later : List PlanView) → AreSameBut (length later) t.plans later → length later ≡ length t.plans + 1
-      → (r : Regulation) → 0 < a.flight → stays t.taxi t.now t.plans r a ≡ true → stays t.taxi t.now later r a ≡ true
+      → (r : Regulation) → 0 < a.flight → keeps_pair t.taxi t.now t.plans r a ≡ true → keeps_pair t.taxi t.now later r a ≡ true
   filed-stays later same count r some may =
       let p = stays-within t.taxi t.now t.plans r a may in
       let within : a.flight - 1 < length t.plans = slice_get_within t.plans (a.flight - 1) p.0 p.1 in
       other-stays (length later) later same (λ e. absurd (omega (arith, e, within, count, some))) r some may
 
   departed-stays : (n : ℕ) (later : List PlanView) → AreSameBut n t.plans later → ((p : PlanView) → plan_at t.plans n ≡ Some p → plan_at later n ≡ Some (with_state state.Departed p))
-      → (r : Regulation) → 0 < a.flight → stays t.taxi t.now t.plans r a ≡ true → stays t.taxi t.now later r a ≡ true
+      → (r : Regulation) → 0 < a.flight → keeps_pair t.taxi t.now t.plans r a ≡ true → keeps_pair t.taxi t.now later r a ≡ true
   departed-stays n later same gone r some may = ⊎_elim own (λ ne. other-stays n later same ne r some may) (cases_eq a.flight n) where
-    own : a.flight ≡ n → stays t.taxi t.now later r a ≡ true
+    own : a.flight ≡ n → keeps_pair t.taxi t.now later r a ≡ true
     own e =
         let p = stays-within t.taxi t.now t.plans r a may in
         let there : plan_at t.plans n ≡ Some p.0 = ap (λ k. plan_at t.plans k) (sym e) ∙ p.1 in
@@ -198,9 +198,9 @@ module _ (t : Traffic) (id : List ℕ) (a : Placed) (all : MayStay t.taxi t.now 
     stay : (a.flight ≡ n → ⊥) → HasPair a (frozen_pairs id (map (settled t.taxi t.now later) t.regulations))
     stay ne = pairs-settled t.taxi t.now t.plans later t.regulations id a (this-stays t.taxi t.now t.plans a t.regulations all) (other-stays n later same ne) h
 
-  message-stays : (m : Message) (c : Changed) → changed_by t.max_plans t.now t.plans m ≡ Ok c
+  message-stays : (m : Message) (c : Changed) → plans_changed_by t.max_plans t.now t.plans m ≡ Ok c
       → IsFrozenStill (msg m) (verdict_on t.told m c.number) (map (settled t.taxi t.now c.plans) (departing (is_departure m) c.number t.taxi t.max_plans t.plans t.regulations)) id a
-  unfolding changed_by verdict_on is_departure
+  unfolding plans_changed_by verdict_on is_departure
   message-stays (fpl m) c e = by (filed t.max_plans t.now t.plans m) refl e where
     by : (r : Result (List PlanView) Refusal) → filed t.max_plans t.now t.plans m ≡ r → (r >>= (λ more. Ok (record { plans = more; number = length more }))) ≡ Ok c
         → IsFrozenStill (msg (fpl m)) (verdict_on t.told (fpl m) c.number) (map (settled t.taxi t.now c.plans) t.regulations) id a
@@ -235,8 +235,8 @@ module _ (t : Traffic) (all : (at : ℕ) → t.now ≤ at → MayStay t.taxi at 
 
   message-accepted : (m : Message) (x : Asked) → asked_by_message t m ≡ Ok x → StaysBy (msg m) x
   unfolding asked_by_message
-  message-accepted m x e = by (changed_by t.max_plans t.now t.plans m) refl e where
-    by : (r : Result Changed Refusal) → changed_by t.max_plans t.now t.plans m ≡ r
+  message-accepted m x e = by (plans_changed_by t.max_plans t.now t.plans m) refl e where
+    by : (r : Result Changed Refusal) → plans_changed_by t.max_plans t.now t.plans m ≡ r
         → (r >>= (λ changed. Ok (record { plans = changed.plans; now = t.now; regulations = departing (is_departure m) changed.number t.taxi t.max_plans t.plans t.regulations; verdict = verdict_on t.told m changed.number }))) ≡ Ok x
         → StaysBy (msg m) x
     by (Err r) q e = absurd (cc)

@@ -31,11 +31,6 @@ again-more [] (p ∷ os) ts n o e = absurd (omega (arith, e))
 again-more (m ∷ ns) [] ts n o e = absurd (omega (arith, e))
 again-more (m ∷ ns) (p ∷ os) ts n o e = again-more ns os (slice_set ts (m - 1) p) n o (omega (arith, e))
 
-pub length-again : (ns : List ℕ) (os ts : List (Option Told)) → length (told_again ns os ts) ≡ length ts
-length-again [] os ts = refl
-length-again (n ∷ ns) [] ts = refl
-length-again (n ∷ ns) (o ∷ os) ts = length-again ns os (slice_set ts (n - 1) o) ∙ length-set ts (n - 1) o
-
 -- the others stay
 pub set-other : (ts : List (Option Told)) (j i : ℕ) (o : Option Told) → (i ≡ j → ⊥) → slice_get (slice_set ts j o) i ≡ slice_get ts i
 set-other [] j i o ne = refl

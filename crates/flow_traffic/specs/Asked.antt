@@ -35,12 +35,12 @@ pub record Asked : Type 0 where
 -- ---- messages
 
 -- the plans after a message, and the number of the plan that it is about; a new plan is the last
-unfoldable pub changed_by : ℕ → ℕ → List PlanView → Message → Result Changed Refusal
-changed_by max now plans (fpl m) = filed max now plans m >>= (λ more. Ok (record { plans = more; number = length more }))
-changed_by max now plans (dla m) = delayed now plans m
-changed_by max now plans (chg m) = amended now plans m
-changed_by max now plans (cnl m) = cancelled plans m
-changed_by max now plans (dep m) = departed plans m
+unfoldable pub plans_changed_by : ℕ → ℕ → List PlanView → Message → Result Changed Refusal
+plans_changed_by max now plans (fpl m) = filed max now plans m >>= (λ more. Ok (record { plans = more; number = length more }))
+plans_changed_by max now plans (dla m) = delayed now plans m
+plans_changed_by max now plans (chg m) = amended now plans m
+plans_changed_by max now plans (cnl m) = cancelled plans m
+plans_changed_by max now plans (dep m) = departed plans m
 
 -- the verdict on a message about that plan; a departure is compared with the CTOT last issued to
 -- the plan
@@ -65,7 +65,7 @@ departing true number taxi max before regulations = map (frozen_at_departure tax
 
 unfoldable pub asked_by_message : Traffic → Message → Result Asked Refusal
 asked_by_message t m =
-    changed_by t.max_plans t.now t.plans m >>= (λ changed. Ok (record {
+    plans_changed_by t.max_plans t.now t.plans m >>= (λ changed. Ok (record {
       plans = changed.plans;
       now = t.now;
       regulations = departing (is_departure m) changed.number t.taxi t.max_plans t.plans t.regulations;

@@ -11,7 +11,7 @@ use Rattle.flow_regulations.specs.Awaiting.{Covers}
 use Rattle.flow_regulations.specs.Settling.{settled, pairs_of}
 use Rattle.flow_slots.specs.Assignment.{is_in}
 use Rattle.flow_regulations.specs.Listing.{RegulationView, regulation_of, IsListed, IsSettled, is_named}
-use Rattle.flow_regulations.specs.Quiet.{AllQuiet, KeepsSlots}
+use Rattle.flow_regulations.specs.Quiet.{AllQuiet, HasSameSlots}
 use Rattle.flow_traffic.specs.State.{State}
 use Rattle.flow_traffic.specs.Asked.{departing}
 use Rattle.flow_traffic.specs.declared.opening.TheConstants.{MAX_REGULATIONS}
@@ -37,7 +37,7 @@ pub record IsSettledFor (departs : Bool) (number : ℕ) (s : State) (plans : Lis
       (departing departs number s.store.taxi s.listing.max_plans s.store.plans (map regulation_of s.listing.lists))
   pub listed : IsListed s.store.taxi s.listing.max_plans plans lists
   pub settled_in : IsSettled s.store.taxi s.time plans lists
-  pub others : (f : ℕ) → (f ≡ number → ⊥) → KeepsSlots f (map regulation_of s.listing.lists) (map regulation_of lists)
+  pub others : (f : ℕ) → (f ≡ number → ⊥) → HasSameSlots f (map regulation_of s.listing.lists) (map regulation_of lists)
 
 -- the flights with frozen slots in the open regulation of this name, by number: it makes a
 -- difference to the advice of no other

@@ -16,7 +16,7 @@ ghost use Rattle.flow_regulations.specs.declared.due_queue.PendingFlight.{Pendin
 ghost use Rattle.flow_regulations.specs.Listing.{IsListed, IsSettled, AreSameBut, without_in};
 ghost use Rattle.flow_traffic.specs.Traffic.{told_of};
 ghost use Rattle.flow_traffic.specs.State.{State};
-ghost use Rattle.flow_traffic.specs.Asked.{changed_by, verdict_on, is_departure};
+ghost use Rattle.flow_traffic.specs.Asked.{plans_changed_by, verdict_on, is_departure};
 ghost use Rattle.flow_traffic.specs.Answering.{AnswersReading};
 ghost use Rattle.flow_traffic.specs.Answers.{told_to};
 ghost use Rattle.flow_traffic.specs.Kept.{IsSettledFor};
@@ -96,7 +96,7 @@ fn make_room<A: Allocator + Copy>(
 }
 
 /// Changes the plans as a message asks, and returns the number of the plan that it is about.
-#[tactic(auto, unfolding(crate::specs::Asked::changed_by))]
+#[tactic(auto, unfolding(crate::specs::Asked::plans_changed_by))]
 fn change_plans<A: Allocator + Copy>(
     plans: &mut PlanStore<A>,
     now: Minute,
@@ -104,7 +104,7 @@ fn change_plans<A: Allocator + Copy>(
 ) -> Result<u32, PlanFault>
     requires { IsDeskTime now }
     ensures ok { IfOk result (λ n.
-        changed_by plans.old.max_plans now plans.old.plans (said_message message.now)
+        plans_changed_by plans.old.max_plans now plans.old.plans (said_message message.now)
         ≡ Ok (record { plans = plans.new.plans; number = n })) }
     ensures some { IfOk result (λ n. 0 < n) }
     ensures within { IfOk result (λ n. n ≤ length plans.new.plans) }
@@ -115,7 +115,7 @@ fn change_plans<A: Allocator + Copy>(
         (λ n. length plans.old.plans < length plans.new.plans → n ≡ length plans.new.plans) }
     ensures before { OnOk result (plans.new.before ≡ Some plans.old.plans) }
     ensures refused { IfErr result (λ e.
-        IsRefusal e (changed_by plans.old.max_plans now plans.old.plans
+        IsRefusal e (plans_changed_by plans.old.max_plans now plans.old.plans
         (said_message message.now))) }
     ensures err { OnErr result (plans.new.plans ≡ plans.old.plans) }
     ensures limit { plans.new.max_plans ≡ plans.old.max_plans }

@@ -5,12 +5,11 @@ use Rattle.std.specs.Option.{option_map, option_to_list}
 use Rattle.std.proofs.Math.Seq.{take-suc}
 use Rattle.std.proofs.lemmas.Bool.{eq-eqb, ne_eqb}
 use Rattle.std.proofs.lemmas.List.{flat_map_more}
-use Rattle.std.proofs.lemmas.List.Sums.{fold_more}
 use Rattle.std.proofs.lemmas.Option.{get_or_from_slice_get}
 use Rattle.flow_view.specs.declared.delay.FlightDelay.{FlightDelay}
 use Rattle.flow_view.specs.declared.slot_row.SlotRow.{SlotRow}
 use Rattle.flow_view.specs.Openings.{OpeningView}
-use Rattle.flow_view.specs.Delays.{row_delay, worse_flight, worse_by, worse_in, delay_of_flight, delays}
+use Rattle.flow_view.specs.Delays.{row_delay, worse_flight, worse_by, delay_of_flight, delays}
 
 kept : {X : Type 0} (f : X → X) (o : Option X) → ((x : X) → f x ≡ x) → o ≡ option_map f o
 kept f None same = refl
@@ -67,11 +66,3 @@ all-delays (suc k) os table le each =
     ∙ (sym (flat_map_more (λ d. option_to_list d) [] (take k table) (get_or table k None))
     ∙ (ap (λ (ds : List FlightDelay). ds ++ option_to_list (get_or table k None)) before
     ∙ ap (λ (d : Option FlightDelay). delays k os ++ option_to_list d) here))
-
--- one regulation more
-pub worse-step : (i plan : ℕ) (os : List OpeningView) (o : OpeningView) (before : Option FlightDelay) → i < length os → o ≡ get_or os i o
-    → before ≡ delay_of_flight (take i os) plan → worse_in plan before o ≡ delay_of_flight (take (i + 1) os) plan
-worse-step i plan os o before lt here e =
-    ap (λ (w : Option FlightDelay). worse_in plan w o) e
-    ∙ (ap (λ (p : OpeningView). worse_in plan (delay_of_flight (take i os) plan) p) here
-    ∙ sym (fold_more (worse_in plan) None os i o lt))

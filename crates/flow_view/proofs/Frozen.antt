@@ -16,7 +16,7 @@ use Rattle.flow_slots.proofs.Served.{NoneTwice-assigned}
 use Rattle.flow_regulations.specs.Regulations.{Regulation}
 use Rattle.flow_regulations.specs.Advice.{delay_among, caused_by, advice}
 use Rattle.flow_regulations.specs.Advice as by_advice
-use Rattle.flow_view.specs.Shown.{slot_row_of, held_before}
+use Rattle.flow_view.specs.Shown.{slot_row_of, slot_before}
 use Rattle.flow_view.specs.declared.delay.FlightDelay.{FlightDelay}
 use Rattle.flow_view.specs.Openings.{OpeningView}
 use Rattle.flow_view.specs.Delays.{row_delay, worse_flight, worse_by}
@@ -96,7 +96,7 @@ none-twice l sound =
 module _ (taxi n : ℕ) (t : Traffic) (spot : Spot) (l : Lineup) (o : OpeningView) where
   -- the greatest delay of the flight of plan n in the rows of the first slots
   abbrev in-first : ℕ → Option FlightDelay
-  in-first k = fold (worse_by n o) None (map (slot_row_of taxi t spot l) (held_before k l))
+  in-first k = fold (worse_by n o) None (map (slot_row_of taxi t spot l) (slot_before k l))
 
   abbrev placed_at : ℕ → ℕ → Placed
   placed_at f k = record { flight = f; slot = k }
@@ -111,8 +111,8 @@ module _ (taxi n : ℕ) (t : Traffic) (spot : Spot) (l : Lineup) (o : OpeningVie
 
   one-slot : (k : ℕ) → in-first (suc k) ≡ by-slot k (in-first k) (held_flight l k)
   one-slot k =
-      ap (fold (worse_by n o) None) (mapped-append (held_before k l) (option_to_list (option_map (λ f. placed_at f k) (held_flight l k))))
-      ∙ (fold-append (worse_by n o) None (map (slot_row_of taxi t spot l) (held_before k l)) (map (slot_row_of taxi t spot l) (option_to_list (option_map (λ f. placed_at f k) (held_flight l k))))
+      ap (fold (worse_by n o) None) (mapped-append (slot_before k l) (option_to_list (option_map (λ f. placed_at f k) (held_flight l k))))
+      ∙ (fold-append (worse_by n o) None (map (slot_row_of taxi t spot l) (slot_before k l)) (map (slot_row_of taxi t spot l) (option_to_list (option_map (λ f. placed_at f k) (held_flight l k))))
       ∙ by (held_flight l k))
     where
       by : (m : Option ℕ) → fold (worse_by n o) (in-first k) (map (slot_row_of taxi t spot l) (option_to_list (option_map (λ f. placed_at f k) m))) ≡ by-slot k (in-first k) m

@@ -1,5 +1,5 @@
 -- Lists and results.
-use Rattle.std.proofs.Common.{◌≡◌, ◌≤◌, ◌<◌, ◌+◌, ◌-◌, ◌∙◌, ◌++◌, ℕ, zero, suc, List, [], ◌∷◌, None, length, map, take, get_or, refl, ap, sym, arith, slice_get}
+use Rattle.std.proofs.Common.{◌≡◌, ◌≤◌, ◌<◌, ◌+◌, ◌-◌, ◌∙◌, ◌++◌, ℕ, zero, suc, List, [], ◌∷◌, length, map, take, get_or, refl, ap, sym, arith, slice_get}
 use Rattle.std.specs.Prelude.{Result, Ok, Err, IfOk, OnOk}
 use Rattle.std.specs.Option.{option_map}
 use Rattle.std.proofs.lemmas.List.{take_more}
@@ -49,10 +49,3 @@ split-next (suc i) (x ∷ xs) lt =
 -- the element that is next
 pub take-next : {X : Type 0} (xs : List X) (i : ℕ) (x : X) → i < length xs → x ≡ get_or xs i x → take (i + 1) xs ≡ take i xs ++ x ∷ []
 take-next xs i x lt e = take_more xs i x lt ∙ ap (λ y. take i xs ++ y ∷ []) (sym e)
-
--- there are no more
-pub none-left : {X : Type 0} (i : ℕ) (xs : List X) → slice_get xs i ≡ None → take i xs ≡ xs
-none-left zero [] e = refl
-none-left (suc i) [] e = refl
-none-left zero (x ∷ xs) e = absurd (cc)
-none-left (suc i) (x ∷ xs) e = ap (λ ys. x ∷ ys) (none-left i xs e)

@@ -11,7 +11,7 @@ use Rattle.flow_regulations.specs.Advice.{advice}
 use Rattle.flow_traffic.specs.Traffic.{regulation_named}
 use Rattle.flow_core.specs.History.{History, state_of}
 use Rattle.flow_view.specs.declared.delay.FlightDelay.{FlightDelay}
-use Rattle.flow_view.specs.Openings.{OpeningView, rows_at}
+use Rattle.flow_view.specs.Openings.{OpeningView, opening_rows}
 use Rattle.flow_view.specs.Delays.{worse_in, delay_of_flight}
 
 -- the slot of a flight with a delay: its CTOT, and the regulation that causes it
@@ -37,7 +37,7 @@ pub record IsShownOf (h : History) (o : OpeningView) (r : Regulation) : Type 0 w
   pub id : o.id ≡ r.id
   pub spot : o.spot ≡ r.spot
   pub named : regulation_named r.id (state_of h).traffic.regulations ≡ Some r
-  pub rows : o.rows ≡ rows_at h o
+  pub rows : o.rows ≡ opening_rows h o
 
 -- the slot list of a regulation
 abbrev pub list_of : History → Regulation → Lineup

@@ -45,8 +45,8 @@ same_standing Entered Entered = true
 same_standing _ _ = false
 
 -- how many of them enter from one time to before another and count as this
-abbrev pub entering : ℕ → ℕ → Standing → List Entrant → ℕ
-entering from to s es = count_by (λ e. is_from_to from to e.entry && same_standing e.standing s) es
+abbrev pub entering_flights : ℕ → ℕ → Standing → List Entrant → ℕ
+entering_flights from to s es = count_by (λ e. is_from_to from to e.entry && same_standing e.standing s) es
 
 -- the entry counts from one time to before another
 abbrev pub count_in : ℕ → ℕ → List Entrant → Count
@@ -54,10 +54,10 @@ count_in from to es =
     record {
       from = from;
       to = to;
-      subject = entering from to Subject es;
-      exempt = entering from to Exempt es;
-      departed = entering from to Departed es;
-      entered = entering from to Entered es;
+      subject = entering_flights from to Subject es;
+      exempt = entering_flights from to Exempt es;
+      departed = entering_flights from to Departed es;
+      entered = entering_flights from to Entered es;
     }
 
 -- those of the first windows: each begins `slide` minutes after the one before it

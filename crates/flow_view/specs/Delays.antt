@@ -58,8 +58,8 @@ spread_of ds =
       over_60 = flights_over 60 ds;
     }
 
-abbrev pub total_delay : List FlightDelay → ℕ
-total_delay ds = sum (map (λ d. d.minutes) ds)
+abbrev pub delay_in_all : List FlightDelay → ℕ
+delay_in_all ds = sum (map (λ d. d.minutes) ds)
 
 abbrev pub greatest_delay : List FlightDelay → ℕ
 greatest_delay ds = fold (λ most d. max most d.minutes) 0 ds
@@ -70,7 +70,7 @@ delay_totals ds =
       flights = length ds;
       delayed = flights_over 0 ds;
       over_15 = flights_over 15 ds;
-      total = total_delay ds;
+      total = delay_in_all ds;
       greatest = greatest_delay ds;
       spread = spread_of ds;
     }

@@ -30,8 +30,8 @@ pub record OpeningView : Type 0 where
   pub rows : List SlotRow
 
 -- what is shown of it at a desk, and nothing if it isn't open there
-abbrev pub rows_at : History → OpeningView → List SlotRow
-rows_at h o = option_map_or (shown h o.spot) (slots_of (state_of h).traffic o.id) []
+abbrev pub opening_rows : History → OpeningView → List SlotRow
+opening_rows h o = option_map_or (shown h o.spot) (slots_of (state_of h).traffic o.id) []
 
 -- ---- what an entry does
 
@@ -56,7 +56,7 @@ shut_in e = if is_shut e.receipt.verdict then shut_name (reading_of e.input.text
 -- desk before it
 abbrev pub shut_one : History → ℕ → List ℕ → OpeningView → OpeningView
 shut_one before number id o =
-    if is_none o.shut_by && bytes_eq o.id id then record o { shut_by = Some number; rows = rows_at before o } else o
+    if is_none o.shut_by && bytes_eq o.id id then record o { shut_by = Some number; rows = opening_rows before o } else o
 
 -- the openings, with those that an entry shuts
 abbrev pub with_shut : History → ℕ → Option (List ℕ) → List OpeningView → List OpeningView
@@ -91,7 +91,7 @@ openings_after (suc i) h = option_map_or (λ e. after_entry h i e (openings_afte
 
 -- an open one has the rows of the desk as it is now
 abbrev pub shown_now : History → OpeningView → OpeningView
-shown_now h o = if is_none o.shut_by then record o { rows = rows_at h o } else o
+shown_now h o = if is_none o.shut_by then record o { rows = opening_rows h o } else o
 
 abbrev pub openings : History → List OpeningView
 openings h = map (shown_now h) (openings_after (length h.filed) h)

@@ -42,13 +42,13 @@ slot_row_of taxi t spot l a =
     }
 
 -- the held slots before slot k, in order, each with the flight that the assignment gives it
-abbrev pub held_before : ℕ → Lineup → List Placed
-held_before zero l = []
-held_before (suc k) l = held_before k l ++ option_to_list (option_map (λ f. record { flight = f; slot = k }) (held_flight l k))
+abbrev pub slot_before : ℕ → Lineup → List Placed
+slot_before zero l = []
+slot_before (suc k) l = slot_before k l ++ option_to_list (option_map (λ f. record { flight = f; slot = k }) (held_flight l k))
 
 -- all of them
 abbrev pub held : Lineup → List Placed
-held l = held_before (len_of l) l
+held l = slot_before (len_of l) l
 
 -- the rows of a slot list of a desk, at this point
 abbrev pub shown : History → Spot → Lineup → List SlotRow

@@ -29,13 +29,13 @@ abbrev pub with_filing : History → List ℕ → History
 with_filing h text = record h { filed = h.filed ++ record { feeder = 0; text = record { edition = Second; bytes = text } } ∷ [] }
 
 -- the rows of an open regulation of a desk
-abbrev pub rows_in : History → Regulation → List SlotRow
-rows_in h r =
+abbrev pub sweep_rows : History → Regulation → List SlotRow
+sweep_rows h r =
     let t = (state_of h).traffic in shown h r.spot (lineup_of t.taxi t.max_plans t.plans r)
 
 -- the rows of the regulation that was opened last
 abbrev pub last_rows : History → List SlotRow
-last_rows h = option_map_or (rows_in h) (last_open h) []
+last_rows h = option_map_or (sweep_rows h) (last_open h) []
 
 -- the totals of its slot list, if it is opened at this rate
 abbrev pub swept : History → List ℕ → ℕ → Swept

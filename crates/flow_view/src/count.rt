@@ -4,7 +4,7 @@ ghost use Rattle.std.specs.Prelude.{◌≡◌, ◌≤◌, ◌++◌, ◌+◌, ◌
 ghost use Rattle.std.specs.Prelude.{IfOk, OnOk, option_to_list, min, codes};
 ghost use Rattle.std.specs.Str.{bytes_eq};
 ghost use Rattle.flow_view.specs.Counts.{is_regulated, counted_as, entrant_of};
-ghost use Rattle.flow_view.specs.Counts.{entrants, same_standing, entering};
+ghost use Rattle.flow_view.specs.Counts.{entrants, same_standing, entering_flights};
 ghost use Rattle.flow_view.specs.Counts.{count_in, counts};
 ghost use Rattle.fpl_text.specs.declared.minute.TheConstants.{GREATEST_MINUTE};
 ghost use Rattle.flow_plans.specs.declared.setup.TheConstants.{MAX_TAXI};
@@ -156,8 +156,8 @@ fn same_standing(standing: Standing, other: Standing) -> bool
 }
 
 /// The number of flights that enter from `from` to before `to` and count as `standing`.
-fn entering(entrants: &[Entrant], from: Minute, to: Minute, standing: Standing) -> u64
-    ensures { result ≡ entering from to standing entrants.now }
+fn entering_flights(entrants: &[Entrant], from: Minute, to: Minute, standing: Standing) -> u64
+    ensures { result ≡ entering_flights from to standing entrants.now }
 {
     let mut count = 0;
     for entrant in entrants {
@@ -174,10 +174,10 @@ fn count_in(entrants: &[Entrant], from: Minute, to: Minute) -> Count
     Count {
         from,
         to,
-        subject: entering(entrants, from, to, Standing::Subject),
-        exempt: entering(entrants, from, to, Standing::Exempt),
-        departed: entering(entrants, from, to, Standing::Departed),
-        entered: entering(entrants, from, to, Standing::Entered),
+        subject: entering_flights(entrants, from, to, Standing::Subject),
+        exempt: entering_flights(entrants, from, to, Standing::Exempt),
+        departed: entering_flights(entrants, from, to, Standing::Departed),
+        entered: entering_flights(entrants, from, to, Standing::Entered),
     }
 }
 

@@ -4,7 +4,7 @@ ghost use Rattle.std.specs.Option.{option_map, option_to_list};
 ghost use Rattle.std.specs.List.Sorted.{IsPermutation, IsNonDecreasingBy};
 ghost use Rattle.flow_view.specs.Delays.{row_delay, worse_flight, worse_by, worse_in};
 ghost use Rattle.flow_view.specs.Delays.{delays, flights_from_to, flights_over};
-ghost use Rattle.flow_view.specs.Delays.{spread_of, total_delay, greatest_delay};
+ghost use Rattle.flow_view.specs.Delays.{spread_of, delay_in_all, greatest_delay};
 ghost use Rattle.flow_view.specs.Delays.{delay_totals, rank_of};
 ghost use Rattle.flow_plans.specs.declared.setup.TheConstants.{MAX_PLANS};
 
@@ -182,9 +182,9 @@ fn spread_of(delays: &[FlightDelay]) -> Spread
 }
 
 /// The sum of the delays, in minutes.
-fn total_delay(delays: &[FlightDelay]) -> u64
+fn delay_in_all(delays: &[FlightDelay]) -> u64
     requires { length delays.now ≤ MAX_PLANS }
-    ensures { result ≡ total_delay delays.now }
+    ensures { result ≡ delay_in_all delays.now }
 {
     let mut total = 0;
     for delay in delays {
@@ -213,7 +213,7 @@ pub fn delay_totals(delays: &[FlightDelay]) -> DelayTotals
         flights: delays.len() as u64,
         delayed: flights_over(delays, 0),
         over_15: flights_over(delays, 15),
-        total: total_delay(delays),
+        total: delay_in_all(delays),
         greatest: greatest_delay(delays),
         spread: spread_of(delays),
     }

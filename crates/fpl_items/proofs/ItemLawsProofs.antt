@@ -90,17 +90,6 @@ item-spelled word words h =
       spelled = ap (λ t. t ∷ words_before words) (sym (take-append-drop n word) ∙ ap (λ t. take n word ++ t) behind);
     }
 
--- the items of words, from the first of these that begins one
-items-skip : (words : List (List ℕ)) → items_of words ≡ items_of (from_item words)
-items-skip [] = refl
-items-skip (word ∷ words) = cases (items-skip words) (begins_item word) refl where
-  item : ItemView
-  item = record { name = take (before_stroke word) word; words = own_words word ++ words_before words }
-
-  cases : items_of words ≡ items_of (from_item words) → (b : Bool) → begins_item word ≡ b → cond b (item ∷ items_of words) (items_of words) ≡ items_of (cond b (word ∷ words) (from_item words))
-  cases again true e = sym (cond-true (begins_item word) (item ∷ items_of words) (items_of words) e)
-  cases again false e = again
-
 spelled-from : (words : List (List ℕ)) → SpellItems (items_of words) (from_item words)
 spelled-from [] = refl
 spelled-from (word ∷ words) = cases (spelled-from words) (begins_item word) refl where

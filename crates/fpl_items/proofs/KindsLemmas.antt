@@ -122,10 +122,6 @@ unfolding is_coordinate
 coordinate-long north east word other =
     false_from_ne_true _ (λ yes. other (eqb-true _ _ (and_parts _ _ (and_parts _ _ (and_parts _ _ (and_parts _ _ yes).0).0).0).0))
 
-no_letter_zero : is_letter 0 ≡ false
-unfolding is_letter
-no_letter_zero = refl
-
 -- a word of letters is a name if it is as long as one
 point-letters : (word : List ℕ) → prefix_len is_letter word ≡ length word → is_point word ≡ leb 2 (length word) && leb (length word) 5
 unfolding is_point is_name

@@ -1,6 +1,6 @@
 -- Recording estimates, one after the other.
 use Rattle.std.proofs.Common.{◌≡◌, ℕ, ◌+◌, ◌-◌, ◌<◌, ◌≤◌, arith, ◌&&◌, nat_le, Bool, true, false, if◌then◌else◌, List, [], ◌∷◌, ◌++◌, length, take, drop, get_or, refl, Option, Some, None, sym, ap, ◌∙◌}
-use Rattle.std.specs.Prelude.{codes, replicate, slice_index}
+use Rattle.std.specs.Prelude.{replicate, slice_index}
 use Rattle.std.proofs.lemmas.Bool.{false≢true, false_from_ne_true, le-leb, lt-leb, leb-true, and_parts}
 use Rattle.std.proofs.Math.ListN.{set}
 use Rattle.std.proofs.Math.Seq.{get_or-append_right, take-append_seam, set-append_seam}
@@ -10,10 +10,9 @@ use lib.Pointwise.{bytes_decides}
 use Rattle.std.specs.Option.{option_or}
 use Rattle.fpl_text.specs.Times.{elapsed_time}
 use Rattle.fpl_items.specs.Kinds.{is_text}
-use Rattle.fpl_items.specs.Items.{ItemView, estimate_for, elapsed_to}
 use Rattle.fpl_items.specs.declared.estimate.Estimate.{Estimate}
 use Rattle.fpl_items.specs.Points.{may_have, stored_name}
-use Rattle.fpl_items.specs.Estimates.{is_for, first_for, AddsWord, AddsWords, AddsItem, HasPlacesOf}
+use Rattle.fpl_items.specs.Estimates.{is_for, first_for, AddsWord, HasPlacesOf}
 
 -- two tests that follow from one another
 same-test : (b c : Bool) → (b ≡ true → c ≡ true) → (c ≡ true → b ≡ true) → b ≡ c
@@ -125,15 +124,3 @@ place-noted own places more before after note short named pushed added kept had 
 or-or : (a b c : Option ℕ) → option_or (option_or a b) c ≡ option_or a (option_or b c)
 or-or None b c = refl
 or-or (Some x) b c = refl
-
-or-none : (a : Option ℕ) → option_or a None ≡ a
-or-none None = refl
-or-none (Some x) = refl
-
--- the words of an EET item say what the item does
-pub item-noted : (before after : List Estimate) (item : ItemView) → is_text (codes "EET") item.name ≡ true → AddsWords before after item.words → AddsItem before after item
-item-noted before after item is adds = λ place items. rw (adds place, is) (or-or (first_for place before) (estimate_for place item.words) (elapsed_to place items))
-
--- another item gives no estimate
-pub other-noted : (notes : List Estimate) (item : ItemView) → is_text (codes "EET") item.name ≡ false → AddsItem notes notes item
-other-noted notes item other = λ place items. rw other refl

@@ -13,7 +13,7 @@ use Rattle.fpl_items.specs.Kinds.{is_text}
 use lib.Pointwise.{bytes_decides}
 use Rattle.std.specs.Prelude.{is_some}
 use Rattle.std.specs.Option.{option_or}
-use Rattle.fpl_items.specs.Items.{ItemView, begins_item, is_estimate, items_of, field_fault, first_fault, exempts, is_exempt, day_of_items, estimate_for, elapsed_to, Say, SaysAfter}
+use Rattle.fpl_items.specs.Items.{ItemView, begins_item, is_estimate, items_of, field_fault, first_fault, is_exempt, day_of_items, estimate_for, elapsed_to, Say}
 use Rattle.fpl_items.specs.declared.estimate.Estimate.{Estimate}
 use Rattle.fpl_items.specs.Estimates.{first_for, noted_of_items}
 
@@ -22,22 +22,6 @@ pub record SaySoFar (day : Option ℕ) (exempt : Bool) (left all : List ItemView
   pub fault_left : first_fault (is_some day) left ≡ first_fault false all
   pub day_left : option_or day (day_of_items left) ≡ day_of_items all
   pub exempt_left : (exempt || is_exempt left) ≡ is_exempt all
-
-or_assoc : (a b c : Bool) → ((a || b) || c) ≡ (a || (b || c))
-or_assoc true b c = refl
-or_assoc false b c = refl
-
--- one item taken, of those that are left
-pub so-far-next : (day next_day : Option ℕ) (exempt next_exempt : Bool) (item : ItemView) (left rest all : List ItemView) → left ≡ item ∷ rest → SaysAfter day exempt item next_day next_exempt → SaySoFar day exempt left all → SaySoFar next_day next_exempt rest all
-so-far-next day next_day exempt next_exempt item left rest all taken says far =
-    let faults : first_fault (is_some day) (item ∷ rest) ≡ first_fault false all = rw taken at far.fault_left in
-    let days : option_or day (day_of_items (item ∷ rest)) ≡ day_of_items all = rw taken at far.day_left in
-    let exemptions : (exempt || is_exempt (item ∷ rest)) ≡ is_exempt all = rw taken at far.exempt_left in
-    record {
-      fault_left = rw says.dof (rw says.faultless at faults);
-      day_left = says.day_then rest ∙ days;
-      exempt_left = rw says.exempt_then (or_assoc exempt (exempts item) (is_exempt rest) ∙ exemptions);
-    }
 
 -- a field of 0 alone has no fault and no items
 zero-says : (field_fault (codes "0") ≡ None) × Say (items_of (words_of (codes "0"))) None false

@@ -4,7 +4,7 @@ use Rattle.std.specs.Prelude.{Option, Some, None, is_some, is_ok, if◌then◌el
 use Rattle.std.specs.List.{list_all, prefix_len}
 use Rattle.std.specs.Option.{option_map, option_and_then, ok_or}
 use Rattle.std.proofs.lemmas.Bool.{cases_Bool, false≢true, false_from_ne_true, and_parts, and_from, eqb-true, leb-true, ltb-true, or_left, or_right, or_cases}
-use Rattle.std.proofs.lemmas.List.{drop-drop, take_all, drop_all, drop_more}
+use Rattle.std.proofs.lemmas.List.{drop-drop, drop_all, drop_more}
 use Rattle.std.proofs.lemmas.List.Sums.{passes_at_first}
 use lib.Pointwise.{bytes_decides}
 use Rattle.fpl_text.specs.Bytes.{is_letter, is_digit, is_letter_or_digit}
@@ -41,11 +41,6 @@ digit-byte b h = or_left _ _ (or_right (is_letter b) (is_digit b) h)
 -- a known byte
 byte-is : (c b : ℕ) → is_route_byte c ≡ true → eqb b c ≡ true → is_route_byte b ≡ true
 byte-is c b known same = ap is_route_byte (eqb-true b c same) ∙ known
-
--- letters and digits alone
-pub plain-routed : (word : List ℕ) → prefix_len is_letter_or_digit word ≡ length word → routed word
-plain-routed word h =
-    every is_letter_or_digit is_route_byte word plain-byte (rw (take_all (length word) word (omega arith)) at (list_all-prefix is_letter_or_digit word (length word) (omega arith)))
 
 digits : (word : List ℕ) → list_all is_digit word ≡ true → routed word
 digits word h = every is_digit is_route_byte word digit-byte h

@@ -1,9 +1,8 @@
 //! The estimates of field 18, collected once, as the field is read.
-ghost use Rattle.std.specs.Prelude.{◌≡◌, ◌≤◌, ◌<◌, ◌∷◌, ◌++◌, [], true};
-ghost use Rattle.std.specs.Prelude.{List, ℕ, length, IfOk, IfSome, IsSome, OnOk};
-ghost use Rattle.std.specs.Prelude.{OnErr};
-ghost use Rattle.fpl_items.specs.Points.{may_have, stored_name};
-ghost use Rattle.fpl_items.specs.Estimates.{first_for};
+ghost use Rattle.std.specs.Prelude.{◌≡◌, ◌≤◌, ◌<◌, ◌∷◌, ◌++◌, [], length};
+ghost use Rattle.std.specs.Prelude.{IfOk, IfSome, OnOk, OnErr};
+ghost use Rattle.fpl_items.specs.Points.{stored_name};
+ghost use Rattle.fpl_items.specs.Estimates.{first_for, HasPlacesOf};
 ghost use Rattle.fpl_text.specs.declared.time.TheConstants.{ELAPSED_LIMIT};
 
 use crate::estimate::Estimate;
@@ -49,8 +48,7 @@ impl<A: Allocator + Copy> Estimates<A> {
     pub fn kept<B: Allocator + Copy>(&self, alloc: B) -> Result<KeptEstimates<B>, AllocError>
         ensures { IfOk result (λ e. e ≡ self.now) }
     {
-        let (few, more) = self.notes.parts();
-        KeptEstimates::of(alloc, self.places, few, more)
+        KeptEstimates::of(alloc, self.places, self.notes.as_slice())
     }
 
     /// Appends the estimate for a point. After the eighth it allocates; an `Err` leaves the list
@@ -74,26 +72,30 @@ impl<A: Allocator + Copy> Estimates<A> {
         ensures value { result ≡ first_for place.now self.now }
         ensures bound { IfSome result (λ minutes. minutes < ELAPSED_LIMIT) }
     {
-        if !may_have(self.places, place) {
-            return None;
-        }
-        if place.len() > 11 {
-            return None;
-        }
-        let (few, more) = self.notes.parts();
-        if let Some(minutes) = first_for(few, place) {
-            return Some(minutes);
-        }
-        if more.is_empty() {
-            return None;
-        }
-        first_for(more, place)
+        elapsed_in(self.places, self.notes.as_slice(), place)
     }
+}
+
+/// The minutes of the first of these estimates for the point `place`. `places` has the bit of each
+/// of their points.
+#[inline]
+pub(crate) fn elapsed_in(places: u64, notes: &[Estimate], place: &[u8]) -> Option<u32>
+    requires { HasPlacesOf places notes.now }
+    ensures value { result ≡ first_for place.now notes.now }
+    ensures bound { IfSome result (λ minutes. minutes < ELAPSED_LIMIT) }
+{
+    if !may_have(places, place) {
+        return None;
+    }
+    if place.len() > 11 {
+        return None;
+    }
+    first_for(notes, place)
 }
 
 /// The minutes of the first of these estimates for the point `place`.
 #[inline(never)]
-pub(crate) fn first_for(notes: &[Estimate], place: &[u8]) -> Option<u32>
+fn first_for(notes: &[Estimate], place: &[u8]) -> Option<u32>
     requires { length place.now ≤ 11 }
     ensures value { result ≡ first_for place.now notes.now }
     ensures bound { IfSome result (λ minutes. minutes < ELAPSED_LIMIT) }

@@ -1,12 +1,11 @@
 //! The estimates of field 18, as a plan keeps them.
-ghost use Rattle.std.specs.Prelude.{◌≡◌, ◌≤◌, ◌<◌, ◌++◌, true, List, ℕ, IfOk, IfSome, IsSome};
+ghost use Rattle.std.specs.Prelude.{◌≡◌, ◌≤◌, ◌<◌, true, List, ℕ, IfOk, IfSome, IsSome};
 ghost use Rattle.fpl_items.specs.Points.{may_have};
 ghost use Rattle.fpl_items.specs.Estimates.{first_for, HasPlacesOf};
 ghost use Rattle.fpl_text.specs.declared.time.TheConstants.{ELAPSED_LIMIT};
 
 use crate::estimate::Estimate;
-use crate::estimates::first_for;
-use crate::points::may_have;
+use crate::estimates::elapsed_in;
 use std::alloc::{AllocError, Allocator, Global};
 use std::marker::Model;
 
@@ -32,32 +31,21 @@ impl<A: Allocator + Copy> Model for KeptEstimates<A> {
 }
 
 impl<A: Allocator + Copy> KeptEstimates<A> {
-    /// These estimates, in two parts. `places` has the bit of each of their points. Returns `Err`
-    /// if allocation fails.
-    pub(crate) fn of(
-        alloc: A,
-        places: u64,
-        notes: &[Estimate],
-        others: &[Estimate],
-    ) -> Result<Self, AllocError>
-        requires { HasPlacesOf places (notes.now ++ others.now) }
-        ensures { IfOk result (λ e. e ≡ notes.now ++ others.now) }
+    /// These estimates. `places` has the bit of each of their points. Returns `Err` if allocation
+    /// fails.
+    pub(crate) fn of(alloc: A, places: u64, notes: &[Estimate]) -> Result<Self, AllocError>
+        requires { HasPlacesOf places notes.now }
+        ensures { IfOk result (λ e. e ≡ notes.now) }
     {
-        let mut all = Vec::with_capacity(alloc, notes.len().saturating_add(others.len()))?;
-        all.extend_from_slice(notes)?;
-        all.extend_from_slice(others)?;
-        Ok(KeptEstimates { places, notes: all })
+        let notes = Vec::from_slice(alloc, notes)?;
+        Ok(KeptEstimates { places, notes })
     }
 
     /// A copy. Returns `Err` if allocation fails.
     pub fn copied<B: Allocator + Copy>(&self, alloc: B) -> Result<KeptEstimates<B>, AllocError>
         ensures { IfOk result (λ e. e ≡ self.now) }
     {
-        let notes = Vec::from_slice(alloc, self.notes.as_slice())?;
-        Ok(KeptEstimates {
-            places: self.places,
-            notes,
-        })
+        KeptEstimates::of(alloc, self.places, self.notes.as_slice())
     }
 
     /// The elapsed time, in minutes, of the first estimate for the point `place`.
@@ -66,13 +54,7 @@ impl<A: Allocator + Copy> KeptEstimates<A> {
         ensures value { result ≡ first_for place.now self.now }
         ensures bound { IfSome result (λ minutes. minutes < ELAPSED_LIMIT) }
     {
-        if !may_have(self.places, place) {
-            return None;
-        }
-        if place.len() > 11 {
-            return None;
-        }
-        first_for(&self.notes, place)
+        elapsed_in(self.places, &self.notes, place)
     }
 
     /// A bit set of the points of the estimates, to be asked by [`may_have`](crate::may_have).

@@ -1,5 +1,5 @@
 //! A list of estimates, the first of them inline.
-ghost use Rattle.std.specs.Prelude.{◌≡◌, ◌≤◌, [], ◌∷◌, ◌++◌, length, IfOk, OnOk, OnErr};
+ghost use Rattle.std.specs.Prelude.{◌≡◌, ◌≤◌, [], ◌∷◌, ◌++◌, length, OnOk, OnErr};
 
 use crate::estimate::Estimate;
 use arrayvec::ArrayVec;
@@ -9,26 +9,28 @@ use std::marker::Model;
 /// How many estimates are stored inline, which is enough for most fields.
 const FEW_NOTES: usize = 8;
 
-/// The capacity of the first allocation for those after them.
-const MORE_NOTES: usize = 56;
+/// The capacity of the first allocation for more.
+const MORE_NOTES: usize = 64;
 
-/// Estimates in order: the first eight inline, the others, if any, in an allocation of their own.
-/// Contracts see one list.
+/// Estimates in order. Up to eight take no allocation. Contracts see the list of them.
 #[derive(Drop)]
 pub(crate) struct NoteList<A: Allocator + Copy = Global> {
+    /// The first eight.
     few: ArrayVec<Estimate, FEW_NOTES>,
-    more: Vec<Estimate, A>,
+    /// All of them, if there are more than eight.
+    all: Vec<Estimate, A>,
 }
 
 impl<A: Allocator + Copy> Model for NoteList<A> {
-    ghost use Rattle.std.specs.Prelude.{◌≡◌, ◌<◌, ◌++◌, [], List, length};
+    ghost use Rattle.std.specs.Prelude.{◌≡◌, ◌<◌, ◌≤◌, ◌==◌, [], List, length, if◌then◌else◌};
     ghost use Rattle.fpl_items.specs.declared.estimate.Estimate.{Estimate as Note};
 
     ghost Value = { List Note };
 
-    ghost view = { λ l. l.few.items ++ l.more.items };
+    ghost view = { λ l. if length l.all.items == 0 then l.few.items else l.all.items };
 
-    ghost invariant = { λ l. length l.few.items < 8 → l.more.items ≡ [] };
+    ghost invariant = { λ l. (length l.few.items < 8 → l.all.items ≡ [])
+        × (0 < length l.all.items → 8 ≤ length l.all.items) };
 }
 
 impl<A: Allocator + Copy> NoteList<A> {
@@ -37,7 +39,7 @@ impl<A: Allocator + Copy> NoteList<A> {
     {
         NoteList {
             few: ArrayVec::new(),
-            more: Vec::new(alloc),
+            all: Vec::new(alloc),
         }
     }
 
@@ -49,21 +51,40 @@ impl<A: Allocator + Copy> NoteList<A> {
         ensures full { OnErr result (8 ≤ length self.old) }
     {
         if self.few.is_full() {
-            if self.more.is_empty() {
-                self.more.reserve(MORE_NOTES)?;
+            if self.all.is_empty() {
+                spill(self.few.as_slice(), &mut self.all)?;
             }
-            self.more.push(note)?;
+            self.all.push(note)?;
         } else {
             self.few.push(note);
         }
         Ok(())
     }
 
-    /// The estimates that are inline, and those after them.
     #[inline]
-    pub(crate) fn parts(&self) -> (&[Estimate], &[Estimate])
-        ensures { result.0.now ++ result.1.now ≡ self.now }
+    pub(crate) fn as_slice(&self) -> &[Estimate]
+        ensures { result.now ≡ self.now }
     {
-        (self.few.as_slice(), self.more.as_slice())
+        if self.all.is_empty() {
+            self.few.as_slice()
+        } else {
+            self.all.as_slice()
+        }
     }
+}
+
+/// Copies the first estimates to an allocation with capacity for more.
+#[cold]
+#[inline(never)]
+fn spill<A: Allocator + Copy>(
+    few: &[Estimate],
+    all: &mut Vec<Estimate, A>,
+) -> Result<(), AllocError>
+    ensures ok { OnOk result (all.new.items ≡ few.now) }
+    ensures err { OnErr result (all.new.items ≡ all.old.items) }
+{
+    let mut more = Vec::with_capacity(*all.allocator(), MORE_NOTES)?;
+    more.extend_from_slice(few)?;
+    *all = more;
+    Ok(())
 }

@@ -40,14 +40,6 @@ squeezed-fits bytes text.UnknownTitle few e = tt
 squeezed-fits bytes text.FieldCount few e = tt
 squeezed-fits bytes text.OutOfMemory few e = tt
 
-pub fault-fits : (bytes : List ℕ) (fault : TextFault) → length bytes ≤ 2000 → squeezed_or_fault bytes ≡ Err fault → PlaceFits fault
-fault-fits bytes text.Empty few e = tt
-fault-fits bytes (text.BadByte place) few e = omega (arith, bad-below bytes place e)
-fault-fits bytes text.NoBracket few e = tt
-fault-fits bytes text.UnknownTitle few e = tt
-fault-fits bytes text.FieldCount few e = tt
-fault-fits bytes text.OutOfMemory few e = tt
-
 -- a squeezed text is not refused for a byte
 not-bad : (bytes : List ℕ) (place : ℕ) → fields_or_fault bytes ≡ Err (text.BadByte place) → ⊥
 unfolding fields_or_fault

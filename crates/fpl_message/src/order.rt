@@ -126,7 +126,7 @@ fn open_of(edition: Edition, mut words: Words<'_>) -> Option<OpenReg>
     let from = read_moment(words.next()?)?;
     let to = read_moment(words.next()?)?;
     let rate = rate_of(words.next()?)?;
-    let more = more_of(edition, from, words)?;
+    let more = more_of(edition, words)?;
     Some(OpenReg {
         id,
         place,

@@ -1,58 +1,36 @@
 //! The further sub-periods of a regulation.
-ghost use Rattle.std.specs.Prelude.{◌≡◌, ◌≤◌, ◌<◌, ◌∷◌, ◌++◌, ◌*◌, ◌-◌, []};
-ghost use Rattle.std.specs.Prelude.{true, nat_le, if◌then◌else◌, length};
+ghost use Rattle.std.specs.Prelude.{◌≡◌, ◌≤◌, ◌<◌, ◌*◌, ◌-◌, true};
+ghost use Rattle.std.specs.Prelude.{nat_le, if◌then◌else◌, length};
 ghost use Rattle.fpl_text.specs.Bytes.{is_digit};
 ghost use Rattle.fpl_message.specs.Orders.{rate_of, part_of, parts_of, more_of};
 
 use crate::edition::Edition;
-use fpl_text::{MOST_PARTS, Minute, Part, Words, all_digits, read_moment};
+use arrayvec::ArrayVec;
+use fpl_text::{MOST_PARTS, Part, Words, all_digits, read_moment};
 use std::marker::Model;
 
-/// The further sub-periods of a regulation, at most 7, seen as their list.
+/// The further sub-periods of a regulation, at most 7. Contracts see the list of them.
 #[derive(Drop)]
 pub struct SubPeriods {
-    parts: [Part; MOST_PARTS],
-    count: usize,
+    parts: ArrayVec<Part, MOST_PARTS>,
 }
 
 impl Model for SubPeriods {
-    ghost use Rattle.std.specs.Prelude.{◌≤◌, List, take};
+    ghost use Rattle.std.specs.Prelude.{List};
     ghost use Rattle.fpl_text.specs.declared.part.Part.{Part};
-    ghost use Rattle.fpl_text.specs.declared.part.TheConstants.{MOST_PARTS};
 
     ghost Value = { List Part };
 
-    ghost view = { λ s. take s.count s.parts };
-
-    ghost invariant = { λ s. s.count ≤ MOST_PARTS };
+    ghost view = { λ s. s.parts.items };
 }
 
 impl SubPeriods {
-    /// No further sub-periods, in a regulation from `from` on.
-    fn none(from: Minute) -> SubPeriods
-        ensures { result ≡ [] }
-    {
-        SubPeriods {
-            parts: [Part { from, rate: 0 }; MOST_PARTS],
-            count: 0,
-        }
-    }
-
-    /// Appends a sub-period.
-    fn push(&mut self, part: Part)
-        requires { length self.old < MOST_PARTS }
-        ensures { self.new ≡ self.old ++ part ∷ [] }
-    {
-        self.parts[self.count] = part;
-        self.count += 1;
-    }
-
-    /// Returns the sub-periods, in order.
+    /// The sub-periods, in order.
     pub fn as_slice(&self) -> &[Part]
         ensures value { result.now ≡ self.now }
         ensures fits { length result.now ≤ MOST_PARTS }
     {
-        &self.parts[..self.count]
+        self.parts.as_slice()
     }
 }
 
@@ -95,31 +73,33 @@ fn part_of(moment: &[u8], rate: &[u8]) -> Option<Part>
 }
 
 /// Parses pairs of a time with its date and a rate, at most 7.
-fn parts_of(from: Minute, mut words: Words<'_>) -> Option<SubPeriods>
+fn parts_of(mut words: Words<'_>) -> Option<SubPeriods>
     ensures { result
         ≡ (if nat_le (length words.entry) (2 * MOST_PARTS) then parts_of words.entry else None) }
 {
-    let mut parts = SubPeriods::none(from);
+    let mut parts = ArrayVec::new();
     while let Some(moment) = words.next() {
         let rate = words.next()?;
-        if parts.as_slice().len() == MOST_PARTS {
+        if parts.is_full() {
             return None;
         }
         parts.push(part_of(moment, rate)?);
     }
-    Some(parts)
+    Some(SubPeriods { parts })
 }
 
-/// Parses the sub-periods after the first, which begins at `from`, by the rules of an edition.
+/// Parses the sub-periods after the first by the rules of an edition.
 #[tactic(auto, unfolding(crate::specs::Orders::more_of))]
-pub(crate) fn more_of(edition: Edition, from: Minute, mut words: Words<'_>) -> Option<SubPeriods>
+pub(crate) fn more_of(edition: Edition, mut words: Words<'_>) -> Option<SubPeriods>
     ensures { result ≡ more_of edition words.entry }
 {
     match edition {
         Edition::First => match words.next() {
             Some(_) => None,
-            None => Some(SubPeriods::none(from)),
+            None => Some(SubPeriods {
+                parts: ArrayVec::new(),
+            }),
         },
-        Edition::Second => parts_of(from, words),
+        Edition::Second => parts_of(words),
     }
 }

@@ -23,7 +23,7 @@ pub const YEAR_2000: u32 = 15_778_080;
 pub const YEAR_2099: u32 = 67_848_480;
 
 /// A time with its date, in whole minutes since 1970-01-01 00:00 UTC, at most 100,000,000.
-#[derive(Clone, Copy, Debug, PartialEq, Eq, PartialOrd, Ord, Hash)]
+#[derive(Clone, Copy, Debug, Default, PartialEq, Eq, PartialOrd, Ord, Hash)]
 pub struct Minute {
     minutes: u32,
 }

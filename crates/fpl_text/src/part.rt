@@ -6,7 +6,7 @@ use crate::minute::Minute;
 pub const MOST_PARTS: usize = 7;
 
 /// A sub-period of a regulation: from `from` on, `rate` flights an hour may enter.
-#[derive(Clone, Copy, Debug, PartialEq, Eq)]
+#[derive(Clone, Copy, Debug, Default, PartialEq, Eq)]
 pub struct Part {
     pub from: Minute,
     pub rate: u32,

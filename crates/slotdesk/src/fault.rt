@@ -2,7 +2,7 @@
 ghost use Rattle.std.specs.Prelude.{◌≤◌};
 
 use flow_core::{JournalFault, ServeFault};
-use flow_live::LiveFault;
+use flow_live::{LiveFault, StopFault};
 use flow_runs::{RunFault, StoredRunFault};
 use flow_store::{OpenFault, StoreFault, StoredFault};
 
@@ -111,8 +111,9 @@ impl From<LiveFault> for Fault {
         match fault {
             LiveFault::Feeds => Fault::BadFeeders,
             LiveFault::NoReader => Fault::NoReader,
-            LiveFault::Write => Fault::Write,
-            LiveFault::OutOfMemory => Fault::OutOfMemory,
+            LiveFault::Stopped(StopFault::Write) => Fault::Write,
+            LiveFault::Stopped(StopFault::Store) => Fault::Store,
+            LiveFault::Stopped(StopFault::OutOfMemory) => Fault::OutOfMemory,
         }
     }
 }

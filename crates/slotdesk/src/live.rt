@@ -1,15 +1,20 @@
 //! A run whose feeders are answered as they file.
-ghost use Rattle.std.specs.Prelude.{◌≤◌, IfOk};
+ghost use Rattle.std.specs.Prelude.{◌≡◌, ◌≤◌, false, IfOk, IfSome};
 
+use crate::desk_file::{DeskFile, StoreFile};
 use crate::fault::{DEVICE_FAILED, DONE, Fault};
 use crate::feeds::{Feeds, Found};
 use crate::options::Options;
-use crate::start::setup_of;
+use crate::start::{desk_of, setup_of};
+use crate::stored::open_store;
+use crate::stores::Stores;
 use flow_core::{Core, Counted};
 use flow_live::{Feed, FeedEnd, LiveFault, Watch, run_live};
 use flow_runs::write_end;
+use flow_store::Store;
 use std::alloc::{AllocError, Global};
-use std::io::{Read, Write};
+use std::io;
+use std::io::{Read, Sink, Write};
 use std::mem::ManuallyDrop;
 use std::sync::{Mutex, Wait};
 use std::thread::Threads;
@@ -21,6 +26,7 @@ use std::thread::Threads;
 pub fn run_feeds<
     T: AllocGlobal + Threads + Sync,
     P: Wait + Sync,
+    S: Stores,
     F: Feeds,
     W: Write + Send + Drop,
     E: Write + Send,
@@ -29,20 +35,42 @@ pub fn run_feeds<
     wait: &P,
     options: Options<'_>,
     folder: &str,
+    stores: &S,
     feeds: &F,
     writer: W,
     errors: &mut E,
 ) -> Result<u8, Fault>
     ensures { IfOk result (λ status. status ≤ 2) }
 {
-    let begun = begin(rt.alloc(), options, folder, feeds)?;
+    let found = find(options, folder, feeds)?;
+    let begun = begin(rt.alloc(), options, stores, found)?;
     answer(rt, wait, options.journal, begun, writer, errors)
 }
 
-/// A desk, the feeds that it is to answer, and the fault lines of each.
+/// The feeds of the folder, if the start is one.
+fn find<F: Feeds>(
+    options: Options<'_>,
+    folder: &str,
+    feeds: &F,
+) -> Result<Vec<Found<F::Reader, F::Writer>>, Fault> {
+    if options.is_new() {
+        let _setup = setup_of(options)?;
+    }
+    feeds.find(folder)
+}
+
+/// A desk, its store if it has one, and the feeds that it is to answer.
 #[derive(Drop)]
-struct Begun<R, W> {
+struct Begun<R, W, F: StoreFile + Drop> {
     core: Core,
+    /// Nothing is answered through its outside.
+    store: Option<Store<DeskFile<F, Sink>>>,
+    seats: Seats<R, W>,
+}
+
+/// Feeds, and the fault lines of each.
+#[derive(Drop)]
+struct Seats<R, W> {
     feeds: Vec<Feed<R, W>>,
     lines: Vec<FaultLines>,
 }
@@ -63,43 +91,56 @@ fn fault_lines(alloc: Global, name: &str) -> Result<FaultLines, AllocError> {
 }
 
 /// The desk and its feeds before a frame is read.
-fn begin<F: Feeds>(
+fn begin<S: Stores, R: Drop, W: Drop>(
     alloc: Global,
     options: Options<'_>,
-    folder: &str,
-    feeds: &F,
-) -> Result<Begun<F::Reader, F::Writer>, Fault> {
-    let setup = setup_of(options)?;
-    let found = feeds.find(folder)?;
-    let Ok(core) = Core::new(alloc, setup) else {
-        return Err(Fault::OutOfMemory);
-    };
-    let mut begun = Begun {
-        core,
-        feeds: Vec::new(alloc),
-        lines: Vec::new(alloc),
-    };
-    for feed in found {
-        if add(alloc, &mut begun, feed).is_err() {
-            return Err(Fault::OutOfMemory);
-        }
+    stores: &S,
+    found: Vec<Found<R, W>>,
+) -> Result<Begun<R, W, S::File>, Fault>
+    ensures sound { IfOk result
+        (λ begun. IfSome begun.store (λ store. store.log.outside.has_failed ≡ false)) }
+{
+    let (core, store) = open_desk(alloc, options, stores)?;
+    match seats_of(alloc, found) {
+        Ok(seats) => Ok(Begun { core, store, seats }),
+        Err(_) => Err(Fault::OutOfMemory),
     }
-    Ok(begun)
 }
 
-fn add<R: Drop, W: Drop>(
+/// The desk at the start, and its store if it has one.
+fn open_desk<S: Stores>(
     alloc: Global,
-    begun: &mut Begun<R, W>,
-    found: Found<R, W>,
-) -> Result<(), AllocError> {
-    let Found {
-        name,
-        reader,
-        writer,
-    } = found;
-    begun.lines.push(fault_lines(alloc, name.as_str())?)?;
-    begun.feeds.push(Feed::new(reader, writer))?;
-    Ok(())
+    options: Options<'_>,
+    stores: &S,
+) -> Result<(Core, Option<Store<DeskFile<S::File, Sink>>>), Fault>
+    ensures sound { IfOk result
+        (λ desk. IfSome desk.1 (λ store. store.log.outside.has_failed ≡ false)) }
+{
+    let mut no_journal = Counted::new(b"".as_slice());
+    let Some(name) = options.store else {
+        let core = desk_of(alloc, options, &mut no_journal)?;
+        return Ok((core, None));
+    };
+    let (store, core) = open_store(alloc, options, name, stores, &mut no_journal, io::sink())?;
+    Ok((core, Some(store)))
+}
+
+fn seats_of<R: Drop, W: Drop>(
+    alloc: Global,
+    found: Vec<Found<R, W>>,
+) -> Result<Seats<R, W>, AllocError> {
+    let mut feeds = Vec::new(alloc);
+    let mut lines = Vec::new(alloc);
+    for feed in found {
+        let Found {
+            name,
+            reader,
+            writer,
+        } = feed;
+        lines.push(fault_lines(alloc, name.as_str())?)?;
+        feeds.push(Feed::new(reader, writer))?;
+    }
+    Ok(Seats { feeds, lines })
 }
 
 /// Writes a line for each fault as it comes. The run calls it one at a time; the lock lends it the
@@ -142,32 +183,41 @@ fn answer<
     P: Wait + Sync,
     I: Read + Send + Drop,
     O: Write + Send + Drop,
+    F: StoreFile + Send + Drop,
     W: Write + Send + Drop,
     E: Write + Send,
 >(
     rt: &T,
     wait: &P,
     journal: bool,
-    begun: Begun<I, O>,
+    begun: Begun<I, O, F>,
     writer: W,
     errors: &mut E,
 ) -> Result<u8, Fault>
+    requires sound { IfSome begun.store (λ store. store.log.outside.has_failed ≡ false) }
     ensures { IfOk result (λ status. status ≤ 2) }
 {
     let alloc = rt.alloc();
-    let Begun {
-        core,
-        mut feeds,
-        lines,
-    } = begun;
+    let Begun { core, store, seats } = begun;
+    let Seats { mut feeds, lines } = seats;
     let mut writer = Counted::new(writer);
     let teller = Teller {
         wait,
         lines: lines.as_slice(),
         errors: Mutex::new(errors),
     };
-    match run_live(rt, wait, alloc, core, &mut feeds, &mut writer, &teller) {
-        Ok(core) => {
+    let ended = run_live(
+        rt,
+        wait,
+        alloc,
+        core,
+        &mut feeds,
+        &mut writer,
+        store,
+        &teller,
+    );
+    match ended {
+        Ok((core, _store)) => {
             // The process ends now and gives its memory back whole.
             let core = ManuallyDrop::new(core);
             write_rest(alloc, &core, journal, &mut writer)?;

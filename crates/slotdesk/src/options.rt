@@ -113,8 +113,7 @@ fn feeds_argument<'a>(alloc: Global) -> Result<Arg<'a>, AllocError> {
         .value_name("DIR")
         .help("Answers each NAME.in of DIR in NAME.out")
         .conflicts_with("feeders")?
-        .conflicts_with("resume")?
-        .conflicts_with("store")
+        .conflicts_with("resume")
 }
 
 fn journal_argument<'a>(alloc: Global) -> Arg<'a> {

@@ -1,6 +1,6 @@
 use Rattle.std.proofs.Common.{sym, ap, ◌∙◌, subst, List, ℕ, arith}
 use Rattle.std.proofs.lemmas.Result.{err_from_is_err_and}
-use Rattle.flow_input.specs.Frames.{is_text}
+use Rattle.flow_input.specs.Frames.{is_not_blank}
 use Rattle.flow_input.specs.Reader.{BeginsWithStop}
 use Rattle.flow_input.specs.NextFrame.{filing_kept}
 use Rattle.flow_input.proofs.Results.{on_err, err_again}
@@ -87,7 +87,7 @@ returns-then-has_ended-2-clause-cuts g c =
     let end = c.in_ok-fill.ensures.end (is-true c.fill.new.self.ended (sym c.has_ended-in-reads.ensures.ended ∙ c.if-has_ended-2.true)) in
     Cuts-rest c.take_rest.result c.args.input.now c.fill.new.self c.take_rest.new.input (g.R.Read.remaining c.args.reader.now.device) (g.R.Read.remaining c.fill.new.reader.device)
     (Sought-fill c.args.input.now c.skip_blanks.new.input c.fill.new.self (g.R.Read.remaining c.args.reader.now.device) (g.R.Read.remaining c.reads.reader.device) (g.R.Read.remaining c.fill.new.reader.device) s c.in_ok-fill.ensures.filled c.fill.ensures.taken)
-    (subst (λ (bs : List ℕ). BeginsWithStop is_text bs) (sym end.0) c.skip_blanks.ensures.stop) (rw end.0 goes) c.take_rest.ensures.ended c.take_rest.ensures.some c.take_rest.ensures.none
+    (subst (λ (bs : List ℕ). BeginsWithStop is_not_blank bs) (sym end.0) c.skip_blanks.ensures.stop) (rw end.0 goes) c.take_rest.ensures.ended c.take_rest.ensures.some c.take_rest.ensures.none
 
 pub reads-preserved : goal.reads-preserved
 reads-preserved g c =

@@ -12,6 +12,7 @@ frames-init g c = record {
       (λ frame of. c.in_ok-take_in.ensures.next c.args.pass.now [] frame of (Prepares-start g.N.Name.setup c.args.pass.now c.args.batch.now.answers.items c.args.batch.now.ready.items lawful c.requires.none.0 c.requires.none.1));
   agrees = λ rest agrees. agrees;
   nearer = omega arith;
+  seen = c.in_ok-take_in.ensures.seen;
 }
 
 pub frames-preserved : goal.frames-preserved
@@ -24,6 +25,7 @@ frames-preserved g c = record {
       (λ fs frame of h. c.in_ok-take_in-2.ensures.next c.args.pass.now fs frame of h);
   agrees = λ rest agrees. c.take_whole.ensures.agrees rest (c.frames.invariant.agrees rest agrees);
   nearer = omega (arith, c.frames.invariant.nearer, c.take_whole.ensures.nearer c.frames-test.true);
+  seen = c.in_ok-take_in-2.ensures.seen;
 }
 
 pub returns-clause-serving : goal.returns-clause-serving

@@ -1,18 +1,23 @@
-use Rattle.std.proofs.Common.{ap}
+use Rattle.std.proofs.Common.{ℕ, List, [], ◌∷◌, ◌++◌, ap, sym, subst}
 use Rattle.flow_input.specs.NextFrame.{filing_kept}
 use Rattle.flow_live.proofs.Servings.{takes-long, takes-one, takes-all}
+use Rattle.flow_live.specs.Keeping.{AnswersOnly}
+use Rattle.flow_live.proofs.Onlys.{seen-more, only-too_long}
 use Rattle.flow_live.proofs.answering.take_in.Goals as goal
 
 pub returns-in_default : goal.returns-in_default
 returns-in_default g c = record {
   next = takes-long c.append_line.result g.N.Name.setup (filing_kept c.args.input.now.item) c.args.pass.now c.answer_ready.new.pass c.args.batch.now.answers.items c.answer_ready.new.batch.answers.items c.append_line.new.answers.items c.too_long_line.result.now c.args.batch.now.ready.items c.answer_ready.new.batch.ready.items
       (ap filing_kept c.in_default.ensures) c.in_ok-answer_ready.ensures.none c.too_long_line.ensures c.in_ok-answer_ready.ensures.served c.append_line.ensures;
+  seen = seen-more c.append_line.result g.N.Name.setup c.answer_ready.new.pass c.answer_ready.new.batch.seen c.answer_ready.new.batch.answers.items (c.too_long_line.result.now ++ 10 ∷ []) c.append_line.new.answers.items c.in_ok-answer_ready.ensures.seen
+      (subst (λ (l : List ℕ). AnswersOnly g.N.Name.setup c.answer_ready.new.batch.seen (l ++ 10 ∷ [])) (sym c.too_long_line.ensures) (only-too_long g.N.Name.setup c.answer_ready.new.batch.seen)) c.append_line.ensures;
 }
 
 pub returns-then-len-lt-AT_ONCE : goal.returns-then-len-lt-AT_ONCE
 returns-then-len-lt-AT_ONCE g c = record {
   next = takes-one g.N.Name.setup (filing_kept c.args.input.now.item) c.in-Some.bytes.now c.args.pass.now c.args.batch.now.answers.items c.prepare.new.batch.answers.items c.args.batch.now.ready.items c.prepare.new.batch.ready.items
       (ap filing_kept c.in-Some.ensures.0) c.in_ok-prepare.ensures.ready c.prepare.ensures.answers;
+  seen = rw (c.prepare.ensures.seen, c.prepare.ensures.answers) c.requires;
 }
 
 pub returns : goal.returns
@@ -21,4 +26,5 @@ returns g c = record {
       (takes-one g.N.Name.setup (filing_kept c.args.input.now.item) c.in-Some.bytes.now c.args.pass.now c.args.batch.now.answers.items c.prepare.new.batch.answers.items c.args.batch.now.ready.items c.prepare.new.batch.ready.items
       (ap filing_kept c.in-Some.ensures.0) c.in_ok-prepare.ensures.ready c.prepare.ensures.answers)
       c.answer_ready-2.ensures.served c.answer_ready-2.ensures.none;
+  seen = c.answer_ready-2.ensures.seen;
 }

@@ -1,12 +1,22 @@
+use Rattle.std.proofs.Common.{ℕ, List, sym, subst, ◌∙◌}
 use Rattle.flow_core.proofs.Serves.{err_is}
+use Rattle.flow_core.specs.State.{EntryView}
+use Rattle.flow_desk.specs.Histories.{IsLawful}
+use Rattle.flow_live.specs.Keeping.{AnswersOnly}
+use Rattle.flow_live.proofs.Onlys.{only-none}
 use Rattle.flow_live.proofs.Pieces.{Feeds-start, Piece-ends, Piece-goes, Fed-finished, Fed-fault}
 use Rattle.flow_live.proofs.feeding.serve_feed.Goals as goal
 
 pub pieces-init : goal.pieces-init
 pieces-init g c = record {
   agrees = rw c.in-Ok.ensures (λ e. absurd (cc));
-  none = c.new-batch.ensures.0;
-  feeds = λ lawful. Feeds-start g.N.Name.setup c.args.pass.now (g.W.Write.contents c.args.writer.now.device) (g.R.Read.remaining c.args.reader.now.device) c.in-Ok.input lawful c.in-Ok.ensures;
+  none = c.new-batch.ensures.none.0;
+  seen = record {
+    seen_is = c.new-batch.ensures.seen ∙ c.follower_of.ensures.follower;
+    lawful = subst (λ (es : List EntryView). IsLawful g.N.Name.setup es) (sym c.new-batch.ensures.seen) c.follower_of.ensures.lawful;
+    only = subst (λ (t : List ℕ). AnswersOnly g.N.Name.setup c.new-batch.result.seen t) (sym c.new-batch.ensures.none.1) (only-none g.N.Name.setup c.new-batch.result.seen);
+  };
+  feeds = λ lawful. Feeds-start g.N.Name.setup c.args.pass.now c.follower_of.new.pass (g.W.Write.contents c.args.writer.now.device) (g.R.Read.remaining c.args.reader.now.device) c.in-Ok.input c.follower_of.ensures.seen (subst (λ (es : List EntryView). IsLawful g.N.Name.setup es) c.follower_of.ensures.follower c.follower_of.ensures.lawful) c.in-Ok.ensures;
 }
 
 pub returns-in-Ok-false : goal.returns-in-Ok-false
@@ -29,6 +39,7 @@ pub pieces-preserved : goal.pieces-preserved
 pieces-preserved g c = record {
   agrees = c.in_default-answered.ensures.agrees (g.R.Read.remaining c.take_frame.new.reader.device) c.in-Ok-true.ensures.agrees;
   none = c.in_default-answered.ensures.none;
+  seen = c.in_default-answered.ensures.seen;
   feeds = Piece-goes c.answer_piece-answered.result g.N.Name.setup c.args.pass.now c.pieces.pass c.answer_piece-answered.new.pass (g.W.Write.contents c.args.writer.now.device) (g.W.Write.contents c.pieces.writer.device) (g.W.Write.contents c.answer_piece-answered.new.writer.device)
       c.pieces.input c.take_frame.new.input c.answer_piece-answered.new.input (g.R.Read.remaining c.args.reader.now.device) (g.R.Read.remaining c.pieces.reader.device) (g.R.Read.remaining c.take_frame.new.reader.device) c.in_default-answered.field-0 c.in_default-answered.is
       c.answer_piece-answered.ensures.piece c.pieces.invariant.feeds (rw c.in-Ok-true.field-0-test at c.in-Ok-true.ensures.cuts) c.in-Ok-true.ensures.agrees;

@@ -12,22 +12,22 @@ pub returns-in-Dla-clause-same : goal.returns-in-Dla-clause-same
 returns-in-Dla-clause-same g c =
     IfOk-weaker c.delay.result _ _
     (λ n is. (delayed-same c.args.now c.args.plans.now.plans _ (record { plans = c.delay.new.self.plans; number = n }) is).1)
-    c.delay.ensures.ok
+    c.delay.ensures.change.ok
 
 pub returns-in-Chg-clause-same : goal.returns-in-Chg-clause-same
 returns-in-Chg-clause-same g c =
     IfOk-weaker c.amend.result _ _
     (λ n is. (amended-same c.args.now c.args.plans.now.plans _ (record { plans = c.amend.new.self.plans; number = n }) is).1)
-    c.amend.ensures.ok
+    c.amend.ensures.change.ok
 
 pub returns-in-Cnl-clause-same : goal.returns-in-Cnl-clause-same
 returns-in-Cnl-clause-same g c =
     IfOk-weaker c.cancel.result _ _
     (λ n is. (cancelled-same c.args.plans.now.plans _ (record { plans = c.cancel.new.self.plans; number = n }) is).1)
-    c.cancel.ensures.ok
+    c.cancel.ensures.change.ok
 
 pub returns-in-Dep-clause-same : goal.returns-in-Dep-clause-same
 returns-in-Dep-clause-same g c =
     IfOk-weaker c.depart.result _ _
     (λ n is. (departed-same c.args.plans.now.plans _ (record { plans = c.depart.new.self.plans; number = n }) is).1)
-    c.depart.ensures.ok
+    c.depart.ensures.change.ok

@@ -4,7 +4,7 @@ use Rattle.std.specs.Option.{option_map_or, is_some}
 use Rattle.std.proofs.lemmas.Result.{on_ok_weaker}
 use Rattle.std.proofs.lemmas.List.Elements.{All-weaker}
 use Rattle.flow_slots.specs.Lineup.{Lineup, fixed_slot}
-use Rattle.flow_regulations.specs.Listing.{RegulationView, lineup_named, keeps_slot_in, AreApart, names_in}
+use Rattle.flow_regulations.specs.Listing.{RegulationView, lineup_named, is_frozen_in, AreApart, names_in}
 use Rattle.flow_regulations.proofs.Fixeds.{no-pairs, named-pairs, unnamed-pairs, fixed-numbers}
 use Rattle.flow_regulations.proofs.regulations.Regulations.note_fixed.Goals as goal
 
@@ -17,7 +17,7 @@ returns-in-Some-clause-each g c =
     let N : List RegulationView → Type 0 = λ ls. lineup_named id ls ≡ Some lu in
     let there : lineup_named id ls ≡ Some lu = subst N (c.deref.ensures.value ∙ ap (λ v. v.lists) c.self.view_is) c.in-Some.ensures in
     on_ok_weaker c.note_fixed.result
-    (λ all. All-weaker (λ n. IsSome (fixed_slot lu n)) (λ n. keeps_slot_in id ls n ≡ true) (λ n h. ap (λ (o : Option Lineup). option_map_or (λ l. is_some (fixed_slot l n)) o false) there ∙ h) xs all) c.note_fixed.ensures.each
+    (λ all. All-weaker (λ n. IsSome (fixed_slot lu n)) (λ n. is_frozen_in id ls n ≡ true) (λ n h. ap (λ (o : Option Lineup). option_map_or (λ l. is_some (fixed_slot l n)) o false) there ∙ h) xs all) c.note_fixed.ensures.each
 
 pub returns-in-Some-clause-numbers : goal.returns-in-Some-clause-numbers
 returns-in-Some-clause-numbers g c =

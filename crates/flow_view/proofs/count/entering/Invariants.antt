@@ -1,9 +1,0 @@
-use Rattle.std.proofs.Common.{◌≡◌, ◌≤◌, take}
-use Rattle.flow_view.specs.Counts.{entering}
-use Rattle.flow_view.proofs.count.entering.Given as goal
-
-abbrev pub invariant-loop-entrant : goal.invariant-loop-entrant
-invariant-loop-entrant l = record {
-  counted : l.count ≡ entering l.from l.to l.standing (take l.entrant-index l.entrants);
-  most : l.count ≤ l.entrant-index;
-}
