@@ -22,7 +22,8 @@
 //! that a feeder's source gave, its entries there are the first filings, and all of them unless the
 //! journal is full. What was written to the feeder answers frame by frame what the desk of one
 //! thread answers to these entries. The other writer has the answers to all entries, in their
-//! order. All that is written answers entries that were stored before it was.
+//! order. Besides, one function writes all answers (`keeping`), and its precondition is that each
+//! is to an entry that is stored.
 #![tactic(auto)]
 
 mod answering;
