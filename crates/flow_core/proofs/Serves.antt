@@ -16,7 +16,7 @@ use Rattle.flow_input.proofs.Written.{AppendsFront-both}
 use Rattle.flow_core.specs.State.{State}
 use Rattle.flow_core.specs.Steps.{step}
 use Rattle.flow_core.specs.Output.{answer_text}
-use Rattle.flow_core.specs.Served.{served, said, output, after, as_input}
+use Rattle.flow_core.specs.Served.{served, answer_to, output, served_all, as_input}
 use Rattle.flow_core.specs.Serving.{Answered, AnswersFrame, AnswersPart, AppendsMore, ServedMore, Serving, Stopped, Starved, fault_of}
 use Rattle.flow_core.specs.declared.serving.ServeFault.TheVariants as serve
 use Rattle.flow_input.specs.declared.fault.IntakeFault.{IntakeFault}
@@ -32,8 +32,8 @@ module _ (s : State) (frame : List ℕ) where
       by true h = absurd (cc)
       by false h = refl
 
-  pub said-long : None ≡ filing_of frame → said s frame ≡ codes "- NO 90 TooLong\n"
-  unfolding said
+  pub said-long : None ≡ filing_of frame → answer_to s frame ≡ codes "- NO 90 TooLong\n"
+  unfolding answer_to
   said-long h = by (leb (length frame) 2000) h
     where
       by : (b : Bool) → None ≡ (cond b (Some (second frame)) None) → cond b (cond (ltb (length s.journal) s.setup.max_entries) (answer_text (step s (as_input frame)) (length s.journal)) (codes "- NO 91 JournalFull\n")) (codes "- NO 90 TooLong\n") ≡ codes "- NO 90 TooLong\n"
@@ -49,8 +49,8 @@ module _ (s : State) (frame : List ℕ) where
       by true e = let same : second frame ≡ text = cc in rw r (ap (λ (t : FilingView). step s (record { feeder = 0; text = t })) same)
       by false e = absurd (cc)
 
-  pub said-whole : (text : FilingView) → Some text ≡ filing_of frame → ltb (length s.journal) s.setup.max_entries ≡ true → said s frame ≡ answer_text (step s (record { feeder = 0; text = text })) (length s.journal)
-  unfolding said
+  pub said-whole : (text : FilingView) → Some text ≡ filing_of frame → ltb (length s.journal) s.setup.max_entries ≡ true → answer_to s frame ≡ answer_text (step s (record { feeder = 0; text = text })) (length s.journal)
+  unfolding answer_to
   said-whole text h r = by (leb (length frame) 2000) h
     where
       by : (b : Bool) → Some text ≡ (cond b (Some (second frame)) None) → cond b (cond (ltb (length s.journal) s.setup.max_entries) (answer_text (step s (as_input frame)) (length s.journal)) (codes "- NO 91 JournalFull\n")) (codes "- NO 90 TooLong\n") ≡ answer_text (step s (record { feeder = 0; text = text })) (length s.journal)
@@ -66,8 +66,8 @@ module _ (s : State) (frame : List ℕ) where
       by true = rw r refl
       by false = refl
 
-  pub said-full : (text : FilingView) → Some text ≡ filing_of frame → ltb (length s.journal) s.setup.max_entries ≡ false → said s frame ≡ codes "- NO 91 JournalFull\n"
-  unfolding said
+  pub said-full : (text : FilingView) → Some text ≡ filing_of frame → ltb (length s.journal) s.setup.max_entries ≡ false → answer_to s frame ≡ codes "- NO 91 JournalFull\n"
+  unfolding answer_to
   said-full text h r = by (leb (length frame) 2000) h
     where
       by : (b : Bool) → Some text ≡ (cond b (Some (second frame)) None) → cond b (cond (ltb (length s.journal) s.setup.max_entries) (answer_text (step s (as_input frame)) (length s.journal)) (codes "- NO 91 JournalFull\n")) (codes "- NO 90 TooLong\n") ≡ codes "- NO 91 JournalFull\n"
@@ -76,26 +76,26 @@ module _ (s : State) (frame : List ℕ) where
 
 -- ---- lists of frames
 
-output-append : (s : State) (fs gs : List (List ℕ)) → output s (fs ++ gs) ≡ output s fs ++ output (after s fs) gs
-unfolding output after
+output-append : (s : State) (fs gs : List (List ℕ)) → output s (fs ++ gs) ≡ output s fs ++ output (served_all s fs) gs
+unfolding output served_all
 output-append s [] gs = refl
-output-append s (f ∷ fs) gs = ap (λ (bs : List ℕ). said s f ++ bs) (output-append (served s f) fs gs) ∙ sym (append_assoc (said s f) (output (served s f) fs) (output (after (served s f) fs) gs))
+output-append s (f ∷ fs) gs = ap (λ (bs : List ℕ). answer_to s f ++ bs) (output-append (served s f) fs gs) ∙ sym (append_assoc (answer_to s f) (output (served s f) fs) (output (served_all (served s f) fs) gs))
 
-after-append : (s : State) (fs gs : List (List ℕ)) → after s (fs ++ gs) ≡ after (after s fs) gs
-unfolding after
+after-append : (s : State) (fs gs : List (List ℕ)) → served_all s (fs ++ gs) ≡ served_all (served_all s fs) gs
+unfolding served_all
 after-append s [] gs = refl
 after-append s (f ∷ fs) gs = after-append (served s f) fs gs
 
-output-one : (s : State) (f : List ℕ) → output s (f ∷ []) ≡ said s f
+output-one : (s : State) (f : List ℕ) → output s (f ∷ []) ≡ answer_to s f
 unfolding output
-output-one s f = append-nil (said s f)
+output-one s f = append-nil (answer_to s f)
 
-after-one : (s : State) (f : List ℕ) → after s (f ∷ []) ≡ served s f
-unfolding after
+after-one : (s : State) (f : List ℕ) → served_all s (f ∷ []) ≡ served s f
+unfolding served_all
 after-one s f = refl
 
-after-nil : (s : State) → after s [] ≡ s
-unfolding after
+after-nil : (s : State) → served_all s [] ≡ s
+unfolding served_all
 after-nil s = refl
 
 output-nil : (s : State) → output s [] ≡ []
@@ -127,7 +127,7 @@ Stopped-answered first now begun written input rest a =
       others = a.others;
       whole = a.whole;
       one = omega arith;
-      state = a.state ∙ ap (after first) (sym (append-nil a.answered));
+      state = a.state ∙ ap (served_all first) (sym (append-nil a.answered));
       most = AppendsMore-whole begun written (output first a.answered) a.appended;
       front = AppendsFront-whole begun written (output first a.answered) [] (output first (a.answered ++ [])) a.appended (append-nil (output first a.answered) ∙ ap (output first) (sym (append-nil a.answered)));
     }
@@ -161,7 +161,7 @@ Served-both s next last written then now old mid new input some rest a b =
     record {
       frames = a.frames ++ b.frames;
       cutting = λ done whole cut. subst (λ (fs : List (List ℕ)). Cutting fs new whole rest) (append_assoc done a.frames b.frames) (b.cutting (done ++ a.frames) whole (a.cutting done whole cut));
-      state = b.state ∙ ap (λ (t : State). after t b.frames) a.state ∙ sym (after-append s a.frames b.frames);
+      state = b.state ∙ ap (λ (t : State). served_all t b.frames) a.state ∙ sym (after-append s a.frames b.frames);
       appended = subst (λ (bs : List ℕ). Appends written now bs) (ap (λ (t : State). output s a.frames ++ output t b.frames) a.state ∙ sym (output-append s a.frames b.frames))
           (Appends-trans written then now (output s a.frames) (output next b.frames) a.appended b.appended);
     }
@@ -190,7 +190,7 @@ Serving-more first now next begun written then old new input mid rest s more =
     record {
       done = s.done ++ more.frames;
       cutting = more.cutting s.done input s.cutting;
-      state = more.state ∙ ap (λ (t : State). after t more.frames) s.state ∙ sym (after-append first s.done more.frames);
+      state = more.state ∙ ap (λ (t : State). served_all t more.frames) s.state ∙ sym (after-append first s.done more.frames);
       appended = subst (λ (bs : List ℕ). Appends begun then bs) (ap (λ (t : State). output first s.done ++ output t more.frames) s.state ∙ sym (output-append first s.done more.frames))
           (Appends-trans begun written then (output first s.done) (output now more.frames) s.appended more.appended);
     }
@@ -221,7 +221,7 @@ module _ (first now : State) (begun written : Option (List ℕ)) (old : InputVie
       record {
         read = cut.read;
         consumed = cut.consumed;
-        state = s.state ∙ ap (after first) (sym cut.whole);
+        state = s.state ∙ ap (served_all first) (sym cut.whole);
         whole = subst (λ (fs : List (List ℕ)). Appends begun written (output first fs)) (sym cut.whole) s.appended;
       }
 
@@ -232,8 +232,8 @@ module _ (first now : State) (begun written : Option (List ℕ)) (old : InputVie
   pub Served-output : (new : InputView) (rest : Option (List ℕ)) → GaveNone old new mid rest → Agrees new rest → IfSome input (λ bytes. Appends begun written (output first (frames bytes)))
   Served-output new rest f agrees = Cutting-end s.done old input mid s.cutting new rest (λ fs. Appends begun written (output first fs)) f agrees s.appended
 
-  pub Served-state : (new : InputView) (rest : Option (List ℕ)) → GaveNone old new mid rest → Agrees new rest → IfSome input (λ bytes. now ≡ after first (frames bytes))
-  Served-state new rest f agrees = Cutting-end s.done old input mid s.cutting new rest (λ fs. now ≡ after first fs) f agrees s.state
+  pub Served-state : (new : InputView) (rest : Option (List ℕ)) → GaveNone old new mid rest → Agrees new rest → IfSome input (λ bytes. now ≡ served_all first (frames bytes))
+  Served-state new rest f agrees = Cutting-end s.done old input mid s.cutting new rest (λ fs. now ≡ served_all first fs) f agrees s.state
 
   -- and the input isn't too long
   pub Served-within : (new : InputView) (rest : Option (List ℕ)) → GaveNone old new mid rest → Agrees new rest → new.taken ≤ 4000000000 → IfSome input (λ bytes. length bytes ≤ 4000000000)
@@ -241,12 +241,12 @@ module _ (first now : State) (begun written : Option (List ℕ)) (old : InputVie
 
   -- a frame came
   module _ (new : InputView) (rest : Option (List ℕ)) (filing : Option FilingView) (f : GaveFirst filing old new mid rest) where
-    said-one : output first (s.done ++ f.whole.frame ∷ []) ≡ output first s.done ++ said now f.whole.frame
+    said-one : output first (s.done ++ f.whole.frame ∷ []) ≡ output first s.done ++ answer_to now f.whole.frame
     said-one =
         output-append first s.done (f.whole.frame ∷ []) ∙ ap (λ (t : State). output first s.done ++ output t (f.whole.frame ∷ [])) (sym s.state) ∙ ap (λ (bs : List ℕ). output first s.done ++ bs) (output-one now f.whole.frame)
 
-    served-one : served now f.whole.frame ≡ after first (s.done ++ f.whole.frame ∷ [])
-    served-one = ap (λ (t : State). served t f.whole.frame) s.state ∙ sym (after-append first s.done (f.whole.frame ∷ []) ∙ after-one (after first s.done) f.whole.frame)
+    served-one : served now f.whole.frame ≡ served_all first (s.done ++ f.whole.frame ∷ [])
+    served-one = ap (λ (t : State). served t f.whole.frame) s.state ∙ sym (after-append first s.done (f.whole.frame ∷ []) ∙ after-one (served_all first s.done) f.whole.frame)
 
     front-one : CutFront (s.done ++ f.whole.frame ∷ []) input rest
     front-one = CutFront-one s.done old input mid s.cutting new rest filing f
@@ -265,8 +265,8 @@ module _ (first now : State) (begun written : Option (List ℕ)) (old : InputVie
           whole = cut.whole ∙ append_assoc s.done (f.whole.frame ∷ []) cut.others;
           one = omega arith;
           state = did.0 ∙ served-one;
-          most = AppendsMore-front begun written then (output first s.done) (said now f.whole.frame) s.appended did.1;
-          front = AppendsFront-both begun written then (output first s.done) (said now f.whole.frame) (output first (s.done ++ f.whole.frame ∷ [])) s.appended did.1 (sym said-one);
+          most = AppendsMore-front begun written then (output first s.done) (answer_to now f.whole.frame) s.appended did.1;
+          front = AppendsFront-both begun written then (output first s.done) (answer_to now f.whole.frame) (output first (s.done ++ f.whole.frame ∷ [])) s.appended did.1 (sym said-one);
         }
 
     -- or it wasn't served

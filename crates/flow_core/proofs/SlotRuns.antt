@@ -31,7 +31,7 @@ use Rattle.flow_slots.proofs.Served.{all-in, in-all, in-right, planned, in-slot_
 use Rattle.flow_slots.proofs.Sound.{served, none_twice, held_within, held_number}
 use Rattle.flow_slots.proofs.StaysSound.{BySlot-insert, FixedApart-insert, all-insert_fixed, sound-insert}
 use Rattle.flow_regulations.specs.Regulations.{Regulation, subject_to, has_flight, with_entry, waiting_from, lineup_of}
-use Rattle.flow_regulations.specs.Settling.{keeps_pair, kept, is_due_flight, insert_all, assigned_around, settled, pairs_of, frozen_at_departure}
+use Rattle.flow_regulations.specs.Settling.{keeps_pair, kept_pairs, is_due_flight, insert_all, assigned_around, settled, pairs_of, frozen_at_departure}
 use Rattle.flow_regulations.proofs.FixedOnes.{all-map}
 use Rattle.flow_regulations.proofs.ForTheDesk.{all-last}
 use Rattle.flow_regulations.proofs.Subjects.{subject-within}
@@ -209,7 +209,7 @@ served-may l s =
 settled-fit : (max taxi now : ℕ) (plans : List PlanView) (r : Regulation) → length plans ≤ max → IsFit max r → IsFit max (settled taxi now plans r)
 unfolding settled
 settled-fit max taxi now plans r few fit =
-    let fixed = kept taxi now plans r in
+    let fixed = kept_pairs taxi now plans r in
     let left = kept-left max r.period (keeps_pair taxi now plans r) r.fixed fit.kept in
     let l = around max r fixed (waiting_from 1 taxi r fixed plans) in
     let sound = waiting-sound max taxi 1 r fixed plans (omega arith) (omega arith) fit.regular left in

@@ -1,6 +1,7 @@
 -- How a core stores the state.
 use Rattle.std.specs.Prelude.{◌≡◌, ◌≤◌, ◌<◌, ◌+◌, ◌-◌, List, [], ◌∷◌, ◌++◌, map, length, take, ℕ, Bool, true, Some}
 use Rattle.std.specs.List.{AllByRecursion}
+use Rattle.fpl_message.specs.Filings.{FilingView}
 use Rattle.fpl_message.specs.Reads.{ReadingView, reading_of}
 use Rattle.flow_plans.specs.Settings.{SetupView}
 use Rattle.flow_traffic.specs.Traffic.{Traffic, TrafficView}
@@ -18,6 +19,10 @@ use Rattle.flow_plans.specs.declared.setup.TheConstants.{MAX_ENTRIES}
 
 abbrev pub inputs : List EntryView → List Input
 inputs journal = map (λ e. e.input) journal
+
+-- the texts of entries
+abbrev pub texts_of : List EntryView → List FilingView
+texts_of entries = map (λ (e : EntryView). e.input.text) entries
 
 -- the state in these fields is that of the run
 pub record IsRun (s : State) : Type 0 where

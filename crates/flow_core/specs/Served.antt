@@ -15,8 +15,8 @@ unfoldable pub served : State → List ℕ → State
 served s frame = if nat_le (length frame) MAX_BYTES then (if nat_lt (length s.journal) s.setup.max_entries then step s (as_input frame) else s) else s
 
 -- and what is written for it
-unfoldable pub said : State → List ℕ → List ℕ
-said s frame =
+unfoldable pub answer_to : State → List ℕ → List ℕ
+answer_to s frame =
     if nat_le (length frame) MAX_BYTES
     then (if nat_lt (length s.journal) s.setup.max_entries then answer_text (step s (as_input frame)) (length s.journal) else journal_full_line)
     else too_long_line
@@ -24,8 +24,8 @@ said s frame =
 -- what is written for some frames, and the state after them
 unfoldable pub output : State → List (List ℕ) → List ℕ
 output s [] = []
-output s (f ∷ fs) = said s f ++ output (served s f) fs
+output s (f ∷ fs) = answer_to s f ++ output (served s f) fs
 
-unfoldable pub after : State → List (List ℕ) → State
-after s [] = s
-after s (f ∷ fs) = after (served s f) fs
+unfoldable pub served_all : State → List (List ℕ) → State
+served_all s [] = s
+served_all s (f ∷ fs) = served_all (served s f) fs

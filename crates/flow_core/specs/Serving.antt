@@ -11,7 +11,7 @@ use Rattle.flow_input.specs.Source.{counted_up}
 use Rattle.flow_input.specs.declared.fault.IntakeFault.{IntakeFault}
 use Rattle.flow_input.specs.declared.fault.IntakeFault.TheVariants as intake
 use Rattle.flow_core.specs.State.{State}
-use Rattle.flow_core.specs.Served.{served, said, output, after}
+use Rattle.flow_core.specs.Served.{served, answer_to, output, served_all}
 use Rattle.flow_core.specs.declared.serving.ServeFault.{ServeFault}
 use Rattle.flow_core.specs.declared.serving.ServeFault.TheVariants as fault
 
@@ -29,7 +29,7 @@ pub record Stopped (first now : State) (begun written : Option (List ℕ)) (inpu
   pub others : List (List ℕ)
   pub whole : frames read ≡ answered ++ (last ++ others)
   pub one : length last ≤ 1
-  pub state : now ≡ after first (answered ++ last)
+  pub state : now ≡ served_all first (answered ++ last)
   pub most : AppendsMore begun written (output first answered)
   pub front : AppendsFront begun written (output first (answered ++ last))
 
@@ -41,7 +41,7 @@ pub record Answered (first now : State) (begun written : Option (List ℕ)) (inp
   pub answered : List (List ℕ)
   pub others : List (List ℕ)
   pub whole : frames read ≡ answered ++ others
-  pub state : now ≡ after first answered
+  pub state : now ≡ served_all first answered
   pub appended : Appends begun written (output first answered)
 
 -- it stopped since the reader failed: exactly the frames that had ended in the bytes read were
@@ -49,7 +49,7 @@ pub record Answered (first now : State) (begun written : Option (List ℕ)) (inp
 pub record Starved (first now : State) (begun written : Option (List ℕ)) (input rest : Option (List ℕ)) : Type 0 where
   pub read : List ℕ
   pub consumed : Consumes input rest read
-  pub state : now ≡ after first (ended_frames read)
+  pub state : now ≡ served_all first (ended_frames read)
   pub whole : Appends begun written (output first (ended_frames read))
 
 -- the fault of serving for one of taking a frame
@@ -79,11 +79,11 @@ writer_failures (Err fault.OutOfMemory) before = before
 
 -- whatever frame this is the filing of, it was served, and its output was appended
 abbrev pub AnswersFrame : Option FilingView → State → State → Option (List ℕ) → Option (List ℕ) → Type 0
-AnswersFrame filing old new before now = (frame : List ℕ) → filing ≡ filing_of frame → (new ≡ served old frame) × Appends before now (said old frame)
+AnswersFrame filing old new before now = (frame : List ℕ) → filing ≡ filing_of frame → (new ≡ served old frame) × Appends before now (answer_to old frame)
 
 -- it was served, and a prefix of its output was appended
 abbrev pub AnswersPart : Option FilingView → State → State → Option (List ℕ) → Option (List ℕ) → Type 0
-AnswersPart filing old new before now = (frame : List ℕ) → filing ≡ filing_of frame → (new ≡ served old frame) × AppendsFront before now (said old frame)
+AnswersPart filing old new before now = (frame : List ℕ) → filing ≡ filing_of frame → (new ≡ served old frame) × AppendsFront before now (answer_to old frame)
 
 -- ---- in the middle of serving
 
@@ -92,7 +92,7 @@ AnswersPart filing old new before now = (frame : List ℕ) → filing ≡ filing
 pub record Serving (first now : State) (begun written : Option (List ℕ)) (ahead : InputView) (input rest : Option (List ℕ)) : Type 0 where
   pub done : List (List ℕ)
   pub cutting : Cutting done ahead input rest
-  pub state : now ≡ after first done
+  pub state : now ≡ served_all first done
   pub appended : Appends begun written (output first done)
 
 -- frames were taken from the beginning of what is unread, they were served, and their output was
@@ -100,7 +100,7 @@ pub record Serving (first now : State) (begun written : Option (List ℕ)) (ahea
 pub record ServedMore (old new : State) (before now : Option (List ℕ)) (ahead left : InputView) (mid rest : Option (List ℕ)) : Type 0 where
   pub frames : List (List ℕ)
   pub cutting : (done : List (List ℕ)) (input : Option (List ℕ)) → Cutting done ahead input mid → Cutting (done ++ frames) left input rest
-  pub state : new ≡ after old frames
+  pub state : new ≡ served_all old frames
   pub appended : Appends before now (output old frames)
 
 -- serving has come this far, and the rest of the input is unchanged

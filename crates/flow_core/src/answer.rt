@@ -31,19 +31,21 @@ pub fn journal_full_line() -> &'static [u8]
     b"- NO 91 JournalFull\n"
 }
 
-/// The part of an accepted filing's answer that precedes the plan.
-fn accepted_text(kind: Kind) -> &'static [u8]
-    ensures text { result.now ≡ codes " OK " ++ kind_text kind }
-    ensures short { length result.now ≤ 8 }
+/// Appends the part of an accepted filing's answer that precedes the plan. A text whose length is
+/// known when it is compiled is written without a call.
+fn put_accepted(line: &mut Line, kind: Kind)
+    requires { array_vec_len line.old + 8 ≤ 192 }
+    ensures items { line.new.items ≡ line.old.items ++ (codes " OK " ++ kind_text kind) }
+    ensures len { array_vec_len line.new ≤ array_vec_len line.old + 8 }
 {
     match kind {
-        Kind::Fpl => b" OK FPL",
-        Kind::Dla => b" OK DLA",
-        Kind::Chg => b" OK CHG",
-        Kind::Cnl => b" OK CNL",
-        Kind::Open => b" OK OPEN",
-        Kind::Shut => b" OK SHUT",
-        Kind::Time => b" OK TIME",
+        Kind::Fpl => put(line, b" OK FPL"),
+        Kind::Dla => put(line, b" OK DLA"),
+        Kind::Chg => put(line, b" OK CHG"),
+        Kind::Cnl => put(line, b" OK CNL"),
+        Kind::Open => put(line, b" OK OPEN"),
+        Kind::Shut => put(line, b" OK SHUT"),
+        Kind::Time => put(line, b" OK TIME"),
     }
 }
 
@@ -94,7 +96,7 @@ fn put_verdict(line: &mut Line, verdict: Verdict)
 {
     match verdict {
         Verdict::Accepted { kind, plan } => {
-            put(line, accepted_text(kind));
+            put_accepted(line, kind);
             put_plan(line, plan);
         }
         Verdict::Departed { plan, window } => {

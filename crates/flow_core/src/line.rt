@@ -9,6 +9,7 @@ use itoa::Buffer;
 pub(crate) type Line = ArrayVec<u8, 192>;
 
 /// Appends a text to a line that has the capacity.
+#[inline(always)]
 pub(crate) fn put(line: &mut Line, text: &[u8])
     requires { array_vec_len line.old + length text.now ≤ 192 }
     ensures items { line.new.items ≡ line.old.items ++ text.now }

@@ -60,8 +60,8 @@ pub record Filed (setup : SetupView) (p : PassView) (text : FilingView) (r : Rec
 
 -- the pass p as it is when it has seen all of this history, and has a receipt for each entry of its
 -- feeder
-abbrev pub shown : PassView → List EntryView → PassView
-shown p es = record p { receipts = length (own p.feeder es); seen = es }
+abbrev pub having_seen : PassView → List EntryView → PassView
+having_seen p es = record p { receipts = length (own p.feeder es); seen = es }
 
 -- filed when p had seen the whole history: nobody else's entry came between
 pub record FiledNext (setup : SetupView) (p : PassView) (text : FilingView) (r : Receipt) (q : PassView) : Type 0 where

@@ -1,6 +1,6 @@
 -- The held slots of a regulation, by number.
-use Rattle.std.specs.Prelude.{ℕ, zero, suc, ◌+◌, Bool, true, false, List, [], ◌∷◌, ◌++◌, Option, Some, None}
-use Rattle.std.specs.Option.{option_map}
+use Rattle.std.specs.Prelude.{ℕ, zero, suc, ◌+◌, List, [], ◌∷◌, ◌++◌, Option, Some, None}
+use Rattle.std.specs.Option.{option_map, is_some}
 use Rattle.flow_plans.specs.Settings.{SetupView}
 use Rattle.flow_slots.specs.Period.{slot_time}
 use Rattle.flow_slots.specs.Lineup.{Lineup, len_of, held_flight, fixed_slot}
@@ -9,15 +9,10 @@ use Rattle.flow_core.specs.State.{EntryView}
 use Rattle.flow_desk.specs.declared.slots.SlotRow.{SlotRow}
 use Rattle.flow_desk.specs.Histories.{after}
 
--- whether a flight has a frozen slot
-abbrev pub is_listed : Option ℕ → Bool
-is_listed None = false
-is_listed (Some slot) = true
-
 -- the slot of this number, if a flight holds it
 abbrev pub held_at : Lineup → ℕ → Option ℕ → List SlotRow
 held_at l slot None = []
-held_at l slot (Some flight) = record { slot = slot; at = slot_time l.period slot; plan = flight; frozen = is_listed (fixed_slot l flight) } ∷ []
+held_at l slot (Some flight) = record { slot = slot; at = slot_time l.period slot; plan = flight; frozen = is_some (fixed_slot l flight) } ∷ []
 
 -- the held ones among `count` slots from this one on
 abbrev pub held_from : Lineup → ℕ → ℕ → List SlotRow

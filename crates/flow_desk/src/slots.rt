@@ -1,10 +1,10 @@
 //! The held slots of a regulation, by number.
 ghost use Rattle.std.specs.Prelude.{◌≡◌, ◌++◌, IfOk, OnOk};
-ghost use Rattle.std.specs.Option.{option_map};
+ghost use Rattle.std.specs.Option.{option_map, is_some};
 ghost use Rattle.flow_slots.specs.Lineup.{held_flight, fixed_slot};
 ghost use Rattle.flow_traffic.specs.Traffic.{slots_of};
 ghost use Rattle.flow_core.specs.History.{state_of};
-ghost use Rattle.flow_desk.specs.Slots.{is_listed, held_at, held_slots};
+ghost use Rattle.flow_desk.specs.Slots.{held_at, held_slots};
 
 use flow_core::Core;
 use flow_slots::SlotList;
@@ -26,7 +26,7 @@ pub struct SlotRow {
 
 /// Whether a flight has a frozen slot.
 fn is_frozen<A: Allocator + Copy>(list: &SlotList<A>, flight: u32) -> bool
-    ensures { result ≡ is_listed (fixed_slot list.now.lineup flight) }
+    ensures { result ≡ is_some (fixed_slot list.now.lineup flight) }
 {
     list.is_fixed(flight)
 }

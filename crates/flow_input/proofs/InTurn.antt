@@ -8,7 +8,7 @@ use Rattle.flow_input.specs.declared.intake.Frame.TheVariants.{Whole}
 use Rattle.flow_input.specs.declared.fault.IntakeFault.{IntakeFault}
 use Rattle.flow_input.specs.Frames.{Cut, first_cut, frames}
 use Rattle.flow_input.specs.Reader.{InputView}
-use Rattle.flow_input.specs.NextFrame.{Gives, Misses, filing_in, filing_of}
+use Rattle.flow_input.specs.NextFrame.{GivesFrame, Misses, filing_in, filing_of}
 use Rattle.flow_input.specs.Source.{IsFirst, CutsFirst, SameTotal}
 use Rattle.flow_input.specs.InTurn.{filings_of, IsNext, GivesNext, AnswerInTurn, EndsWithin}
 use Rattle.flow_input.proofs.FrameLists.{frames-some, frames-none}
@@ -56,7 +56,7 @@ EndsWithin-ok A (Err e) n m before after c t h = tt
 EndsWithin-ok A (Ok frame) n m before after c t h = EndsWithin-total frame n m before after c t h
 
 -- the same number of bytes
-SameTotal-given : (A : Type 0) (frame : Option (Frame A)) (old new : InputView) (before after : Option (List ℕ)) → Gives frame old new before after → SameTotal old.taken (prepend_known old.unread before) new.taken (prepend_known new.unread after)
+SameTotal-given : (A : Type 0) (frame : Option (Frame A)) (old new : InputView) (before after : Option (List ℕ)) → GivesFrame frame old new before after → SameTotal old.taken (prepend_known old.unread before) new.taken (prepend_known new.unread after)
 SameTotal-given A frame old new None after f = tt
 SameTotal-given A None old new (Some xs) None f = absurd f.consumed
 SameTotal-given A (Some frame) old new (Some xs) None f = absurd f.consumed
@@ -65,7 +65,7 @@ SameTotal-given A None old new (Some xs) (Some ys) f =
 SameTotal-given A (Some frame) old new (Some xs) (Some ys) f =
     omega (arith, f.count, ap length f.consumed, length-append f.came ys, length-append old.unread xs, length-append new.unread ys)
 
-pub SameTotal-ok : (A : Type 0) (r : Result (Option (Frame A)) IntakeFault) (old new : InputView) (before after left : Option (List ℕ)) (taken : ℕ) → IfOk r (λ frame. Gives frame old new before after) → prepend_known old.unread before ≡ left → old.taken ≡ taken
+pub SameTotal-ok : (A : Type 0) (r : Result (Option (Frame A)) IntakeFault) (old new : InputView) (before after left : Option (List ℕ)) (taken : ℕ) → IfOk r (λ frame. GivesFrame frame old new before after) → prepend_known old.unread before ≡ left → old.taken ≡ taken
     → OnOk r (SameTotal taken left new.taken (prepend_known new.unread after))
 SameTotal-ok A (Err e) old new before after left taken f is at = f
 SameTotal-ok A (Ok frame) old new before after left taken f is at = rw (← is, ← at) (SameTotal-given A frame old new before after f)

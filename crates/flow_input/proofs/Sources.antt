@@ -6,7 +6,7 @@ use Rattle.flow_input.specs.declared.intake.Frame.TheVariants.{Whole}
 use Rattle.flow_input.specs.declared.fault.IntakeFault.{IntakeFault}
 use Rattle.flow_input.specs.Frames.{first_cut}
 use Rattle.flow_input.specs.Reader.{InputView, Agrees}
-use Rattle.flow_input.specs.NextFrame.{GaveFirst, GaveNone, Gives, Misses, filing_in}
+use Rattle.flow_input.specs.NextFrame.{GaveFirst, GaveNone, GivesFrame, Misses, filing_in}
 use Rattle.flow_input.specs.Source.{IsFirst, CutsFirst, MissesFirst}
 use Rattle.flow_input.proofs.FrameLists.{extended, first_cut-more}
 
@@ -29,7 +29,7 @@ none-known A old new xs ys f agrees =
     let old-is : old.unread ++ xs ≡ old.unread ++ f.came = known old.unread xs f.came ys f.consumed ∙ ap (λ (bs : List ℕ). (old.unread ++ f.came) ++ bs) end.1 ∙ append-nil (old.unread ++ f.came) in
     (ap first_cut old-is ∙ f.is, ap (λ (bs : List ℕ). bs ++ ys) end.0 ∙ end.1)
 
-pub CutsFirst-given : (A : Type 0) (frame : Option (Frame A)) (old new : InputView) (before after : Option (List ℕ)) → Gives frame old new before after → Agrees new after
+pub CutsFirst-given : (A : Type 0) (frame : Option (Frame A)) (old new : InputView) (before after : Option (List ℕ)) → GivesFrame frame old new before after → Agrees new after
     → CutsFirst frame (prepend_known old.unread before) (prepend_known new.unread after)
 CutsFirst-given A frame old new None after f agrees = tt
 CutsFirst-given A None old new (Some xs) None f agrees = absurd f.consumed
@@ -37,7 +37,7 @@ CutsFirst-given A (Some frame) old new (Some xs) None f agrees = absurd f.consum
 CutsFirst-given A None old new (Some xs) (Some ys) f agrees = none-known A old new xs ys f agrees
 CutsFirst-given A (Some frame) old new (Some xs) (Some ys) f agrees = first-known frame old new xs ys new.ended refl f agrees
 
-pub CutsFirst-ok : (A : Type 0) (r : Result (Option (Frame A)) IntakeFault) (old new : InputView) (before after left : Option (List ℕ)) → IfOk r (λ frame. Gives frame old new before after) → OnOk r (Agrees new after) → prepend_known old.unread before ≡ left
+pub CutsFirst-ok : (A : Type 0) (r : Result (Option (Frame A)) IntakeFault) (old new : InputView) (before after left : Option (List ℕ)) → IfOk r (λ frame. GivesFrame frame old new before after) → OnOk r (Agrees new after) → prepend_known old.unread before ≡ left
     → IfOk r (λ frame. CutsFirst frame left (prepend_known new.unread after))
 CutsFirst-ok A (Err e) old new before after left f agrees is = f
 CutsFirst-ok A (Ok frame) old new before after left f agrees is = rw (← is) (CutsFirst-given A frame old new before after f agrees)

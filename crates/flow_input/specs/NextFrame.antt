@@ -59,9 +59,9 @@ Cuts false kept old new before after = GaveNone old new before after
 Cuts true kept old new before after = GaveFirst (filing_kept kept) old new before after
 
 -- what a call for a frame returns, and leaves
-abbrev pub Gives : {A : Type 0} → Option (Frame A) → InputView → InputView → Option (List ℕ) → Option (List ℕ) → Type 0
-Gives None old new before after = GaveNone old new before after
-Gives (Some frame) old new before after = GaveFirst (filing_in frame) old new before after
+abbrev pub GivesFrame : {A : Type 0} → Option (Frame A) → InputView → InputView → Option (List ℕ) → Option (List ℕ) → Type 0
+GivesFrame None old new before after = GaveNone old new before after
+GivesFrame (Some frame) old new before after = GaveFirst (filing_in frame) old new before after
 
 -- a frame that isn't too long was taken, but its filing isn't returned
 abbrev pub Misses : InputView → InputView → Option (List ℕ) → Option (List ℕ) → Type 0

@@ -4,7 +4,8 @@ ghost use Rattle.std.specs.Prelude.{None, false, length, IfErr, IfOk};
 ghost use Rattle.std.specs.Prelude.{IfNone, IfSome, IsOkAnd, OnErr, OnOk};
 ghost use Rattle.std.specs.Prelude.{IsErrOf, Err, IsTrue, IsNone, ◌-◌};
 ghost use Rattle.flow_input.specs.InTurn.{EndsWithin, GivesNext};
-ghost use Rattle.flow_input.specs.NextFrame.{Cuts, Gives, Misses, Starves, filing_in, filing_kept};
+ghost use Rattle.flow_input.specs.NextFrame.{Cuts, GivesFrame, Misses, Starves};
+ghost use Rattle.flow_input.specs.NextFrame.{filing_in, filing_kept};
 ghost use Rattle.flow_input.specs.Source.{CutsFirst, KeepsTotal, MissesFirst, failures_after};
 ghost use Rattle.flow_input.specs.Reader.{Agrees, Came, CameTooMuch, Finished, Unfinished};
 ghost use Rattle.flow_input.specs.declared.input.TheConstants.{MAX_INPUT};
@@ -50,7 +51,7 @@ fn next_frame<R: Read, A: Allocator + Copy>(
 ) -> Result<Option<Frame<A>>, IntakeFault>
     requires { Agrees input.old (R.remaining reader.old.device) }
     ensures gives { IfOk result (λ frame.
-        Gives frame input.old input.new (R.remaining reader.old.device)
+        GivesFrame frame input.old input.new (R.remaining reader.old.device)
         (R.remaining reader.new.device)) }
     ensures ended { IsTrue input.old.ended → IfOk result (λ frame. IsNone frame) }
     ensures unchanged { IsTrue input.old.ended → (input.new ≡ input.old) × (reader.new

@@ -14,7 +14,7 @@ use Rattle.flow_desk.specs.Histories.{after, IsLawful}
 use Rattle.flow_desk.specs.FeederPasses.{PassView, FiledInTurn, FiledFront}
 use Rattle.flow_desk.proofs.Collecting.{answer-early}
 use Rattle.flow_desk.proofs.Fronts.{prefix_self, prefix_trans}
-use Rattle.flow_live.specs.Told.{full_lines}
+use Rattle.flow_live.specs.Told.{full_answers}
 use Rattle.flow_live.specs.Keeping.{AnswersOnly, AnswersSeen, IsPiece}
 use Rattle.flow_live.proofs.Followings.{answers-plain}
 
@@ -42,10 +42,10 @@ module _ (s : SetupView) (stored : List EntryView) where
   pub only-too_long : AnswersOnly s stored (too_long_line ++ 10 ∷ [])
   only-too_long = only-both too_long_line (10 ∷ []) (only-one too_long_line (inr (inl refl))) only-empty_line
 
-  pub only-full : (n : ℕ) → AnswersOnly s stored (full_lines n)
+  pub only-full : (n : ℕ) → AnswersOnly s stored (full_answers n)
   only-full zero = only-none
   only-full (suc n) =
-      only-both (journal_full_line ++ 10 ∷ []) (full_lines n) (only-both journal_full_line (10 ∷ []) (only-one journal_full_line (inr (inr (inl refl)))) only-empty_line) (only-full n)
+      only-both (journal_full_line ++ 10 ∷ []) (full_answers n) (only-both journal_full_line (10 ∷ []) (only-one journal_full_line (inr (inr (inl refl)))) only-empty_line) (only-full n)
 
   -- the answers to some of them
   pub only-answers : (end : List ℕ) → AnswersOnly s stored end → (es : List EntryView) → All (Contains stored) es → AnswersOnly s stored (answers_with end (after s stored) es)

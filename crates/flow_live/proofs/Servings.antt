@@ -13,6 +13,7 @@ use Rattle.flow_input.specs.NextFrame.{second, filing_of}
 use Rattle.flow_input.specs.Filings.{filings}
 use Rattle.flow_input.proofs.Filings.{filings-append, one-whole, one-long, is-long, is-whole, whole-is}
 use Rattle.flow_core.specs.State.{EntryView}
+use Rattle.flow_core.specs.CoreView.{texts_of}
 use Rattle.flow_core.specs.Output.{answer_of, too_long_line}
 use Rattle.flow_desk.specs.Followers.{newest_entries, newest_answers, answers_with}
 use Rattle.flow_desk.specs.Histories.{own, after, IsLawful}
@@ -20,7 +21,7 @@ use Rattle.flow_desk.specs.FeederPasses.{PassView, SawOthers, FiledInTurn, Filed
 use Rattle.flow_desk.proofs.Collecting.{answer-early}
 use Rattle.flow_desk.proofs.Fronts.{prefix_self, prefix_trans, prefix_length}
 use Rattle.flow_desk.proofs.Owning.{own-append, own-snoc}
-use Rattle.flow_live.specs.Told.{told, texts, full_lines}
+use Rattle.flow_live.specs.Told.{told, full_answers}
 use Rattle.flow_live.specs.Feeding.{Serves, Prepares, TakesNext}
 use Rattle.flow_live.proofs.Tolds.{told-none, told-long, told-whole, told-front, told-same, told-filings}
 
@@ -32,7 +33,7 @@ record Entered (s : SetupView) (p : PassView) (ts : List FilingView) (q : PassVi
   seen : q.seen ≡ p.seen ++ entries
   feeder : q.feeder ≡ p.feeder
   own_are : own p.feeder entries ≡ entries
-  texts_are : texts entries ≡ ts
+  texts_are : texts_of entries ≡ ts
   full : s.max_entries ≤ length p.seen → entries ≡ []
 
 own-cons : (k : ℕ) (e : EntryView) (es : List EntryView) → e.input.feeder ≡ k → own k es ≡ es → own k (e ∷ es) ≡ e ∷ es
@@ -95,10 +96,10 @@ told-later s q r k front es fs p lawful are =
 
 -- ---- frames that were answered
 
-texts-length : (es : List EntryView) → length (texts es) ≡ length es
+texts-length : (es : List EntryView) → length (texts_of es) ≡ length es
 texts-length es = length-map es (λ (e : EntryView). e.input.text)
 
-texts-append : (es fs : List EntryView) → texts (es ++ fs) ≡ texts es ++ texts fs
+texts-append : (es fs : List EntryView) → texts_of (es ++ fs) ≡ texts_of es ++ texts_of fs
 texts-append es fs = map-append (λ (e : EntryView). e.input.text) es fs
 
 -- none were, though others' entries were seen
@@ -133,7 +134,7 @@ Serves-none s p lawful = record {
 
 -- the first entries, those of a feeder, have no more filings than their frames
 fits : (s : SetupView) (p q : PassView) (done : List (List ℕ)) (text : List ℕ) (h : Serves s p done q text) → length h.entries ≤ length (filings done)
-fits s p q done text h = omega (arith, prefix_length (texts h.entries) (filings done) h.front, texts-length h.entries)
+fits s p q done text h = omega (arith, prefix_length (texts_of h.entries) (filings done) h.front, texts-length h.entries)
 
 room-or : (m n : ℕ) → (m < n) ⊎ (n ≤ m)
 room-or m n = by (nat_lt m n) refl
@@ -146,8 +147,8 @@ module _ (s : SetupView) (p q r : PassView) (done more : List (List ℕ)) (text 
   still-told : told (after s r.seen) done a.entries ≡ text
   still-told = told-later s q.seen r.seen q.feeder (own p.feeder p.seen) a.entries done b.later b.lawful a.own_are ∙ sym a.text_is
 
-  both-whole : length q.seen < s.max_entries → texts (a.entries ++ b.entries) ≡ filings done ++ texts b.entries
-  both-whole room = texts-append a.entries b.entries ∙ ap (λ (ts : List FilingView). ts ++ texts b.entries) (a.whole room)
+  both-whole : length q.seen < s.max_entries → texts_of (a.entries ++ b.entries) ≡ filings done ++ texts_of b.entries
+  both-whole room = texts-append a.entries b.entries ∙ ap (λ (ts : List FilingView). ts ++ texts_of b.entries) (a.whole room)
 
   both-own : own r.feeder r.seen ≡ own p.feeder p.seen ++ (a.entries ++ b.entries)
   both-own = b.own_are ∙ (ap (λ (es : List EntryView). es ++ b.entries) a.own_are ∙ append_assoc (own p.feeder p.seen) a.entries b.entries)
@@ -164,7 +165,7 @@ module _ (s : SetupView) (p q r : PassView) (done more : List (List ℕ)) (text 
     lawful = b.lawful;
     front = (
       b.front.0,
-      ap (λ (ts : List FilingView). ts ++ b.front.0) (both-whole room) ∙ (append_assoc (filings done) (texts b.entries) b.front.0 ∙ (ap (λ (ts : List FilingView). filings done ++ ts) b.front.1 ∙ sym (filings-append done more))),
+      ap (λ (ts : List FilingView). ts ++ b.front.0) (both-whole room) ∙ (append_assoc (filings done) (texts_of b.entries) b.front.0 ∙ (ap (λ (ts : List FilingView). filings done ++ ts) b.front.1 ∙ sym (filings-append done more))),
     );
     whole = λ left. both-whole room ∙ (ap (λ (ts : List FilingView). filings done ++ ts) (b.whole left) ∙ sym (filings-append done more));
     full = λ most. absurd (omega (arith, most, room, prefix_length p.seen q.seen a.later));
@@ -183,7 +184,7 @@ module _ (s : SetupView) (p q r : PassView) (done more : List (List ℕ)) (text 
         lawful = b.lawful;
         front = (
           a.front.0 ++ filings more,
-          sym (append_assoc (texts a.entries) a.front.0 (filings more)) ∙ (ap (λ (ts : List FilingView). ts ++ filings more) a.front.1 ∙ sym (filings-append done more)),
+          sym (append_assoc (texts_of a.entries) a.front.0 (filings more)) ∙ (ap (λ (ts : List FilingView). ts ++ filings more) a.front.1 ∙ sym (filings-append done more)),
         );
         whole = λ left. absurd (omega (arith, most, left, prefix_length q.seen r.seen b.later));
         full = a.full;
@@ -223,14 +224,14 @@ Serves-long s p q done text frame none h =
 
 module _ (s : SetupView) (p q : PassView) (waiting : List (List ℕ)) (ready left : List FilingView) (h : FiledFront s p ready q left) (are : filings waiting ≡ ready) (each : length ready ≡ length waiting) where
   -- what was filed of it, and what its answers are
-  pub Serves-batch : IsLawful s q.seen → (length q.seen < s.max_entries → left ≡ []) → Serves s p waiting q (newest_answers s (length ready - length left) (10 ∷ []) q.seen ++ full_lines (length left))
+  pub Serves-batch : IsLawful s q.seen → (length q.seen < s.max_entries → left ≡ []) → Serves s p waiting q (newest_answers s (length ready - length left) (10 ∷ []) q.seen ++ full_answers (length left))
   Serves-batch lawful last =
       let saw : PassView = h.saw in
       let e = entered s saw h.front q h.filed in
       let es : List EntryView = e.entries in
-      let front_is : texts es ++ left ≡ filings waiting = ap (λ (ts : List FilingView). ts ++ left) e.texts_are ∙ (h.texts_are ∙ sym are) in
+      let front_is : texts_of es ++ left ≡ filings waiting = ap (λ (ts : List FilingView). ts ++ left) e.texts_are ∙ (h.texts_are ∙ sym are) in
       let many : length ready ≡ length es + length left =
-      sym (ap (λ (ts : List FilingView). length ts) (front_is ∙ are)) ∙ (length-append (texts es) left ∙ ap (λ (n : ℕ). n + length left) (texts-length es)) in
+      sym (ap (λ (ts : List FilingView). length ts) (front_is ∙ are)) ∙ (length-append (texts_of es) left ∙ ap (λ (n : ℕ). n + length left) (texts-length es)) in
       let seen_many : length q.seen ≡ length saw.seen + length es = ap (λ (ls : List EntryView). length ls) e.seen ∙ length-append saw.seen es in
       let index : length q.seen - (length ready - length left) ≡ length saw.seen = omega (arith, many, seen_many) in
       let newest_is : newest_entries (length ready - length left) q.seen ≡ es = ap (λ (n : ℕ). drop n q.seen) index ∙ (ap (λ (ls : List EntryView). drop (length saw.seen) ls) e.seen ∙ drop-append_seam saw.seen es) in
@@ -242,9 +243,9 @@ module _ (s : SetupView) (p q : PassView) (waiting : List (List ℕ)) (ready lef
             ∙ (ap (λ (ls : List EntryView). own saw.feeder saw.seen ++ ls) e.own_are ∙ ap (λ (ls : List EntryView). ls ++ es) h.others.none_own)));
         lawful = lawful;
         front = (left, front_is);
-        whole = λ room. sym (append-nil (texts es)) ∙ (ap (λ (ts : List FilingView). texts es ++ ts) (sym (last room)) ∙ front_is);
+        whole = λ room. sym (append-nil (texts_of es)) ∙ (ap (λ (ts : List FilingView). texts_of es ++ ts) (sym (last room)) ∙ front_is);
         full = λ most. e.full (omega (arith, most, prefix_length p.seen saw.seen h.others.more.later));
-        text_is = ap (λ (ls : List EntryView). answers_with (10 ∷ []) (after s q.seen) ls ++ full_lines (length left)) newest_is
+        text_is = ap (λ (ls : List EntryView). answers_with (10 ∷ []) (after s q.seen) ls ++ full_answers (length left)) newest_is
             ∙ sym (told-filings (after s q.seen) waiting es (length left) (ap (λ (ts : List FilingView). length ts) are ∙ each) (omega (arith, many, each)));
       }
 
@@ -279,9 +280,9 @@ module _ (s : SetupView) (p q : PassView) (done : List (List ℕ)) (text : List 
 
   -- those that were ready were filed
   pub Prepares-filed : (r : PassView) (left : List FilingView) → FiledFront s q ready r left → IsLawful s r.seen → (length r.seen < s.max_entries → left ≡ [])
-      → Serves s p done r (text ++ (newest_answers s (length ready - length left) (10 ∷ []) r.seen ++ full_lines (length left)))
+      → Serves s p done r (text ++ (newest_answers s (length ready - length left) (10 ∷ []) r.seen ++ full_answers (length left)))
   Prepares-filed r left filed lawful last =
-      let next : List ℕ = newest_answers s (length ready - length left) (10 ∷ []) r.seen ++ full_lines (length left) in
+      let next : List ℕ = newest_answers s (length ready - length left) (10 ∷ []) r.seen ++ full_answers (length left) in
       subst (λ (fs : List (List ℕ)). Serves s p fs r (text ++ next)) (sym h.done_is)
       (Serves-then s p q r h.answered h.waiting text next h.served (Serves-batch s q r h.waiting ready left filed h.ready_is h.each lawful last))
 
@@ -305,19 +306,19 @@ pub filed-all : (s : SetupView) (p q r : PassView) (done : List (List ℕ)) (tex
     → longer ≡ text ++ newest_answers s (length ready - length left) (10 ∷ []) r.seen → Serves s p done r longer
 filed-all s p q r done text ready left longer h filed lawful none are =
     let collected : List ℕ = newest_answers s (length ready - length left) (10 ∷ []) r.seen in
-    let same : text ++ (collected ++ full_lines (length left)) ≡ longer =
-    ap (λ (n : ℕ). text ++ (collected ++ full_lines n)) (ap (λ (ts : List FilingView). length ts) none) ∙ (ap (λ (t : List ℕ). text ++ t) (append-nil collected) ∙ sym are) in
+    let same : text ++ (collected ++ full_answers (length left)) ≡ longer =
+    ap (λ (n : ℕ). text ++ (collected ++ full_answers n)) (ap (λ (ts : List FilingView). length ts) none) ∙ (ap (λ (t : List ℕ). text ++ t) (append-nil collected) ∙ sym are) in
     subst (λ (t : List ℕ). Serves s p done r t) same (Prepares-filed s p q done text ready h r left filed lawful (λ room. none))
 
 -- the others found the journal full
 pub filed-left : {T E : Type 0} (result : Result T E) (s : SetupView) (q r : PassView) (text : List ℕ) (ready left : List FilingView) (longer longest : List ℕ) → FiledFront s q ready r left → IsLawful s r.seen → length r.seen ≡ s.max_entries
-    → longer ≡ text ++ newest_answers s (length ready - length left) (10 ∷ []) r.seen → OnOk result (longest ≡ longer ++ full_lines (length left))
+    → longer ≡ text ++ newest_answers s (length ready - length left) (10 ∷ []) r.seen → OnOk result (longest ≡ longer ++ full_answers (length left))
     → OnOk result ((p : PassView) (done : List (List ℕ)) → Prepares s p done q text ready → Serves s p done r longest)
 filed-left (Err e) s q r text ready left longer longest filed lawful full are more = tt
 filed-left (Ok x) s q r text ready left longer longest filed lawful full are more = λ p done h.
     let collected : List ℕ = newest_answers s (length ready - length left) (10 ∷ []) r.seen in
-    let same : text ++ (collected ++ full_lines (length left)) ≡ longest =
-    sym (append_assoc text collected (full_lines (length left))) ∙ (ap (λ (t : List ℕ). t ++ full_lines (length left)) (sym are) ∙ sym more) in
+    let same : text ++ (collected ++ full_answers (length left)) ≡ longest =
+    sym (append_assoc text collected (full_answers (length left))) ∙ (ap (λ (t : List ℕ). t ++ full_answers (length left)) (sym are) ∙ sym more) in
     subst (λ (t : List ℕ). Serves s p done r t) same (Prepares-filed s p q done text ready h r left filed lawful (λ room. absurd (omega (arith, room, full))))
 
 -- the frame that was taken is too long: those that were ready were answered, and then it was

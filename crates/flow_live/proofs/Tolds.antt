@@ -6,7 +6,7 @@ use Rattle.flow_input.specs.Filings.{filings}
 use Rattle.flow_core.specs.State.{State, EntryView}
 use Rattle.flow_core.specs.Output.{answer_of, too_long_line, journal_full_line}
 use Rattle.flow_desk.specs.Followers.{answers_with}
-use Rattle.flow_live.specs.Told.{first_answer, told, full_lines}
+use Rattle.flow_live.specs.Told.{first_answer, told, full_answers}
 
 -- a line, an empty one, and what is written next
 line-then : (line all front back : List ℕ) → all ≡ front ++ back → line ++ 10 ∷ all ≡ (line ++ 10 ∷ front) ++ back
@@ -96,7 +96,7 @@ filings-short (f ∷ fs) = by (leb (length f) 2000) (filings-short fs)
 -- where no frame is too long the answers to their entries are told, and that the others found the
 -- journal full
 pub told-filings : (s : State) (fs : List (List ℕ)) (es : List EntryView) (left : ℕ) → length (filings fs) ≡ length fs → length fs ≡ length es + left
-    → told s fs es ≡ answers_with (10 ∷ []) s es ++ full_lines left
+    → told s fs es ≡ answers_with (10 ∷ []) s es ++ full_answers left
 unfolding told filings
 told-filings s [] [] zero short all = refl
 told-filings s [] [] (suc n) short all = absurd (omega (arith, all))
@@ -105,17 +105,17 @@ told-filings s (f ∷ fs) [] zero short all = absurd (omega (arith, all))
 told-filings s (f ∷ fs) [] (suc n) short all = by (leb (length f) 2000) short (told-filings s fs [] n)
   where
     by : (b : Bool) → length (cond b (second f ∷ filings fs) (filings fs)) ≡ suc (length fs)
-        → (length (filings fs) ≡ length fs → length fs ≡ 0 + n → told s fs [] ≡ full_lines n)
-        → cond b (journal_full_line ++ 10 ∷ told s fs []) (too_long_line ++ 10 ∷ told s fs []) ≡ (journal_full_line ++ 10 ∷ []) ++ full_lines n
-    by true short next = line-then journal_full_line (told s fs []) [] (full_lines n) (next (omega (arith, short)) (omega (arith, all)))
+        → (length (filings fs) ≡ length fs → length fs ≡ 0 + n → told s fs [] ≡ full_answers n)
+        → cond b (journal_full_line ++ 10 ∷ told s fs []) (too_long_line ++ 10 ∷ told s fs []) ≡ (journal_full_line ++ 10 ∷ []) ++ full_answers n
+    by true short next = line-then journal_full_line (told s fs []) [] (full_answers n) (next (omega (arith, short)) (omega (arith, all)))
     by false short next = absurd (omega (arith, short, filings-short fs))
 told-filings s (f ∷ fs) (e ∷ es) left short all = by (leb (length f) 2000) short (told-filings s fs es left)
   where
     by : (b : Bool) → length (cond b (second f ∷ filings fs) (filings fs)) ≡ suc (length fs)
-        → (length (filings fs) ≡ length fs → length fs ≡ length es + left → told s fs es ≡ answers_with (10 ∷ []) s es ++ full_lines left)
+        → (length (filings fs) ≡ length fs → length fs ≡ length es + left → told s fs es ≡ answers_with (10 ∷ []) s es ++ full_answers left)
         → cond b (answer_of s e ++ 10 ∷ told s fs es) (too_long_line ++ 10 ∷ told s fs (e ∷ es))
-        ≡ ((answer_of s e ++ 10 ∷ []) ++ answers_with (10 ∷ []) s es) ++ full_lines left
+        ≡ ((answer_of s e ++ 10 ∷ []) ++ answers_with (10 ∷ []) s es) ++ full_answers left
     by true short next =
-        line-then (answer_of s e) (told s fs es) (answers_with (10 ∷ []) s es) (full_lines left) (next (omega (arith, short)) (omega (arith, all)))
-        ∙ ap (λ (q : List ℕ). q ++ full_lines left) (sym (append_assoc (answer_of s e) (10 ∷ []) (answers_with (10 ∷ []) s es)))
+        line-then (answer_of s e) (told s fs es) (answers_with (10 ∷ []) s es) (full_answers left) (next (omega (arith, short)) (omega (arith, all)))
+        ∙ ap (λ (q : List ℕ). q ++ full_answers left) (sym (append_assoc (answer_of s e) (10 ∷ []) (answers_with (10 ∷ []) s es)))
     by false short next = absurd (omega (arith, short, filings-short fs))

@@ -11,9 +11,10 @@ use Rattle.flow_input.specs.Writes.{AppendsFront}
 use Rattle.flow_input.specs.NextFrame.{GaveFirst, filing_of, filing_kept}
 use Rattle.flow_input.specs.Reader.{InputView, Agrees}
 use Rattle.flow_core.specs.State.{EntryView}
+use Rattle.flow_core.specs.CoreView.{texts_of}
 use Rattle.flow_desk.specs.Histories.{own, after, IsLawful}
 use Rattle.flow_desk.specs.FeederPasses.{PassView}
-use Rattle.flow_live.specs.Told.{told, texts}
+use Rattle.flow_live.specs.Told.{told}
 use Rattle.flow_input.specs.declared.fault.IntakeFault.{IntakeFault}
 use Rattle.flow_input.specs.declared.fault.IntakeFault.TheVariants as intake
 use Rattle.flow_live.specs.declared.fault.StopFault.TheVariants as stop
@@ -29,8 +30,8 @@ pub record Serves (setup : SetupView) (p : PassView) (done : List (List ℕ)) (q
   pub feeder : q.feeder ≡ p.feeder
   pub own_are : own q.feeder q.seen ≡ own p.feeder p.seen ++ entries
   pub lawful : IsLawful setup q.seen
-  pub front : IsPrefix (texts entries) (filings done)
-  pub whole : length q.seen < setup.max_entries → texts entries ≡ filings done
+  pub front : IsPrefix (texts_of entries) (filings done)
+  pub whole : length q.seen < setup.max_entries → texts_of entries ≡ filings done
   pub full : setup.max_entries ≤ length p.seen → entries ≡ []
   pub text_is : text ≡ told (after setup q.seen) done entries
 

@@ -1,6 +1,5 @@
 -- What a feeder is answered for its frames.
-use Rattle.std.specs.Prelude.{ℕ, zero, suc, length, nat_le, if◌then◌else◌, List, [], ◌∷◌, ◌++◌, map, drop}
-use Rattle.fpl_message.specs.Filings.{FilingView}
+use Rattle.std.specs.Prelude.{ℕ, zero, suc, length, nat_le, if◌then◌else◌, List, [], ◌∷◌, ◌++◌, drop}
 use Rattle.fpl_message.specs.declared.filed_text.TheConstants.{MAX_BYTES}
 use Rattle.flow_core.specs.State.{State, EntryView}
 use Rattle.flow_core.specs.Output.{answer_of, too_long_line, journal_full_line}
@@ -20,11 +19,7 @@ told s (f ∷ fs) es =
     then first_answer s es ++ 10 ∷ told s fs (drop 1 es)
     else too_long_line ++ 10 ∷ told s fs es
 
--- the texts of entries
-abbrev pub texts : List EntryView → List FilingView
-texts es = map (λ (e : EntryView). e.input.text) es
-
 -- the lines of n filings that found the journal full
-abbrev pub full_lines : ℕ → List ℕ
-full_lines zero = []
-full_lines (suc n) = (journal_full_line ++ 10 ∷ []) ++ full_lines n
+abbrev pub full_answers : ℕ → List ℕ
+full_answers zero = []
+full_answers (suc n) = (journal_full_line ++ 10 ∷ []) ++ full_answers n

@@ -4,7 +4,7 @@ ghost use Rattle.fpl_message.specs.declared.filed_text.TheConstants.{MAX_BYTES};
 ghost use Rattle.flow_input.specs.NextFrame.{filing_kept, second};
 ghost use Rattle.flow_input.specs.Reader.{Agrees};
 ghost use Rattle.flow_core.specs.Output.{too_long_line, journal_full_line};
-ghost use Rattle.flow_live.specs.Told.{full_lines};
+ghost use Rattle.flow_live.specs.Told.{full_answers};
 ghost use Rattle.flow_live.specs.Feeding.{Prepares, Serves, TakesNext, CutsTaken};
 ghost use Rattle.flow_live.specs.Keeping.{AnswersSeen};
 
@@ -61,7 +61,7 @@ fn answer_left<A: Allocator + Copy>(
     answers: &mut Vec<u8, A>,
 ) -> Result<(), AllocError>
     ensures answers { OnOk result (answers.new.items ≡ answers.old.items
-        ++ full_lines (length ready.old.items)) }
+        ++ full_answers (length ready.old.items)) }
     ensures none { OnOk result (ready.new.items ≡ []) }
 {
     while let Some(_filing) = ready.pop_front() {

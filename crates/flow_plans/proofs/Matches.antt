@@ -10,7 +10,7 @@ use Rattle.flow_plans.specs.declared.plan.PlanState.{PlanState}
 use Rattle.flow_plans.specs.declared.plan.PlanState.TheVariants as state
 use Rattle.flow_plans.specs.Plans.{PlanView, is_filed}
 use Rattle.flow_plans.specs.Matching.{agrees, is_candidate, numbers, the_one}
-use Rattle.flow_plans.specs.Searching.{with_candidate, with_gone, with_one_more, number_found, passes_at, IsSound, IsCounted}
+use Rattle.flow_plans.specs.Searching.{with_candidate, with_gone, with_one_more, number_found, passes_at, IsTrueOf, IsCounted}
 
 -- no plan passes
 numbers-none : (test : PlanView → Bool) (n : ℕ) (ps : List PlanView) → ((k : ℕ) → passes_at test ps k ≡ false) → numbers test n ps ≡ []
@@ -62,7 +62,7 @@ any-one test (p ∷ ps) (suc i) t =
     elim (test p) as (λ b. (b || list_any test ps) ≡ true) [ true ↦ refl | false ↦ any-one test ps i t ]
 
 -- what was found, once all plans are counted
-pub the_one-found : (test gone : PlanView → Bool) (ps : List PlanView) (f : Found) → IsSound test gone ps f → ((k : ℕ) → IsCounted test gone ps f k) → the_one (list_any gone ps) (numbers test 1 ps) ≡ number_found f
+pub the_one-found : (test gone : PlanView → Bool) (ps : List PlanView) (f : Found) → IsTrueOf test gone ps f → ((k : ℕ) → IsCounted test gone ps f k) → the_one (list_any gone ps) (numbers test 1 ps) ≡ number_found f
 the_one-found test gone ps found.Nothing s c =
     rw (numbers-none test 1 ps (λ k. (c k).0), any-none gone ps (λ k. (c k).1)) refl
 the_one-found test gone ps found.Gone s c =
@@ -81,11 +81,11 @@ passes_at-within test (p ∷ ps) zero t = omega arith
 passes_at-within test (p ∷ ps) (suc k) t = let h : k < length ps = passes_at-within test ps k t in omega (arith, h)
 
 module _ (test gone : PlanView → Bool) (ps : List PlanView) where
-  candidate-sound : (f : Found) (i : ℕ) → passes_at test ps i ≡ true → IsSound test gone ps f → IsSound test gone ps (with_candidate i f)
+  candidate-sound : (f : Found) (i : ℕ) → passes_at test ps i ≡ true → IsTrueOf test gone ps f → IsTrueOf test gone ps (with_candidate i f)
   candidate-sound found.Nothing i t s = t
   candidate-sound found.Gone i t s = t
   candidate-sound (found.One j) i t s = same (j == i) refl where
-    same : (b : Bool) → (j == i) ≡ b → IsSound test gone ps (if b then found.One j else found.Several)
+    same : (b : Bool) → (j == i) ≡ b → IsTrueOf test gone ps (if b then found.One j else found.Several)
     same true e = s
     same false e = λ d. numbers-two test d 1 ps j i (λ h. grind (arith, nat_tests, e, h)) s t
   candidate-sound found.Several i t s = s
@@ -106,7 +106,7 @@ module _ (test gone : PlanView → Bool) (ps : List PlanView) where
     same false e = tt
   candidate-here found.Several i = tt
 
-  gone-sound : (f : Found) (i : ℕ) → passes_at gone ps i ≡ true → IsSound test gone ps f → IsSound test gone ps (with_gone f)
+  gone-sound : (f : Found) (i : ℕ) → passes_at gone ps i ≡ true → IsTrueOf test gone ps f → IsTrueOf test gone ps (with_gone f)
   gone-sound found.Nothing i g s = (i, g)
   gone-sound found.Gone i g s = s
   gone-sound (found.One j) i g s = s
@@ -130,7 +130,7 @@ module _ (test gone : PlanView → Bool) (ps : List PlanView) where
   neither-here (found.One j) i t g = λ u. absurd (cc)
   neither-here found.Several i t g = tt
 
-  pub sound-more : (f : Found) (i : ℕ) (c g : Bool) → passes_at test ps i ≡ c → passes_at gone ps i ≡ g → IsSound test gone ps f → IsSound test gone ps (with_one_more c g i f)
+  pub sound-more : (f : Found) (i : ℕ) (c g : Bool) → passes_at test ps i ≡ c → passes_at gone ps i ≡ g → IsTrueOf test gone ps f → IsTrueOf test gone ps (with_one_more c g i f)
   sound-more f i true g t u s = candidate-sound f i t s
   sound-more f i false true t u s = gone-sound f i u s
   sound-more f i false false t u s = s

@@ -40,11 +40,11 @@ abbrev pub passes_at : (PlanView → Bool) → List PlanView → ℕ → Bool
 passes_at test plans place = option_map_or test (slice_get plans place) false
 
 -- what was found is true of the plans
-abbrev pub IsSound : (PlanView → Bool) → (PlanView → Bool) → List PlanView → Found → Type 0
-IsSound test gone plans found.Nothing = Unit {0}
-IsSound test gone plans found.Gone = (place : ℕ) × (passes_at gone plans place ≡ true)
-IsSound test gone plans (found.One place) = passes_at test plans place ≡ true
-IsSound test gone plans found.Several = (d : Bool) → the_one d (numbers test 1 plans) ≡ Err refusal.Ambiguous
+abbrev pub IsTrueOf : (PlanView → Bool) → (PlanView → Bool) → List PlanView → Found → Type 0
+IsTrueOf test gone plans found.Nothing = Unit {0}
+IsTrueOf test gone plans found.Gone = (place : ℕ) × (passes_at gone plans place ≡ true)
+IsTrueOf test gone plans (found.One place) = passes_at test plans place ≡ true
+IsTrueOf test gone plans found.Several = (d : Bool) → the_one d (numbers test 1 plans) ≡ Err refusal.Ambiguous
 
 -- the plan at an index is counted in what was found
 abbrev pub IsCounted : (PlanView → Bool) → (PlanView → Bool) → List PlanView → Found → ℕ → Type 0

@@ -34,6 +34,6 @@ CanReturn chains (change.Ended number) plans = IfSome (plan_at plans number) (λ
 CanReturn chains (change.Amended number former) plans = HasRoomFor chains (flight_of_key former.key)
 
 -- the invariant of a store
-abbrev pub IsKept : {A : Type 0} → ℕ → ℕ → List PlanView → ChainsView → last_change.LastChange A → Type 0
-IsKept max_plans taxi plans chains change =
+abbrev pub IsKeptStore : {A : Type 0} → ℕ → ℕ → List PlanView → ChainsView → last_change.LastChange A → Type 0
+IsKeptStore max_plans taxi plans chains change =
     (length plans ≤ max_plans) × (max_plans ≤ MAX_PLANS) × (taxi ≤ MAX_TAXI) × IsOf change plans × AreChained chains plans × CanReturn chains change plans

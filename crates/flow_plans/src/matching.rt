@@ -5,7 +5,7 @@ ghost use Rattle.std.specs.List.{list_any};
 ghost use Rattle.flow_plans.specs.Plans.{plan_at, is_held_as};
 ghost use Rattle.flow_plans.specs.Matching.{is_candidate, is_gone, matching};
 ghost use Rattle.flow_plans.specs.Searching.{with_candidate, with_gone, with_one_more};
-ghost use Rattle.flow_plans.specs.Searching.{passes_at, IsSound, IsCounted};
+ghost use Rattle.flow_plans.specs.Searching.{passes_at, IsTrueOf, IsCounted};
 ghost use Rattle.flow_plans.specs.Searching.{IsFreeAt, IsHeldBeside};
 ghost use Rattle.flow_plans.specs.Chains.{AreChained, flight_of_key};
 ghost use Rattle.flow_plans.specs.Changes.{Returns, others};
@@ -81,7 +81,7 @@ fn with_place<A: Allocator + Copy>(
 /// The result of searching the held plans of the message's flight, the newest first.
 fn found_in<A: Allocator + Copy>(plans: &[Plan<A>], chains: &Chains<A>, parts: &Parts) -> Found
     requires { AreChained chains.now plans.now }
-    ensures sound { IsSound (is_candidate parts.now) (is_gone parts.now) plans.now result }
+    ensures sound { IsTrueOf (is_candidate parts.now) (is_gone parts.now) plans.now result }
     ensures all { (place : ℕ)
         → IsCounted (is_candidate parts.now) (is_gone parts.now) plans.now result place }
 {

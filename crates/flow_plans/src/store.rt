@@ -51,7 +51,7 @@ pub struct PlanStore<A: Allocator + Copy = Global> {
 impl<A: Allocator + Copy> Model for PlanStore<A> {
     ghost use Rattle.std.specs.Prelude.{◌≤◌, length};
     ghost use Rattle.flow_plans.specs.Stores.{PlanStoreView};
-    ghost use Rattle.flow_plans.specs.Undoing.{undone, IsKept};
+    ghost use Rattle.flow_plans.specs.Undoing.{undone, IsKeptStore};
 
     ghost Value = { PlanStoreView };
 
@@ -62,7 +62,7 @@ impl<A: Allocator + Copy> Model for PlanStore<A> {
       before = undone s.plans s.last;
     } };
 
-    ghost invariant = { λ s. IsKept s.max_plans s.taxi s.plans s.chains s.last };
+    ghost invariant = { λ s. IsKeptStore s.max_plans s.taxi s.plans s.chains s.last };
 }
 
 impl<A: Allocator + Copy> PlanStore<A> {

@@ -13,7 +13,7 @@ use Rattle.flow_slots.specs.Lineup.{Lineup, IsLineup, NoneIs, NoneFixed, slot_in
 use Rattle.flow_slots.specs.ChangeList.{fixed_there}
 use Rattle.flow_slots.proofs.Periods.{first_slot-first, slot_time-later}
 use Rattle.flow_regulations.specs.Regulations.{Regulation, subject_to, has_flight, with_entry, waiting_from, lineup_of}
-use Rattle.flow_regulations.specs.Settling.{is_due, keeps, keeps_pair, kept, is_due_flight, insert_all, settled, pairs_of, frozen_at_departure}
+use Rattle.flow_regulations.specs.Settling.{is_due, keeps, keeps_pair, kept_pairs, is_due_flight, insert_all, settled, pairs_of, frozen_at_departure}
 use Rattle.flow_regulations.specs.Listing.{RegulationView, regulation_of, IsListedIn, with_lineup, fixed_waiting, IsFrozen}
 use Rattle.flow_regulations.proofs.Waiting.{mark, with_entry-kept, waiting-fixed, waiting-like, waiting-apart, waiting-none, without-insert, all-with_entry-back}
 use Rattle.flow_regulations.proofs.FixedOnes.{all-map, has-none, has-insert, all-insert_fixed, slot_in-none, has-some, filter-all}
@@ -195,7 +195,7 @@ module _ (taxi max n : ℕ) (plans : List PlanView) (l : RegulationView) (listed
 
   -- of a regulation in which no pair is dropped, what is fixed is settled as before
   module _ (now : ℕ) (stay : AllByRecursion (λ a. (0 < a.flight) × (keeps_pair taxi now plans r a ≡ true)) fs) where
-    kept-all : kept taxi now plans r ≡ fs
+    kept-all : kept_pairs taxi now plans r ≡ fs
     kept-all = filter-all (keeps_pair taxi now plans r) fs (all-map (λ a. (0 < a.flight) × (keeps_pair taxi now plans r a ≡ true)) (λ a. keeps_pair taxi now plans r a ≡ true) fs (λ _ h. h.1) stay)
 
     abbrev pub new_fixed : List Planned → List Placed → List Placed

@@ -5,7 +5,7 @@ use Rattle.flow_plans.specs.Plans.{PlanView}
 use Rattle.flow_slots.specs.Assignment.{Placed}
 use Rattle.flow_slots.specs.Lineup.{insert_fixed, assigned}
 use Rattle.flow_regulations.specs.Regulations.{Regulation, has_flight, lineup_of}
-use Rattle.flow_regulations.specs.Settling.{keeps_pair, kept, insert_all, is_due_flight, assigned_around, settled, pairs_of, frozen_at_departure}
+use Rattle.flow_regulations.specs.Settling.{keeps_pair, kept_pairs, insert_all, is_due_flight, assigned_around, settled, pairs_of, frozen_at_departure}
 use Rattle.flow_regulations.specs.Listing.{HasPair}
 
 has-filter : (T : Placed → Bool) (a : Placed) (xs : List Placed) → T a ≡ true → HasPair a xs → HasPair a (filter T xs)
@@ -33,7 +33,7 @@ has-insert_all a (y ∷ ys) xs h = has-insert_all a ys (insert_fixed y xs) (has-
 pub settling-keeps : (taxi now : ℕ) (plans : List PlanView) (r : Regulation) (a : Placed) → keeps_pair taxi now plans r a ≡ true → HasPair a r.fixed → HasPair a (settled taxi now plans r).fixed
 unfolding settled
 settling-keeps taxi now plans r a t h =
-    has-insert_all a (filter (λ (a : Placed). is_due_flight now plans a.flight) (assigned_around taxi plans r (kept taxi now plans r))) (kept taxi now plans r) (has-filter (keeps_pair taxi now plans r) a r.fixed t h)
+    has-insert_all a (filter (λ (a : Placed). is_due_flight now plans a.flight) (assigned_around taxi plans r (kept_pairs taxi now plans r))) (kept_pairs taxi now plans r) (has-filter (keeps_pair taxi now plans r) a r.fixed t h)
 
 pub departing-keeps : (taxi max flight : ℕ) (before : List PlanView) (r : Regulation) (a : Placed) → HasPair a r.fixed → HasPair a (frozen_at_departure taxi max before flight r).fixed
 unfolding frozen_at_departure

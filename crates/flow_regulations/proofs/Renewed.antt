@@ -13,7 +13,7 @@ use Rattle.flow_slots.specs.Lineup.{Lineup, FixedApart, NoneIs, slot_in, held_sl
 use Rattle.flow_slots.specs.ChangeList.{fixed_there}
 use Rattle.flow_slots.proofs.Periods.{first_slot-first, slot_time-later}
 use Rattle.flow_regulations.specs.Regulations.{Regulation, subject_to, has_flight, with_entry, waiting_from}
-use Rattle.flow_regulations.specs.Settling.{is_due, keeps, keeps_pair, kept, is_due_flight, insert_all, assigned_around, settled}
+use Rattle.flow_regulations.specs.Settling.{is_due, keeps, keeps_pair, kept_pairs, is_due_flight, insert_all, assigned_around, settled}
 use Rattle.flow_regulations.specs.Listing.{RegulationView, regulation_of, IsListedIn, IsSettledBut, with_lineup, IsRenewed, AreSameBut, keeps_slot, placed, looked_again}
 use Rattle.flow_regulations.proofs.Waiting.{mark, with_entry-kept, waiting-fixed, waiting-like, waiting-apart, waiting-others, waiting-none, waiting-from, without-with_entry, without-insert, all-insert, all-with_entry-back}
 use Rattle.flow_regulations.proofs.FixedOnes.{all-map, all-both, all-without, none-without, has-none, has-mark_without, has-insert, all-insert_fixed, slot_in-none, has-some, one-slot, filter-all, filter-without}
@@ -27,7 +27,7 @@ lined l ws fs = record { period = l.period; capacity = l.capacity; waiting = ws;
 -- what has to be shown of them
 record IsMade (taxi max now : ℕ) (plans : List PlanView) (l : RegulationView) (ws : List Planned) (fs : List Placed) : Type 0 where
   waits : ws ≡ waiting_from 1 taxi (regulation_of l) fs plans
-  keeps_them : insert_all (filter (λ (a : Placed). is_due_flight now plans a.flight) (assigned_around taxi plans (regulation_of l) (kept taxi now plans (regulation_of l)))) (kept taxi now plans (regulation_of l)) ≡ fs
+  keeps_them : insert_all (filter (λ (a : Placed). is_due_flight now plans a.flight) (assigned_around taxi plans (regulation_of l) (kept_pairs taxi now plans (regulation_of l)))) (kept_pairs taxi now plans (regulation_of l)) ≡ fs
   fixed : AllByRecursion (λ a. (0 < a.flight) × (keeps_pair taxi now plans (regulation_of l) a ≡ true)) fs
   waiting : AllByRecursion (λ w. is_due_flight now plans w.flight ≡ false) ws
 
@@ -113,7 +113,7 @@ module _ (taxi max now n : ℕ) (before plans : List PlanView) (l : RegulationVi
       all-map (λ a. ((0 < a.flight) × ((a.flight ≡ n → ⊥) → keeps_pair taxi now plans r a ≡ true)) × (a.flight ≡ n → a.slot ≡ k)) (λ a. (0 < a.flight) × (keeps_pair taxi now plans r a ≡ true)) fs
       (λ a q. (q.0.0, ⊎_elim (λ e. stays-own a e ∙ (ap (λ j. keeps taxi now r j p) (q.1 e) ∙ keeps_it)) q.0.1 (cases_eq a.flight n)))
       (all-both (λ a. (0 < a.flight) × ((a.flight ≡ n → ⊥) → keeps_pair taxi now plans r a ≡ true)) (λ a. a.flight ≡ n → a.slot ≡ k) fs stays-now own) in
-      let same : kept taxi now plans r ≡ fs = filter-all (keeps_pair taxi now plans r) fs (all-map (λ a. (0 < a.flight) × (keeps_pair taxi now plans r a ≡ true)) (λ a. keeps_pair taxi now plans r a ≡ true) fs (λ _ k. k.1) stay) in
+      let same : kept_pairs taxi now plans r ≡ fs = filter-all (keeps_pair taxi now plans r) fs (all-map (λ a. (0 < a.flight) × (keeps_pair taxi now plans r a ≡ true)) (λ a. keeps_pair taxi now plans r a ≡ true) fs (λ _ k. k.1) stay) in
       let has : has_flight n fs ≡ true = has-some n k fs at in
       let old : l.lineup.waiting ≡ others = waiting-before ∙ (ap (λ b. with_entry (option_and_then (subject_to taxi r) (plan_at before n)) b n others) has ∙ with_entry-kept (option_and_then (subject_to taxi r) (plan_at before n)) n others) in
       let new : waiting_from 1 taxi r fs plans ≡ others = waiting-now fs (λ f. refl) ∙ (ap (λ b. with_entry (subject_to taxi r p) b n others) has ∙ with_entry-kept (subject_to taxi r p) n others) in
@@ -137,7 +137,7 @@ module _ (taxi max now n : ℕ) (before plans : List PlanView) (l : RegulationVi
   abbrev rest : List Placed
   rest = without_fixed n fs
 
-  kept-rest : AllByRecursion (λ a. a.flight ≡ n → keeps_pair taxi now plans r a ≡ false) fs → kept taxi now plans r ≡ rest
+  kept-rest : AllByRecursion (λ a. a.flight ≡ n → keeps_pair taxi now plans r a ≡ false) fs → kept_pairs taxi now plans r ≡ rest
   kept-rest g =
       filter-without (keeps_pair taxi now plans r) n fs
       (all-map (λ a. ((0 < a.flight) × ((a.flight ≡ n → ⊥) → keeps_pair taxi now plans r a ≡ true)) × (a.flight ≡ n → keeps_pair taxi now plans r a ≡ false)) (λ a. ((a.flight ≡ n → ⊥) → keeps_pair taxi now plans r a ≡ true) × (a.flight ≡ n → keeps_pair taxi now plans r a ≡ false)) fs (λ a q. (q.0.1, q.1))
@@ -155,7 +155,7 @@ module _ (taxi max now n : ℕ) (before plans : List PlanView) (l : RegulationVi
   waiting-rest o e = waiting-now rest (λ f. has-mark_without f n fs) ∙ (ap (λ b. with_entry (subject_to taxi r p) b n others) (has-none n rest (none-without n fs)) ∙ ap (λ v. with_entry v false n others) e)
 
   keeps-rest : AllByRecursion (λ a. a.flight ≡ n → keeps_pair taxi now plans r a ≡ false) fs → (o : Option ℕ) → subject_to taxi r p ≡ o
-      → insert_all (filter (λ (a : Placed). is_due_flight now plans a.flight) (assigned_around taxi plans r (kept taxi now plans r))) (kept taxi now plans r) ≡ insert_all (filter (λ (a : Placed). is_due_flight now plans a.flight) (greedy (λ e. first_slot r.period e) (slots rest) (with_entry o false n others))) rest
+      → insert_all (filter (λ (a : Placed). is_due_flight now plans a.flight) (assigned_around taxi plans r (kept_pairs taxi now plans r))) (kept_pairs taxi now plans r) ≡ insert_all (filter (λ (a : Placed). is_due_flight now plans a.flight) (greedy (λ e. first_slot r.period e) (slots rest) (with_entry o false n others))) rest
   keeps-rest g o e =
       ap (λ gs. insert_all (filter (λ (a : Placed). is_due_flight now plans a.flight) (assigned_around taxi plans r gs)) gs) (kept-rest g)
       ∙ ap (λ ws. insert_all (filter (λ (a : Placed). is_due_flight now plans a.flight) (greedy (λ e. first_slot r.period e) (slots rest) ws)) rest) (waiting-rest o e)

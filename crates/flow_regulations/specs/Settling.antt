@@ -26,8 +26,8 @@ keeps taxi now r slot p =
 abbrev pub keeps_pair : ℕ → ℕ → List PlanView → Regulation → Placed → Bool
 keeps_pair taxi now plans r a = option_map_or (keeps taxi now r a.slot) (plan_at plans a.flight) false
 
-abbrev pub kept : ℕ → ℕ → List PlanView → Regulation → List Placed
-kept taxi now plans r = filter (keeps_pair taxi now plans r) r.fixed
+abbrev pub kept_pairs : ℕ → ℕ → List PlanView → Regulation → List Placed
+kept_pairs taxi now plans r = filter (keeps_pair taxi now plans r) r.fixed
 
 -- more frozen flights, each inserted by its slot
 abbrev pub insert_all : List Placed → List Placed → List Placed
@@ -41,7 +41,7 @@ assigned_around taxi plans r fixed = greedy (λ e. first_slot r.period e) (slots
 -- the regulation after all its flights were reallocated: of those assigned, the due ones are frozen
 unfoldable pub settled : ℕ → ℕ → List PlanView → Regulation → Regulation
 settled taxi now plans r =
-    let fixed = kept taxi now plans r in
+    let fixed = kept_pairs taxi now plans r in
     record r { fixed = insert_all (filter (λ a. is_due_flight now plans a.flight) (assigned_around taxi plans r fixed)) fixed }
 
 -- the pair of a flight among these

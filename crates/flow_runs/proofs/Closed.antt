@@ -11,6 +11,7 @@ use Rattle.fpl_message.specs.Filings.{FilingView}
 use Rattle.flow_plans.specs.Settings.{SetupView}
 use Rattle.flow_core.specs.declared.receipt.StepFault.TheVariants as step
 use Rattle.flow_core.specs.State.{EntryView}
+use Rattle.flow_core.specs.CoreView.{texts_of}
 use Rattle.flow_core.specs.History.{History, state_of}
 use Rattle.flow_desk.specs.declared.feeders.End.{End}
 use Rattle.flow_desk.specs.declared.feeders.End.TheVariants.{Stopped}
@@ -22,7 +23,7 @@ use Rattle.flow_desk.proofs.Fronts.{prefix_trans, prefix_length}
 use Rattle.flow_desk.proofs.Owning.{own-append}
 use Rattle.flow_runs.specs.declared.fault.RunFault.{RunFault}
 use Rattle.flow_runs.specs.Ends.{EndsWell, EndsFeed}
-use Rattle.flow_runs.specs.Filing.{texts, HasFiled, RanFeed, RanFeeds}
+use Rattle.flow_runs.specs.Filing.{HasFiled, RanFeed, RanFeeds}
 
 -- how one feed of many has run, by which pass, and what is true of that pass and of its end
 record RunAt (s : SetupView) (Q : PassView → Type 0) (E : End → Type 0) (ps : List PassView) (qs : List PassView) (k : ℕ) (feed : List FilingView) : Type 0 where
@@ -75,7 +76,7 @@ run-at s Q E (p ∷ ps) (f ∷ fs) (q ∷ qs) (l ∷ ls) (e ∷ es) h all ends (
 
 -- of the entries after those read, this feeder's are its feed up to what is left
 filed-at : (s : SetupView) (E : End → Type 0) (n : ℕ) (read entries : List EntryView) (ps qs : List PassView) (k : ℕ) (feed : List FilingView) (r : RunAt s (AgreesWithPass (read ++ entries)) E ps qs k feed)
-    → AreOpened n read ps → texts (own k entries) ++ r.left ≡ feed
+    → AreOpened n read ps → texts_of (own k entries) ++ r.left ≡ feed
 filed-at s E n read entries ps qs k feed r opened =
     let ran = r.ran.filed.ran in
     let opened_p : r.p ≡ record { feeder = k; receipts = length (own k read); seen = read } = opened.1 k r.p r.at_p in
@@ -86,15 +87,15 @@ filed-at s E n read entries ps qs k feed r opened =
     let all_own : own k journal ≡ own k read ++ ran.entries =
     ap (λ (j : ℕ). own j journal) (sym feeder_q) ∙ (r.is_q.none_own ∙ (ran.own_are ∙ (ap (λ (j : ℕ). own j r.p.seen ++ ran.entries) feeder_p ∙ ap (λ (es : List EntryView). own k es ++ ran.entries) seen_p))) in
     let mine : own k entries ≡ ran.entries = append_cancel_left (own k read) (own k entries) ran.entries (sym (own-append k read entries) ∙ all_own) in
-    ap (λ (es : List EntryView). texts es ++ r.left) mine ∙ ran.texts
+    ap (λ (es : List EntryView). texts_of es ++ r.left) mine ∙ ran.texts
 
 -- where the journal isn't full, a feed that ended well is filed whole
 whole-at : (s : SetupView) (read entries : List EntryView) (ps qs : List PassView) (k : ℕ) (feed : List FilingView) (r : RunAt s (AgreesWithPass (read ++ entries)) EndsWell ps qs k feed)
-    → length (read ++ entries) < s.max_entries → texts (own k entries) ++ r.left ≡ feed → texts (own k entries) ≡ feed
+    → length (read ++ entries) < s.max_entries → texts_of (own k entries) ++ r.left ≡ feed → texts_of (own k entries) ≡ feed
 whole-at s read entries ps qs k feed r room filed = elim r.is_end [
   | inl done ↦
       let none : r.left ≡ [] = subst (λ (e : End). EndsFeed s e r.q r.left) done r.ran.ends in
-      sym (append-nil (texts (own k entries))) ∙ (ap (λ (ts : List FilingView). texts (own k entries) ++ ts) (sym none) ∙ filed)
+      sym (append-nil (texts_of (own k entries))) ∙ (ap (λ (ts : List FilingView). texts_of (own k entries) ++ ts) (sym none) ∙ filed)
   | inr full ↦
       let ends : EndsFeed s (Stopped step.JournalFull) r.q r.left = subst (λ (e : End). EndsFeed s e r.q r.left) full r.ran.ends in
       absurd (omega (arith, ends.1 refl, prefix_length r.q.seen (read ++ entries) r.is_q.later, room))

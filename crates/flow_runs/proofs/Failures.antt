@@ -1,21 +1,21 @@
 -- How many calls of a run's devices have failed.
 use Rattle.std.proofs.Common.{◌≡◌, ◌≢◌, ◌⊎◌, inl, inr, ℕ, List, Option, Result, Ok, Err, IfErr, OnOk, OnErr, refl, subst, sym}
-use Rattle.flow_input.specs.Source.{counted_up, failures_with}
+use Rattle.flow_input.specs.Source.{counted_up, journal_failures_with}
 use Rattle.flow_input.specs.declared.fault.IntakeFault.{IntakeFault}
 use Rattle.flow_input.specs.declared.fault.IntakeFault.TheVariants as intake
 use Rattle.flow_input.specs.declared.counted.Counted.{Counted}
 use Rattle.flow_core.specs.declared.journal_reading.JournalFault.{JournalFault}
 use Rattle.flow_core.specs.declared.journal_reading.JournalFault.TheVariants as reading
-use Rattle.flow_core.specs.JournalReading.{failures_with as journal_failures}
+use Rattle.flow_core.specs.JournalReading.{journal_failures_with as journal_failures}
 use Rattle.flow_desk.specs.declared.blank.DeskFault.{DeskFault}
 use Rattle.flow_desk.specs.declared.blank.DeskFault.TheVariants as desk
 use Rattle.flow_runs.specs.declared.fault.RunFault.{RunFault}
 use Rattle.flow_runs.specs.declared.fault.RunFault.TheVariants as fault
 use Rattle.flow_runs.specs.ManyRuns.{WritesWithReplay}
-use Rattle.flow_runs.specs.Faults.{fault_of_frame, fault_of_journal, IsFaultOfDesk, reader_failures_with, writer_failures_with, reader_failures, writer_failures}
+use Rattle.flow_runs.specs.Faults.{fault_of_frame, fault_of_journal, IsFaultOfDesk, reader_failures_with, writer_failures_with, run_reader_failures, run_writer_failures}
 
 -- if no frame came the reader may have failed, and nothing was written
-pub frame-reader : (e : IntakeFault) (n : ℕ) → failures_with e n ≡ reader_failures_with (fault_of_frame e) n
+pub frame-reader : (e : IntakeFault) (n : ℕ) → journal_failures_with e n ≡ reader_failures_with (fault_of_frame e) n
 frame-reader intake.Read n = refl
 frame-reader intake.TooMuch n = refl
 frame-reader intake.OutOfMemory n = refl
@@ -40,7 +40,7 @@ pub reader-calm : (e : RunFault) (n : ℕ) → e ≢ fault.Read → reader_failu
 reader-calm fault.Read n other = absurd (other refl)
 reader-calm _ n other = refl
 
-pub reader-calm-all : {T : Type 0} (r : Result T RunFault) (n : ℕ) → IfErr r (λ e. e ≢ fault.Read) → reader_failures r n ≡ n
+pub reader-calm-all : {T : Type 0} (r : Result T RunFault) (n : ℕ) → IfErr r (λ e. e ≢ fault.Read) → run_reader_failures r n ≡ n
 reader-calm-all (Ok x) n other = refl
 reader-calm-all (Err e) n other = reader-calm e n other
 
@@ -112,12 +112,12 @@ beyond desk.NoReader e is bad = absurd (cc)
 beyond desk.OutOfMemory e is bad = absurd (cc)
 
 -- a call that writes alone
-pub writer-failed : {T : Type 0} (r : Result T RunFault) (old new : ℕ) → OnOk r (new ≡ old) → OnErr r (new ≡ counted_up old) → IfErr r (λ e. e ≡ fault.Write) → new ≡ writer_failures r old
+pub writer-failed : {T : Type 0} (r : Result T RunFault) (old new : ℕ) → OnOk r (new ≡ old) → OnErr r (new ≡ counted_up old) → IfErr r (λ e. e ≡ fault.Write) → new ≡ run_writer_failures r old
 writer-failed (Ok x) old new no_failure failed kind = no_failure
 writer-failed (Err e) old new no_failure failed kind = subst (λ (k : RunFault). new ≡ writer_failures_with k old) (sym kind) failed
 
 -- what follows the answers
-pub replay-writer : {D : Type 0} (contents : D → Option (List ℕ)) (r : Result (Unit {0}) RunFault) (old new : Counted D) (text : List ℕ) → WritesWithReplay contents r old new text → new.failures ≡ writer_failures r old.failures
+pub replay-writer : {D : Type 0} (contents : D → Option (List ℕ)) (r : Result (Unit {0}) RunFault) (old new : Counted D) (text : List ℕ) → WritesWithReplay contents r old new text → new.failures ≡ run_writer_failures r old.failures
 replay-writer contents (Ok x) old new text w = w.no_failure
 replay-writer contents (Err fault.Write) old new text w = w.failed
 replay-writer contents (Err fault.OutOfMemory) old new text w = w.no_failure

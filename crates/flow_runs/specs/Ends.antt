@@ -26,9 +26,9 @@ IsStop stop = IfSome stop (λ e. (e ≡ fault.OutOfMemory) ⊎ (e ≡ fault.NotS
 
 -- the fault that some feeds ended with, if one did, with one more feed that ended so: an allocation
 -- failure precedes a feed that was never begun
-abbrev pub end_of : Option RunFault → End → Option RunFault
-end_of stop Finished = stop
-end_of stop (Stopped step.JournalFull) = stop
-end_of stop (Stopped step.OutOfMemory) = Some fault.OutOfMemory
-end_of None NotStarted = Some fault.NotStarted
-end_of (Some why) NotStarted = Some why
+abbrev pub stop_after : Option RunFault → End → Option RunFault
+stop_after stop Finished = stop
+stop_after stop (Stopped step.JournalFull) = stop
+stop_after stop (Stopped step.OutOfMemory) = Some fault.OutOfMemory
+stop_after None NotStarted = Some fault.NotStarted
+stop_after (Some why) NotStarted = Some why

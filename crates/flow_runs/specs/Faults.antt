@@ -40,10 +40,10 @@ writer_failures_with fault.Write before = counted_up before
 writer_failures_with _ before = before
 
 -- after a run that ended so: one more only if the device failed
-abbrev pub reader_failures : {T : Type 0} → Result T RunFault → ℕ → ℕ
-reader_failures (Ok x) before = before
-reader_failures (Err why) before = reader_failures_with why before
+abbrev pub run_reader_failures : {T : Type 0} → Result T RunFault → ℕ → ℕ
+run_reader_failures (Ok x) before = before
+run_reader_failures (Err why) before = reader_failures_with why before
 
-abbrev pub writer_failures : {T : Type 0} → Result T RunFault → ℕ → ℕ
-writer_failures (Ok x) before = before
-writer_failures (Err why) before = writer_failures_with why before
+abbrev pub run_writer_failures : {T : Type 0} → Result T RunFault → ℕ → ℕ
+run_writer_failures (Ok x) before = before
+run_writer_failures (Err why) before = writer_failures_with why before

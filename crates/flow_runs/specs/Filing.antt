@@ -1,10 +1,11 @@
 -- What the feeders of a desk have filed in total.
-use Rattle.std.specs.Prelude.{◌≡◌, ◌≢◌, ℕ, ◌<◌, List, [], ◌∷◌, ◌++◌, length, map, Option, Some, None, slice_get}
+use Rattle.std.specs.Prelude.{◌≡◌, ◌≢◌, ℕ, ◌<◌, List, [], ◌∷◌, ◌++◌, length, Option, Some, None, slice_get}
 use Rattle.std.specs.List.{All}
 use mathlib.Core.List.{IsPrefix}
 use Rattle.fpl_message.specs.Filings.{FilingView}
 use Rattle.flow_plans.specs.Settings.{SetupView}
 use Rattle.flow_core.specs.State.{EntryView}
+use Rattle.flow_core.specs.CoreView.{texts_of}
 use Rattle.flow_core.specs.History.{History, state_of}
 use Rattle.flow_core.specs.declared.receipt.Receipt.{Receipt}
 use Rattle.flow_desk.specs.declared.feeders.End.{End}
@@ -13,10 +14,6 @@ use Rattle.flow_desk.specs.Histories.{own, after}
 use Rattle.flow_desk.specs.FeederPasses.{PassView}
 use Rattle.flow_runs.specs.Ends.{EndsFeed}
 use Rattle.flow_runs.specs.declared.fault.RunFault.{RunFault}
-
--- the texts of entries
-abbrev pub texts : List EntryView → List FilingView
-texts es = map (λ (e : EntryView). e.input.text) es
 
 -- from p to q a feed was filed up to what is left
 pub record FiledTo (p : PassView) (feed : List FilingView) (q : PassView) (left : List FilingView) : Type 0 where
@@ -44,6 +41,6 @@ pub record HasFiled (setup : SetupView) (read : List EntryView) (feeders : ℕ) 
   pub journal : (state_of core).journal ≡ read ++ entries
   pub one_thread : state_of core ≡ after setup (read ++ entries)
   pub below : All (λ (e : EntryView). e.input.feeder < feeders) entries
-  pub fronts : (k : ℕ) (feed : List FilingView) → slice_get feeds k ≡ Some feed → IsPrefix (texts (own k entries)) feed
+  pub fronts : (k : ℕ) (feed : List FilingView) → slice_get feeds k ≡ Some feed → IsPrefix (texts_of (own k entries)) feed
   pub room : stop ≢ None → length (read ++ entries) < setup.max_entries
-  pub whole : stop ≡ None → length (read ++ entries) < setup.max_entries → (k : ℕ) (feed : List FilingView) → slice_get feeds k ≡ Some feed → texts (own k entries) ≡ feed
+  pub whole : stop ≡ None → length (read ++ entries) < setup.max_entries → (k : ℕ) (feed : List FilingView) → slice_get feeds k ≡ Some feed → texts_of (own k entries) ≡ feed

@@ -11,7 +11,7 @@ use Rattle.flow_input.specs.Writes.{AppendsFront, Writes}
 use Rattle.flow_input.specs.declared.counted.Counted.{Counted}
 use Rattle.flow_core.specs.State.{State, Input, EntryView}
 use Rattle.flow_core.specs.Steps.{run}
-use Rattle.flow_core.specs.CoreView.{inputs}
+use Rattle.flow_core.specs.CoreView.{inputs, texts_of}
 use Rattle.flow_core.specs.Output.{answer_of, journal_full_line}
 use Rattle.flow_core.specs.Journal.{journal_text, IsJournal, HoldsJournal}
 use Rattle.flow_desk.specs.Histories.{own, after}
@@ -21,7 +21,6 @@ use Rattle.flow_runs.specs.declared.fault.RunFault.{RunFault}
 use Rattle.flow_runs.specs.declared.fault.RunFault.TheVariants as fault
 use Rattle.flow_input.specs.Filings.{filings}
 use Rattle.flow_runs.specs.Reading.{long_lines, ToldFirst, ToldEnded, ToldFront}
-use Rattle.flow_runs.specs.Filing.{texts}
 
 -- ---- what is written
 
@@ -85,8 +84,8 @@ pub record RanMany (setup : SetupView) (read : List EntryView) (feeders : ℕ) (
   pub entries : List EntryView
   pub one_thread : (after setup (read ++ entries)).journal ≡ read ++ entries
   pub below : All (λ e. e.input.feeder < feeders) entries
-  pub fronts : (k : ℕ) → k < feeders → IsPrefix (texts (own k entries)) (dealt feeders k (filings input))
-  pub whole : length (read ++ entries) < setup.max_entries → (k : ℕ) → k < feeders → texts (own k entries) ≡ dealt feeders k (filings input)
+  pub fronts : (k : ℕ) → k < feeders → IsPrefix (texts_of (own k entries)) (dealt feeders k (filings input))
+  pub whole : length (read ++ entries) < setup.max_entries → (k : ℕ) → k < feeders → texts_of (own k entries) ≡ dealt feeders k (filings input)
   pub output : Appends begun written (ended setup read journal input entries)
 
 -- the input begins with a journal text, all of whose entries are of the feeders, and the run
@@ -129,12 +128,12 @@ pub record HaveFiled (setup : SetupView) (read : List EntryView) (feeders : ℕ)
   pub entries : List EntryView
   pub one_thread : (after setup (read ++ entries)).journal ≡ read ++ entries
   pub below : All (λ e. e.input.feeder < feeders) entries
-  pub fronts : (k : ℕ) → k < feeders → IsPrefix (texts (own k entries)) (dealt feeders k (filings input))
+  pub fronts : (k : ℕ) → k < feeders → IsPrefix (texts_of (own k entries)) (dealt feeders k (filings input))
   pub is : Is entries
 
 -- each feeder has filed all that is dealt to it, if the journal isn't full
 abbrev pub FiledAll : SetupView → List EntryView → ℕ → List (List ℕ) → List EntryView → Type 0
-FiledAll setup read feeders input entries = length (read ++ entries) < setup.max_entries → (k : ℕ) → k < feeders → texts (own k entries) ≡ dealt feeders k (filings input)
+FiledAll setup read feeders input entries = length (read ++ entries) < setup.max_entries → (k : ℕ) → k < feeders → texts_of (own k entries) ≡ dealt feeders k (filings input)
 
 -- if an allocation for a feed failed or it was never begun, and the journal isn't full: the answers
 -- were written and nothing more

@@ -5,7 +5,7 @@ ghost use Rattle.std.specs.Prelude.{vec_capacity, IfOk, IfErr, IfNone};
 ghost use Rattle.std.specs.List.{All, fold};
 ghost use Rattle.flow_core.specs.History.{state_of};
 ghost use Rattle.flow_desk.specs.Histories.{after};
-ghost use Rattle.flow_runs.specs.Ends.{EndsWell, IsStop, end_of};
+ghost use Rattle.flow_runs.specs.Ends.{EndsWell, IsStop, stop_after};
 ghost use Rattle.flow_runs.specs.Filing.{HasFiled};
 
 use crate::fault::RunFault;
@@ -28,7 +28,7 @@ pub(crate) struct Filed<A: Allocator + Copy = Global> {
 /// Combines the fault of some feeds with the end of one more: an allocation failure precedes a feed
 /// that was never begun.
 fn stop_with(stop: Option<RunFault>, end: End) -> Option<RunFault>
-    ensures is { result ≡ end_of stop end }
+    ensures is { result ≡ stop_after stop end }
     ensures none { result ≡ None → (stop ≡ None) × EndsWell end }
     ensures memory { result ≢ Some RunFault.OutOfMemory
         → (stop ≢ Some RunFault.OutOfMemory) × (end ≢ End.Stopped StepFault.OutOfMemory) }
@@ -48,7 +48,7 @@ fn stop_with(stop: Option<RunFault>, end: End) -> Option<RunFault>
 /// The fault that a feed ended with, if one did: an allocation failure precedes a feed that was
 /// never begun.
 fn stop_among<N: Name, A: Allocator + Copy>(feeds: &[Feed<N, A>]) -> Option<RunFault>
-    ensures is { result ≡ fold (λ stop f. end_of stop f.end) None feeds.now }
+    ensures is { result ≡ fold (λ stop f. stop_after stop f.end) None feeds.now }
     ensures none { IfNone result (All (λ f. EndsWell f.end) feeds.now) }
     ensures error_kinds { IsStop result }
     ensures memory { result ≢ Some RunFault.OutOfMemory

@@ -3,7 +3,7 @@ use Rattle.std.proofs.Common.{◌≡◌, ℕ, ◌+◌, ◌-◌, ◌*◌, ◌/◌
 use Rattle.std.proofs.Math.Nat.{le-div_iff_mul-le, div-lt_iff_lt-mul, mul-le-mul_left, mul-le-mul_right}
 use Rattle.std.proofs.lemmas.Bool.{lt-ltb, le-ltb, cases_lt}
 use Rattle.fpl_text.specs.declared.part.Part.{Part}
-use Rattle.flow_slots.specs.Period.{Period, AreSubperiods, IsRegular, slots_in, time_from, first_from, slot_time, first_slot, slots_before_end, IsFirstSlot}
+use Rattle.flow_slots.specs.Period.{Period, AreSubperiods, IsRegular, slots_in, time_from, slot_from, slot_time, first_slot, slots_before_end, IsFirstSlot}
 use Rattle.flow_slots.proofs.Chain.{IsMonotone}
 
 slots_in-more : (q a b : ℕ) → a ≤ b → slots_in q a ≤ slots_in q b
@@ -40,14 +40,14 @@ start-time_from e s q (p ∷ ps) k a =
       cases again false = omega (arith, a.0)
 
 -- of a later time the first slot isn't earlier
-pub first_from-monotone : (s q : ℕ) (ps : List Part) → IsMonotone (first_from s q ps)
-first_from-monotone s q [] a b h = slots_in-more q (a - s) (b - s) (omega arith)
-first_from-monotone s q (p ∷ ps) a b h =
-    cases (first_from-monotone p.from p.rate ps a b h) (cases_lt a p.from) (cases_lt b p.from) where
+pub slot_from-monotone : (s q : ℕ) (ps : List Part) → IsMonotone (slot_from s q ps)
+slot_from-monotone s q [] a b h = slots_in-more q (a - s) (b - s) (omega arith)
+slot_from-monotone s q (p ∷ ps) a b h =
+    cases (slot_from-monotone p.from p.rate ps a b h) (cases_lt a p.from) (cases_lt b p.from) where
       n : ℕ
       n = slots_in q (p.from - s)
 
-      cases : first_from p.from p.rate ps a ≤ first_from p.from p.rate ps b → (a < p.from) ⊎ (p.from ≤ a) → (b < p.from) ⊎ (p.from ≤ b) → first_from s q (p ∷ ps) a ≤ first_from s q (p ∷ ps) b
+      cases : slot_from p.from p.rate ps a ≤ slot_from p.from p.rate ps b → (a < p.from) ⊎ (p.from ≤ a) → (b < p.from) ⊎ (p.from ≤ b) → slot_from s q (p ∷ ps) a ≤ slot_from s q (p ∷ ps) b
       cases again (inl u) (inl v) =
           rw (lt-ltb a p.from u, lt-ltb b p.from v) (slots_in-more q (a - s) (b - s) (omega arith))
       cases again (inl u) (inr v) =
@@ -59,13 +59,13 @@ abbrev IsFirst : ℕ → ℕ → List Part → ℕ → ℕ → Type 0
 IsFirst s q ps m k = (m ≤ time_from s q ps k) × ((j : ℕ) → j < k → time_from s q ps j < m)
 
 -- the first slot, by its meaning
-pub first_from-first : (e s q : ℕ) (ps : List Part) (m : ℕ) → AreSubperiods e s q ps → s ≤ m → IsFirst s q ps m (first_from s q ps m)
-first_from-first e s q [] m a h = (
+pub slot_from-first : (e s q : ℕ) (ps : List Part) (m : ℕ) → AreSubperiods e s q ps → s ≤ m → IsFirst s q ps m (slot_from s q ps m)
+slot_from-first e s q [] m a h = (
   omega (arith, within-late s q (m - s) (slots_in q (m - s)) a.2 (omega arith)),
   (λ j l. omega (arith, within-early q (m - s) j l)),
 )
-first_from-first e s q (p ∷ ps) m a h =
-    cases (λ u. first_from-first e p.from p.rate ps m a.2 u) (cases_lt m p.from) where
+slot_from-first e s q (p ∷ ps) m a h =
+    cases (λ u. slot_from-first e p.from p.rate ps m a.2 u) (cases_lt m p.from) where
       time_low : (k : ℕ) → k < slots_in q (p.from - s) → time_from s q (p ∷ ps) k ≡ s + 60 * k / q
       time_low k l = ap (λ b. cond b (s + 60 * k / q) (time_from p.from p.rate ps (k - slots_in q (p.from - s)))) (lt-ltb k (slots_in q (p.from - s)) l)
 
@@ -84,20 +84,20 @@ first_from-first e s q (p ∷ ps) m a h =
             reach few (inr l) =
                 omega (arith, time_high (slots_in q (m - s)) l, start-time_from e p.from p.rate ps (slots_in q (m - s) - slots_in q (p.from - s)) a.2)
 
-      high : p.from ≤ m → IsFirst p.from p.rate ps m (first_from p.from p.rate ps m) → IsFirst s q (p ∷ ps) m (slots_in q (p.from - s) + first_from p.from p.rate ps m)
+      high : p.from ≤ m → IsFirst p.from p.rate ps m (slot_from p.from p.rate ps m) → IsFirst s q (p ∷ ps) m (slots_in q (p.from - s) + slot_from p.from p.rate ps m)
       high u f =
           let n = slots_in q (p.from - s) in
-          let k = first_from p.from p.rate ps m in
+          let k = slot_from p.from p.rate ps m in
           let back : n + k - n ≡ k = omega arith in
           let there = ap (time_from p.from p.rate ps) back in
           (omega (arith, time_high (n + k) (omega arith), there, f.0), (λ j l. earlier j l (cases_lt j n))) where
-            earlier : (j : ℕ) → j < slots_in q (p.from - s) + first_from p.from p.rate ps m → (j < slots_in q (p.from - s)) ⊎ (slots_in q (p.from - s) ≤ j) → time_from s q (p ∷ ps) j < m
+            earlier : (j : ℕ) → j < slots_in q (p.from - s) + slot_from p.from p.rate ps m → (j < slots_in q (p.from - s)) ⊎ (slots_in q (p.from - s) ≤ j) → time_from s q (p ∷ ps) j < m
             earlier j l (inl v) = omega (arith, time_low j v, within-early q (p.from - s) j v, a.0)
             earlier j l (inr v) = omega (arith, time_high j v, f.1 (j - slots_in q (p.from - s)) (omega arith))
 
-      cases : (p.from ≤ m → IsFirst p.from p.rate ps m (first_from p.from p.rate ps m)) → (m < p.from) ⊎ (p.from ≤ m) → IsFirst s q (p ∷ ps) m (first_from s q (p ∷ ps) m)
-      cases again (inl u) = subst (IsFirst s q (p ∷ ps) m) (sym (ap (λ b. cond b (slots_in q (m - s)) (slots_in q (p.from - s) + first_from p.from p.rate ps m)) (lt-ltb m p.from u))) (low u)
-      cases again (inr u) = subst (IsFirst s q (p ∷ ps) m) (sym (ap (λ b. cond b (slots_in q (m - s)) (slots_in q (p.from - s) + first_from p.from p.rate ps m)) (le-ltb m p.from u))) (high u (again u))
+      cases : (p.from ≤ m → IsFirst p.from p.rate ps m (slot_from p.from p.rate ps m)) → (m < p.from) ⊎ (p.from ≤ m) → IsFirst s q (p ∷ ps) m (slot_from s q (p ∷ ps) m)
+      cases again (inl u) = subst (IsFirst s q (p ∷ ps) m) (sym (ap (λ b. cond b (slots_in q (m - s)) (slots_in q (p.from - s) + slot_from p.from p.rate ps m)) (lt-ltb m p.from u))) (low u)
+      cases again (inr u) = subst (IsFirst s q (p ∷ ps) m) (sym (ap (λ b. cond b (slots_in q (m - s)) (slots_in q (p.from - s) + slot_from p.from p.rate ps m)) (le-ltb m p.from u))) (high u (again u))
 
 within-later : (q j k : ℕ) → 0 < q → j ≤ k → 60 * j / q ≤ 60 * k / q
 within-later q j k r h = (le-div_iff_mul-le r).1 (omega (arith, (le-div_iff_mul-le {x = 60 * j / q} {y = 60 * j} r).0 (omega arith)))
@@ -126,11 +126,11 @@ slots_in-at_most : (q x : ℕ) → q ≤ 240 → slots_in q x ≤ 4 * x
 slots_in-at_most q x h =
     let most : x * q ≤ x * 240 = mul-le-mul_left x h in omega arith
 
-pub first_from-at_most : (e s q : ℕ) (ps : List Part) (m : ℕ) → AreSubperiods e s q ps → s ≤ m → first_from s q ps m ≤ 4 * (m - s)
-first_from-at_most e s q [] m a h = slots_in-at_most q (m - s) a.1
-first_from-at_most e s q (p ∷ ps) m a h =
-    cases (λ u. first_from-at_most e p.from p.rate ps m a.2 u) (cases_lt m p.from) where
-      cases : (p.from ≤ m → first_from p.from p.rate ps m ≤ 4 * (m - p.from)) → (m < p.from) ⊎ (p.from ≤ m) → first_from s q (p ∷ ps) m ≤ 4 * (m - s)
+pub slot_from-at_most : (e s q : ℕ) (ps : List Part) (m : ℕ) → AreSubperiods e s q ps → s ≤ m → slot_from s q ps m ≤ 4 * (m - s)
+slot_from-at_most e s q [] m a h = slots_in-at_most q (m - s) a.1
+slot_from-at_most e s q (p ∷ ps) m a h =
+    cases (λ u. slot_from-at_most e p.from p.rate ps m a.2 u) (cases_lt m p.from) where
+      cases : (p.from ≤ m → slot_from p.from p.rate ps m ≤ 4 * (m - p.from)) → (m < p.from) ⊎ (p.from ≤ m) → slot_from s q (p ∷ ps) m ≤ 4 * (m - s)
       cases again (inl u) = rw (lt-ltb m p.from u) (slots_in-at_most q (m - s) a.1)
       cases again (inr u) = rw (le-ltb m p.from u) (omega (arith, slots_in-at_most q (p.from - s) a.1, again u, a.0))
 
@@ -145,10 +145,10 @@ part-end e s q i p ps rest is a =
 
 -- of a whole period
 pub first_slot-monotone : (p : Period) → IsMonotone (λ e. first_slot p e)
-first_slot-monotone p = first_from-monotone p.start p.rate p.parts
+first_slot-monotone p = slot_from-monotone p.start p.rate p.parts
 
 pub first_slot-first : (p : Period) (m : ℕ) → IsRegular p → p.start ≤ m → IsFirstSlot p m (first_slot p m)
-first_slot-first p m r h = first_from-first p.end p.start p.rate p.parts m r.subperiods h
+first_slot-first p m r h = slot_from-first p.end p.start p.rate p.parts m r.subperiods h
 
 pub slot_time-later : (p : Period) (j k : ℕ) → IsRegular p → j ≤ k → slot_time p j ≤ slot_time p k
 slot_time-later p j k r h = time_from-later p.end p.start p.rate p.parts j k r.subperiods h
@@ -158,4 +158,4 @@ start-before_end p r = start-end p.end p.start p.rate p.parts r.subperiods
 
 pub slots_before_end-at_most : (p : Period) → IsRegular p → slots_before_end p ≤ 5760
 slots_before_end-at_most p r =
-    omega (arith, first_from-at_most p.end p.start p.rate p.parts p.end r.subperiods (start-end p.end p.start p.rate p.parts r.subperiods), r.at_most_a_day)
+    omega (arith, slot_from-at_most p.end p.start p.rate p.parts p.end r.subperiods (start-end p.end p.start p.rate p.parts r.subperiods), r.at_most_a_day)

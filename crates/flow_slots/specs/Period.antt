@@ -46,11 +46,11 @@ time_from start rate (p ∷ ps) k =
     if nat_lt k n then start + 60 * k / rate else time_from p.from p.rate ps (k - n)
 
 -- the number of the first slot not before a time, from a sub-period on that begins at `start`
-abbrev pub first_from : ℕ → ℕ → List Part → ℕ → ℕ
-first_from start rate [] moment = slots_in rate (moment - start)
-first_from start rate (p ∷ ps) moment =
+abbrev pub slot_from : ℕ → ℕ → List Part → ℕ → ℕ
+slot_from start rate [] moment = slots_in rate (moment - start)
+slot_from start rate (p ∷ ps) moment =
     if nat_lt moment p.from then slots_in rate (moment - start)
-    else slots_in rate (p.from - start) + first_from p.from p.rate ps moment
+    else slots_in rate (p.from - start) + slot_from p.from p.rate ps moment
 
 -- slot `k` is at this minute; the list continues after the end at the last rate
 abbrev pub slot_time : Period → ℕ → ℕ
@@ -58,7 +58,7 @@ slot_time p k = time_from p.start p.rate p.parts k
 
 -- the number of the first slot not before a time
 abbrev pub first_slot : Period → ℕ → ℕ
-first_slot p moment = first_from p.start p.rate p.parts moment
+first_slot p moment = slot_from p.start p.rate p.parts moment
 
 -- the number of slots before the end
 abbrev pub slots_before_end : Period → ℕ

@@ -4,7 +4,7 @@ ghost use Rattle.std.specs.Prelude.{◌≡◌, ◌+◌, ◌-◌, ◌*◌, ◌<�
 ghost use Rattle.std.specs.Prelude.{IsSome, IfSome, IsTrue, None, length};
 ghost use Rattle.flow_slots.specs.Limits.{rises, rates_fit, is_period, broken_limit};
 ghost use Rattle.flow_slots.specs.Period.{Period, IsRegular, IsWithin, AreSubperiods};
-ghost use Rattle.flow_slots.specs.Period.{slots_in, time_from, first_from};
+ghost use Rattle.flow_slots.specs.Period.{slots_in, time_from, slot_from};
 ghost use Rattle.flow_slots.specs.Period.{slot_time, first_slot, slots_before_end, IsFirstSlot};
 ghost use Rattle.flow_slots.specs.Period.{most_before_end, most_slots};
 
@@ -144,12 +144,12 @@ fn time_from(start: Minute, end: Minute, rate: u32, parts: &[Part], k: u32) -> M
 }
 
 /// The number of the first slot not before a time in minutes.
-fn first_from(start: Minute, end: Minute, rate: u32, parts: &[Part], moment: u32) -> u32
+fn slot_from(start: Minute, end: Minute, rate: u32, parts: &[Part], moment: u32) -> u32
     requires subperiods { AreSubperiods end start rate parts.now }
     requires at_most_a_day { end - start ≤ LONGEST_PERIOD }
     requires not_before { start ≤ moment }
     requires not_after { moment ≤ end }
-    ensures { result ≡ first_from start rate parts.now moment }
+    ensures { result ≡ slot_from start rate parts.now moment }
 {
     let mut from = start;
     let mut hourly = rate;
@@ -250,7 +250,7 @@ impl Shape {
         ensures value { result ≡ first_slot self.now entry }
         ensures first { IsFirstSlot self.now entry result }
     {
-        first_from(
+        slot_from(
             self.start,
             self.end,
             self.rate,
@@ -290,7 +290,7 @@ impl Shape {
         ensures most { result ≤ most_before_end }
     {
         let moment = self.start.minutes() + minutes;
-        first_from(
+        slot_from(
             self.start,
             self.end,
             self.rate,
@@ -305,7 +305,7 @@ impl Shape {
         ensures at_most { result ≤ most_before_end }
         ensures regular { IsRegular self.now }
     {
-        first_from(
+        slot_from(
             self.start,
             self.end,
             self.rate,

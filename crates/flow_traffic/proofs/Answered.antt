@@ -22,7 +22,7 @@ use Rattle.flow_traffic.specs.declared.verdict.Kind.{Kind}
 use Rattle.flow_traffic.specs.declared.verdict.Kind.TheVariants as kind
 use Rattle.flow_traffic.specs.declared.verdict.Verdict.TheVariants.{Accepted, Refused}
 use Rattle.flow_traffic.specs.Traffic.{Traffic}
-use Rattle.flow_traffic.specs.State.{State, with_lists, traffic_of}
+use Rattle.flow_traffic.specs.State.{TrafficState, with_lists, traffic_of}
 use Rattle.flow_slots.specs.Limits.{rates_fit}
 use Rattle.flow_traffic.specs.Opening.{has_period, regulation_by}
 use Rattle.flow_traffic.specs.Asked.{Asked, asked, plans_changed_by, verdict_on, is_departure, departing, asked_by_message, asked_to_open, asked_to_shut, asked_at, is_called, ordered}
@@ -116,7 +116,7 @@ opened-map taxi max now plans r lists new h listed settled_in =
 -- ---- after the calls
 
 -- after an accepted message
-pub message-answers : (s : State) (store : PlanStoreView) (lists : List RegulationView) (told told1 told2 : List (Option Told)) (notices notices2 : List Notice) (m : Message) (n : ℕ) (v : Verdict) (departs : Bool)
+pub message-answers : (s : TrafficState) (store : PlanStoreView) (lists : List RegulationView) (told told1 told2 : List (Option Told)) (notices notices2 : List Notice) (m : Message) (n : ℕ) (v : Verdict) (departs : Bool)
     → store.taxi ≡ s.store.taxi → store.max_plans ≡ s.store.max_plans → s.listing.max_plans ≡ s.store.max_plans → departs ≡ is_departure m
     → plans_changed_by s.store.max_plans s.time s.store.plans m ≡ Ok (record { plans = store.plans; number = n }) → v ≡ verdict_on told m n
     → IsSettledFor departs n s store.plans lists → told1 ≡ told_to store.plans told
@@ -130,7 +130,7 @@ message-answers s store lists told told1 told2 notices notices2 m n v departs ta
     verdict
 
 -- after an accepted order
-pub order-answers : (s : State) (at : ℕ) (lists : List RegulationView) (told told2 : List (Option Told)) (notices notices2 : List Notice) (order : Order) (kind : Kind) (regulations : List Regulation)
+pub order-answers : (s : TrafficState) (at : ℕ) (lists : List RegulationView) (told told2 : List (Option Told)) (notices notices2 : List Notice) (order : Order) (kind : Kind) (regulations : List Regulation)
     → asked (traffic_of s told notices) (ord order) ≡ Ok (ordered (traffic_of s told notices) kind at regulations)
     → map regulation_of lists ≡ map (settled s.store.taxi at s.store.plans) regulations → length told ≡ length s.store.plans
     → told2 ≡ told_from 1 s.store.taxi (map regulation_of lists) s.store.plans told → notices2 ≡ notices ++ notices_from 1 s.store.taxi (map regulation_of lists) s.store.plans told
@@ -147,7 +147,7 @@ length-map f [] = refl
 length-map f (x ∷ xs) = let h : length (map f xs) ≡ length xs = length-map f xs in omega (arith, h)
 
 -- settling closes and opens no regulation
-pub settled-count : (departs : Bool) (n : ℕ) (s : State) (plans : List PlanView) (new : List RegulationView) → IsSettledFor departs n s plans new → length new ≡ length s.listing.lists
+pub settled-count : (departs : Bool) (n : ℕ) (s : TrafficState) (plans : List PlanView) (new : List RegulationView) → IsSettledFor departs n s plans new → length new ≡ length s.listing.lists
 settled-count departs n s plans new h =
     sym (count-regulations new) ∙ ap (λ (rs : List Regulation). length rs) h.regulations
     ∙ length-map (settled s.store.taxi s.time plans) (departing departs n s.store.taxi s.listing.max_plans s.store.plans (map regulation_of s.listing.lists)) ∙ same departs

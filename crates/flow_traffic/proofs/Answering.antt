@@ -13,22 +13,22 @@ use Rattle.flow_traffic.specs.declared.undo.Last.TheVariants as last
 use Rattle.flow_traffic.specs.declared.verdict.Verdict.{Verdict}
 use Rattle.flow_traffic.specs.declared.verdict.Verdict.TheVariants.{Refused}
 use Rattle.flow_traffic.specs.Traffic.{Traffic, TrafficView}
-use Rattle.flow_traffic.specs.State.{State, traffic_of}
+use Rattle.flow_traffic.specs.State.{TrafficState, traffic_of}
 use Rattle.flow_traffic.specs.Asked.{asked}
 use Rattle.flow_traffic.specs.Answers.{Answers}
 use Rattle.flow_traffic.specs.Answering.{AnswersReading}
 use Rattle.flow_traffic.specs.Frozen.{frozen_pairs}
 use Rattle.flow_traffic.specs.Memory.{MayTakeMemory}
-use Rattle.flow_traffic.specs.Undoing.{UndoingView, undone}
+use Rattle.flow_traffic.specs.Undoing.{UndoingView, undone_traffic}
 use Rattle.flow_traffic.proofs.Answered.{refused}
 use Rattle.flow_traffic.proofs.FrozenStay.{frozen-settled}
 
 -- what is left
-abbrev pub left : State → List (Option Told) → List Notice → UndoingView → TrafficView
-left s told notices u = record { traffic = traffic_of s told notices; before = undone u.which u s told notices }
+abbrev pub left : TrafficState → List (Option Told) → List Notice → UndoingView → TrafficView
+left s told notices u = record { traffic = traffic_of s told notices; before = undone_traffic u.which u s told notices }
 
 -- the reading is refused
-pub refusing : (reading : ReadingView) (old : TrafficView) (s : State) (told : List (Option Told)) (notices : List Notice) (u : UndoingView) (r : Refusal)
+pub refusing : (reading : ReadingView) (old : TrafficView) (s : TrafficState) (told : List (Option Told)) (notices : List Notice) (u : UndoingView) (r : Refusal)
     → u.which ≡ last.Refused → traffic_of s told notices ≡ old.traffic → asked old.traffic reading ≡ Err r
     → AnswersReading reading old (left s told notices u) (Ok (Refused r))
 refusing reading old s told notices u r which same e =
@@ -37,7 +37,7 @@ refusing reading old s told notices u r which same e =
     record {
       answers = subst A (sym same) (refused reading old.traffic r e);
       frozen = λ id a h. (let H : Traffic → Type 0 = λ t. HasPair a (frozen_pairs id t.regulations) in inl (subst H (sym same) h));
-      before = ap (λ (w : Last). undone w u s told notices) which ∙ ap Some same;
+      before = ap (λ (w : Last). undone_traffic w u s told notices) which ∙ ap Some same;
       err = tt;
       memory = tt;
       grow = omega (arith, count);
@@ -45,11 +45,11 @@ refusing reading old s told notices u r which same e =
     }
 
 -- allocation fails
-pub running-out : (reading : ReadingView) (old : TrafficView) (s : State) (told : List (Option Told)) (notices : List Notice) (u : UndoingView) (e : AllocError)
+pub running-out : (reading : ReadingView) (old : TrafficView) (s : TrafficState) (told : List (Option Told)) (notices : List Notice) (u : UndoingView) (e : AllocError)
     → u.which ≡ last.Nothing → traffic_of s told notices ≡ old.traffic → MayTakeMemory reading old.traffic
     → AnswersReading reading old (left s told notices u) (Err e)
 running-out reading old s told notices u e which same may =
-    let W : Last → TrafficView = λ w. record { traffic = traffic_of s told notices; before = undone w u s told notices } in
+    let W : Last → TrafficView = λ w. record { traffic = traffic_of s told notices; before = undone_traffic w u s told notices } in
     let T : Traffic → TrafficView = λ t. record { traffic = t; before = None } in
     let count : length notices ≡ length old.traffic.notices = ap (λ (t : Traffic). length t.notices) same in
     record {
@@ -63,10 +63,10 @@ running-out reading old s told notices u e which same may =
     }
 
 -- it is accepted, in a state of settled slot lists
-pub accepting : (reading : ReadingView) (old : TrafficView) (s : State) (told : List (Option Told)) (notices : List Notice)
-    (new : State) (new_told : List (Option Told)) (new_notices more : List Notice) (u : UndoingView) (v : Verdict)
+pub accepting : (reading : ReadingView) (old : TrafficView) (s : TrafficState) (told : List (Option Told)) (notices : List Notice)
+    (new : TrafficState) (new_told : List (Option Told)) (new_notices more : List Notice) (u : UndoingView) (v : Verdict)
     → traffic_of s told notices ≡ old.traffic → IsSettled s.store.taxi s.time s.store.plans s.listing.lists
-    → Answers reading old.traffic (traffic_of new new_told new_notices) v → undone u.which u new new_told new_notices ≡ Some old.traffic
+    → Answers reading old.traffic (traffic_of new new_told new_notices) v → undone_traffic u.which u new new_told new_notices ≡ Some old.traffic
     → new_notices ≡ notices ++ more → length new_notices ≤ length notices + MAX_PLANS
     → AnswersReading reading old (left new new_told new_notices u) (Ok v)
 accepting reading old s told notices new new_told new_notices more u v same settled answers before e few =

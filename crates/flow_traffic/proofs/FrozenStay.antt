@@ -34,7 +34,7 @@ use Rattle.flow_traffic.specs.declared.verdict.Verdict.{Verdict}
 use Rattle.flow_traffic.specs.declared.verdict.Kind.TheVariants as kind
 use Rattle.flow_traffic.specs.declared.verdict.Verdict.TheVariants.{Refused}
 use Rattle.flow_traffic.specs.Traffic.{Traffic, regulation_named}
-use Rattle.flow_traffic.specs.State.{State, traffic_of}
+use Rattle.flow_traffic.specs.State.{TrafficState, traffic_of}
 use Rattle.flow_slots.specs.Limits.{rates_fit}
 use Rattle.flow_traffic.specs.Opening.{has_period, regulation_by}
 use Rattle.flow_traffic.specs.Asked.{Asked, asked, asked_by_message, asked_to_open, asked_to_shut, asked_at, plans_changed_by, departing, is_called, is_departure, ordered, verdict_on}
@@ -292,7 +292,7 @@ frozen-stay reading old new v all answers id a h = by (asked old reading) refl a
   by (Err r) e is = subst (λ (s : Traffic). IsFrozenStill reading v s.regulations id a) (sym is.0) (inl h)
 
 -- the same if the traffic before is that of settled slot lists
-pub frozen-settled : (reading : ReadingView) (s : State) (told : List (Option Told)) (notices : List Notice) (old new : Traffic) (v : Verdict)
+pub frozen-settled : (reading : ReadingView) (s : TrafficState) (told : List (Option Told)) (notices : List Notice) (old new : Traffic) (v : Verdict)
     → traffic_of s told notices ≡ old → IsSettled s.store.taxi s.time s.store.plans s.listing.lists → Answers reading old new v → FrozenPairsStay reading old new v
 frozen-settled reading s told notices old new v was settled_in answers =
     frozen-stay reading old new v

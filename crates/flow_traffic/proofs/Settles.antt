@@ -4,11 +4,11 @@ use Rattle.flow_plans.specs.Plans.{PlanView}
 use Rattle.flow_regulations.specs.Listing.{RegulationView, regulation_of, AreRenewed, AreFrozen, pairs_in}
 use Rattle.flow_regulations.proofs.Stays.{keeps-trans}
 use Rattle.flow_regulations.proofs.ForTheDesk.{kept-slots-settled, kept-slots-frozen}
-use Rattle.flow_traffic.specs.State.{State}
+use Rattle.flow_traffic.specs.State.{TrafficState}
 use Rattle.flow_traffic.specs.Kept.{IsSettledFor}
 
 -- if it does not depart
-pub staying : (n : ℕ) (s : State) (plans : List PlanView) (new : List RegulationView)
+pub staying : (n : ℕ) (s : TrafficState) (plans : List PlanView) (new : List RegulationView)
     → ((f : ℕ) → (f ≡ n → ⊥) → pairs_in f new ≡ pairs_in f s.listing.lists) → AreRenewed s.store.taxi s.listing.max_plans s.time plans s.listing.lists new
     → IsSettledFor false n s plans new
 staying n s plans new others renewed = record {
@@ -19,7 +19,7 @@ staying n s plans new others renewed = record {
 }
 
 -- if it departs: its slots were frozen before
-pub leaving : (n : ℕ) (s : State) (plans : List PlanView) (mid new : List RegulationView)
+pub leaving : (n : ℕ) (s : TrafficState) (plans : List PlanView) (mid new : List RegulationView)
     → ((f : ℕ) → (f ≡ n → ⊥) → pairs_in f mid ≡ pairs_in f s.listing.lists) → AreFrozen s.store.taxi s.listing.max_plans n s.store.plans s.listing.lists mid
     → ((f : ℕ) → (f ≡ n → ⊥) → pairs_in f new ≡ pairs_in f mid) → AreRenewed s.store.taxi s.listing.max_plans s.time plans mid new
     → IsSettledFor true n s plans new

@@ -23,11 +23,11 @@ use Rattle.flow_regulations.proofs.Released.{release-step}
 use Rattle.flow_traffic.specs.declared.undo.Last.{Last}
 use Rattle.flow_traffic.specs.declared.undo.Last.TheVariants as reading
 use Rattle.flow_traffic.specs.Traffic.{Traffic}
-use Rattle.flow_traffic.specs.State.{State, traffic_of}
-use Rattle.flow_traffic.specs.Kept.{IsKept}
+use Rattle.flow_traffic.specs.State.{TrafficState, traffic_of}
+use Rattle.flow_traffic.specs.Kept.{IsKeptState}
 use Rattle.flow_traffic.specs.Reopening.{open_again}
 use Rattle.flow_traffic.specs.Telling.{told_again}
-use Rattle.flow_traffic.specs.Undoing.{UndoingView, has_changed, told_past, traffic_past, stood_again, waiting_again, all_waiting_again, before_last, past, undone, CanUndo, IsAgain, AreNoted, WasKept, IsKeptWith}
+use Rattle.flow_traffic.specs.Undoing.{UndoingView, has_changed, told_past, traffic_past, stood_again, waiting_again, all_waiting_again, before_last, state_past, undone_traffic, CanUndo, IsAgain, AreNoted, WasKept, IsKeptWith}
 use Rattle.flow_traffic.specs.Answers.{told_to}
 use Rattle.flow_traffic.proofs.Both.{some-same}
 use Rattle.flow_traffic.proofs.ToldAgain.{told_to-undone}
@@ -108,7 +108,7 @@ waits-again taxi max earlier now plans due before lists h is =
 pub plans-before : (store : PlanStoreView) (plans : List PlanView) → store.before ≡ Some plans → option_map_or (λ ps. ps) store.before [] ≡ plans
 plans-before store plans e = ap (λ (o : Option (List PlanView)). option_map_or (λ ps. ps) o []) e
 
-pub can-forget : (n : ℕ) (r : UndoingView) (s : State) (plans : List PlanView) (lists : List RegulationView)
+pub can-forget : (n : ℕ) (r : UndoingView) (s : TrafficState) (plans : List PlanView) (lists : List RegulationView)
     → 0 < n → n ≤ s.listing.max_plans → s.store.before ≡ Some plans → ArePlaces n r.places lists → map (without_in n) s.listing.lists ≡ map (without_in n) lists → Covers s.time plans s.queue.flights
     → CanUndo (reading.Message n) r s
 can-forget n r s plans lists some room before stand alone covers =
@@ -123,7 +123,7 @@ can-forget n r s plans lists some room before stand alone covers =
       covers = (let P : List PlanView → Type 0 = λ ps. Covers s.time ps s.queue.flights in subst P ended covers);
     }
 
-pub can-go-back : (earlier : ℕ) (r : UndoingView) (s : State) (lists : List RegulationView)
+pub can-go-back : (earlier : ℕ) (r : UndoingView) (s : TrafficState) (lists : List RegulationView)
     → HaveBecomeDue s.store.taxi s.listing.max_plans earlier s.time s.store.plans r.changed lists → s.listing.lists ≡ map (with_fixed_waiting r.changed) lists
     → HoldNewlyDue earlier s.time s.store.plans r.changed → Covers s.time s.store.plans s.queue.flights → length s.queue.flights + length r.changed ≤ s.queue.room
     → CanUndo (reading.Time earlier) r s
@@ -158,7 +158,7 @@ was-shut id lists new None is none was = absurd (true≢false (sym is ∙ none))
 was-shut id lists new (Some c) is none was = sym was
 
 -- what was kept before
-pub was-kept : (r : UndoingView) (s p old : State) (told old_told : List (Option Told)) → IsAgain p old → told_past r p told ≡ old_told → IsKept old old_told
+pub was-kept : (r : UndoingView) (s p old : TrafficState) (told old_told : List (Option Told)) → IsAgain p old → told_past r p told ≡ old_told → IsKeptState old old_told
     → length r.noted ≡ length r.changed → All (λ n. (0 < n) × (n ≤ length told)) r.changed → AreNoted r s.store.plans old.store.plans old_told
     → WasKept r s p told
 was-kept r s p old told old_told h e k each numbers changes = record {
@@ -179,7 +179,7 @@ was-kept r s p old told old_told h e k each numbers changes = record {
   };
 }
 
-pub traffic-before : (r : UndoingView) (p old : State) (told old_told : List (Option Told)) (notices old_notices : List Notice) → IsAgain p old → told_past r p told ≡ old_told → take r.issued notices ≡ old_notices
+pub traffic-before : (r : UndoingView) (p old : TrafficState) (told old_told : List (Option Told)) (notices old_notices : List Notice) → IsAgain p old → told_past r p told ≡ old_told → take r.issued notices ≡ old_notices
     → traffic_past r p told notices ≡ traffic_of old old_told old_notices
 traffic-before r p old told old_told notices old_notices h e n = rw (e, n, sym h.time, sym h.plans, sym h.lists, sym h.taxi, sym h.most) refl
 
@@ -188,7 +188,7 @@ pub notices-before : (old new more : List Notice) (count : ℕ) → new ≡ old 
 notices-before old new more count e c = ap (λ (ns : List Notice). take count ns) e ∙ ap (λ k. take k (old ++ more)) c ∙ take-append_seam old more
 
 -- the CTOTs issued before
-pub told-before : (r : UndoingView) (p : State) (told mid old_told : List (Option Told)) (plans old_plans : List PlanView)
+pub told-before : (r : UndoingView) (p : TrafficState) (told mid old_told : List (Option Told)) (plans old_plans : List PlanView)
     → p.store.plans ≡ old_plans → told_again r.changed r.noted told ≡ mid → mid ≡ told_to plans old_told
     → length old_told ≡ length old_plans → length old_plans ≤ length plans → length plans ≤ length old_plans + 1 → told_past r p told ≡ old_told
 told-before r p told mid old_told plans old_plans e again place each one more =
@@ -197,7 +197,7 @@ told-before r p told mid old_told plans old_plans e again place each one more =
     ∙ told_to-undone plans old_told (length old_plans) each one more
 
 -- and if the plans are the same
-pub told-back : (r : UndoingView) (p : State) (told old_told : List (Option Told)) (plans : List PlanView)
+pub told-back : (r : UndoingView) (p : TrafficState) (told old_told : List (Option Told)) (plans : List PlanView)
     → p.store.plans ≡ plans → told_again r.changed r.noted told ≡ old_told → length old_told ≡ length plans → told_past r p told ≡ old_told
 told-back r p told old_told plans e again each =
     ap (λ (ps : List PlanView). take (length ps) (told_again r.changed r.noted told)) e
@@ -213,7 +213,7 @@ one-within n count changed e some within =
 
 -- ---- undoing
 
-pub kept-again : (p s : State) (told new_told : List (Option Told)) → IsKept (record p { queue = s.queue }) told → IsAgain p s → new_told ≡ told → IsKept s new_told
+pub kept-again : (p s : TrafficState) (told new_told : List (Option Told)) → IsKeptState (record p { queue = s.queue }) told → IsAgain p s → new_told ≡ told → IsKeptState s new_told
 kept-again p s told new_told k h e = record {
   desk_time = rw h.time k.desk_time;
   limit = h.limit ∙ k.limit ∙ sym h.most;
@@ -228,7 +228,7 @@ kept-again p s told new_told k h e = record {
 }
 
 -- a reading that changed nothing can be undone
-nothing-can : (which : Last) (r : UndoingView) (s : State) → has_changed which ≡ false → CanUndo which r s
+nothing-can : (which : Last) (r : UndoingView) (s : TrafficState) → has_changed which ≡ false → CanUndo which r s
 nothing-can reading.Nothing r s e = tt
 nothing-can reading.Refused r s e = tt
 nothing-can (reading.Message n) r s e = absurd (true≢false e)
@@ -236,12 +236,12 @@ nothing-can (reading.Time earlier) r s e = absurd (true≢false e)
 nothing-can reading.Open r s e = absurd (true≢false e)
 nothing-can reading.Shut r s e = absurd (true≢false e)
 
-pub kept-with-nothing : (r : UndoingView) (s : State) (told : List (Option Told)) → has_changed r.which ≡ false → IsKept s told → IsKeptWith r s told
+pub kept-with-nothing : (r : UndoingView) (s : TrafficState) (told : List (Option Told)) → has_changed r.which ≡ false → IsKeptState s told → IsKeptWith r s told
 kept-with-nothing r s told e k = record { kept = k; can = nothing-can r.which r s e; was = λ h. absurd (true≢false (sym h ∙ e)) }
 
 -- before a reading that may have changed something
-pub undone-was : (which : Last) (r : UndoingView) (s : State) (told : List (Option Told)) (notices : List Notice) → has_changed which ≡ true
-    → undone which r s told notices ≡ Some (traffic_past r (past which r s) told notices)
+pub undone-was : (which : Last) (r : UndoingView) (s : TrafficState) (told : List (Option Told)) (notices : List Notice) → has_changed which ≡ true
+    → undone_traffic which r s told notices ≡ Some (traffic_past r (state_past which r s) told notices)
 undone-was reading.Nothing r s told notices e = absurd (true≢false (sym e))
 undone-was reading.Refused r s told notices e = absurd (true≢false (sym e))
 undone-was (reading.Message number) r s told notices e = refl
@@ -250,8 +250,8 @@ undone-was reading.Open r s told notices e = refl
 undone-was reading.Shut r s told notices e = refl
 
 -- before one that changed nothing, the traffic was the same
-pub undone-same : (which : Last) (r : UndoingView) (s : State) (told : List (Option Told)) (notices : List Notice) → has_changed which ≡ false
-    → IfSome (undone which r s told notices) (λ before. before ≡ traffic_of s told notices)
+pub undone-same : (which : Last) (r : UndoingView) (s : TrafficState) (told : List (Option Told)) (notices : List Notice) → has_changed which ≡ false
+    → IfSome (undone_traffic which r s told notices) (λ before. before ≡ traffic_of s told notices)
 undone-same reading.Nothing r s told notices e = tt
 undone-same reading.Refused r s told notices e = refl
 undone-same (reading.Message number) r s told notices e = absurd (true≢false e)
@@ -269,8 +269,8 @@ status-was None ps r number e h = absurd (cc)
 status-was (Some qs) ps r number e h = h
 
 -- only a message changes plans
-pub plans-stay : (which : Last) (r : UndoingView) (s : State) (told : List (Option Told)) (notices : List Notice) → ((n : ℕ) → which ≡ reading.Message n → ⊥)
-    → IfSome (undone which r s told notices) (λ before. before.plans ≡ s.store.plans)
+pub plans-stay : (which : Last) (r : UndoingView) (s : TrafficState) (told : List (Option Told)) (notices : List Notice) → ((n : ℕ) → which ≡ reading.Message n → ⊥)
+    → IfSome (undone_traffic which r s told notices) (λ before. before.plans ≡ s.store.plans)
 plans-stay reading.Nothing r s told notices ne = tt
 plans-stay reading.Refused r s told notices ne = refl
 plans-stay (reading.Message n) r s told notices ne = absurd (ne n refl)

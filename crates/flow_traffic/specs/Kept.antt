@@ -12,12 +12,12 @@ use Rattle.flow_regulations.specs.Settling.{settled, pairs_of}
 use Rattle.flow_slots.specs.Assignment.{is_in}
 use Rattle.flow_regulations.specs.Listing.{RegulationView, regulation_of, IsListed, IsSettled, is_named}
 use Rattle.flow_regulations.specs.Quiet.{AllQuiet, HasSameSlots}
-use Rattle.flow_traffic.specs.State.{State}
+use Rattle.flow_traffic.specs.State.{TrafficState}
 use Rattle.flow_traffic.specs.Asked.{departing}
 use Rattle.flow_traffic.specs.declared.opening.TheConstants.{MAX_REGULATIONS}
 use Rattle.flow_plans.specs.declared.setup.TheConstants.{MAX_PLANS}
 
-pub record IsKept (s : State) (told : List (Option Told)) : Type 0 where
+pub record IsKeptState (s : TrafficState) (told : List (Option Told)) : Type 0 where
   pub desk_time : IsDeskTime s.time
   pub limit : s.listing.max_plans ≡ s.store.max_plans
   pub few : length s.listing.lists ≤ MAX_REGULATIONS
@@ -31,7 +31,7 @@ pub record IsKept (s : State) (told : List (Option Told)) : Type 0 where
 
 -- the regulations were settled after a message about one flight, which departs or does not: in that
 -- state before, with these plans and slot lists after
-pub record IsSettledFor (departs : Bool) (number : ℕ) (s : State) (plans : List PlanView) (lists : List RegulationView) : Type 0 where
+pub record IsSettledFor (departs : Bool) (number : ℕ) (s : TrafficState) (plans : List PlanView) (lists : List RegulationView) : Type 0 where
   pub regulations : map regulation_of lists
       ≡ map (settled s.store.taxi s.time plans)
       (departing departs number s.store.taxi s.listing.max_plans s.store.plans (map regulation_of s.listing.lists))

@@ -11,22 +11,22 @@ use Rattle.flow_traffic.specs.Traffic.{Traffic}
 
 -- the desk's time, its plans, its open regulations with their slot lists, and the flights that
 -- aren't due
-pub record State : Type 0 where
+pub record TrafficState : Type 0 where
   pub time : ℕ
   pub store : PlanStoreView
   pub listing : RegulationsView
   pub queue : DueQueueView
 
 -- with these plans
-abbrev pub with_plans : List PlanView → State → State
+abbrev pub with_plans : List PlanView → TrafficState → TrafficState
 with_plans plans s = record s { store = record s.store { plans = plans } }
 
 -- with these slot lists
-abbrev pub with_lists : List RegulationView → State → State
+abbrev pub with_lists : List RegulationView → TrafficState → TrafficState
 with_lists lists s = record s { listing = record s.listing { lists = lists } }
 
 -- the traffic in that state, with these CTOTs and notices issued
-abbrev pub traffic_of : State → List (Option Told) → List Notice → Traffic
+abbrev pub traffic_of : TrafficState → List (Option Told) → List Notice → Traffic
 traffic_of s told notices = record {
   taxi = s.store.taxi;
   max_plans = s.store.max_plans;

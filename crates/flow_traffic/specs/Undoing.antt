@@ -15,10 +15,10 @@ use Rattle.flow_regulations.specs.SlotStates.{stood, ArePlaces}
 use Rattle.flow_traffic.specs.declared.undo.Last.{Last}
 use Rattle.flow_traffic.specs.declared.undo.Last.TheVariants as reading
 use Rattle.flow_traffic.specs.Traffic.{Traffic, told_of}
-use Rattle.flow_traffic.specs.State.{State, with_plans, with_lists, traffic_of}
+use Rattle.flow_traffic.specs.State.{TrafficState, with_plans, with_lists, traffic_of}
 use Rattle.flow_traffic.specs.Telling.{told_again}
 use Rattle.flow_traffic.specs.Reopening.{open_again}
-use Rattle.flow_traffic.specs.Kept.{IsKept}
+use Rattle.flow_traffic.specs.Kept.{IsKeptState}
 
 -- a flight has its former slots again
 abbrev pub stood_again : ℕ → List Place → List RegulationView → List RegulationView
@@ -68,31 +68,31 @@ has_changed reading.Refused = false
 has_changed which = true
 
 -- the state before it, with the queue of now
-abbrev pub past : Last → UndoingView → State → State
-past reading.Nothing r s = s
-past reading.Refused r s = s
-past (reading.Message number) r s =
+abbrev pub state_past : Last → UndoingView → TrafficState → TrafficState
+state_past reading.Nothing r s = s
+state_past reading.Refused r s = s
+state_past (reading.Message number) r s =
     with_plans (option_map_or (λ plans. plans) s.store.before []) (with_lists (stood_again number r.places s.listing.lists) s)
-past (reading.Time earlier) r s = record (with_lists (all_waiting_again s.store.taxi s.store.plans r.changed s.listing.lists) s) { time = earlier }
-past reading.Open r s = with_lists (before_last s.listing.lists) s
-past reading.Shut r s = with_lists (open_again r.closed s.listing.lists) s
+state_past (reading.Time earlier) r s = record (with_lists (all_waiting_again s.store.taxi s.store.plans r.changed s.listing.lists) s) { time = earlier }
+state_past reading.Open r s = with_lists (before_last s.listing.lists) s
+state_past reading.Shut r s = with_lists (open_again r.closed s.listing.lists) s
 
 -- the CTOTs issued to plans in that state
-abbrev pub told_past : UndoingView → State → List (Option Told) → List (Option Told)
+abbrev pub told_past : UndoingView → TrafficState → List (Option Told) → List (Option Told)
 told_past r p told = take (length p.store.plans) (told_again r.changed r.noted told)
 
 -- the traffic in that state, without the notices since
-abbrev pub traffic_past : UndoingView → State → List (Option Told) → List Notice → Traffic
+abbrev pub traffic_past : UndoingView → TrafficState → List (Option Told) → List Notice → Traffic
 traffic_past r p told notices = traffic_of p (told_past r p told) (take r.issued notices)
 
 -- the traffic before the last reading, if that can be undone
-abbrev pub undone : Last → UndoingView → State → List (Option Told) → List Notice → Option Traffic
-undone reading.Nothing r s told notices = None
-undone reading.Refused r s told notices = Some (traffic_of s told notices)
-undone which r s told notices = Some (traffic_past r (past which r s) told notices)
+abbrev pub undone_traffic : Last → UndoingView → TrafficState → List (Option Told) → List Notice → Option Traffic
+undone_traffic reading.Nothing r s told notices = None
+undone_traffic reading.Refused r s told notices = Some (traffic_of s told notices)
+undone_traffic which r s told notices = Some (traffic_past r (state_past which r s) told notices)
 
 -- a message about the plan of this number can be undone
-pub record CanForget (number : ℕ) (r : UndoingView) (s p : State) : Type 0 where
+pub record CanForget (number : ℕ) (r : UndoingView) (s p : TrafficState) : Type 0 where
   pub some : 0 < number
   pub room : number ≤ s.listing.max_plans
   pub before : s.store.before ≡ Some p.store.plans
@@ -101,7 +101,7 @@ pub record CanForget (number : ℕ) (r : UndoingView) (s p : State) : Type 0 whe
   pub covers : Covers s.time p.store.plans s.queue.flights
 
 -- so can TIME, which advanced the desk's time from this one
-pub record CanGoBack (earlier : ℕ) (r : UndoingView) (s p : State) : Type 0 where
+pub record CanGoBack (earlier : ℕ) (r : UndoingView) (s p : TrafficState) : Type 0 where
   pub due : HaveBecomeDue s.store.taxi s.listing.max_plans earlier s.time s.store.plans r.changed p.listing.lists
   pub fixed : s.listing.lists ≡ map (with_fixed_waiting r.changed) p.listing.lists
   pub within : All (λ n. (0 < n) × (n ≤ length s.store.plans)) r.changed
@@ -110,17 +110,17 @@ pub record CanGoBack (earlier : ℕ) (r : UndoingView) (s p : State) : Type 0 wh
   pub room : length s.queue.flights + length r.changed ≤ s.queue.room
 
 -- so can the last reading
-abbrev pub CanUndo : Last → UndoingView → State → Type 0
+abbrev pub CanUndo : Last → UndoingView → TrafficState → Type 0
 CanUndo reading.Nothing r s = Unit {0}
 CanUndo reading.Refused r s = Unit {0}
-CanUndo (reading.Message number) r s = CanForget number r s (past (reading.Message number) r s)
-CanUndo (reading.Time earlier) r s = CanGoBack earlier r s (past (reading.Time earlier) r s)
+CanUndo (reading.Message number) r s = CanForget number r s (state_past (reading.Message number) r s)
+CanUndo (reading.Time earlier) r s = CanGoBack earlier r s (state_past (reading.Time earlier) r s)
 CanUndo reading.Open r s = (l : RegulationView) × (s.listing.lists ≡ before_last s.listing.lists ++ l ∷ [])
 CanUndo reading.Shut r s = IfSome r.closed (λ c. MayReopen c s.listing)
 
 -- a state has the time, plans and slot lists of an earlier one again, and its queue each filed
 -- flight that isn't due
-pub record IsAgain (p s : State) : Type 0 where
+pub record IsAgain (p s : TrafficState) : Type 0 where
   pub time : s.time ≡ p.time
   pub plans : s.store.plans ≡ p.store.plans
   pub taxi : s.store.taxi ≡ p.store.taxi
@@ -138,14 +138,14 @@ pub record AreNoted (r : UndoingView) (plans before : List PlanView) (told : Lis
   pub were : r.noted ≡ map (told_of told) r.changed
 
 -- the CTOTs issued to plans can be restored, and then the traffic is kept as before
-pub record WasKept (r : UndoingView) (s p : State) (told : List (Option Told)) : Type 0 where
+pub record WasKept (r : UndoingView) (s p : TrafficState) (told : List (Option Told)) : Type 0 where
   pub each : length r.noted ≡ length r.changed
   pub numbers : All (λ n. (0 < n) × (n ≤ length told)) r.changed
   pub changes : AreNoted r s.store.plans p.store.plans (told_past r p told)
-  pub kept : (queue : DueQueueView) → Covers p.time p.store.plans queue.flights → IsKept (record p { queue = queue }) (told_past r p told)
+  pub kept : (queue : DueQueueView) → Covers p.time p.store.plans queue.flights → IsKeptState (record p { queue = queue }) (told_past r p told)
 
 -- how the traffic is kept, with what undoes the last reading
-pub record IsKeptWith (r : UndoingView) (s : State) (told : List (Option Told)) : Type 0 where
-  pub kept : IsKept s told
+pub record IsKeptWith (r : UndoingView) (s : TrafficState) (told : List (Option Told)) : Type 0 where
+  pub kept : IsKeptState s told
   pub can : CanUndo r.which r s
-  pub was : has_changed r.which ≡ true → WasKept r s (past r.which r s) told
+  pub was : has_changed r.which ≡ true → WasKept r s (state_past r.which r s) told

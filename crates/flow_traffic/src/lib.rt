@@ -9,8 +9,8 @@
 //! - *The order of doing*: find the verdict on values, reserve capacity for all that will be added,
 //!   make the one change that can fail, then only what can't. If allocation fails nothing has
 //!   changed, or the change is undone without allocation.
-//! - *Between two readings* (`IsKept`) each slot list is that of the plans, all regulations are
-//!   settled, the queue holds each filed flight that isn't due, and no notice is pending. So a
+//! - *Between two readings* (`IsKeptState`) each slot list is that of the plans, all regulations
+//!   are settled, the queue holds each filed flight that isn't due, and no notice is pending. So a
 //!   reading reads only what it changes.
 //! - *Frozen flights keep their slots* (`FrozenPairsStay`): a reading removes a frozen pair of
 //!   flight and slot only as the accepted DLA, CHG or CNL of that flight, or as the accepted SHUT

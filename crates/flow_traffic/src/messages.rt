@@ -15,7 +15,7 @@ ghost use Rattle.flow_regulations.specs.Awaiting.{Covers};
 ghost use Rattle.flow_regulations.specs.declared.due_queue.PendingFlight.{PendingFlight};
 ghost use Rattle.flow_regulations.specs.Listing.{IsListed, IsSettled, AreSameBut, without_in};
 ghost use Rattle.flow_traffic.specs.Traffic.{told_of};
-ghost use Rattle.flow_traffic.specs.State.{State};
+ghost use Rattle.flow_traffic.specs.State.{TrafficState};
 ghost use Rattle.flow_traffic.specs.Asked.{plans_changed_by, verdict_on, is_departure};
 ghost use Rattle.flow_traffic.specs.Answering.{AnswersReading};
 ghost use Rattle.flow_traffic.specs.Answers.{told_to};
@@ -198,7 +198,7 @@ fn settle_for<A: Allocator + Copy>(
     ensures limit { regulations.new.max_plans ≡ regulations.old.max_plans }
     ensures alone { map (without_in number) regulations.new.lists
         ≡ map (without_in number) regulations.old.lists }
-    ensures settled { (s : State) → s.time ≡ now → s.store.taxi ≡ plans.now.taxi
+    ensures settled { (s : TrafficState) → s.time ≡ now → s.store.taxi ≡ plans.now.taxi
         → s.listing ≡ regulations.old
         → IsListed s.store.taxi s.listing.max_plans s.store.plans s.listing.lists
         → IsSettled s.store.taxi s.time s.store.plans s.listing.lists

@@ -40,17 +40,17 @@ pub struct Traffic<A: Allocator + Copy = Global> {
 
 impl<A: Allocator + Copy> Model for Traffic<A> {
     ghost use Rattle.flow_traffic.specs.Traffic.{TrafficView};
-    ghost use Rattle.flow_traffic.specs.State.{State, traffic_of};
-    ghost use Rattle.flow_traffic.specs.Undoing.{undone, IsKeptWith};
+    ghost use Rattle.flow_traffic.specs.State.{TrafficState, traffic_of};
+    ghost use Rattle.flow_traffic.specs.Undoing.{undone_traffic, IsKeptWith};
 
     ghost Value = { TrafficView };
 
     ghost view = { λ t.
-        let s : State =
+        let s : TrafficState =
         record { time = t.time; store = t.plans; listing = t.regulations; queue = t.queue } in
         record {
           traffic = traffic_of s t.notified.told.items t.notified.notices.items;
-          before = undone t.undoing.which t.undoing s t.notified.told.items
+          before = undone_traffic t.undoing.which t.undoing s t.notified.told.items
               t.notified.notices.items;
         } };
 

@@ -12,7 +12,7 @@ ghost use Rattle.flow_traffic.specs.Traffic.{told_of};
 ghost use Rattle.flow_traffic.specs.Kept.{AreFixedIn};
 ghost use Rattle.flow_traffic.specs.Reopening.{open_again};
 ghost use Rattle.flow_traffic.specs.Telling.{AreTold, told_again};
-ghost use Rattle.flow_traffic.specs.Undoing.{has_changed, past, CanUndo, IsAgain};
+ghost use Rattle.flow_traffic.specs.Undoing.{has_changed, state_past, CanUndo, IsAgain};
 
 use crate::notified::Notified;
 use flow_plans::PlanStore;
@@ -301,7 +301,7 @@ impl<A: Allocator + Copy> Undoing<A> {
             }) }
         requires covers { Covers time.old plans.old.plans queue.old.flights }
         ensures again { IsAgain
-            (past self.old.which self.old
+            (state_past self.old.which self.old
             (record {
               time = time.old;
               store = plans.old;

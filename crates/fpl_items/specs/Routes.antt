@@ -42,10 +42,10 @@ abbrev pub is_route : List ℕ → Bool
 is_route field = is_ok (path_or_fault field)
 
 -- The result of a call, seen by `view`, is what its definition gives, unless allocation fails.
-abbrev pub Gives : {X Y : Type 0} → (X → Y) → Result X ItemFault → Result Y ItemFault → Type 0
-Gives view (Ok x) expected = expected ≡ Ok (view x)
-Gives view (Err OutOfMemory) expected = Unit {0}
-Gives view (Err fault) expected = expected ≡ Err fault
+abbrev pub ReadsAs : {X Y : Type 0} → (X → Y) → Result X ItemFault → Result Y ItemFault → Type 0
+ReadsAs view (Ok x) expected = expected ≡ Ok (view x)
+ReadsAs view (Err OutOfMemory) expected = Unit {0}
+ReadsAs view (Err fault) expected = expected ≡ Err fault
 
 -- the length of words, with a space after each
 abbrev pub total_len : List (List ℕ) → ℕ

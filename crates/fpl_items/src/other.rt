@@ -18,7 +18,7 @@ ghost use Rattle.fpl_items.specs.Items.{is_day, item_fault, first_fault};
 ghost use Rattle.fpl_items.specs.Items.{items_of, field_fault, items_or_fault};
 ghost use Rattle.fpl_items.specs.Items.{elapsed_to, is_exempt, day_of_words};
 ghost use Rattle.fpl_items.specs.Items.{ItemView, day_of_items, Say, SaysAfter};
-ghost use Rattle.fpl_items.specs.Routes.{Gives};
+ghost use Rattle.fpl_items.specs.Routes.{ReadsAs};
 ghost use Rattle.fpl_items.specs.Other18.{TellsOf};
 ghost use Rattle.fpl_text.specs.declared.time.TheConstants.{ELAPSED_LIMIT};
 ghost use Rattle.std.specs.Str.{bytes_eq};
@@ -347,7 +347,7 @@ impl<A: Allocator + Copy> Other18<A> {
     /// date; `DuplicateItem` for a second DOF. Allocates only for estimates after the eighth;
     /// `OutOfMemory` may come before a fault in what follows.
     pub fn read(alloc: A, field: &[u8]) -> Result<Self, ItemFault>
-        ensures value { Gives (λ other. items_of (words_of field.now)) result
+        ensures value { ReadsAs (λ other. items_of (words_of field.now)) result
             (items_or_fault field.now) }
         ensures tells { IfOk result (TellsOf (items_of (words_of field.now))) }
         ensures memory { IfErr result

@@ -7,7 +7,7 @@ ghost use Rattle.std.specs.List.{count_by, list_all, prefix_len};
 ghost use Rattle.fpl_text.specs.Words.{words_of};
 ghost use Rattle.fpl_items.specs.Speeds.{is_speed_and_level};
 ghost use Rattle.fpl_text.specs.Bytes.{is_letter, is_letter_or_digit};
-ghost use Rattle.fpl_items.specs.Routes.{path_or_fault, is_route, elements_of, total_len, Gives};
+ghost use Rattle.fpl_items.specs.Routes.{path_or_fault, is_route, elements_of, total_len, ReadsAs};
 ghost use Rattle.fpl_items.specs.Kinds.{is_name, is_coordinate, is_point};
 ghost use Rattle.fpl_items.specs.Kinds.{is_change, is_climb_range, is_climb_speed};
 ghost use Rattle.fpl_items.specs.Kinds.{is_climb_from, is_climb, is_designator};
@@ -314,7 +314,7 @@ impl<A: Allocator + Copy> Route<A> {
     /// it return `OutOfMemory`.
     #[tactic(auto, unfolding(crate::specs::Routes::path_or_fault))]
     pub fn read(alloc: A, field: &[u8]) -> Result<Self, ItemFault>
-        ensures value { Gives (λ route. route) result (path_or_fault field.now) }
+        ensures value { ReadsAs (λ route. route) result (path_or_fault field.now) }
         ensures memory { IfErr result (λ fault. fault ≡ ItemFault.OutOfMemory
             → (is_speed_and_level (slice_index_or (words_of field.now) 0 []) ≡ true)
             × (0 < count_by (λ b. b == 32) field.now)) }

@@ -11,23 +11,23 @@ use Rattle.fpl_message.specs.declared.refusal.Refusal.{Refusal}
 use Rattle.fpl_message.specs.declared.fault.Fault.{Fault}
 use Rattle.fpl_message.specs.declared.fault.Fault.TheVariants.{Refused, OutOfMemory}
 use Rattle.fpl_message.specs.Messages.{field, ChgView}
-use Rattle.fpl_message.specs.Modifications.{amended_text, amend, amended}
+use Rattle.fpl_message.specs.Modifications.{amended_text, amend, amend_all}
 
 -- from an index on: the field there, and then those after it
 pub amended-drop : (fields : List (List ℕ)) (place : ℕ) (m : ChgView) → place < length fields
-    → amended (drop place fields) m ≡ (amend (field fields place) m >>= amended (drop (place + 1) fields))
+    → amend_all (drop place fields) m ≡ (amend (field fields place) m >>= amend_all (drop (place + 1) fields))
 amended-drop fields place m h =
-    rw (add-one, unwrap_or-slice_get) (ap (λ rest. amended rest m) (drop-cons fields place [] h))
+    rw (add-one, unwrap_or-slice_get) (ap (λ rest. amend_all rest m) (drop-cons fields place [] h))
 
 -- after the last field there is none
-pub amended-past : (fields : List (List ℕ)) (place : ℕ) (m : ChgView) → length fields ≤ place → amended (drop place fields) m ≡ Ok m
-amended-past fields place m h = ap (λ rest. amended rest m) (drop_of_length-le fields h)
+pub amended-past : (fields : List (List ℕ)) (place : ℕ) (m : ChgView) → length fields ≤ place → amend_all (drop place fields) m ≡ Ok m
+amended-past fields place m h = ap (λ rest. amend_all rest m) (drop_of_length-le fields h)
 
 -- a step of the walk that is taken
 pub amended-on : (fields : List (List ℕ)) (place : ℕ) (m next : ChgView) (all : Result ChgView Refusal) → place < length fields
-    → amend (field fields place) m ≡ Ok next → amended (drop place fields) m ≡ all → amended (drop (place + 1) fields) next ≡ all
+    → amend (field fields place) m ≡ Ok next → amend_all (drop place fields) m ≡ all → amend_all (drop (place + 1) fields) next ≡ all
 amended-on fields place m next all h step is =
-    let rest = amended (drop (place + 1) fields) in
+    let rest = amend_all (drop (place + 1) fields) in
     sym (ap (λ r. r >>= rest) step) ∙ (sym (amended-drop fields place m h) ∙ is)
 
 -- a ninth estimate of the field at an index, or of one after it, is one from there on

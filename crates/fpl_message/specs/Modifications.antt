@@ -76,9 +76,9 @@ amend field m =
     else Err (refusal.BadField 22)
 
 -- one field 22 after the other
-abbrev pub amended : List (List ℕ) → ChgView → Result ChgView Refusal
-amended [] m = Ok m
-amended (field ∷ fields) m = amend field m >>= amended fields
+abbrev pub amend_all : List (List ℕ) → ChgView → Result ChgView Refusal
+amend_all [] m = Ok m
+amend_all (field ∷ fields) m = amend field m >>= amend_all fields
 
 -- a modification of a plan that amends nothing yet
 abbrev pub unamended : Opening → ChgView
@@ -100,4 +100,4 @@ unfoldable pub chg_of : List (List ℕ) → Result ChgView Refusal
 chg_of fields =
     let has_other = not (begins_amendment (field fields 4)) in
     opening_of has_other fields
-    >>= (λ opening. amended (drop (if has_other then 5 else 4) fields) (unamended opening))
+    >>= (λ opening. amend_all (drop (if has_other then 5 else 4) fields) (unamended opening))

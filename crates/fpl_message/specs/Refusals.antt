@@ -77,10 +77,10 @@ abbrev pub in_field : {X : Type 0} → ℕ → Option X → Result X Refusal
 in_field number found = ok_or found (refusal.BadField number)
 
 -- What a call gave, seen by `view`, is what its definition says, unless an allocation failed.
-abbrev pub Gives : {X Y : Type 0} → (X → Y) → Result X Fault → Result Y Refusal → Type 0
-Gives view (Ok x) expected = expected ≡ Ok (view x)
-Gives view (Err OutOfMemory) expected = Unit {0}
-Gives view (Err (Refused refusal)) expected = expected ≡ Err refusal
+abbrev pub ReturnsAs : {X Y : Type 0} → (X → Y) → Result X Fault → Result Y Refusal → Type 0
+ReturnsAs view (Ok x) expected = expected ≡ Ok (view x)
+ReturnsAs view (Err OutOfMemory) expected = Unit {0}
+ReturnsAs view (Err (Refused refusal)) expected = expected ≡ Err refusal
 
 -- An allocation failed in a call only if this holds.
 abbrev pub RunsOutOnlyIf : {X : Type 0} → Result X Fault → Type 0 → Type 0

@@ -1,14 +1,14 @@
 //! The amended fields of a modification, field type 22.
 ghost use Rattle.std.specs.Prelude.{◌≡◌, ◌≢◌, Err, ◌≤◌, ◌<◌, drop, length, true, IfOk};
 ghost use Rattle.fpl_text.specs.Fields.{begins_amendment};
-ghost use Rattle.fpl_message.specs.Refusals.{Gives, RunsOutOnlyIf, IsPastTheEighth};
+ghost use Rattle.fpl_message.specs.Refusals.{ReturnsAs, RunsOutOnlyIf, IsPastTheEighth};
 ghost use Rattle.fpl_message.specs.Messages.{field};
 ghost use Rattle.fpl_message.specs.Modifications.{amended_number, amended_text};
 ghost use Rattle.fpl_message.specs.Modifications.{amend_rules, amend_craft};
 ghost use Rattle.fpl_message.specs.Modifications.{amend_equipment, amend_departure};
 ghost use Rattle.fpl_message.specs.Modifications.{amend_route, amend_destination};
 ghost use Rattle.fpl_message.specs.Modifications.{amend_other, amend_numbered};
-ghost use Rattle.fpl_message.specs.Modifications.{amend, amended, chg_of};
+ghost use Rattle.fpl_message.specs.Modifications.{amend, amend_all, chg_of};
 ghost use Rattle.fpl_message.specs.KeptChanges.{kept, StandAmong};
 ghost use Rattle.fpl_message.specs.NinthEstimates.{NotesNine, ChgNotesNine};
 
@@ -70,7 +70,7 @@ pub(crate) fn amended_at<A: Allocator + Copy>(fields: &Fields<A>, place: usize) 
 impl<A: Allocator + Copy> Changes<A> {
     fn amend_rules(&mut self, fields: &Fields<A>, place: usize) -> Result<(), Fault>
         requires { place < length fields.now }
-        ensures change { Gives (λ _. kept fields.now self.new) result
+        ensures change { ReturnsAs (λ _. kept fields.now self.new) result
             (amend_rules (amended_text (field fields.now place)) (kept fields.now self.old)) }
         ensures memory { result ≢ Err Fault.OutOfMemory }
         ensures stand { StandAmong fields.now self.old → StandAmong fields.now self.new }
@@ -86,7 +86,7 @@ impl<A: Allocator + Copy> Changes<A> {
 
     fn amend_craft(&mut self, fields: &Fields<A>, place: usize) -> Result<(), Fault>
         requires { place < length fields.now }
-        ensures change { Gives (λ _. kept fields.now self.new) result
+        ensures change { ReturnsAs (λ _. kept fields.now self.new) result
             (amend_craft (amended_text (field fields.now place)) (kept fields.now self.old)) }
         ensures memory { result ≢ Err Fault.OutOfMemory }
         ensures stand { StandAmong fields.now self.old → StandAmong fields.now self.new }
@@ -101,7 +101,7 @@ impl<A: Allocator + Copy> Changes<A> {
 
     fn amend_equipment(&mut self, fields: &Fields<A>, place: usize) -> Result<(), Fault>
         requires { place < length fields.now }
-        ensures change { Gives (λ _. kept fields.now self.new) result
+        ensures change { ReturnsAs (λ _. kept fields.now self.new) result
             (amend_equipment (amended_text (field fields.now place)) (kept fields.now self.old)) }
         ensures memory { result ≢ Err Fault.OutOfMemory }
         ensures stand { StandAmong fields.now self.old → StandAmong fields.now self.new }
@@ -118,7 +118,7 @@ impl<A: Allocator + Copy> Changes<A> {
 
     fn amend_departure(&mut self, fields: &Fields<A>, place: usize) -> Result<(), Fault>
         requires { place < length fields.now }
-        ensures change { Gives (λ _. kept fields.now self.new) result
+        ensures change { ReturnsAs (λ _. kept fields.now self.new) result
             (amend_departure (amended_text (field fields.now place)) (kept fields.now self.old)) }
         ensures memory { result ≢ Err Fault.OutOfMemory }
         ensures stand { StandAmong fields.now self.old → StandAmong fields.now self.new }
@@ -133,7 +133,7 @@ impl<A: Allocator + Copy> Changes<A> {
 
     fn amend_route(&mut self, fields: &Fields<A>, place: usize) -> Result<(), Fault>
         requires { place < length fields.now }
-        ensures change { Gives (λ _. kept fields.now self.new) result
+        ensures change { ReturnsAs (λ _. kept fields.now self.new) result
             (amend_route (amended_text (field fields.now place)) (kept fields.now self.old)) }
         ensures memory { result ≢ Err Fault.OutOfMemory }
         ensures stand { StandAmong fields.now self.old → StandAmong fields.now self.new }
@@ -151,7 +151,7 @@ impl<A: Allocator + Copy> Changes<A> {
     /// Field 16, whose time and alternates may be missing.
     fn amend_destination(&mut self, fields: &Fields<A>, place: usize) -> Result<(), Fault>
         requires { place < length fields.now }
-        ensures change { Gives (λ _. kept fields.now self.new) result
+        ensures change { ReturnsAs (λ _. kept fields.now self.new) result
             (amend_destination (amended_text (field fields.now place)) (kept fields.now self.old)) }
         ensures memory { result ≢ Err Fault.OutOfMemory }
         ensures stand { StandAmong fields.now self.old → StandAmong fields.now self.new }
@@ -166,7 +166,7 @@ impl<A: Allocator + Copy> Changes<A> {
 
     fn amend_other(&mut self, alloc: A, fields: &Fields<A>, place: usize) -> Result<(), Fault>
         requires { place < length fields.now }
-        ensures change { Gives (λ _. kept fields.now self.new) result
+        ensures change { ReturnsAs (λ _. kept fields.now self.new) result
             (amend_other (amended_text (field fields.now place)) (kept fields.now self.old)) }
         ensures memory { RunsOutOnlyIf result
             (IsPastTheEighth (amended_text (field fields.now place))
@@ -186,7 +186,7 @@ impl<A: Allocator + Copy> Changes<A> {
     #[tactic(auto, unfolding(crate::specs::Modifications::amend, crate::specs::Modifications::amend_numbered))]
     fn amend(&mut self, alloc: A, fields: &Fields<A>, place: usize) -> Result<(), Fault>
         requires { place < length fields.now }
-        ensures change { Gives (λ _. kept fields.now self.new) result
+        ensures change { ReturnsAs (λ _. kept fields.now self.new) result
             (amend (field fields.now place) (kept fields.now self.old)) }
         ensures memory { RunsOutOnlyIf result
             (IsPastTheEighth (amended_text (field fields.now place))
@@ -213,8 +213,8 @@ impl<A: Allocator + Copy> Changes<A> {
     #[tactic(auto, using(crate::proofs::ModificationLemmas::amended_steps))]
     fn amend_from(&mut self, alloc: A, fields: &Fields<A>, first: usize) -> Result<(), Fault>
         requires { first ≤ length fields.now }
-        ensures change { Gives (λ _. kept fields.now self.new) result
-            (amended (drop first fields.now) (kept fields.now self.old)) }
+        ensures change { ReturnsAs (λ _. kept fields.now self.new) result
+            (amend_all (drop first fields.now) (kept fields.now self.old)) }
         ensures memory { RunsOutOnlyIf result
             (NotesNine (drop first fields.now) (kept fields.now self.old)) }
         ensures stand { StandAmong fields.now self.old → StandAmong fields.now self.new }
@@ -245,7 +245,7 @@ impl<A: Allocator + Copy> Changes<A> {
     #[tactic(auto, unfolding(crate::specs::Modifications::chg_of))]
     pub(crate) fn read(&mut self, alloc: A, fields: &Fields<A>) -> Result<(), Fault>
         requires { 5 ≤ length fields.now }
-        ensures change { Gives (λ _. kept fields.now self.new) result (chg_of fields.now) }
+        ensures change { ReturnsAs (λ _. kept fields.now self.new) result (chg_of fields.now) }
         ensures memory { RunsOutOnlyIf result (ChgNotesNine fields.now) }
         ensures stand { StandAmong fields.now self.new }
     {

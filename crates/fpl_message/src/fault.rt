@@ -1,6 +1,6 @@
 //! Why parsing stopped.
 ghost use Rattle.std.specs.Prelude.{◌≡◌};
-ghost use Rattle.fpl_message.specs.Refusals.{Gives, PlaceFits, text_fault, fault_of_field};
+ghost use Rattle.fpl_message.specs.Refusals.{ReturnsAs, PlaceFits, text_fault, fault_of_field};
 ghost use Rattle.fpl_message.specs.Refusals.{fault_of_item};
 
 use crate::refusal::Refusal;
@@ -56,7 +56,7 @@ impl From<ItemFault> for Fault {
 
 /// Boxes a value, or returns `Err` if the allocation fails.
 pub(crate) fn boxed<A: Allocator + Copy, T: Drop>(alloc: A, value: T) -> Result<Box<T, A>, Fault>
-    ensures { Gives (λ b. b.value) result (Ok value) }
+    ensures { ReturnsAs (λ b. b.value) result (Ok value) }
 {
     match Box::new(alloc, value) {
         Ok(boxed) => Ok(boxed),

@@ -1,6 +1,6 @@
 //! The filed flight plan message, FPL.
 ghost use Rattle.std.specs.Prelude.{◌≡◌, ◌<◌, length, Some, Ok, IfOk, IfErr};
-ghost use Rattle.fpl_message.specs.Refusals.{Gives, RunsOutOnlyIf, IsPastTheEighth};
+ghost use Rattle.fpl_message.specs.Refusals.{ReturnsAs, RunsOutOnlyIf, IsPastTheEighth};
 ghost use Rattle.fpl_items.specs.Routes.{is_route, path_or_fault};
 ghost use Rattle.fpl_text.specs.Words.{words_of};
 ghost use Rattle.fpl_items.specs.Items.{items_of};
@@ -68,7 +68,7 @@ impl<A: Allocator + Copy> Fpl<A> {
         fields: Fields<A>,
     ) -> Result<Box<Fpl<A>, A>, Fault>
         requires { length fields ≡ 9 }
-        ensures value { Gives (λ b. b.value) result (fpl_of fields) }
+        ensures value { ReturnsAs (λ b. b.value) result (fpl_of fields) }
         ensures memory { RunsOutOnlyIf result
             (IfErr (fpl_of fields) (λ _. IsPastTheEighth (field fields 8) (fpl_of fields))) }
     {

@@ -2,7 +2,7 @@
 ghost use Rattle.std.specs.Prelude.{◌≡◌, ◌≤◌, ◌<◌, length, option_copied, IfErr, IfSome};
 ghost use Rattle.std.specs.Option.{ForSome};
 ghost use Rattle.fpl_items.specs.Other18.{TellsOfAny};
-ghost use Rattle.fpl_message.specs.Refusals.{Gives, RunsOutOnlyIf};
+ghost use Rattle.fpl_message.specs.Refusals.{ReturnsAs, RunsOutOnlyIf};
 ghost use Rattle.fpl_message.specs.Modifications.{chg_of};
 ghost use Rattle.fpl_message.specs.NinthEstimates.{ChgNotesNine};
 ghost use Rattle.fpl_message.specs.KeptChanges.{text_at, items_at};
@@ -46,7 +46,7 @@ impl<A: Allocator + Copy> Chg<A> {
         fields: Fields<A>,
     ) -> Result<Box<Chg<A>, A>, Fault>
         requires { 5 ≤ length fields }
-        ensures value { Gives (λ b. b.value) result (chg_of fields) }
+        ensures value { ReturnsAs (λ b. b.value) result (chg_of fields) }
         ensures memory { RunsOutOnlyIf result (IfErr (chg_of fields) (λ _. ChgNotesNine fields)) }
     {
         let Some(mut last) = spare.take() else {
@@ -66,7 +66,7 @@ impl<A: Allocator + Copy> Chg<A> {
     #[inline(never)]
     fn first(alloc: A, fields: Fields<A>) -> Result<Box<Chg<A>, A>, Fault>
         requires { 5 ≤ length fields }
-        ensures value { Gives (λ b. b.value) result (chg_of fields) }
+        ensures value { ReturnsAs (λ b. b.value) result (chg_of fields) }
         ensures memory { RunsOutOnlyIf result (IfErr (chg_of fields) (λ _. ChgNotesNine fields)) }
     {
         let mut changes = Changes::none();
@@ -77,7 +77,7 @@ impl<A: Allocator + Copy> Chg<A> {
     /// Reads other fields into this message, and leaves the buffer of its text in `room`.
     fn renew(&mut self, alloc: A, room: &mut Vec<u8, A>, fields: Fields<A>) -> Result<(), Fault>
         requires { 5 ≤ length fields }
-        ensures value { Gives (λ _. self.new) result (chg_of fields) }
+        ensures value { ReturnsAs (λ _. self.new) result (chg_of fields) }
         ensures memory { RunsOutOnlyIf result (ChgNotesNine fields) }
     {
         *room = replace(&mut self.fields, fields).into_room();

@@ -1,7 +1,7 @@
 //! Orders: to open and to close a regulation, and to set the desk's time.
 ghost use Rattle.std.specs.Prelude.{◌≡◌, Ok, codes};
 ghost use Rattle.fpl_items.specs.Kinds.{is_text};
-ghost use Rattle.fpl_message.specs.Refusals.{Gives, RunsOutOnlyIf};
+ghost use Rattle.fpl_message.specs.Refusals.{ReturnsAs, RunsOutOnlyIf};
 ghost use Rattle.fpl_message.specs.Messages.{open_reg};
 ghost use Rattle.fpl_message.specs.Orders.{is_regulation, is_way_point, regulation_id_of};
 ghost use Rattle.fpl_message.specs.Orders.{way_point_of, aerodrome_of};
@@ -186,7 +186,7 @@ pub(crate) fn read_order<A: Allocator + Copy>(
     edition: Edition,
     text: &[u8],
 ) -> Result<Order<A>, Fault>
-    ensures value { Gives said_order result (order_or_refusal edition text.now) }
+    ensures value { ReturnsAs said_order result (order_or_refusal edition text.now) }
     ensures memory { RunsOutOnlyIf result
         ((order : OpenReg) × (order_or_refusal edition text.now ≡ Ok (open_reg order))) }
 {

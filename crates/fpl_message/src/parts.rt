@@ -3,7 +3,7 @@ ghost use Rattle.std.specs.Prelude.{◌≤◌, ◌<◌, length, IsTrue};
 ghost use Rattle.std.specs.Prelude.{◌≡◌, true};
 ghost use Rattle.fpl_items.specs.Estimates.{noted_of_field};
 ghost use Rattle.fpl_message.specs.Messages.{field};
-ghost use Rattle.fpl_message.specs.Refusals.{Gives, RunsOutOnlyIf, IsPastTheEighth};
+ghost use Rattle.fpl_message.specs.Refusals.{ReturnsAs, RunsOutOnlyIf, IsPastTheEighth};
 ghost use Rattle.fpl_message.specs.ShortMessages.{opening_of, other_day};
 
 use crate::fault::Fault;
@@ -54,7 +54,7 @@ pub(crate) fn read_opening<A: Allocator + Copy>(
 ) -> Result<Opening, Fault>
     requires four { 4 ≤ length fields.now }
     requires other { IsTrue has_other → 4 < length fields.now }
-    ensures value { Gives (λ opening. opening) result (opening_of has_other fields.now) }
+    ensures value { ReturnsAs (λ opening. opening) result (opening_of has_other fields.now) }
     ensures memory { RunsOutOnlyIf result
         ((has_other ≡ true)
         × IsPastTheEighth (field fields.now 4) (opening_of has_other fields.now)) }
@@ -82,7 +82,7 @@ fn read_day<A: Allocator + Copy>(
     fields: &Fields<A>,
 ) -> Result<Option<Day>, Fault>
     requires { IsTrue has_other → 4 < length fields.now }
-    ensures value { Gives (λ day. day) result (other_day has_other fields.now) }
+    ensures value { ReturnsAs (λ day. day) result (other_day has_other fields.now) }
     ensures memory { RunsOutOnlyIf result ((has_other ≡ true)
         × (8 < noted_of_field (field fields.now 4))) }
 {

@@ -2,7 +2,7 @@
 ghost use Rattle.std.specs.Prelude.{◌≡◌, ◌≢◌, ◌≤◌, Err, length, IfOk, OnOk};
 ghost use Rattle.fpl_text.specs.Squeezing.{squeezed_or_fault};
 ghost use Rattle.fpl_text.specs.Fields.{fields_or_fault};
-ghost use Rattle.fpl_message.specs.Refusals.{Gives, by_text};
+ghost use Rattle.fpl_message.specs.Refusals.{ReturnsAs, by_text};
 ghost use Rattle.fpl_message.specs.Said.{said};
 ghost use Rattle.fpl_message.specs.Reads.{reading_of, reading_or_refusal, message_of};
 ghost use Rattle.fpl_message.specs.Reads.{begins_message, heading_of_bytes};
@@ -58,7 +58,7 @@ fn read_filed<A: Allocator + Copy>(
     bytes: &[u8],
 ) -> Result<(), Fault>
     requires { length bytes.now ≤ MAX_BYTES }
-    ensures { Gives (λ _. said reading.new) result
+    ensures { ReturnsAs (λ _. said reading.new) result
         (reading_or_refusal (record { edition = edition; bytes = bytes.now })) }
 {
     let squeezed = squeezed(replace(room, Vec::new(alloc)), bytes)?;
@@ -74,7 +74,7 @@ fn read_filed<A: Allocator + Copy>(
 /// Squeezes bytes in `room`; returns why that isn't possible, if so.
 fn squeezed<A: Allocator + Copy>(room: Vec<u8, A>, bytes: &[u8]) -> Result<Squeezed<A>, Fault>
     requires { length bytes.now ≤ MAX_BYTES }
-    ensures { Gives (λ text. text) result (by_text (squeezed_or_fault bytes.now)) }
+    ensures { ReturnsAs (λ text. text) result (by_text (squeezed_or_fault bytes.now)) }
 {
     match Squeezed::read_in(room, bytes) {
         Ok(squeezed) => Ok(squeezed),
@@ -84,7 +84,7 @@ fn squeezed<A: Allocator + Copy>(room: Vec<u8, A>, bytes: &[u8]) -> Result<Squee
 
 /// Splits a squeezed text into fields, or returns why it has none. Doesn't allocate.
 fn fields_of<A: Allocator + Copy>(squeezed: Squeezed<A>) -> Result<Fields<A>, Fault>
-    ensures value { Gives (λ fields. fields) result (by_text (fields_or_fault squeezed)) }
+    ensures value { ReturnsAs (λ fields. fields) result (by_text (fields_or_fault squeezed)) }
     ensures memory { result ≢ Err Fault.OutOfMemory }
 {
     match squeezed.into_fields() {
@@ -136,7 +136,7 @@ fn read_message<A: Allocator + Copy>(
     reading: &mut Reading<A>,
     fields: Fields<A>,
 ) -> Result<(), Fault>
-    ensures { Gives (λ _. said reading.new) result (message_of fields) }
+    ensures { ReturnsAs (λ _. said reading.new) result (message_of fields) }
 {
     let message = match fields.title() {
         Title::Fpl => Message::Fpl(Fpl::read(alloc, room, &mut spares.fpl, fields)?),

@@ -1,7 +1,7 @@
 //! The messages DLA, CNL and DEP.
 ghost use Rattle.std.specs.Prelude.{◌≡◌, ◌≤◌, ◌==◌, true, length};
 ghost use Rattle.fpl_message.specs.Messages.{field};
-ghost use Rattle.fpl_message.specs.Refusals.{Gives, RunsOutOnlyIf, IsPastTheEighth};
+ghost use Rattle.fpl_message.specs.Refusals.{ReturnsAs, RunsOutOnlyIf, IsPastTheEighth};
 ghost use Rattle.fpl_message.specs.ShortMessages.{short_opening_of};
 
 use crate::fault::Fault;
@@ -37,7 +37,7 @@ pub(crate) fn read_short<A: Allocator + Copy>(
     fields: Fields<A>,
 ) -> Result<Opening, Fault>
     requires { 4 ≤ length fields }
-    ensures value { Gives (λ opening. opening) result (short_opening_of fields) }
+    ensures value { ReturnsAs (λ opening. opening) result (short_opening_of fields) }
     ensures memory { RunsOutOnlyIf result
         (((length fields == 5) ≡ true)
         × IsPastTheEighth (field fields 4) (short_opening_of fields)) }

@@ -1,5 +1,5 @@
 //! The boxes of dropped messages, for reuse.
-ghost use Rattle.fpl_message.specs.Refusals.{Gives};
+ghost use Rattle.fpl_message.specs.Refusals.{ReturnsAs};
 
 use crate::fault::{Fault, boxed};
 use crate::flight_plan::Fpl;
@@ -44,7 +44,7 @@ pub(crate) fn boxed_over<A: Allocator + Copy, T: Drop>(
     spare: &mut Option<Box<T, A>>,
     value: T,
 ) -> Result<Box<T, A>, Fault>
-    ensures { Gives (λ b. b.value) result (Ok value) }
+    ensures { ReturnsAs (λ b. b.value) result (Ok value) }
 {
     let Some(mut last) = spare.take() else {
         return boxed(alloc, value);

@@ -1,7 +1,7 @@
 use Rattle.std.proofs.Common.{◌≡◌, ℕ, List, length}
 use Rattle.flow_core.specs.declared.receipt.StepFault.TheVariants.{JournalFull}
 use Rattle.flow_core.specs.State.{EntryView}
-use Rattle.flow_live.specs.Told.{full_lines}
+use Rattle.flow_live.specs.Told.{full_answers}
 use Rattle.flow_live.proofs.Servings.{filed-all, filed-left}
 use Rattle.flow_live.proofs.Onlys.{seen-filed, seen-more, only-full}
 use Rattle.flow_live.proofs.answering.answer_ready.Goals as goal
@@ -28,7 +28,7 @@ returns-in-Err-JournalFull-clause-seen g c =
     let full : c.in-Err-JournalFull.field-0 ≡ JournalFull = rw c.in-Err-JournalFull.is at c.in-Err-JournalFull.field-0-is in
     let seen : List EntryView = c.answer_all-answered.result.1 in
     let n : ℕ = length c.answer_all-answered.new.filings.items in
-    seen-more c.answer_left.result g.N.Name.setup c.answer_all-answered.new.pass seen c.answer_all-answered.new.answers.items (full_lines n) c.answer_left.new.answers.items
+    seen-more c.answer_left.result g.N.Name.setup c.answer_all-answered.new.pass seen c.answer_all-answered.new.answers.items (full_answers n) c.answer_left.new.answers.items
     (seen-filed g.N.Name.setup c.args.pass.now c.answer_all-answered.new.pass c.args.batch.now.seen seen c.args.batch.now.answers.items c.answer_all-answered.new.answers.items c.args.batch.now.ready.items c.answer_all-answered.new.filings.items
     c.requires c.answer_all-answered.ensures.filed c.answer_all-answered.ensures.lawful c.answer_all-answered.ensures.follower
     (c.answer_all-answered.ensures.answers (λ e. absurd (let w = c.in-Err-JournalFull.is in cc (e, w, full)))))

@@ -6,7 +6,7 @@ use Rattle.flow_runs.specs.declared.fault.RunFault.{RunFault}
 use Rattle.flow_runs.specs.ManyRuns.{answers, end_lines, answers_and_end, AnsweredUntil}
 use Rattle.flow_core.proofs.Serves.{err-made}
 use Rattle.flow_runs.proofs.Failures.{stop-writer, replay-writer}
-use Rattle.flow_runs.specs.Faults.{writer_failures}
+use Rattle.flow_runs.specs.Faults.{run_writer_failures}
 use Rattle.flow_runs.proofs.Ran.{answered-rest, answered-stop}
 use Rattle.flow_runs.proofs.run.answer_all.Goals as goal
 
@@ -39,4 +39,4 @@ returns-in-Some-clause-writer g c = c.in_ok-write_answers.ensures.writes.no_fail
 
 pub returns-in-None-clause-writer : goal.returns-in-None-clause-writer
 returns-in-None-clause-writer g c =
-    replay-writer g.W.Write.contents c.write_rest.result c.write_answers.new.writer c.write_rest.new.writer _ c.write_rest.ensures ∙ ap (writer_failures c.write_rest.result) c.in_ok-write_answers.ensures.writes.no_failure
+    replay-writer g.W.Write.contents c.write_rest.result c.write_answers.new.writer c.write_rest.new.writer _ c.write_rest.ensures ∙ ap (run_writer_failures c.write_rest.result) c.in_ok-write_answers.ensures.writes.no_failure

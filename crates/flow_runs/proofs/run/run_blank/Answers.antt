@@ -1,6 +1,6 @@
 use Rattle.std.proofs.Common.{sym, ap, ◌∙◌}
 use Rattle.flow_input.proofs.Results.{err_again}
-use Rattle.flow_runs.specs.Faults.{writer_failures}
+use Rattle.flow_runs.specs.Faults.{run_writer_failures}
 use Rattle.flow_core.proofs.Serves.{err-made}
 use Rattle.flow_runs.proofs.Failures.{reader-calm-all}
 use Rattle.flow_runs.proofs.Ran.{RanMany-all, on_ok, on_ok_two, if_err_map, ended-before, ended-filed}
@@ -41,7 +41,7 @@ pub returns-clause-reader : goal.returns-clause-reader
 returns-clause-reader g c = c.in_ok-filed.ensures.reader ∙ sym (reader-calm-all c.answer_all.result c.args.reader.now.failures (if_err_map c.answer_all.result (λ e k. k.0) c.answer_all.ensures.error_kinds))
 
 pub returns-clause-writer : goal.returns-clause-writer
-returns-clause-writer g c = c.answer_all.ensures.writer ∙ ap (writer_failures c.answer_all.result) c.in_ok-filed.ensures.writer
+returns-clause-writer g c = c.answer_all.ensures.writer ∙ ap (run_writer_failures c.answer_all.result) c.in_ok-filed.ensures.writer
 
 pub returns-clause-others : goal.returns-clause-others
 returns-clause-others g c = if_err_map c.answer_all.result (λ e k. (k.2, k.3, k.4)) c.answer_all.ensures.error_kinds

@@ -1,6 +1,6 @@
 use Rattle.std.proofs.Common.{◌≡◌, refl, sym, ap, ◌∙◌}
 use Rattle.flow_runs.specs.declared.fault.RunFault.TheVariants.{TooMuch, BadJournal, BadFeeders, NoReader}
-use Rattle.flow_runs.specs.Faults.{fault_of_journal, reader_failures}
+use Rattle.flow_runs.specs.Faults.{fault_of_journal, run_reader_failures}
 use Rattle.flow_core.proofs.Serves.{err-made, err_is}
 use Rattle.flow_runs.proofs.Failures.{no-desk, beyond, journal-reader, journal-writer, journal-others, bad-journal}
 use Rattle.flow_runs.proofs.Ran.{HoldsBeyond-made, HoldsSome-made, RanOn-made, on_ok_two, ended-behind, ended-on-first, no-reader}
@@ -44,7 +44,7 @@ returns-in_err-core-clause-writer g c =
     rw (err-made c.from_residual.result c.from_residual.ensures.1) (sym (journal-writer c.in_err-core.field-0.0 c.args.writer.now.failures))
 
 pub returns-in-Ok-clause-reader : goal.returns-in-Ok-clause-reader
-returns-in-Ok-clause-reader g c = c.run_blank.ensures.reader ∙ ap (reader_failures c.run_blank.result) c.in_ok-core.ensures.failures
+returns-in-Ok-clause-reader g c = c.run_blank.ensures.reader ∙ ap (run_reader_failures c.run_blank.result) c.in_ok-core.ensures.failures
 
 pub returns-clause-reader : goal.returns-clause-reader
 returns-clause-reader g c = c.in_ok-core.ensures.failures ∙ sym ((no-desk c.in-Err.fault c.why_no_desk.result c.why_no_desk.ensures).reads c.args.reader.now.failures)

@@ -8,4 +8,4 @@ returns-clause-first c =
     let s = c.self.inside in
     let p : Period = record { start = s.start; end = s.end; rate = s.rate; parts = take s.count s.parts } in
     let within = rw (← c.self.view_is) at c.requires in
-    rw (c.first_from.ensures, c.minutes.ensures.value, ← c.self.view_is) (first_slot-first p c.args.entry c.self.invariant.1 within.0)
+    rw (c.slot_from.ensures, c.minutes.ensures.value, ← c.self.view_is) (first_slot-first p c.args.entry c.self.invariant.1 within.0)

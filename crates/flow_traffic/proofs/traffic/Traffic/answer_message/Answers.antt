@@ -13,8 +13,8 @@ use Rattle.flow_traffic.specs.declared.undo.Last.{Last}
 use Rattle.flow_traffic.specs.declared.undo.Last.TheVariants as reading
 use Rattle.flow_traffic.specs.Traffic.{Traffic, TrafficView}
 use Rattle.flow_traffic.specs.Answers.{Answers}
-use Rattle.flow_traffic.specs.State.{State, traffic_of}
-use Rattle.flow_traffic.specs.Undoing.{UndoingView, past, told_past, undone, IsAgain, IsKeptWith}
+use Rattle.flow_traffic.specs.State.{TrafficState, traffic_of}
+use Rattle.flow_traffic.specs.Undoing.{UndoingView, state_past, told_past, undone_traffic, IsAgain, IsKeptWith}
 use Rattle.flow_traffic.proofs.Telling.{told-others}
 use Rattle.flow_traffic.proofs.Noted.{one-noted}
 use Rattle.flow_traffic.proofs.TakenBack.{stands-again, plans-before, told-before, can-forget, was-kept, traffic-before, notices-before, one-within}
@@ -26,8 +26,8 @@ use Rattle.flow_traffic.proofs.traffic.Traffic.answer_message.Goals as goal
 pub returns-in-Err : goal.returns-in-Err
 returns-in-Err g c =
     let i = c.self.inside in
-    let s : State = record { time = i.time; store = i.plans; listing = i.regulations; queue = i.queue } in
-    let t : State = record { time = i.time; store = c.change_plans.new.plans; listing = i.regulations; queue = c.make_room.new.queue } in
+    let s : TrafficState = record { time = i.time; store = i.plans; listing = i.regulations; queue = i.queue } in
+    let t : TrafficState = record { time = i.time; store = c.change_plans.new.plans; listing = i.regulations; queue = c.make_room.new.queue } in
     let told : List (Option Told) = c.make_room.new.notified.told.items in
     let notices : List Notice = c.make_room.new.notified.notices.items in
     let new : Traffic = traffic_of t told notices in
@@ -39,7 +39,7 @@ returns-in-Err g c =
     (fault-ok old new (said_message c.args.message.now) c.in-Err.fault c.refused.result c.in_ok-verdict-in-Err.verdict
     same c.in_ok-verdict-in-Err.was c.refused.ensures c.in-Err.ensures.refused) in
     let count : length notices ≡ length c.args.self.now.traffic.notices = ap (λ (v : Traffic). length v.notices) (same ∙ was) in
-    let W : Last → Option Traffic = λ w. undone w c.finish.new.self t told notices in
+    let W : Last → Option Traffic = λ w. undone_traffic w c.finish.new.self t told notices in
     record {
       answers = answers;
       frozen = frozen-settled (msg (said_message c.args.message.now)) s i.notified.told.items i.notified.notices.items c.args.self.now.traffic new c.in_ok-verdict-in-Err.verdict was c.self.invariant.kept.settled_in answers;
@@ -53,7 +53,7 @@ returns-in-Err g c =
 pub tell-requires-clause-quiet : goal.tell-requires-clause-quiet
 tell-requires-clause-quiet g c =
     let i = c.self.inside in
-    let s : State = record { time = i.time; store = i.plans; listing = i.regulations; queue = i.queue } in
+    let s : TrafficState = record { time = i.time; store = i.plans; listing = i.regulations; queue = i.queue } in
     let n : ℕ = c.in-Ok-change_plans.number in
     let store : PlanStoreView = c.change_plans.new.plans in
     let settled = c.settle_for.ensures.settled s refl (sym c.change_plans.ensures.taxi) refl c.self.invariant.kept.listed c.self.invariant.kept.settled_in c.in-Ok-change_plans.ensures.same in
@@ -73,14 +73,14 @@ tell-requires-clause-quiet g c =
 pub invariant_of-self-2 : goal.invariant_of-self-2
 invariant_of-self-2 g c =
     let i = c.self.inside in
-    let s : State = record { time = i.time; store = i.plans; listing = i.regulations; queue = i.queue } in
-    let t : State = record { time = i.time; store = c.change_plans.new.plans; listing = c.settle_for.new.regulations; queue = c.note_flight.new.queue } in
+    let s : TrafficState = record { time = i.time; store = i.plans; listing = i.regulations; queue = i.queue } in
+    let t : TrafficState = record { time = i.time; store = c.change_plans.new.plans; listing = c.settle_for.new.regulations; queue = c.note_flight.new.queue } in
     let n : ℕ = c.in-Ok-change_plans.number in
     let store : PlanStoreView = c.change_plans.new.plans in
     let settled = c.settle_for.ensures.settled s refl (sym c.change_plans.ensures.taxi) refl c.self.invariant.kept.listed c.self.invariant.kept.settled_in c.in-Ok-change_plans.ensures.same in
     let place = rw c.make_room.ensures.told at (c.make_place.ensures.told store.plans (sym c.count-count.ensures.count)) in
     let u : UndoingView = record c.tell.new.self { which = reading.Message n } in
-    let p : State = past (reading.Message n) u t in
+    let p : TrafficState = state_past (reading.Message n) u t in
     let told : List (Option Told) = c.tell.new.notified.told.items in
     let same : c.tell.new.self.changed ≡ c.note.new.self.changed = ap (λ (v : UndoingView). v.changed) c.tell.ensures.others in
     let places : c.tell.new.self.places ≡ c.note.new.self.places = ap (λ (v : UndoingView). v.places) c.tell.ensures.others in
@@ -127,14 +127,14 @@ invariant_of-self-2 g c =
 pub returns : goal.returns
 returns g c =
     let i = c.self.inside in
-    let s : State = record { time = i.time; store = i.plans; listing = i.regulations; queue = i.queue } in
-    let t : State = record { time = i.time; store = c.change_plans.new.plans; listing = c.settle_for.new.regulations; queue = c.note_flight.new.queue } in
+    let s : TrafficState = record { time = i.time; store = i.plans; listing = i.regulations; queue = i.queue } in
+    let t : TrafficState = record { time = i.time; store = c.change_plans.new.plans; listing = c.settle_for.new.regulations; queue = c.note_flight.new.queue } in
     let n : ℕ = c.in-Ok-change_plans.number in
     let store : PlanStoreView = c.change_plans.new.plans in
     let settled = c.settle_for.ensures.settled s refl (sym c.change_plans.ensures.taxi) refl c.self.invariant.kept.listed c.self.invariant.kept.settled_in c.in-Ok-change_plans.ensures.same in
     let place = rw c.make_room.ensures.told at (c.make_place.ensures.told store.plans (sym c.count-count.ensures.count)) in
     let u : UndoingView = record c.tell.new.self { which = reading.Message n } in
-    let p : State = past (reading.Message n) u t in
+    let p : TrafficState = state_past (reading.Message n) u t in
     let told : List (Option Told) = c.tell.new.notified.told.items in
     let same : c.tell.new.self.changed ≡ c.note.new.self.changed = ap (λ (v : UndoingView). v.changed) c.tell.ensures.others in
     let places : c.tell.new.self.places ≡ c.note.new.self.places = ap (λ (v : UndoingView). v.places) c.tell.ensures.others in
@@ -156,7 +156,7 @@ returns g c =
     let more = rw c.make_room.ensures.notices at c.tell.ensures.notices in
     let taken = notices-before i.notified.notices.items c.tell.new.notified.notices.items _ c.tell.new.self.issued more issued in
     let was = ap (λ (v : TrafficView). v.traffic) c.self.view_is in
-    let P : UndoingView → Type 0 = λ v. undone v.which v t told c.tell.new.notified.notices.items ≡ Some c.args.self.now.traffic in
+    let P : UndoingView → Type 0 = λ v. undone_traffic v.which v t told c.tell.new.notified.notices.items ≡ Some c.args.self.now.traffic in
     accepting (msg (said_message c.args.message.now)) c.args.self.now s i.notified.told.items i.notified.notices.items t told c.tell.new.notified.notices.items _ c.finish-2.new.self c.verdict_on-verdict.result
     was c.self.invariant.kept.settled_in
     (rw (sym was)

@@ -10,9 +10,9 @@ use Rattle.flow_regulations.proofs.ForTheDesk.{quiet-but-opened, opened-listed, 
 use Rattle.flow_traffic.specs.declared.verdict.Kind.TheVariants as kind
 use Rattle.flow_traffic.specs.declared.undo.Last.TheVariants as reading
 use Rattle.flow_traffic.specs.Traffic.{Traffic, TrafficView}
-use Rattle.flow_traffic.specs.State.{State, traffic_of}
+use Rattle.flow_traffic.specs.State.{TrafficState, traffic_of}
 use Rattle.flow_traffic.specs.Opening.{regulation_by}
-use Rattle.flow_traffic.specs.Undoing.{UndoingView, past, told_past, undone, IsAgain, IsKeptWith}
+use Rattle.flow_traffic.specs.Undoing.{UndoingView, state_past, told_past, undone_traffic, IsAgain, IsKeptWith}
 use Rattle.flow_traffic.proofs.Rising.{rises-on, few-rising}
 use Rattle.flow_traffic.proofs.Noted.{same-noted}
 use Rattle.flow_traffic.proofs.TakenBack.{was-opened, can-unopen, opened-count, told-back, was-kept, traffic-before, notices-before}
@@ -52,8 +52,8 @@ tell-requires-clause-quiet g c =
 pub invariant_of-self-2 : goal.invariant_of-self-2
 invariant_of-self-2 g c =
     let i = c.self.inside in
-    let s : State = record { time = i.time; store = i.plans; listing = i.regulations; queue = i.queue } in
-    let t : State = record { time = i.time; store = i.plans; listing = c.open.new.self; queue = i.queue } in
+    let s : TrafficState = record { time = i.time; store = i.plans; listing = i.regulations; queue = i.queue } in
+    let t : TrafficState = record { time = i.time; store = i.plans; listing = c.open.new.self; queue = i.queue } in
     let taxi : ℕ = i.plans.taxi in
     let max : ℕ = i.regulations.max_plans in
     let plans : List PlanView = i.plans.plans in
@@ -64,7 +64,7 @@ invariant_of-self-2 g c =
     let settled = opened-settled taxi max i.time plans r lists new opened c.self.invariant.kept.settled_in in
     let within = c.in-Ok-note_fixed.ensures.fixed.numbers taxi i.time plans settled in
     let u : UndoingView = record c.tell.new.self { which = reading.Open } in
-    let p : State = past reading.Open u t in
+    let p : TrafficState = state_past reading.Open u t in
     let told : List (Option Told) = c.tell.new.notified.told.items in
     let same : c.tell.new.self.changed ≡ c.note_fixed.new.self.changed = ap (λ (v : UndoingView). v.changed) c.tell.ensures.others in
     let lists_were : p.listing.lists ≡ lists = was-opened taxi max i.time plans r lists new opened in
@@ -92,8 +92,8 @@ invariant_of-self-2 g c =
 pub returns : goal.returns
 returns g c =
     let i = c.self.inside in
-    let s : State = record { time = i.time; store = i.plans; listing = i.regulations; queue = i.queue } in
-    let t : State = record { time = i.time; store = i.plans; listing = c.open.new.self; queue = i.queue } in
+    let s : TrafficState = record { time = i.time; store = i.plans; listing = i.regulations; queue = i.queue } in
+    let t : TrafficState = record { time = i.time; store = i.plans; listing = c.open.new.self; queue = i.queue } in
     let taxi : ℕ = i.plans.taxi in
     let max : ℕ = i.regulations.max_plans in
     let plans : List PlanView = i.plans.plans in
@@ -104,7 +104,7 @@ returns g c =
     let settled = opened-settled taxi max i.time plans r lists new opened c.self.invariant.kept.settled_in in
     let within = c.in-Ok-note_fixed.ensures.fixed.numbers taxi i.time plans settled in
     let u : UndoingView = record c.tell.new.self { which = reading.Open } in
-    let p : State = past reading.Open u t in
+    let p : TrafficState = state_past reading.Open u t in
     let told : List (Option Told) = c.tell.new.notified.told.items in
     let same : c.tell.new.self.changed ≡ c.note_fixed.new.self.changed = ap (λ (v : UndoingView). v.changed) c.tell.ensures.others in
     let lists_were : p.listing.lists ≡ lists = was-opened taxi max i.time plans r lists new opened in
@@ -115,7 +115,7 @@ returns g c =
     let taken = notices-before i.notified.notices.items c.tell.new.notified.notices.items _ c.tell.new.self.issued more issued in
     let was = ap (λ (v : TrafficView). v.traffic) c.self.view_is in
     let old : Traffic = traffic_of s i.notified.told.items i.notified.notices.items in
-    let P : UndoingView → Type 0 = λ v. undone v.which v t told c.tell.new.notified.notices.items ≡ Some c.args.self.now.traffic in
+    let P : UndoingView → Type 0 = λ v. undone_traffic v.which v t told c.tell.new.notified.notices.items ≡ Some c.args.self.now.traffic in
     accepting (ord (open_reg c.args.order.now)) c.args.self.now s i.notified.told.items i.notified.notices.items t told c.tell.new.notified.notices.items _ c.finish-2.new.self c.accepted.result
     was c.self.invariant.kept.settled_in
     (rw (c.accepted.ensures, sym was)

@@ -14,9 +14,9 @@ use Rattle.fpl_message.specs.declared.refusal.Refusal.TheVariants as refusal
 use Rattle.flow_traffic.specs.declared.undo.Last.{Last}
 use Rattle.flow_traffic.specs.declared.undo.Last.TheVariants as reading
 use Rattle.flow_traffic.specs.Traffic.{Traffic, TrafficView}
-use Rattle.flow_traffic.specs.State.{State, traffic_of}
+use Rattle.flow_traffic.specs.State.{TrafficState, traffic_of}
 use Rattle.flow_traffic.specs.Asked.{asked}
-use Rattle.flow_traffic.specs.Undoing.{UndoingView, has_changed, past, told_past, undone, IsAgain, IsKeptWith}
+use Rattle.flow_traffic.specs.Undoing.{UndoingView, has_changed, state_past, told_past, undone_traffic, IsAgain, IsKeptWith}
 use Rattle.flow_traffic.proofs.Rising.{rises-on, few-rising}
 use Rattle.flow_traffic.proofs.Noted.{same-noted}
 use Rattle.flow_traffic.proofs.TakenBack.{waits-again, told-back, can-go-back, was-kept, traffic-before, notices-before, kept-with-nothing}
@@ -31,7 +31,7 @@ asked-later t at later = rw (time-asked t at (le-ltb _ _ later)) refl
 pub returns-then-minutes : goal.returns-then-minutes
 returns-then-minutes g c =
     let i = c.self.inside in
-    let s : State = record { time = i.time; store = i.plans; listing = i.regulations; queue = i.queue } in
+    let s : TrafficState = record { time = i.time; store = i.plans; listing = i.regulations; queue = i.queue } in
     let was = ap (λ (v : TrafficView). v.traffic) c.self.view_is in
     let back : c.args.at < i.time = omega (arith, c.if-minutes.true, c.minutes.ensures.value, c.minutes-2.ensures.value) in
     refusing (ord (set_time c.args.at)) c.args.self.now s i.notified.told.items i.notified.notices.items c.finish.new.self refusal.TimeBack
@@ -41,7 +41,7 @@ returns-then-minutes g c =
 pub returns-in_default : goal.returns-in_default
 returns-in_default g c =
     let i = c.self.inside in
-    let s : State = record { time = i.time; store = i.plans; listing = i.regulations; queue = i.queue } in
+    let s : TrafficState = record { time = i.time; store = i.plans; listing = i.regulations; queue = i.queue } in
     let W : UndoingView → Last = λ v. v.which in
     let was = ap (λ (v : TrafficView). v.traffic) c.self.view_is in
     running-out (ord (set_time c.args.at)) c.args.self.now s i.notified.told.items i.notified.notices.items c.make_room.new.self _
@@ -51,7 +51,7 @@ returns-in_default g c =
 pub returns-in_default-make_room_to_tell : goal.returns-in_default-make_room_to_tell
 returns-in_default-make_room_to_tell g c =
     let i = c.self.inside in
-    let t : State = record { time = i.time; store = i.plans; listing = i.regulations; queue = c.put_back.new.self } in
+    let t : TrafficState = record { time = i.time; store = i.plans; listing = i.regulations; queue = c.put_back.new.self } in
     let W : UndoingView → Last = λ v. v.which in
     let was = ap (λ (v : TrafficView). v.traffic) c.self.view_is in
     running-out (ord (set_time c.args.at)) c.args.self.now t i.notified.told.items c.make_room_to_tell.new.notices.items c.make_room_to_tell.new.self _
@@ -63,7 +63,7 @@ pub invariant_of-self-in_default-make_room_to_tell : goal.invariant_of-self-in_d
 invariant_of-self-in_default-make_room_to_tell g c =
     let i = c.self.inside in
     let k = c.self.invariant.kept in
-    let t : State = record { time = i.time; store = i.plans; listing = i.regulations; queue = c.put_back.new.self } in
+    let t : TrafficState = record { time = i.time; store = i.plans; listing = i.regulations; queue = c.put_back.new.self } in
     let later : i.time ≤ c.args.at = omega (arith, c.if-minutes.false, c.minutes.ensures.value, c.minutes-2.ensures.value) in
     let hold = c.take_due.ensures.each k.covers in
     let due_is = c.changed.ensures ∙ ap (λ (v : UndoingView). v.changed) c.make_room_to_tell.ensures.same in
@@ -115,8 +115,8 @@ tell-requires-clause-quiet g c =
 pub invariant_of-self-2 : goal.invariant_of-self-2
 invariant_of-self-2 g c =
     let i = c.self.inside in
-    let s : State = record { time = i.time; store = i.plans; listing = i.regulations; queue = i.queue } in
-    let t : State = record { time = c.args.at; store = i.plans; listing = c.advance_due.new.self; queue = c.take_due.new.queue } in
+    let s : TrafficState = record { time = i.time; store = i.plans; listing = i.regulations; queue = i.queue } in
+    let t : TrafficState = record { time = c.args.at; store = i.plans; listing = c.advance_due.new.self; queue = c.take_due.new.queue } in
     let taxi : ℕ = i.plans.taxi in
     let plans : List PlanView = i.plans.plans in
     let due : List ℕ = c.take_due.new.self.changed in
@@ -127,7 +127,7 @@ invariant_of-self-2 g c =
     let moves = rw due_is at c.advance_due.ensures.renewed in
     let renewed = moves taxi i.time c.args.at plans later (became-due i.time c.args.at plans due c.take_due.ensures.became) hold c.self.invariant.kept.listed c.self.invariant.kept.settled_in in
     let u : UndoingView = record c.tell.new.self { which = reading.Time i.time } in
-    let p : State = past (reading.Time i.time) u t in
+    let p : TrafficState = state_past (reading.Time i.time) u t in
     let told : List (Option Told) = c.tell.new.notified.told.items in
     let same : c.tell.new.self.changed ≡ c.make_room_to_tell.new.self.changed = ap (λ (v : UndoingView). v.changed) c.tell.ensures.others in
     let all_due : c.tell.new.self.changed ≡ due = same ∙ changed in
@@ -164,8 +164,8 @@ invariant_of-self-2 g c =
 pub returns : goal.returns
 returns g c =
     let i = c.self.inside in
-    let s : State = record { time = i.time; store = i.plans; listing = i.regulations; queue = i.queue } in
-    let t : State = record { time = c.args.at; store = i.plans; listing = c.advance_due.new.self; queue = c.take_due.new.queue } in
+    let s : TrafficState = record { time = i.time; store = i.plans; listing = i.regulations; queue = i.queue } in
+    let t : TrafficState = record { time = c.args.at; store = i.plans; listing = c.advance_due.new.self; queue = c.take_due.new.queue } in
     let taxi : ℕ = i.plans.taxi in
     let plans : List PlanView = i.plans.plans in
     let due : List ℕ = c.take_due.new.self.changed in
@@ -176,7 +176,7 @@ returns g c =
     let moves = rw due_is at c.advance_due.ensures.renewed in
     let renewed = moves taxi i.time c.args.at plans later (became-due i.time c.args.at plans due c.take_due.ensures.became) hold c.self.invariant.kept.listed c.self.invariant.kept.settled_in in
     let u : UndoingView = record c.tell.new.self { which = reading.Time i.time } in
-    let p : State = past (reading.Time i.time) u t in
+    let p : TrafficState = state_past (reading.Time i.time) u t in
     let told : List (Option Told) = c.tell.new.notified.told.items in
     let same : c.tell.new.self.changed ≡ c.make_room_to_tell.new.self.changed = ap (λ (v : UndoingView). v.changed) c.tell.ensures.others in
     let all_due : c.tell.new.self.changed ≡ due = same ∙ changed in
@@ -195,7 +195,7 @@ returns g c =
     let taken = notices-before i.notified.notices.items c.tell.new.notified.notices.items _ c.tell.new.self.issued more issued in
     let was = ap (λ (v : TrafficView). v.traffic) c.self.view_is in
     let old : Traffic = traffic_of s i.notified.told.items i.notified.notices.items in
-    let P : UndoingView → Type 0 = λ v. undone v.which v t told c.tell.new.notified.notices.items ≡ Some c.args.self.now.traffic in
+    let P : UndoingView → Type 0 = λ v. undone_traffic v.which v t told c.tell.new.notified.notices.items ≡ Some c.args.self.now.traffic in
     accepting (ord (set_time c.args.at)) c.args.self.now s i.notified.told.items i.notified.notices.items t told c.tell.new.notified.notices.items _ c.finish-2.new.self c.accepted.result
     was c.self.invariant.kept.settled_in
     (rw (c.accepted.ensures, sym was)

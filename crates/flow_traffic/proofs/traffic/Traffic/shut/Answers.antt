@@ -13,9 +13,9 @@ use Rattle.fpl_message.specs.declared.refusal.Refusal.TheVariants as refusal
 use Rattle.flow_traffic.specs.declared.undo.Last.{Last}
 use Rattle.flow_traffic.specs.declared.undo.Last.TheVariants as reading
 use Rattle.flow_traffic.specs.Traffic.{Traffic, TrafficView}
-use Rattle.flow_traffic.specs.State.{State, traffic_of}
+use Rattle.flow_traffic.specs.State.{TrafficState, traffic_of}
 use Rattle.flow_traffic.specs.Reopening.{open_again}
-use Rattle.flow_traffic.specs.Undoing.{UndoingView, past, told_past, undone, IsAgain, IsKeptWith}
+use Rattle.flow_traffic.specs.Undoing.{UndoingView, state_past, told_past, undone_traffic, IsAgain, IsKeptWith}
 use Rattle.flow_traffic.proofs.Rising.{rises-on, few-rising}
 use Rattle.flow_traffic.proofs.Noted.{same-noted}
 use Rattle.flow_traffic.proofs.TakenBack.{was-shut, told-back, was-kept, traffic-before, notices-before}
@@ -26,7 +26,7 @@ use Rattle.flow_traffic.proofs.traffic.Traffic.shut.Goals as goal
 pub returns-then-not-is_open : goal.returns-then-not-is_open
 returns-then-not-is_open g c =
     let i = c.self.inside in
-    let s : State = record { time = i.time; store = i.plans; listing = i.regulations; queue = i.queue } in
+    let s : TrafficState = record { time = i.time; store = i.plans; listing = i.regulations; queue = i.queue } in
     let was = ap (λ (v : TrafficView). v.traffic) c.self.view_is in
     let other = sym (named-regulations c.args.id.now i.regulations.lists) ∙ sym c.is_open.ensures ∙ c.if-not-is_open.true in
     refusing (ord (shut_reg c.args.id.now)) c.args.self.now s i.notified.told.items i.notified.notices.items c.finish.new.self refusal.NoRegulation
@@ -36,7 +36,7 @@ returns-then-not-is_open g c =
 pub returns-in_default : goal.returns-in_default
 returns-in_default g c =
     let i = c.self.inside in
-    let s : State = record { time = i.time; store = i.plans; listing = i.regulations; queue = i.queue } in
+    let s : TrafficState = record { time = i.time; store = i.plans; listing = i.regulations; queue = i.queue } in
     let t : Traffic = traffic_of s i.notified.told.items i.notified.notices.items in
     let W : UndoingView → Last = λ v. v.which in
     let was = ap (λ (v : TrafficView). v.traffic) c.self.view_is in
@@ -64,10 +64,10 @@ tell-requires-clause-quiet g c =
 pub invariant_of-self-2 : goal.invariant_of-self-2
 invariant_of-self-2 g c =
     let i = c.self.inside in
-    let s : State = record { time = i.time; store = i.plans; listing = i.regulations; queue = i.queue } in
-    let t : State = record { time = i.time; store = i.plans; listing = c.shut.new.self; queue = i.queue } in
+    let s : TrafficState = record { time = i.time; store = i.plans; listing = i.regulations; queue = i.queue } in
+    let t : TrafficState = record { time = i.time; store = i.plans; listing = c.shut.new.self; queue = i.queue } in
     let u : UndoingView = record c.tell.new.self { which = reading.Shut } in
-    let p : State = past reading.Shut u t in
+    let p : TrafficState = state_past reading.Shut u t in
     let told : List (Option Told) = c.tell.new.notified.told.items in
     let changed : c.tell.new.self.changed ≡ c.note_fixed.new.self.changed = ap (λ (v : UndoingView). v.changed) c.tell.ensures.others ∙ ap (λ (v : UndoingView). v.changed) c.keep.ensures in
     let same : c.tell.new.self.changed ≡ c.keep.new.self.changed = ap (λ (v : UndoingView). v.changed) c.tell.ensures.others in
@@ -102,10 +102,10 @@ invariant_of-self-2 g c =
 pub returns : goal.returns
 returns g c =
     let i = c.self.inside in
-    let s : State = record { time = i.time; store = i.plans; listing = i.regulations; queue = i.queue } in
-    let t : State = record { time = i.time; store = i.plans; listing = c.shut.new.self; queue = i.queue } in
+    let s : TrafficState = record { time = i.time; store = i.plans; listing = i.regulations; queue = i.queue } in
+    let t : TrafficState = record { time = i.time; store = i.plans; listing = c.shut.new.self; queue = i.queue } in
     let u : UndoingView = record c.tell.new.self { which = reading.Shut } in
-    let p : State = past reading.Shut u t in
+    let p : TrafficState = state_past reading.Shut u t in
     let told : List (Option Told) = c.tell.new.notified.told.items in
     let same : c.tell.new.self.changed ≡ c.keep.new.self.changed = ap (λ (v : UndoingView). v.changed) c.tell.ensures.others in
     let closed : c.tell.new.self.closed ≡ c.shut.result = ap (λ (v : UndoingView). v.closed) c.tell.ensures.others ∙ ap (λ (v : UndoingView). v.closed) c.keep.ensures in
@@ -126,7 +126,7 @@ returns g c =
     let changed : c.keep.new.self.changed ≡ c.note_fixed.new.self.changed = ap (λ (v : UndoingView). v.changed) c.keep.ensures in
     let within = c.in-Ok.ensures.fixed.numbers i.plans.taxi i.time i.plans.plans c.self.invariant.kept.settled_in in
     let was = ap (λ (v : TrafficView). v.traffic) c.self.view_is in
-    let P : UndoingView → Type 0 = λ v. undone v.which v t told c.tell.new.notified.notices.items ≡ Some c.args.self.now.traffic in
+    let P : UndoingView → Type 0 = λ v. undone_traffic v.which v t told c.tell.new.notified.notices.items ≡ Some c.args.self.now.traffic in
     accepting (ord (shut_reg c.args.id.now)) c.args.self.now s i.notified.told.items i.notified.notices.items t told c.tell.new.notified.notices.items _ c.finish-2.new.self c.accepted.result
     was c.self.invariant.kept.settled_in
     (rw (c.accepted.ensures, sym was)
