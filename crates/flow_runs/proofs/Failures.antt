@@ -1,6 +1,6 @@
 -- How many calls of a run's devices have failed.
 use Rattle.std.proofs.Common.{◌≡◌, ◌≢◌, ◌⊎◌, inl, inr, ℕ, List, Option, Result, Ok, Err, IfErr, OnOk, OnErr, refl, subst, sym}
-use Rattle.flow_input.specs.Source.{counted_up, journal_failures_with}
+use Rattle.flow_input.specs.Source.{counted_up, failures_with}
 use Rattle.flow_input.specs.declared.fault.IntakeFault.{IntakeFault}
 use Rattle.flow_input.specs.declared.fault.IntakeFault.TheVariants as intake
 use Rattle.flow_input.specs.declared.counted.Counted.{Counted}
@@ -15,7 +15,7 @@ use Rattle.flow_runs.specs.ManyRuns.{WritesWithReplay}
 use Rattle.flow_runs.specs.Faults.{fault_of_frame, fault_of_journal, IsFaultOfDesk, reader_failures_with, writer_failures_with, run_reader_failures, run_writer_failures}
 
 -- if no frame came the reader may have failed, and nothing was written
-pub frame-reader : (e : IntakeFault) (n : ℕ) → journal_failures_with e n ≡ reader_failures_with (fault_of_frame e) n
+pub frame-reader : (e : IntakeFault) (n : ℕ) → failures_with e n ≡ reader_failures_with (fault_of_frame e) n
 frame-reader intake.Read n = refl
 frame-reader intake.TooMuch n = refl
 frame-reader intake.OutOfMemory n = refl
