@@ -110,6 +110,7 @@ fn put_verdict(line: &mut Line, verdict: Verdict)
 }
 
 /// Appends the answer line of a receipt. `line` is passed in, so that its 192 bytes aren't copied.
+#[inline(always)]
 fn put_answer(line: &mut Line, receipt: &Receipt)
     requires { array_vec_len line.old + 91 ≤ 192 }
     ensures { line.new.items ≡ line.old.items ++ answer_line receipt.now }

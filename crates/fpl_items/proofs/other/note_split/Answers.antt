@@ -21,9 +21,10 @@ returns-then-place-eq4-clause-noted g c = λ place words.
 pub returns-clause-noted : goal.returns-clause-noted
 returns-clause-noted g c = λ place words.
     (let word = c.args.word.now in
+    let note = c.in-Ok-push_other.ensures.ok.0 in
     let short : length (take (length word - 4) word) ≤ 11 = omega (arith, c.requires.most, length-take (length word - 4) word) in
-    let kept : c.new-2.result.name ≡ stored_name (take (length word - 4) word) = c.new-2.ensures.0 ∙ ap stored_name c.split_at.ensures.front in
-    let time : elapsed_time (drop (length word - 4) word) ≡ Some c.new-2.result.minutes =
-    ap elapsed_time (sym c.split_at.ensures.back) ∙ (sym c.in-Some.ensures.value ∙ ap (λ m. Some m) (sym c.new-2.ensures.1)) in
-    ap (λ notes. option_or (first_for place notes) (estimate_for place words)) c.in-Ok-push.ensures.ok
-    ∙ one-more c.args.estimates.now c.new-2.result word short kept time place words)
+    let kept : note.name ≡ stored_name (take (length word - 4) word) = c.in-Ok-push_other.ensures.ok.1 ∙ ap stored_name c.split_at.ensures.front in
+    let time : elapsed_time (drop (length word - 4) word) ≡ Some note.minutes =
+    ap elapsed_time (sym c.split_at.ensures.back) ∙ (sym c.in-Some.ensures.value ∙ ap (λ m. Some m) (sym c.in-Ok-push_other.ensures.ok.2)) in
+    ap (λ notes. option_or (first_for place notes) (estimate_for place words)) c.in-Ok-push_other.ensures.ok.3
+    ∙ one-more c.args.estimates.now note word short kept time place words)
