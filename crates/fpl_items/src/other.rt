@@ -34,8 +34,8 @@ use jiff::civil::Date;
 use std::alloc::{AllocError, Allocator, Global};
 use std::marker::Model;
 
-/// Appends the estimate for a point. It is called for those few that don't have four letters, so
-/// that of the others the loop over the words needs no register to be saved.
+/// Appends the estimate for a point that doesn't have four letters. Most have, so this is a call:
+/// the loop over the others then saves no registers.
 #[inline(never)]
 fn push_other<A: Allocator + Copy>(
     estimates: &mut Estimates<A>,
