@@ -4,10 +4,7 @@ import re
 from checks.code import code_of, crates, module_of, sources, uses
 
 # Rings that are there, and are to go. Whoever breaks one up takes it off this list.
-KNOWN = {
-    ("fpl_items", ("estimates", "kept_estimates")),
-    ("fpl_message", ("message", "order", "spares")),
-}
+KNOWN = set()
 
 
 def paths_of(file):

@@ -1,20 +1,21 @@
-//! The text of answer lines and slot notices.
-ghost use Rattle.std.specs.Prelude.{◌≡◌, ◌≤◌, ◌+◌, ◌++◌, ◌-◌, length, codes};
+//! The text of answer lines and slot notices, and the buffer of a line before it is written.
+
+ghost use Rattle.std.specs.Prelude.{◌≡◌, ◌≤◌, ◌+◌, ◌++◌, ◌-◌, length, codes, ◌<◌, ◌/◌, ◌%◌};
+ghost use Rattle.std.specs.Prelude.{◌∷◌, [], decimal};
 ghost use Rattle.std.specs.List.{flat_map};
 ghost use Rattle.flow_input.specs.Writes.{Writes};
 ghost use Rattle.arrayvec.specs.ArrayVec.{array_vec_len};
-ghost use Rattle.flow_core.specs.Output.{kind_text, window_text, plan_text};
-ghost use Rattle.flow_core.specs.Output.{refusal_text, verdict_text, answer_line};
-ghost use Rattle.flow_core.specs.Output.{flight_text, told_text, notice_line};
-ghost use Rattle.flow_core.specs.Output.{too_long_line, journal_full_line};
+ghost use Rattle.flow_core.specs.Output.{kind_text, window_text, plan_text, refusal_text};
+ghost use Rattle.flow_core.specs.Output.{verdict_text, answer_line, flight_text, told_text};
+ghost use Rattle.flow_core.specs.Output.{notice_line, too_long_line, journal_full_line};
 
-use crate::line::{Line, put, put_below_100, put_number};
 use crate::receipt::Receipt;
 use arrayvec::ArrayVec;
 use flow_input::{Counted, WriteFault, write_bytes};
 use flow_regulations::{Notice, Said, Told, Window};
 use flow_traffic::{Kind, Verdict};
 use fpl_message::Refusal;
+use itoa::Buffer;
 use std::io::Write;
 
 /// Returns the answer to a frame of more than 2,000 bytes.
@@ -89,6 +90,7 @@ fn put_refusal(line: &mut Line, refusal: Refusal)
     }
 }
 
+#[inline(always)]
 fn put_verdict(line: &mut Line, verdict: Verdict)
     requires { array_vec_len line.old + 70 ≤ 192 }
     ensures items { line.new.items ≡ line.old.items ++ verdict_text verdict }
@@ -211,4 +213,89 @@ fn write_notices<W: Write>(writer: &mut Counted<W>, notices: &[Notice]) -> Resul
         write_notice(writer, notice)?;
     }
     Ok(())
+}
+
+/// A line of at most 192 bytes.
+pub(crate) type Line = ArrayVec<u8, 192>;
+
+/// Appends a text to a line that has the capacity.
+#[inline(always)]
+pub(crate) fn put(line: &mut Line, text: &[u8])
+    requires { array_vec_len line.old + length text.now ≤ 192 }
+    ensures items { line.new.items ≡ line.old.items ++ text.now }
+    ensures len { array_vec_len line.new ≡ array_vec_len line.old + length text.now }
+{
+    let _all = line.try_extend_from_slice(text);
+}
+
+/// Appends two digits of a number below 100.
+fn put_pair(line: &mut Line, number: u32)
+    requires below { number < 100 }
+    requires room { array_vec_len line.old + 2 ≤ 192 }
+    ensures items { line.new.items ≡ line.old.items ++ (48 + number / 10)
+        ∷ (48 + number % 10) ∷ [] }
+    ensures len { array_vec_len line.new ≡ array_vec_len line.old + 2 }
+{
+    line.push(b'0' + (number / 10) as u8);
+    line.push(b'0' + (number % 10) as u8);
+}
+
+/// Appends a number below 100 in decimal digits.
+#[tactic(auto, using(std::proofs::lemmas::Fmt::decimal_digit, itoa::proofs::Decimal::decimal_two))]
+pub(crate) fn put_below_100(line: &mut Line, number: u32)
+    requires below { number < 100 }
+    requires room { array_vec_len line.old + 2 ≤ 192 }
+    ensures items { line.new.items ≡ line.old.items ++ decimal number }
+    ensures len { array_vec_len line.new ≤ array_vec_len line.old + 2 }
+{
+    if number < 10 {
+        line.push(b'0' + number as u8);
+    } else {
+        put_pair(line, number);
+    }
+}
+
+/// Appends a number below 10,000 in decimal digits.
+fn put_below_10_000(line: &mut Line, number: u32)
+    requires below { number < 10000 }
+    requires room { array_vec_len line.old + 4 ≤ 192 }
+    ensures items { line.new.items ≡ line.old.items ++ decimal number }
+    ensures len { array_vec_len line.new ≤ array_vec_len line.old + 4 }
+{
+    if number < 100 {
+        put_below_100(line, number);
+        return;
+    }
+    put_below_100(line, number / 100);
+    put_pair(line, number % 100);
+}
+
+/// Appends a number below 1,000,000 in decimal digits.
+fn put_below_1_000_000(line: &mut Line, number: u32)
+    requires below { number < 1000000 }
+    requires room { array_vec_len line.old + 6 ≤ 192 }
+    ensures items { line.new.items ≡ line.old.items ++ decimal number }
+    ensures len { array_vec_len line.new ≤ array_vec_len line.old + 6 }
+{
+    if number < 100 {
+        put_below_100(line, number);
+        return;
+    }
+    put_below_10_000(line, number / 100);
+    put_pair(line, number % 100);
+}
+
+/// Appends a number in decimal digits; of a number below a million they are written at their index,
+/// two at a time.
+pub(crate) fn put_number(line: &mut Line, number: u64)
+    requires { array_vec_len line.old + 20 ≤ 192 }
+    ensures items { line.new.items ≡ line.old.items ++ decimal number }
+    ensures len { array_vec_len line.new ≤ array_vec_len line.old + 20 }
+{
+    if number < 1_000_000 {
+        put_below_1_000_000(line, number as u32);
+        return;
+    }
+    let mut buffer = Buffer::new();
+    put(line, buffer.format(number).as_bytes());
 }

@@ -25,8 +25,8 @@
 //!   last line, and bytes after a closed gate don't count.
 //!
 //! `desk` has the public calls and the ledger; `entry` and `entry_list` the journal; `journal_item`
-//! and `journal_reading` parse its text; `answer` and `line` build the text of answers; `change`
-//! and `row` are what readers see; `laws` and `journal_laws` follow from the definitions.
+//! and `journal_reading` parse its text; `answer` builds the text of answers; `change` and `row`
+//! are what readers see; `laws` and `journal_laws` follow from the definitions.
 #![tactic(auto)]
 
 mod answer;
@@ -39,7 +39,6 @@ mod journal_item;
 pub mod journal_laws;
 mod journal_reading;
 pub mod laws;
-mod line;
 mod receipt;
 mod row;
 mod serving;

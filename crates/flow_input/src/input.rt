@@ -2,28 +2,33 @@
 //!
 //! Frames are taken from the unread bytes. If these show no end of the first frame, its bytes, at
 //! most 2,000, move to the beginning of the buffer, and more are read after them. The bytes of a
-//! longer frame are dropped as they come.
-ghost use Rattle.std.specs.Prelude.{◌≡◌, ◌≢◌, ◌≤◌, ◌<◌, ◌+◌, [], length};
-ghost use Rattle.std.specs.Prelude.{drop, false, true, IsTrue, OnOk, IfOk};
-ghost use Rattle.std.specs.Prelude.{IsErrOf, Err, MatchOption, None, Some};
-ghost use Rattle.std.specs.Prelude.{slice_range, IfSome, List, Option, ℕ};
-ghost use Rattle.std.specs.Prelude.{◌-◌, ◌++◌, OnErr, MatchResult};
+//! longer frame are dropped as they come. Most frames are whole in the buffer, and are taken in one
+//! step.
+
+ghost use Rattle.std.specs.Prelude.{◌≡◌, ◌≢◌, ◌≤◌, ◌<◌, ◌+◌, [], length, drop, false, true};
+ghost use Rattle.std.specs.Prelude.{IsTrue, OnOk, IfOk, IsErrOf, Err, MatchOption, None, Some};
+ghost use Rattle.std.specs.Prelude.{slice_range, IfSome, List, Option, ℕ, ◌-◌, ◌++◌, OnErr};
+ghost use Rattle.std.specs.Prelude.{MatchResult, IfNone};
 ghost use Rattle.std.specs.Io.KnownBytes.{Consumes, IsAtEnd};
-ghost use Rattle.flow_input.specs.Frames.{first_cut, kept_of};
+ghost use Rattle.flow_input.specs.Frames.{first_cut, kept_of, is_not_blank, cut};
 ghost use Rattle.flow_input.specs.NextFrame.{GaveFirst, filing_kept};
 ghost use Rattle.flow_input.specs.Reader.{Agrees, Came, CameTooMuch, Filled};
 ghost use Rattle.flow_input.specs.Source.{counted_up, failures_after};
 ghost use Rattle.flow_input.specs.declared.input.TheConstants.{MAX_INPUT, PIECE};
 ghost use Rattle.fpl_message.specs.declared.filed_text.TheConstants.{MAX_BYTES};
+ghost use Rattle.std.specs.List.{position};
+ghost use Rattle.memchr.specs.Find.{is_byte2};
+ghost use Rattle.flow_input.specs.Until.{stops_at};
+ghost use Rattle.flow_input.specs.FirstFrame.{EndsAt, Shows};
 
 use crate::counted::Counted;
 use crate::fault::IntakeFault;
-use crate::first_frame::{Span, first_frame};
 use fpl_message::MAX_BYTES;
 use std::alloc::{AllocError, Allocator, Global};
 use std::io;
 use std::io::Read;
 use std::marker::Model;
+use std::simd::prelude::*;
 
 /// The length limit of an input, in bytes.
 pub const MAX_INPUT: u64 = 4_000_000_000;
@@ -234,4 +239,106 @@ impl<A: Allocator> Input<A> {
             }
         }
     }
+}
+
+/// What ends a run of bytes.
+#[derive(Clone, Copy)]
+pub(crate) enum Until {
+    /// A message ends at a bracket.
+    Bracket,
+    /// An order ends at a line feed or an opening bracket.
+    OrderEnd,
+}
+
+/// The index of the first byte that is no blank. Few blanks precede a frame, so vector loads would
+/// gain nothing.
+#[inline]
+pub(crate) fn text_in(bytes: &[u8]) -> Option<usize>
+    ensures { result ≡ position is_not_blank bytes.now }
+{
+    bytes.iter().position(|byte| !(*byte == b' ' || *byte == b'\r' || *byte == b'\n'))
+}
+
+/// The index of the first byte that ends the run.
+#[inline]
+pub(crate) fn stop_in(bytes: &[u8], until: Until) -> Option<usize>
+    ensures { result ≡ position (stops_at until) bytes.now }
+{
+    match until {
+        Until::Bracket => first_of(b'(', b')', bytes),
+        Until::OrderEnd => first_of(b'\n', b'(', bytes),
+    }
+}
+
+/// The index of the first of two bytes, compared byte by byte.
+#[inline]
+fn first_of_few(byte: u8, other: u8, bytes: &[u8]) -> Option<usize>
+    ensures { result ≡ position (is_byte2 byte other) bytes.now }
+{
+    bytes.iter().position(|it| *it == byte || *it == other)
+}
+
+/// The index of the first of two bytes, compared in 16-byte vectors. Frames are short, so the wider
+/// vectors of the crate `memchr` gain nothing.
+pub(crate) fn first_of(byte: u8, other: u8, bytes: &[u8]) -> Option<usize>
+    ensures { result ≡ position (is_byte2 byte other) bytes.now }
+{
+    let mut at = 0;
+    'looks: while bytes.len() - at >= 16 {
+        let lanes = u8x16::from_slice(&bytes[at..]);
+        let found = lanes.simd_eq(u8x16::splat(byte)) | lanes.simd_eq(u8x16::splat(other));
+        let bits = found.to_bitmask();
+        if bits != 0 {
+            return Some(at + bits.trailing_zeros() as usize);
+        }
+        at += 16;
+    }
+    let rest = first_of_few(byte, other, &bytes[at..])?;
+    Some(at + rest)
+}
+
+/// The range of the first frame in a slice.
+#[derive(Clone, Copy)]
+pub(crate) struct Span {
+    /// The offset of its first byte, after the blanks.
+    pub begin: usize,
+    /// The offset after its last byte.
+    pub end: usize,
+}
+
+/// The length of the frame at the beginning of a slice, if the slice shows its end.
+#[inline(always)]
+fn frame_len(bytes: &[u8]) -> Option<usize>
+    ensures shows { IfSome result (λ len. EndsAt bytes.now len) }
+    ensures none { IfNone result (IfSome (cut bytes.now) (λ c. c.ended ≡ false)) }
+{
+    if bytes.is_empty() {
+        return None;
+    }
+    let behind = &bytes[1..];
+    if bytes[0] != b'(' {
+        return match stop_in(behind, Until::OrderEnd) {
+            Some(at) => Some(at + 1),
+            None => None,
+        };
+    }
+    match stop_in(behind, Until::Bracket) {
+        Some(at) if behind[at] == b')' => Some(at + 2),
+        Some(at) => Some(at + 1),
+        None => None,
+    }
+}
+
+/// The range of the first frame, if the slice shows its end.
+#[inline(always)]
+pub(crate) fn first_frame(bytes: &[u8]) -> Option<Span>
+    ensures shows { IfSome result (λ span. Shows bytes.now span.begin span.end) }
+    ensures none { IfNone result (IfSome (first_cut bytes.now) (λ c. c.ended ≡ false)) }
+{
+    let begin = text_in(bytes)?;
+    let len = frame_len(&bytes[begin..])?;
+    Some(Span {
+        begin,
+        end: begin + len,
+    })
 }

@@ -15,9 +15,7 @@ ghost use Rattle.fpl_message.specs.declared.filed_text.TheConstants.{MAX_BYTES};
 
 use crate::counted::Counted;
 use crate::fault::IntakeFault;
-use crate::first_frame::Span;
-use crate::input::Input;
-use crate::scan::{Until, stop_in, text_in};
+use crate::input::{Input, Span, Until, stop_in, text_in};
 use fpl_message::MAX_BYTES;
 use std::alloc::Allocator;
 use std::io::Read;

@@ -12,8 +12,8 @@
 //!   in its period. An outline may say too much, never too little.
 //! - *Estimates* (`texts`): what the EET items of field 18 say, copied from the message that was
 //!   read.
-//! - *Places* (`places`, `near`): a bit for each aerodrome or route point that a flight enters, by
-//!   which the open regulations that may apply to it are found.
+//! - *Places* (`texts`): a bit for each aerodrome or route point that a flight enters, by which the
+//!   open regulations that may apply to it are found.
 //!
 //! `store` has the calls; `matching` finds the plan of a message; `amending` makes amendments, with
 //! values from `amended_values`; `times` computes the off-block date and time that a message gives;
@@ -28,7 +28,6 @@ mod fault;
 mod first_letters;
 pub mod laws;
 mod matching;
-mod near;
 mod outline;
 mod plan;
 mod plan_list;
@@ -40,7 +39,7 @@ mod undo;
 
 pub use fault::PlanFault;
 pub use fpl_message::Parts;
-pub use near::{ROWS, row_of};
 pub use plan::{Key, Plan, PlanState, Status};
 pub use setup::{MAX_ENTRIES, MAX_PLANS, MAX_TAXI, Setup, is_desk_time};
 pub use store::PlanStore;
+pub use texts::{ROWS, row_of};

@@ -21,8 +21,7 @@ ghost use Rattle.flow_plans.specs.Times.{off_blocks_end};
 
 use crate::amended_values::{alternates_after, elapsed_after, exempt_after, rules_after};
 use crate::first_letters::letters_of;
-use crate::near::words_of_ends;
-use crate::texts::{Texts, exchange_texts};
+use crate::texts::{Texts, exchange_texts, words_of_ends};
 use fpl_items::Other18;
 use fpl_message::{Chg, Fpl, Parts, Spot};
 use fpl_text::{Alternates, Day, ELAPSED_LIMIT, FlightRules, Minute, Text};

@@ -1,21 +1,24 @@
-//! The field texts of a plan.
-ghost use Rattle.std.specs.Prelude.{◌≡◌, ◌≤◌, ◌<◌, ◌+◌, ◌++◌, true, length};
-ghost use Rattle.std.specs.Prelude.{List, ℕ, option_copied, MatchOption, IfOk};
-ghost use Rattle.std.specs.Prelude.{IfSome, IsSome, Option};
+//! The field texts of a plan, and the masks of the points that its flight enters.
+//!
+//! A caller's table of bit masks has 64 rows each for departures, arrivals and route points, by a
+//! bit of the name.
+
+ghost use Rattle.std.specs.Prelude.{◌≡◌, ◌≤◌, ◌<◌, ◌+◌, ◌++◌, true, length, List, ℕ};
+ghost use Rattle.std.specs.Prelude.{option_copied, MatchOption, IfOk, IfSome, IsSome, Option};
 ghost use Rattle.fpl_text.specs.Words.{words_of};
 ghost use Rattle.fpl_items.specs.Items.{ItemView, items_of, elapsed_to};
 ghost use Rattle.fpl_items.specs.Other18.{TellsOfAny};
 ghost use Rattle.fpl_items.specs.Estimates.{AreEstimatesOf};
 ghost use Rattle.flow_plans.specs.Changes.{texts_after};
 ghost use Rattle.flow_plans.specs.Plans.{TextsView, texts_or};
-ghost use Rattle.flow_plans.specs.Near.{word_at, HasBitsOf};
+ghost use Rattle.flow_plans.specs.Near.{word_at, HasBitsOf, table_row};
 ghost use Rattle.fpl_items.specs.Points.{bit_of, may_have};
 ghost use Rattle.fpl_text.specs.declared.time.TheConstants.{ELAPSED_LIMIT};
+ghost use Rattle.std.specs.Int.{bit_at};
 
 use crate::amended_values::text_after;
-use crate::near::words_on_way;
-use fpl_items::{KeptEstimates, Other18};
-use fpl_message::Chg;
+use fpl_items::{KeptEstimates, Other18, bit_of};
+use fpl_message::{Chg, Spot};
 use std::alloc::{AllocError, Allocator, Global};
 use std::marker::Model;
 use std::mem;
@@ -257,4 +260,69 @@ impl<A: Allocator + Copy> Texts<A> {
     {
         self.estimates.longest()
     }
+}
+
+/// The number of rows of a table of masks.
+pub const ROWS: u32 = 192;
+
+/// Returns the row of an aerodrome or route point in a table of masks.
+#[tactic(auto, unfolding(crate::specs::Near::table_row))]
+pub fn row_of(spot: &Spot) -> usize
+    ensures value { result ≡ table_row spot.now }
+    ensures bound { result < ROWS }
+{
+    match spot {
+        Spot::Dep(place) => bit_of(place.as_bytes()) as usize,
+        Spot::Arr(place) => 64 + bit_of(place.as_bytes()) as usize,
+        Spot::Via(place) => 128 + bit_of(place.as_bytes()) as usize,
+    }
+}
+
+/// The word of a row. A row that the table doesn't have has each bit.
+#[inline]
+fn word_at(table: &[u64], row: usize) -> u64
+    ensures { result ≡ word_at table.now row }
+{
+    match table.get(row) {
+        Some(word) => *word,
+        None => u64::MAX,
+    }
+}
+
+/// The masks of a departure and a destination.
+pub(crate) fn words_of_ends(table: &[u64], dep: &[u8], dest: &[u8]) -> u64
+    ensures dep { HasBitsOf result (word_at table.now (bit_of dep.now)) }
+    ensures dest { HasBitsOf result (word_at table.now (64 + bit_of dest.now)) }
+{
+    word_at(table, bit_of(dep) as usize) | word_at(table, 64 + bit_of(dest) as usize)
+}
+
+/// The index of the next set bit from `from` on, 64 or more if there is none.
+#[inline]
+fn next_bit(word: u64, from: usize) -> usize
+    ensures from { from ≤ result }
+    ensures passed { (i : ℕ) → from ≤ i → i < result → bit_at word i ≡ 0 }
+{
+    if from >= 64 {
+        return from;
+    }
+    let later = word >> from;
+    if later == 0 {
+        return 64;
+    }
+    from + later.trailing_zeros() as usize
+}
+
+/// The masks of a set of route points.
+pub(crate) fn words_on_way(table: &[u64], places: u64) -> u64
+    ensures { (b : ℕ) → b < 64 → bit_at places b ≡ 1
+        → HasBitsOf result (word_at table.now (128 + b)) }
+{
+    let mut words = 0;
+    let mut bit = next_bit(places, 0);
+    while bit < 64 {
+        words |= word_at(table, 128 + bit);
+        bit = next_bit(places, bit + 1);
+    }
+    words
 }

@@ -5,7 +5,7 @@ use Rattle.std.specs.List.{slice_get}
 use Rattle.std.specs.Option.{option_map}
 use Rattle.flow_plans.specs.Plans.{PlanView, plan_at}
 use Rattle.flow_plans.specs.Entries.{take_off}
-use Rattle.flow_regulations.specs.declared.advice.Delay.{Delay}
+use Rattle.flow_regulations.specs.declared.telling.Delay.{Delay}
 use Rattle.flow_regulations.specs.declared.notice.Told.{Told}
 use Rattle.flow_regulations.specs.Listing.{RegulationView, regulation_of}
 use Rattle.flow_regulations.specs.Advice.{worse, worst, delay_in, caused_by, advice}

@@ -12,7 +12,7 @@ use Rattle.flow_plans.specs.Entries.{take_off, entry_at}
 use Rattle.flow_slots.specs.Period.{slot_time}
 use Rattle.flow_slots.specs.Assignment.{Placed}
 use Rattle.flow_slots.specs.Lineup.{Lineup, slot_in, held_slot, fixed_slot}
-use Rattle.flow_regulations.specs.declared.advice.Delay.{Delay}
+use Rattle.flow_regulations.specs.declared.telling.Delay.{Delay}
 use Rattle.flow_regulations.specs.Regulations.{Regulation}
 use Rattle.flow_regulations.specs.Listing.{RegulationView, regulation_of}
 use Rattle.flow_regulations.specs.Advice.{delay_among, delay_in, caused_by, worse}

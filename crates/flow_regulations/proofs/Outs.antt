@@ -10,7 +10,7 @@ use Rattle.flow_slots.specs.Period.{slot_time}
 use Rattle.flow_slots.specs.Lineup.{Lineup, NoneIs, held_slot, fixed_slot, entry_in, without_fixed, without_flight, with_waiting}
 use Rattle.flow_slots.specs.ChangeList.{fixed_there}
 use Rattle.flow_slots.proofs.Held.{held_slot-without}
-use Rattle.flow_regulations.specs.declared.advice.Delay.{Delay}
+use Rattle.flow_regulations.specs.declared.telling.Delay.{Delay}
 use Rattle.flow_regulations.specs.declared.slot_state.Place.TheVariants as place
 use Rattle.flow_regulations.specs.SlotStates.{IsPlaceOf}
 use Rattle.flow_regulations.specs.Regulations.{subject_to}

@@ -7,7 +7,7 @@ use Rattle.flow_plans.specs.Plans.{PlanView, plan_at}
 use Rattle.flow_plans.specs.Entries.{entry_at}
 use Rattle.flow_slots.specs.Period.{Period, slot_time}
 use Rattle.flow_slots.specs.Assignment.{Placed}
-use Rattle.flow_regulations.specs.declared.advice.Delay.{Delay}
+use Rattle.flow_regulations.specs.declared.telling.Delay.{Delay}
 use Rattle.flow_regulations.specs.declared.notice.Told.{Told}
 use Rattle.flow_regulations.specs.Regulations.{Regulation}
 use Rattle.flow_regulations.specs.Settling.{pairs_of}

@@ -9,7 +9,7 @@ use Rattle.flow_slots.specs.declared.cell.Planned.{Planned}
 use Rattle.flow_regulations.specs.Regulations.{coming_from}
 use Rattle.flow_regulations.specs.Settling.{is_due, is_due_flight}
 use Rattle.flow_regulations.specs.Listing.{RegulationView, regulation_of, opened, AreUndue, NoneDue}
-use Rattle.flow_regulations.specs.declared.due.TheConstants.{ISSUE_LEAD}
+use Rattle.flow_regulations.specs.declared.due_queue.TheConstants.{ISSUE_LEAD}
 use Rattle.flow_regulations.proofs.Coming.{waiting-all}
 
 -- flights that have no earlier off-block time than one at which none is due

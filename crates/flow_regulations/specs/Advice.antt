@@ -6,7 +6,7 @@ use Rattle.flow_plans.specs.Plans.{PlanView}
 use Rattle.flow_plans.specs.Entries.{take_off, entry_at}
 use Rattle.flow_slots.specs.Period.{slot_time}
 use Rattle.flow_slots.specs.Assignment.{Placed}
-use Rattle.flow_regulations.specs.declared.advice.Delay.{Delay}
+use Rattle.flow_regulations.specs.declared.telling.Delay.{Delay}
 use Rattle.flow_regulations.specs.declared.notice.Told.{Told}
 use Rattle.flow_regulations.specs.Regulations.{Regulation}
 

@@ -10,7 +10,7 @@ use Rattle.flow_plans.specs.Plans.{PlanView, plan_at, is_filed}
 use Rattle.flow_regulations.specs.declared.due_queue.PendingFlight.{PendingFlight}
 use Rattle.flow_regulations.specs.Settling.{is_due_flight}
 use Rattle.flow_regulations.specs.Listing.{RegulationView, IsListed, IsSettled}
-use Rattle.flow_regulations.specs.declared.due.TheConstants.{ISSUE_LEAD}
+use Rattle.flow_regulations.specs.declared.due_queue.TheConstants.{ISSUE_LEAD}
 
 -- flights with the off-block times that their plans had when they were put in the queue, in any
 -- order, and the capacity

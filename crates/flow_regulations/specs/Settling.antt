@@ -7,7 +7,7 @@ use Rattle.flow_slots.specs.Period.{slot_time, first_slot}
 use Rattle.flow_slots.specs.Assignment.{Placed, greedy, slots}
 use Rattle.flow_slots.specs.Lineup.{insert_fixed, assigned}
 use Rattle.flow_regulations.specs.Regulations.{Regulation, subject_to, has_flight, waiting_from, lineup_of}
-use Rattle.flow_regulations.specs.declared.due.TheConstants.{ISSUE_LEAD}
+use Rattle.flow_regulations.specs.declared.due_queue.TheConstants.{ISSUE_LEAD}
 
 -- a filed flight is due from two hours before its off-block time on
 abbrev pub is_due : ℕ → PlanView → Bool

@@ -1,18 +1,19 @@
-//! The flights that aren't due yet, by off-block time.
-ghost use Rattle.std.specs.Prelude.{◌≡◌, ◌∷◌, [], ◌+◌, ◌<◌, ◌≤◌};
-ghost use Rattle.std.specs.Prelude.{ℕ, true, false, Some, OnOk, IfSome};
-ghost use Rattle.std.specs.Prelude.{IfNone, map, length, vec_capacity};
+//! The flights that aren't due yet, by off-block time. A flight is due two hours before it: its
+//! slot is issued then, and kept from then on (ATFCM Users Manual, slot issue).
+
+ghost use Rattle.std.specs.Prelude.{◌≡◌, ◌∷◌, [], ◌+◌, ◌<◌, ◌≤◌, ℕ, true, false, Some, OnOk};
+ghost use Rattle.std.specs.Prelude.{IfSome, IfNone, map, length, vec_capacity, nat_le};
 ghost use Rattle.std.specs.List.{All, AllByRecursion, Contains};
 ghost use Rattle.std.specs.List.Sorted.{IsPermutation, IsStrictlyIncreasing};
 ghost use Rattle.std.specs.BinaryHeap.{IsHeap, heap_items, heap_len, heap_capacity};
 ghost use Rattle.std.specs.declared.cmp.Reverse.{Reverse};
 ghost use Rattle.flow_plans.specs.Plans.{PlanView, plan_at};
-ghost use Rattle.flow_regulations.specs.Awaiting.{Covers, awaits, BecameDue};
-ghost use Rattle.flow_regulations.specs.Awaiting.{AreHeld, earlier_first};
+ghost use Rattle.flow_regulations.specs.Awaiting.{Covers, awaits, BecameDue, AreHeld};
+ghost use Rattle.flow_regulations.specs.Awaiting.{earlier_first};
 ghost use Rattle.flow_regulations.specs.Listing.{HoldNewlyDue};
-ghost use Rattle.flow_regulations.specs.declared.due.TheConstants.{ISSUE_LEAD};
+ghost use Rattle.flow_regulations.specs.declared.due_queue.TheConstants.{ISSUE_LEAD};
+ghost use Rattle.flow_regulations.specs.Settling.{is_due};
 
-use crate::due::{due_until, is_due_by};
 use flow_plans::PlanStore;
 use fpl_text::Minute;
 use std::alloc::{AllocError, Allocator, Global};
@@ -281,4 +282,44 @@ fn put_plan<A: Allocator + Copy>(
     };
     let off_block = plan.off_block().minutes();
     push_reserved(heap, PendingFlight { off_block, number });
+}
+
+/// How long before its off-block time a flight is due, in minutes.
+pub const ISSUE_LEAD: u32 = 120;
+
+/// The last off-block time of the flights that are due now, in minutes since 1970-01-01 00:00 UTC.
+#[inline(always)]
+pub(crate) fn due_until(now: Minute) -> u32
+    ensures { result ≡ now + ISSUE_LEAD }
+{
+    now.minutes() + ISSUE_LEAD
+}
+
+/// Whether a flight of this off-block date and time is due: at most two hours before it.
+#[inline(always)]
+pub fn is_due_by(off_block: Minute, now: Minute) -> bool
+    ensures { result ≡ nat_le off_block (now + ISSUE_LEAD) }
+{
+    is_due_from(off_block.minutes(), now)
+}
+
+/// The same of a time in minutes since 1970-01-01 00:00 UTC.
+#[inline(always)]
+pub(crate) fn is_due_from(off_block: u32, now: Minute) -> bool
+    ensures { result ≡ nat_le off_block (now + ISSUE_LEAD) }
+{
+    off_block <= due_until(now)
+}
+
+/// Whether the flight of plan `number` is due: filed, and at most two hours before its off-block
+/// time.
+#[inline(always)]
+pub(crate) fn is_due<A: Allocator + Copy>(plans: &PlanStore<A>, number: u32, now: Minute) -> bool
+    requires { 0 < number }
+    ensures { (p : PlanView) → plan_at plans.now.plans number ≡ Some p → result ≡ is_due now p }
+{
+    match plans.filed_off_block(number) {
+        Some(off_block) => is_due_by(off_block, now),
+        None => false,
+    }
 }

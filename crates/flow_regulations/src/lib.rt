@@ -10,7 +10,7 @@
 //!   due, or may keep its slot, depends on its own plan and the time. So each slot list reallocates
 //!   that one flight alone: if its slot or its entry has changed it is removed and inserted again,
 //!   and frozen if it is due. Those that it displaces move by the chain of that slot list.
-//! - *Masks* (`mask`). For each flight a mask of 64 bits says which of the first 64 open
+//! - *Masks*. For each flight a mask of 64 bits says which of the first 64 open
 //!   regulations may hold it (`held_marks`): if a bit isn't set, the flight isn't held there, and
 //!   the slot list isn't searched. A table of masks by points says in the same way which
 //!   regulations are at which points (`place_table`). The masks of a plan's own points have all
@@ -31,19 +31,16 @@
 //!   (a flight gets its former slots again), `release_all` for TIME, `take_last` for OPEN, `reopen`
 //!   for SHUT.
 //!
-//! `regulations` has the calls, `regulation` one open regulation, `advice` the most penalising one,
-//! `telling` and `notice` the slot notices, `window` the slot tolerance window.
+//! `regulations` has the calls, `regulation` one open regulation, `telling` the most penalising one
+//! and the slot notices (`notice`), `window` the slot tolerance window.
 #![tactic(auto)]
 
-mod advice;
 mod closed;
-mod due;
 mod due_queue;
 mod fixed_flights;
 mod held_marks;
 mod in_order;
 pub mod laws;
-mod mask;
 mod notice;
 mod place_table;
 mod regulation;
@@ -53,8 +50,7 @@ mod telling;
 mod window;
 
 pub use closed::Closed;
-pub use due::{ISSUE_LEAD, is_due_by};
-pub use due_queue::{DueQueue, PendingFlight};
+pub use due_queue::{DueQueue, ISSUE_LEAD, PendingFlight, is_due_by};
 pub use notice::{Notice, Said, Told, Window};
 pub use regulation::Regulation;
 pub use regulations::Regulations;

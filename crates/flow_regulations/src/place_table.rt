@@ -6,7 +6,7 @@ ghost use Rattle.flow_plans.specs.Plans.{PlanView, plan_at};
 ghost use Rattle.flow_regulations.specs.Listing.{RegulationView};
 ghost use Rattle.flow_regulations.specs.Marks.{mask_of, AreInRows, MarksNear, IsOpenedIn};
 
-use crate::mask::{close_place, make_room, with_place};
+use crate::held_marks::{close_place, make_room, with_place};
 use crate::regulation::Regulation;
 use flow_plans::{PlanStore, ROWS};
 use std::alloc::{AllocError, Allocator, Global};

@@ -23,7 +23,7 @@ ghost use Rattle.flow_regulations.specs.Listing.{IsLookedAgain};
 ghost use Rattle.flow_plans.specs.declared.setup.TheConstants.{MAX_PLANS};
 ghost use Rattle.flow_slots.specs.Period.{most_slots};
 
-use crate::due::is_due;
+use crate::due_queue::is_due;
 use crate::slot_state::Place;
 use flow_plans::{PlanState, PlanStore, row_of};
 use flow_slots::{Planned, Shape, SlotList};

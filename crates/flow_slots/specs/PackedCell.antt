@@ -7,7 +7,7 @@ use Rattle.std.proofs.lemmas.Bool.{eqb-true}
 use Rattle.flow_slots.specs.declared.cell.Cell.{Cell}
 use Rattle.flow_slots.specs.declared.cell.Cell.TheVariants.{Empty, Waiting, Fixed}
 use Rattle.flow_slots.specs.declared.cell.Planned.{Planned}
-use Rattle.flow_slots.specs.declared.packed_cell.TheConstants.{FLIGHTS, NO_ENTRY}
+use Rattle.flow_slots.specs.declared.row.TheConstants.{FLIGHTS, NO_ENTRY}
 
 -- what a word can store beside a start: an entry that isn't before it and not so late as that of no
 -- flight, and a flight's number below 2 ^ 15, where 0 is no flight of a frozen slot

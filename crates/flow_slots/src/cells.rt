@@ -15,11 +15,9 @@ ghost use Rattle.flow_slots.specs.declared.cell.Cell.TheVariants.{Empty, Fixed, 
 ghost use Rattle.flow_slots.specs.declared.cell.Planned.{Planned};
 
 use crate::cell::{Cell, Planned};
-use crate::counting::Counting;
 use crate::displacement::{displace, first_later, vacate};
-use crate::first_slots::FirstSlots;
-use crate::held_slot::HeldSlot;
-use crate::packed_cell::{PackedCell, are_unfixed};
+use crate::row::{Counting, HeldSlot, PackedCell, are_unfixed};
+use crate::shape::FirstSlots;
 use std::alloc::{AllocError, Allocator, Global};
 use std::marker::Model;
 

@@ -10,10 +10,8 @@ ghost use Rattle.flow_slots.specs.Row.{flight_at, place_at, IsTied, EntriesWithi
 ghost use Rattle.flow_slots.specs.Walk.{displace, has_empty, next_up, close};
 ghost use Rattle.flow_slots.specs.Walk.{waits, Follows, AllFollow, ComesIn};
 
-use crate::counting::Counting;
-use crate::first_slots::FirstSlots;
-use crate::held_slot::HeldSlot;
-use crate::packed_cell::PackedCell;
+use crate::row::{Counting, HeldSlot, PackedCell};
+use crate::shape::FirstSlots;
 use std::alloc::Allocator;
 
 /// The index of the first cell from `from` on that is empty or has a provisional flight that

@@ -25,21 +25,18 @@
 //! - *What it costs*: a change touches the cells from the flight's first slot to the end of its
 //!   chain, and writes one cell a flight that moves. Only `SlotList::new` allocates.
 //!
-//! `slot_list` has the calls, `cells` the row and `chains` the walks along it, which write cells by
-//! `counting` alone; `shape` has periods and rates with their limits, `first_slots` a table of
-//! first slots by minutes; `packed_cell` and `held_slot` are cells and slots in memory. `laws` says
-//! what the fresh allocation is, and how each list of changes is undone.
+//! `slot_list` has the calls, `cells` the row and `displacement` the walks along it, which write
+//! cells by `Counting` alone; `row` is the row in memory; `shape` has periods and rates with their
+//! limits, and a table of first slots by minutes. `laws` says what the fresh allocation is, and how
+//! each list of changes is undone.
 #![tactic(auto)]
 
 mod cell;
 mod cells;
 mod change_list;
-mod counting;
 mod displacement;
-mod first_slots;
-mod held_slot;
 pub mod laws;
-mod packed_cell;
+mod row;
 mod shape;
 mod slot_list;
 

@@ -1,14 +1,16 @@
 //! The period of a regulation with its rates: the times of its slots, and the first slot not before
-//! an entry.
-ghost use Rattle.std.specs.Prelude.{◌≡◌, ◌+◌, ◌-◌, ◌*◌, ◌<◌, ◌≤◌, ◌↔◌};
-ghost use Rattle.std.specs.Prelude.{IsSome, IfSome, IsTrue, None, length};
+//! an entry, which a table has for each minute.
+
+ghost use Rattle.std.specs.Prelude.{◌≡◌, ◌+◌, ◌-◌, ◌*◌, ◌<◌, ◌≤◌, ◌↔◌, IsSome, IfSome, IsTrue};
+ghost use Rattle.std.specs.Prelude.{None, length, IfOk};
 ghost use Rattle.flow_slots.specs.Limits.{rises, rates_fit, is_period, broken_limit};
-ghost use Rattle.flow_slots.specs.Period.{Period, IsRegular, IsWithin, AreSubperiods};
-ghost use Rattle.flow_slots.specs.Period.{slots_in, time_from, slot_from};
-ghost use Rattle.flow_slots.specs.Period.{slot_time, first_slot, slots_before_end, IsFirstSlot};
-ghost use Rattle.flow_slots.specs.Period.{most_before_end, most_slots};
+ghost use Rattle.flow_slots.specs.Period.{Period, IsRegular, IsWithin, AreSubperiods, slots_in};
+ghost use Rattle.flow_slots.specs.Period.{time_from, slot_from, slot_time, first_slot};
+ghost use Rattle.flow_slots.specs.Period.{slots_before_end, IsFirstSlot, most_before_end};
+ghost use Rattle.flow_slots.specs.Period.{most_slots};
 
 use fpl_text::{MOST_PARTS, Minute, Part, YEAR_2000, YEAR_2099};
+use std::alloc::{AllocError, Allocator};
 use std::marker::Model;
 
 /// The limit of a rate, in slots an hour.
@@ -312,5 +314,51 @@ impl Shape {
             &self.parts[..self.count],
             self.end.minutes(),
         )
+    }
+}
+
+/// The shape of a regulation with a table of the first slot of each minute, so that a chain that
+/// moves up divides nothing. A slot's number takes two bytes.
+#[derive(Drop)]
+pub(crate) struct FirstSlots<A: Allocator + Copy> {
+    shape: Shape,
+    by_minute: Vec<u16, A>,
+}
+
+impl<A: Allocator + Copy> Model for FirstSlots<A> {
+    ghost use Rattle.flow_slots.specs.Period.{Period, AreFirstSlots};
+
+    ghost Value = { Period };
+
+    ghost view = { λ f. f.shape };
+
+    ghost invariant = { λ f. AreFirstSlots f.shape f.by_minute.items };
+}
+
+impl<A: Allocator + Copy> FirstSlots<A> {
+    pub(crate) fn new(alloc: A, shape: Shape) -> Result<FirstSlots<A>, AllocError>
+        ensures { IfOk result (λ f. f ≡ shape) }
+    {
+        let minutes = shape.minutes();
+        let mut by_minute = vec![in alloc; 0; minutes as usize]?;
+        for minute in 0..minutes {
+            by_minute[minute as usize] = shape.first_slot_in(minute) as u16;
+        }
+        Ok(FirstSlots { shape, by_minute })
+    }
+
+    pub(crate) fn shape(&self) -> &Shape
+        ensures { result.now ≡ self.now }
+    {
+        &self.shape
+    }
+
+    /// The number of the first slot not before an entry in minutes.
+    #[inline]
+    pub(crate) fn at(&self, entry: u32) -> u32
+        requires { IsWithin self.now entry }
+        ensures { result ≡ first_slot self.now entry }
+    {
+        u32::from(self.by_minute[(entry - self.shape.start_minutes()) as usize])
     }
 }

@@ -16,9 +16,8 @@ ghost use Rattle.flow_slots.specs.LineupLaws.{IsNumber, IsSound};
 
 use crate::cell::{Cell, Planned};
 use crate::cells::Cells;
-use crate::first_slots::FirstSlots;
-use crate::held_slot::{HeldSlot, next_placed, place_of};
-use crate::shape::Shape;
+use crate::row::{HeldSlot, next_placed, place_of};
+use crate::shape::{FirstSlots, Shape};
 use fpl_text::Minute;
 use std::alloc::{AllocError, Allocator, Global};
 use std::marker::Model;

@@ -20,7 +20,7 @@ ghost use Rattle.flow_traffic.specs.Asked.{plans_changed_by, verdict_on, is_depa
 ghost use Rattle.flow_traffic.specs.Answering.{AnswersReading};
 ghost use Rattle.flow_traffic.specs.Answers.{told_to};
 ghost use Rattle.flow_traffic.specs.Kept.{IsSettledFor};
-ghost use Rattle.flow_regulations.specs.declared.due.TheConstants.{ISSUE_LEAD};
+ghost use Rattle.flow_regulations.specs.declared.due_queue.TheConstants.{ISSUE_LEAD};
 
 use crate::notified::Notified;
 use crate::traffic::Traffic;

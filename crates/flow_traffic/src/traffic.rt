@@ -136,6 +136,7 @@ impl<A: Allocator + Copy> Traffic<A> {
     /// regulation that is shut. An `Err`, returned if allocation fails, leaves all unchanged, but
     /// no reading can then be undone. An unreadable text and an order that is refused allocate
     /// nothing.
+    #[inline(always)]
     pub fn answer(&mut self, reading: &Reading<A>) -> Result<Verdict, AllocError>
         requires { HasDeskMoments (said reading.now) }
         ensures answers { IfOk result

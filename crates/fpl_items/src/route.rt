@@ -1,21 +1,21 @@
-//! Field 15: the route.
+//! Field 15: the route, after its speed and level.
 
-ghost use Rattle.std.specs.Prelude.{◌≡◌, ◌≤◌, ◌<◌, ◌+◌, ◌==◌};
-ghost use Rattle.std.specs.Prelude.{[], true, None, Some, length};
-ghost use Rattle.std.specs.Prelude.{slice_index_or, vec_capacity, MatchOption, IfErr};
+ghost use Rattle.std.specs.Prelude.{◌≡◌, ◌≤◌, ◌<◌, ◌+◌, ◌==◌, [], true, None, Some, length};
+ghost use Rattle.std.specs.Prelude.{slice_index_or, vec_capacity, MatchOption, IfErr, IsTrue};
+ghost use Rattle.std.specs.Prelude.{if◌then◌else◌, take, drop};
 ghost use Rattle.std.specs.List.{count_by, list_all, prefix_len};
 ghost use Rattle.fpl_text.specs.Words.{words_of};
-ghost use Rattle.fpl_items.specs.Speeds.{is_speed_and_level};
+ghost use Rattle.fpl_items.specs.Speeds.{is_speed_and_level, is_letter_and_digits, is_speed};
+ghost use Rattle.fpl_items.specs.Speeds.{is_height, is_level, speed_len};
 ghost use Rattle.fpl_text.specs.Bytes.{is_letter, is_letter_or_digit};
-ghost use Rattle.fpl_items.specs.Routes.{path_or_fault, is_route, elements_of, total_len, ReadsAs};
-ghost use Rattle.fpl_items.specs.Kinds.{is_name, is_coordinate, is_point};
-ghost use Rattle.fpl_items.specs.Kinds.{is_change, is_climb_range, is_climb_speed};
-ghost use Rattle.fpl_items.specs.Kinds.{is_climb_from, is_climb, is_designator};
-ghost use Rattle.fpl_items.specs.Kinds.{is_route_byte, kind_of, before_stroke};
-ghost use Rattle.fpl_items.specs.Kinds.{height_len};
+ghost use Rattle.fpl_items.specs.Routes.{path_or_fault, is_route, elements_of, total_len};
+ghost use Rattle.fpl_items.specs.Routes.{ReadsAs};
+ghost use Rattle.fpl_items.specs.Kinds.{is_name, is_coordinate, is_point, is_change};
+ghost use Rattle.fpl_items.specs.Kinds.{is_climb_range, is_climb_speed, is_climb_from};
+ghost use Rattle.fpl_items.specs.Kinds.{is_climb, is_designator, is_route_byte, kind_of};
+ghost use Rattle.fpl_items.specs.Kinds.{before_stroke, height_len};
 
 use crate::fault::ItemFault;
-use crate::speed::{is_height, is_speed, is_speed_and_level, speed_and_level, speed_len};
 use fpl_text::{
     Measured, Text, Words, all_digits, all_letters, all_letters_or_digits, is_letter_or_digit,
     is_path, leading_letters, space_count,
@@ -358,5 +358,75 @@ impl<A: Allocator + Copy> Route<A> {
         ensures { result.now ≡ self.now.level }
     {
         self.level.as_bytes()
+    }
+}
+
+/// Whether a text is this letter and `digits` digits.
+#[tactic(auto, unfolding(crate::specs::Speeds::is_letter_and_digits))]
+fn is_letter_and_digits(letter: u8, digits: usize, text: &[u8]) -> bool
+    requires { digits < 10 }
+    ensures fits { IsTrue result → length text.now ≡ digits + 1 }
+    ensures value { result ≡ is_letter_and_digits letter digits text.now }
+{
+    text.len() == digits + 1 && text[0] == letter && all_digits(&text[1..])
+}
+
+#[tactic(auto, unfolding(crate::specs::Speeds::is_speed))]
+pub(crate) fn is_speed(text: &[u8]) -> bool
+    ensures value { result ≡ is_speed text.now }
+    ensures fits { IsTrue result → length text.now ≤ 5 }
+{
+    is_letter_and_digits(b'K', 4, text)
+        || is_letter_and_digits(b'N', 4, text)
+        || is_letter_and_digits(b'M', 3, text)
+}
+
+/// Whether a text is a level other than VFR.
+#[tactic(auto, unfolding(crate::specs::Speeds::is_height))]
+pub(crate) fn is_height(text: &[u8]) -> bool
+    ensures value { result ≡ is_height text.now }
+    ensures fits { IsTrue result → length text.now ≤ 5 }
+{
+    is_letter_and_digits(b'F', 3, text)
+        || is_letter_and_digits(b'S', 4, text)
+        || is_letter_and_digits(b'A', 3, text)
+        || is_letter_and_digits(b'M', 4, text)
+}
+
+#[tactic(auto, unfolding(crate::specs::Speeds::is_level))]
+pub(crate) fn is_level(text: &[u8]) -> bool
+    ensures value { result ≡ is_level text.now }
+    ensures fits { IsTrue result → length text.now ≤ 5 }
+{
+    is_height(text) || text == b"VFR".as_slice()
+}
+
+/// The length of a speed that begins with the same letter.
+pub(crate) fn speed_len(text: &[u8]) -> usize
+    ensures { result ≡ speed_len text.now }
+{
+    if text.first() == Some(&b'M') { 4 } else { 5 }
+}
+
+#[tactic(auto, unfolding(crate::specs::Speeds::is_speed_and_level))]
+pub(crate) fn is_speed_and_level(text: &[u8]) -> bool
+    ensures { result ≡ is_speed_and_level text.now }
+{
+    let cut = speed_len(text).min(text.len());
+    is_speed(&text[..cut]) && is_level(&text[cut..])
+}
+
+/// Cuts a word into its speed and level; `None` for any other word.
+#[tactic(auto, unfolding(crate::specs::Speeds::is_speed_and_level))]
+pub(crate) fn speed_and_level(word: &[u8]) -> Option<(Text<5>, Text<5>)>
+    ensures { result ≡ (if is_speed_and_level word.now
+        then Some (take (speed_len word.now) word.now, drop (speed_len word.now) word.now)
+        else None) }
+{
+    let (speed, level) = word.split_at(speed_len(word).min(word.len()));
+    if is_speed(speed) && is_level(level) {
+        Some((Text::new(speed), Text::new(level)))
+    } else {
+        None
     }
 }

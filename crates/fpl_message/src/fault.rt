@@ -1,5 +1,5 @@
 //! Why parsing stopped.
-ghost use Rattle.std.specs.Prelude.{◌≡◌};
+ghost use Rattle.std.specs.Prelude.{◌≡◌, Ok};
 ghost use Rattle.fpl_message.specs.Refusals.{ReturnsAs, PlaceFits, text_fault, fault_of_field};
 ghost use Rattle.fpl_message.specs.Refusals.{fault_of_item};
 
@@ -62,4 +62,19 @@ pub(crate) fn boxed<A: Allocator + Copy, T: Drop>(alloc: A, value: T) -> Result<
         Ok(boxed) => Ok(boxed),
         Err(_) => Err(Fault::OutOfMemory),
     }
+}
+
+/// Boxes a value, in a spare box if there is one; returns `Err` if an allocation fails.
+pub(crate) fn boxed_over<A: Allocator + Copy, T: Drop>(
+    alloc: A,
+    spare: &mut Option<Box<T, A>>,
+    value: T,
+) -> Result<Box<T, A>, Fault>
+    ensures { ReturnsAs (λ b. b.value) result (Ok value) }
+{
+    let Some(mut last) = spare.take() else {
+        return boxed(alloc, value);
+    };
+    *last = value;
+    Ok(last)
 }

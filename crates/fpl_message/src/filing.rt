@@ -6,9 +6,8 @@ ghost use Rattle.fpl_message.specs.declared.filed_text.TheConstants.{MAX_BYTES};
 
 use crate::edition::Edition;
 use crate::filed_text::{FiledText, FilingFault, MAX_BYTES};
-use crate::filing_reader::FilingReader;
+use crate::filing_reader::{FilingReader, heading_of};
 use crate::message::Reading;
-use crate::reading::heading_of;
 use fpl_text::Heading;
 use std::alloc::{AllocError, Allocator, Global};
 use std::marker::Model;

@@ -1,14 +1,24 @@
-//! A reader of filings, which reuses its memory from text to text.
-ghost use Rattle.std.specs.Prelude.{◌≡◌, ◌≤◌, length, OnOk, OnErr, IfOk};
-ghost use Rattle.fpl_message.specs.Reads.{reading_of, bad};
+//! The reader of filings, which parses their bytes, and reuses its memory from text to text.
+
+ghost use Rattle.std.specs.Prelude.{◌≡◌, ◌≤◌, length, OnOk, OnErr, IfOk, ◌≢◌, Err};
+ghost use Rattle.fpl_message.specs.Reads.{reading_of, bad, reading_or_refusal, message_of};
+ghost use Rattle.fpl_message.specs.Reads.{begins_message, heading_of_bytes};
 ghost use Rattle.fpl_message.specs.Said.{said};
 ghost use Rattle.fpl_message.specs.declared.filed_text.TheConstants.{MAX_BYTES};
+ghost use Rattle.fpl_message.specs.Refusals.{ReturnsAs, by_text};
+ghost use Rattle.fpl_text.specs.Squeezing.{squeezed_or_fault};
+ghost use Rattle.fpl_text.specs.Fields.{fields_or_fault};
 
 use crate::edition::Edition;
-use crate::message::Reading;
-use crate::reading::read;
+use crate::fault::{Fault, boxed, text_fault};
+use crate::flight_plan::Fpl;
+use crate::message::{Message, Reading};
+use crate::modification::Chg;
+use crate::order::{OpenReg, Order, read_order};
+use crate::parts::Opening;
 use crate::refusal::Refusal;
-use crate::spares::Spares;
+use crate::short_message::{Cnl, Dep, Dla, read_short};
+use fpl_text::{Fields, Heading, Squeezed, Title};
 use std::alloc::{AllocError, Allocator, Global};
 use std::marker::Model;
 use std::mem::replace;
@@ -93,6 +103,7 @@ impl<A: Allocator + Copy> FilingReader<A> {
     }
 
     /// Drops what the last bytes said, and keeps its box.
+    #[inline(always)]
     fn clear(&mut self)
         ensures { self.new ≡ bad Refusal.Empty }
     {
@@ -106,4 +117,172 @@ impl<A: Allocator + Copy> FilingReader<A> {
     {
         &self.reading
     }
+}
+
+/// For each kind of message or order that is boxed, the box of the last one dropped.
+#[derive(Drop)]
+pub struct Spares<A: Allocator + Copy = Global> {
+    pub fpl: Option<Box<Fpl<A>, A>>,
+    pub chg: Option<Box<Chg<A>, A>>,
+    pub open: Option<Box<OpenReg, A>>,
+}
+
+impl<A: Allocator + Copy> Spares<A> {
+    pub(crate) fn none() -> Self {
+        Spares {
+            fpl: None,
+            chg: None,
+            open: None,
+        }
+    }
+
+    /// Takes over the box of a reading, if it has one.
+    pub(crate) fn keep(&mut self, reading: Reading<A>) {
+        match reading {
+            Reading::Msg(Message::Fpl(plan)) => self.fpl = Some(plan),
+            Reading::Msg(Message::Chg(modification)) => self.chg = Some(modification),
+            Reading::Ord(Order::OpenReg(open)) => self.open = Some(open),
+            Reading::Msg(_) => {}
+            Reading::Ord(_) => {}
+            Reading::Bad(_) => {}
+        }
+    }
+}
+
+/// Reads at most 2,000 bytes by the rules of an edition, and replaces another reading. They are
+/// squeezed in `room`, which is left for the next text, unless the message or a fault keeps it; a
+/// message is stored in the spare box of its kind, if there is one. Returns `Err` if an allocation
+/// fails.
+#[inline(always)]
+#[tactic(auto, unfolding(crate::specs::Reads::reading_of))]
+pub(crate) fn read<A: Allocator + Copy>(
+    alloc: A,
+    room: &mut Vec<u8, A>,
+    spares: &mut Spares<A>,
+    reading: &mut Reading<A>,
+    edition: Edition,
+    bytes: &[u8],
+) -> Result<(), AllocError>
+    requires { length bytes.now ≤ MAX_BYTES }
+    ensures { OnOk result (said reading.new
+        ≡ reading_of (record { edition = edition; bytes = bytes.now })) }
+{
+    match read_filed(alloc, room, spares, reading, edition, bytes) {
+        Ok(()) => Ok(()),
+        Err(Fault::Refused(refusal)) => {
+            *reading = Reading::Bad(refusal);
+            Ok(())
+        }
+        Err(Fault::OutOfMemory) => Err(AllocError),
+    }
+}
+
+/// Returns what the bytes say, or why they are refused.
+fn read_filed<A: Allocator + Copy>(
+    alloc: A,
+    room: &mut Vec<u8, A>,
+    spares: &mut Spares<A>,
+    reading: &mut Reading<A>,
+    edition: Edition,
+    bytes: &[u8],
+) -> Result<(), Fault>
+    requires { length bytes.now ≤ MAX_BYTES }
+    ensures { ReturnsAs (λ _. said reading.new) result
+        (reading_or_refusal (record { edition = edition; bytes = bytes.now })) }
+{
+    let squeezed = squeezed(replace(room, Vec::new(alloc)), bytes)?;
+    if !begins_message(squeezed.as_bytes()) {
+        let order = read_order(alloc, &mut spares.open, edition, squeezed.as_bytes());
+        *room = squeezed.into_room();
+        *reading = Reading::Ord(order?);
+        return Ok(());
+    }
+    read_message(alloc, room, spares, reading, fields_of(squeezed)?)
+}
+
+/// Squeezes bytes in `room`; returns why that isn't possible, if so.
+fn squeezed<A: Allocator + Copy>(room: Vec<u8, A>, bytes: &[u8]) -> Result<Squeezed<A>, Fault>
+    requires { length bytes.now ≤ MAX_BYTES }
+    ensures { ReturnsAs (λ text. text) result (by_text (squeezed_or_fault bytes.now)) }
+{
+    match Squeezed::read_in(room, bytes) {
+        Ok(squeezed) => Ok(squeezed),
+        Err(fault) => Err(text_fault(fault)),
+    }
+}
+
+/// Splits a squeezed text into fields, or returns why it has none. Doesn't allocate.
+fn fields_of<A: Allocator + Copy>(squeezed: Squeezed<A>) -> Result<Fields<A>, Fault>
+    ensures value { ReturnsAs (λ fields. fields) result (by_text (fields_or_fault squeezed)) }
+    ensures memory { result ≢ Err Fault.OutOfMemory }
+{
+    match squeezed.into_fields() {
+        Ok(fields) => Ok(fields),
+        Err(fault) => Err(text_fault(fault)),
+    }
+}
+
+/// Field 3 of a text, if the text has fields and the first has that form.
+pub(crate) fn heading_of<A: Allocator + Copy>(
+    alloc: A,
+    bytes: &[u8],
+) -> Result<Option<Heading>, AllocError>
+    requires { length bytes.now ≤ MAX_BYTES }
+    ensures { IfOk result (λ heading. heading ≡ heading_of_bytes bytes.now) }
+{
+    let squeezed = match squeezed(Vec::new(alloc), bytes) {
+        Ok(squeezed) => squeezed,
+        Err(Fault::Refused(_)) => return Ok(None),
+        Err(Fault::OutOfMemory) => return Err(AllocError),
+    };
+    let Ok(fields) = fields_of(squeezed) else {
+        return Ok(None);
+    };
+    match Heading::read(fields.field(0)) {
+        Ok(heading) => Ok(Some(heading)),
+        Err(_) => Ok(None),
+    }
+}
+
+/// Whether a squeezed text begins as a message does.
+#[tactic(auto, unfolding(crate::specs::Reads::begins_message))]
+fn begins_message(text: &[u8]) -> bool
+    ensures { result ≡ begins_message text.now }
+{
+    match text.first() {
+        Some(byte) => *byte == b'(',
+        None => false,
+    }
+}
+
+/// Reads the fields of a message, and replaces another reading. Those of an FPL and of a CHG stay
+/// in the message, and the buffer of the spare box that it takes is left for the next text; that of
+/// the others is left too.
+fn read_message<A: Allocator + Copy>(
+    alloc: A,
+    room: &mut Vec<u8, A>,
+    spares: &mut Spares<A>,
+    reading: &mut Reading<A>,
+    fields: Fields<A>,
+) -> Result<(), Fault>
+    ensures { ReturnsAs (λ _. said reading.new) result (message_of fields) }
+{
+    let message = match fields.title() {
+        Title::Fpl => Message::Fpl(Fpl::read(alloc, room, &mut spares.fpl, fields)?),
+        Title::Chg => Message::Chg(Chg::read(alloc, room, &mut spares.chg, fields)?),
+        Title::Dla => {
+            let Opening { parts, time } = read_short(alloc, room, fields)?;
+            Message::Dla(Dla { parts, time })
+        }
+        Title::Cnl => {
+            let Opening { parts, .. } = read_short(alloc, room, fields)?;
+            Message::Cnl(Cnl { parts })
+        }
+        Title::Dep => {
+            let Opening { parts, time } = read_short(alloc, room, fields)?;
+            Message::Dep(Dep { parts, time })
+        }
+    };
+    *reading = Reading::Msg(message);
+    Ok(())
 }

@@ -10,8 +10,8 @@
 //! - *Orders*: `order` and `sub_periods` (OPEN, SHUT and TIME).
 //! - *Editions*: OPEN got its sub-periods later. A filing has the edition by which it is read, so
 //!   that an old journal reads as it did.
-//! - *Memory*: `FilingReader` reads texts one after the other in the same memory; `spares` has the
-//!   box of the last message of each kind, for the next one. A filing is a text and a reader that
+//! - *Memory*: `FilingReader` reads texts one after the other in the same memory, and keeps the
+//!   box of the last message of each kind for the next one. A filing is a text and a reader that
 //!   has read it: it is split and joined without allocating (`Filing::into_parts`,
 //!   `Filing::of_parts`).
 #![tactic(auto)]
@@ -28,10 +28,8 @@ mod message;
 mod modification;
 mod order;
 mod parts;
-mod reading;
 mod refusal;
 mod short_message;
-mod spares;
 mod sub_periods;
 
 pub use edition::Edition;

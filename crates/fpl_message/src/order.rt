@@ -10,9 +10,8 @@ ghost use Rattle.fpl_message.specs.declared.order.OpenReg.{OpenReg};
 ghost use Rattle.fpl_message.specs.SaidOrders.{said_order};
 
 use crate::edition::Edition;
-use crate::fault::Fault;
+use crate::fault::{Fault, boxed_over};
 use crate::refusal::Refusal;
-use crate::spares::boxed_over;
 use crate::sub_periods::{SubPeriods, more_of, rate_of};
 use fpl_text::{Minute, Text, Words, all_letters, all_letters_or_digits, is_letter, read_moment};
 use std::alloc::{Allocator, Global};

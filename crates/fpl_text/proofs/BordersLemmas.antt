@@ -1,17 +1,17 @@
 -- Noting the borders of a text.
-use Rattle.std.proofs.Common.{◌≡◌, ℕ, zero, suc, ◌+◌, ◌-◌, ◌*◌, ◌/◌, ◌%◌, ◌^◌, ◌<◌, ◌≤◌, Bool, true, false, not, cond, eqb, ltb, List, [], ◌∷◌, ◌++◌, length, get_or, take, drop, sym, refl, ap, ◌∙◌, arith, ⊎_elim, length-append, bit_and, w64, shr-shr}
+use Rattle.std.proofs.Common.{◌≡◌, ℕ, zero, suc, ◌+◌, ◌-◌, ◌*◌, ◌%◌, ◌^◌, ◌<◌, ◌≤◌, Bool, true, false, cond, eqb, ltb, List, [], ◌∷◌, ◌++◌, length, get_or, take, sym, refl, ap, ◌∙◌, arith, ◌⊎◌, inl, inr, ⊎_elim, length-append, bit_and, w64}
 use Rattle.std.specs.Prelude.{min}
 use Rattle.std.specs.List.{count_by}
-use Rattle.std.specs.Int.{bit_at, trailing_zeros}
-use Rattle.std.proofs.lemmas.Bool.{cases_Bool, cases_lt, ltb-true, ltb-false, eqb-true, eqb-false}
+use Rattle.std.specs.Int.{bit_at, bit_not, trailing_zeros}
+use Rattle.std.proofs.lemmas.Bool.{cases_Bool, cases_lt, cond-true, cond-false, lt-ltb, le-ltb, ltb-true, ltb-false, eqb-true, eqb-false}
 use Rattle.std.proofs.lemmas.List.{take_all, take_more, take-append-le, length-take, append-nil}
 use Rattle.std.proofs.lemmas.List.Sums.{count_by-le-length, count_by_more_no, count_by_more_yes}
-use Rattle.std.proofs.lemmas.Nat.{and_le_l, shr_le}
-use Rattle.std.proofs.lemmas.Nat.Bits.{bit_at-zero, bit_at_and, bit_at_ones, bit_at_ones_above, bit_at-trailing_zeros, bit_at-lt}
+use Rattle.std.proofs.lemmas.Nat.{and_le_l, one_shl}
+use Rattle.std.proofs.lemmas.Nat.Bits.{bit_at-zero, bit_at_and, bit_at_not, bit_at_ones, bit_at_ones_above, bit_at-pow_same, bit_at-pow_other, bit_at-trailing_zeros, bit_at-lt}
 use Rattle.fpl_text.specs.Bytes.{is_border}
 use Rattle.fpl_text.specs.Fields.{is_bracket}
 use Rattle.fpl_text.specs.Borders.{border_places, IsNoted}
-use Rattle.fpl_text.specs.declared.borders.Borders.{Borders}
+use Rattle.fpl_text.specs.declared.squeezed.Borders.{Borders}
 
 -- ---- the offsets of borders
 
@@ -150,69 +150,95 @@ lowest-bit bits count k l = omega (arith, bit_at_and bits (2 ^ count - 1) k, bit
 lowest-above : (bits count k : ℕ) → count ≤ k → bit_at (lowest bits count) k ≡ 0
 lowest-above bits count k h = omega (arith, bit_at_and bits (2 ^ count - 1) k, bit_at_ones_above count k h)
 
-shifted : (bits far k : ℕ) → bit_at (bits / 2 ^ far) k ≡ bit_at bits (far + k)
-shifted bits far k = ap (λ x. x % 2) (shr-shr bits far k)
-
--- the borders among the `count` bytes at `made`, of which those before `place` are noted
-pub record AreLeft (text : List ℕ) (made bits count place later : ℕ) : Type 0 where
-  pub low : made ≤ place
-  pub high : place ≤ made + count
-  pub over : later ≡ lowest bits count / 2 ^ (place - made)
+-- the borders among the `count` bytes at `made`, of which those before `after` are noted
+pub record AreLeft (text : List ℕ) (made bits count after later : ℕ) : Type 0 where
+  pub low : made ≤ after
+  pub high : after ≤ made + count
+  pub over : (k : ℕ) → k < count → bit_at later k ≡ cond (ltb (made + k) after) 0 (bit_at bits k)
+  pub past : (k : ℕ) → count ≤ k → bit_at later k ≡ 0
   pub are : (k : ℕ) → k < count → eqb (bit_at bits k) 1 ≡ is_border (get_or text (made + k) 0)
-  pub small : bits < 2 ^ 64
 
-no-border : (text : List ℕ) (made bits count place later k : ℕ) → AreLeft text made bits count place later → place ≤ k → k < made + count → bit_at later (k - place) ≡ 0 → is_border (get_or text k 0) ≡ false
-no-border text made bits count place later k left low high none =
+pub left-all : (text : List ℕ) (made bits count : ℕ) → ((k : ℕ) → k < count → eqb (bit_at bits k) 1 ≡ is_border (get_or text (made + k) 0)) → AreLeft text made bits count made (lowest bits count)
+left-all text made bits count are = record {
+  low = omega arith;
+  high = omega arith;
+  over = λ k l. lowest-bit bits count k l ∙ sym (cond-false (ltb (made + k) made) 0 (bit_at bits k) (le-ltb (made + k) made (omega arith)));
+  past = lowest-above bits count;
+  are = are;
+}
+
+no-border : (text : List ℕ) (made bits count after later k : ℕ) → AreLeft text made bits count after later → after ≤ k → k < made + count → bit_at later (k - made) ≡ 0 → is_border (get_or text k 0) ≡ false
+no-border text made bits count after later k left low high none =
     let there : made + (k - made) ≡ k = omega (arith, left.low, low) in
-    let far : place - made + (k - place) ≡ k - made = omega (arith, left.low, low) in
+    let inside : k - made < count = omega (arith, left.low, low, high) in
     let bit : bit_at bits (k - made) ≡ 0 =
-    sym (lowest-bit bits count (k - made) (omega (arith, left.low, low, high))) ∙ ap (bit_at (lowest bits count)) (sym far) ∙ sym (shifted (lowest bits count) (place - made) (k - place))
-    ∙ ap (λ x. bit_at x (k - place)) (sym left.over) ∙ none in
-    rw there at (sym (left.are (k - made) (omega (arith, left.low, low, high))) ∙ ap (λ x. eqb x 1) bit)
+    sym (cond-false (ltb (made + (k - made)) after) 0 (bit_at bits (k - made)) (le-ltb (made + (k - made)) after (omega (arith, there, low)))) ∙ sym (left.over (k - made) inside) ∙ none in
+    rw there at (sym (left.are (k - made) inside) ∙ ap (λ x. eqb x 1) bit)
 
-pub left-none : (text : List ℕ) (made bits count place later k : ℕ) → AreLeft text made bits count place later → later ≡ 0 → place ≤ k → k < made + count → is_border (get_or text k 0) ≡ false
-left-none text made bits count place later k left none low high = no-border text made bits count place later k left low high (ap (λ x. bit_at x (k - place)) none ∙ bit_at-zero (k - place))
+pub left-none : (text : List ℕ) (made bits count after later k : ℕ) → AreLeft text made bits count after later → later ≡ 0 → after ≤ k → k < made + count → is_border (get_or text k 0) ≡ false
+left-none text made bits count after later k left none low high = no-border text made bits count after later k left low high (ap (λ x. bit_at x (k - made)) none ∙ bit_at-zero (k - made))
 
 -- the next of them
-pub record IsNext (text : List ℕ) (made bits count place others later : ℕ) : Type 0 where
-  pub inside : place + others < made + count
-  pub border : is_border (get_or text (place + others) 0) ≡ true
-  pub none : (k : ℕ) → place ≤ k → k < place + others → is_border (get_or text k 0) ≡ false
-  pub left : AreLeft text made bits count (place + (others + 1)) (later / 2 ^ (others + 1))
-  pub less : later / 2 ^ (others + 1) < later
+pub record IsNext (text : List ℕ) (made bits count after index later : ℕ) : Type 0 where
+  pub inside : index < count
+  pub behind : after ≤ made + index
+  pub border : is_border (get_or text (made + index) 0) ≡ true
+  pub none : (k : ℕ) → after ≤ k → k < made + index → is_border (get_or text k 0) ≡ false
+  pub left : AreLeft text made bits count (made + index + 1) (bit_and later (bit_not w64 (1 * 2 ^ index % 2 ^ 64)))
+  pub less : bit_and later (bit_not w64 (1 * 2 ^ index % 2 ^ 64)) < later
 
 positive : (n : ℕ) → (n ≡ 0 → ⊥) → 0 < n
 positive zero f = absurd (f refl)
 positive (suc n) f = omega arith
 
-halved : (n k : ℕ) → 0 < n → n / 2 ^ (k + 1) < n
-halved n k some =
-    let order : 1 + k ≡ k + 1 = omega arith in
-    let half : n / 2 ^ 1 < n = omega arith in
-    omega (arith, shr_le (n / 2 ^ 1) k, half, rw order at (shr-shr n 1 k))
-
-pub left-next : (text : List ℕ) (made bits count place later : ℕ) → count ≤ 31 → AreLeft text made bits count place later → (later ≡ 0 → ⊥) → IsNext text made bits count place (trailing_zeros w64 later) later
-left-next text made bits count place later few left some =
-    let all = lowest bits count in
-    let far = place - made in
-    let less : later ≤ bits = omega (arith, left.over, shr_le all far, and_le_l bits (2 ^ count - 1)) in
-    let t = bit_at-trailing_zeros w64 later (positive later some) (omega (arith, less, left.small)) in
-    let others = trailing_zeros w64 later in
-    let bit : bit_at all (far + others) ≡ 1 = sym (shifted all far others) ∙ ap (λ x. bit_at x others) (sym left.over) ∙ t.1 in
-    let within : far + others < count = ⊎_elim (λ l. l) (λ h. absurd (omega (arith, bit, lowest-above bits count (far + others) h))) (cases_lt (far + others) count) in
-    let there : made + (far + others) ≡ place + others = omega (arith, left.low) in
-    let next : far + (others + 1) ≡ place + (others + 1) - made = omega (arith, left.low) in
+pub left-next : (text : List ℕ) (made bits count after later : ℕ) → count ≤ 31 → later < 2 ^ 64 → AreLeft text made bits count after later → (later ≡ 0 → ⊥) → IsNext text made bits count after (trailing_zeros w64 later) later
+left-next text made bits count after later few small left some =
+    let t = bit_at-trailing_zeros w64 later (positive later some) small in
+    let index = trailing_zeros w64 later in
+    let inside : index < count = ⊎_elim (λ l. l) (λ h. absurd (omega (arith, t.1, left.past index h))) (cases_lt index count) in
+    let behind : after ≤ made + index =
+    ⊎_elim
+    (λ l. absurd (omega (arith, t.1, left.over index inside ∙ cond-true (ltb (made + index) after) 0 (bit_at bits index) (lt-ltb (made + index) after l))))
+    (λ h. h)
+    (cases_lt (made + index) after) in
+    let bit : bit_at bits index ≡ 1 =
+    sym (cond-false (ltb (made + index) after) 0 (bit_at bits index) (le-ltb (made + index) after behind)) ∙ sym (left.over index inside) ∙ t.1 in
+    let one : 1 * 2 ^ index % 2 ^ 64 ≡ 2 ^ index = one_shl index 64 t.0 in
+    let low : 2 ^ index < 2 ^ 64 = omega (arith, one) in
+    let rest = bit_and later (bit_not w64 (2 ^ index)) in
+    let of_rest : (k : ℕ) → k < 64 → bit_at rest k ≡ min (bit_at later k) (1 - bit_at (2 ^ index) k) =
+    (λ k l. bit_at_and later (bit_not w64 (2 ^ index)) k ∙ ap (min (bit_at later k)) (bit_at_not w64 (2 ^ index) k low l)) in
+    let gone : bit_at rest index ≡ 0 = omega (arith, of_rest index t.0, bit_at-pow_same index) in
     record {
-      inside = omega (arith, within, left.low);
-      border = rw there at (sym (left.are (far + others) within) ∙ ap (λ x. eqb x 1) (sym (lowest-bit bits count (far + others) within) ∙ bit));
-      none = λ k low high.
-          no-border text made bits count place later k left low (omega (arith, high, within, left.low)) (t.2 (k - place) (omega arith));
-      left = record {
-        low = omega (arith, left.low);
-        high = omega (arith, within, left.low);
-        over = ap (λ x. x / 2 ^ (others + 1)) left.over ∙ shr-shr all far (others + 1) ∙ ap (λ n. all / 2 ^ n) next;
+      inside = inside;
+      behind = behind;
+      border = sym (left.are index inside) ∙ ap (λ x. eqb x 1) bit;
+      none = λ k l h.
+          no-border text made bits count after later k left l (omega (arith, h, inside)) (t.2 (k - made) (omega (arith, h, left.low, l)));
+      left = rw one (record {
+        low = omega arith;
+        high = omega (arith, inside);
+        over = λ k l. over index rest k l (cases_lt k index) (cases_lt index k) of_rest t.2 behind;
+        past = λ k h. omega (arith, bit_at_and later (bit_not w64 (2 ^ index)) k, left.past k h);
         are = left.are;
-        small = left.small;
-      };
-      less = halved later others (positive later some);
+      });
+      less = rw one
+          (⊎_elim (λ l. l)
+          (λ h.
+          let same : rest ≡ later = omega (arith, h, and_le_l later (bit_not w64 (2 ^ index))) in
+          absurd (omega (arith, t.1, gone, ap (λ x. bit_at x index) same)))
+          (cases_lt rest later));
     }
+  where
+    over : (index rest k : ℕ) → k < count → (k < index) ⊎ (index ≤ k) → (index < k) ⊎ (k ≤ index) → ((k : ℕ) → k < 64 → bit_at rest k ≡ min (bit_at later k) (1 - bit_at (2 ^ index) k))
+        → ((i : ℕ) → i < index → bit_at later i ≡ 0) → after ≤ made + index → bit_at rest k ≡ cond (ltb (made + k) (made + index + 1)) 0 (bit_at bits k)
+    over index rest k l (inl before) other of_rest none behind =
+        omega (arith, of_rest k (omega (arith, l, few)), none k before) ∙ sym (cond-true (ltb (made + k) (made + index + 1)) 0 (bit_at bits k) (lt-ltb (made + k) (made + index + 1) (omega (arith, before))))
+    over index rest k l (inr from) (inl more) of_rest none behind =
+        let bit : bit_at later k ≡ bit_at bits k = left.over k l ∙ cond-false (ltb (made + k) after) 0 (bit_at bits k) (le-ltb (made + k) after (omega (arith, behind, more))) in
+        omega (arith, of_rest k (omega (arith, l, few)), bit_at-pow_other index k (λ same. omega (arith, same, more)), bit_at-lt later k, bit)
+        ∙ sym (cond-false (ltb (made + k) (made + index + 1)) 0 (bit_at bits k) (le-ltb (made + k) (made + index + 1) (omega (arith, more))))
+    over index rest k l (inr from) (inr upto) of_rest none behind =
+        let same : k ≡ index = omega (arith, from, upto) in
+        omega (arith, of_rest k (omega (arith, l, few)), ap (bit_at (2 ^ index)) same, bit_at-pow_same index)
+        ∙ sym (cond-true (ltb (made + k) (made + index + 1)) 0 (bit_at bits k) (lt-ltb (made + k) (made + index + 1) (omega (arith, upto))))

@@ -1,7 +1,11 @@
 -- How the kinds of bytes stand to one another.
-use Rattle.std.proofs.Common.{◌≡◌, ℕ, Bool, true, false, ◌||◌, ltb, cond, refl, sym, ◌∙◌, arith}
-use Rattle.std.proofs.lemmas.Bool.{false≢true}
-use Rattle.fpl_text.specs.Bytes.{is_letter, is_digit, is_blank, is_border, is_other_mark, is_plain, is_accepted}
+use Rattle.std.proofs.Common.{◌≡◌, ◌<◌, ◌≤◌, ◌+◌, ◌-◌, zero, suc, ℕ, Bool, List, true, false, ◌||◌, ltb, cond, length, get_or, take, drop, refl, sym, ap, ◌∙◌, arith}
+use Rattle.std.specs.List.{prefix_len}
+use Rattle.std.proofs.lemmas.Bool.{false≢true, agree_below_at}
+use Rattle.std.proofs.lemmas.List.{length-drop, take_all}
+use Rattle.std.proofs.lemmas.List.Sums.{prefix_len-drop_no, prefix_len-drop_yes}
+use Rattle.fpl_text.specs.Bytes.{is_letter, is_digit, is_letter_or_digit, is_blank, is_border, is_other_mark, is_plain, is_accepted}
+use Rattle.fpl_text.specs.declared.byte.TheConstants.{LETTERS_AND_DIGITS}
 use Rattle.fpl_text.specs.Looks.{is_solid, as_space}
 
 pub plain-no_blank : (b : ℕ) → is_plain b ≡ true → is_blank b ≡ false
@@ -92,3 +96,29 @@ border-low b false h = refl
 
 pub border-as_space : (b : ℕ) → is_border (as_space b) ≡ is_border b
 border-as_space b = border-low b (ltb b 32) refl
+
+-- the table of letters and digits
+pub in-table : (b : ℕ) → b < 256 → get_or LETTERS_AND_DIGITS b false ≡ is_letter_or_digit b
+unfolding is_letter is_digit
+in-table b l = agree_below_at (λ x. get_or LETTERS_AND_DIGITS x false) (λ x. is_letter_or_digit x) 256 b refl l
+
+-- ---- how many bytes of a kind follow one another
+
+-- the first n bytes from an offset on are of this kind
+pub prefix-more : (p : ℕ → Bool) (text : List ℕ) (place n : ℕ) → place + n ≤ length text → ((k : ℕ) → k < n → p (get_or text (place + k) 0) ≡ true)
+    → prefix_len p (drop place text) ≡ n + prefix_len p (drop (place + n) text)
+prefix-more p text place zero h are = let same : place + 0 ≡ place = omega arith in rw same (omega arith)
+prefix-more p text place (suc n) h are =
+    let first : p (get_or text place 0) ≡ true = let same : place + 0 ≡ place = omega arith in rw same at (are 0 (omega arith)) in
+    let others : (k : ℕ) → k < n → p (get_or text (place + 1 + k) 0) ≡ true = λ k l. let same : place + suc k ≡ place + 1 + k = omega arith in rw same at (are (suc k) (omega (arith, l))) in
+    let step : place + suc n ≡ place + 1 + n = omega arith in
+    rw step (omega (arith, prefix_len-drop_yes p text place 0 (omega (arith, h)) first, prefix-more p text (place + 1) n (omega (arith, h)) others))
+
+-- and the next is of another
+pub prefix-end : (p : ℕ → Bool) (text : List ℕ) (place n : ℕ) → place + n < length text → ((k : ℕ) → k < n → p (get_or text (place + k) 0) ≡ true) → p (get_or text (place + n) 0) ≡ false
+    → prefix_len p (drop place text) ≡ n
+prefix-end p text place n h are other = omega (arith, prefix-more p text place n (omega (arith, h)) are, prefix_len-drop_no p text (place + n) 0 h other)
+
+-- the rest of a text
+pub prefix-rest : (p : ℕ → Bool) (text : List ℕ) (place : ℕ) → prefix_len p (take (length text - place) (drop place text)) ≡ prefix_len p (drop place text)
+prefix-rest p text place = ap (prefix_len p) (take_all (length text - place) (drop place text) (omega (arith, length-drop place text)))

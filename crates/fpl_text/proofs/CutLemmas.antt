@@ -8,8 +8,8 @@ use Rattle.std.proofs.lemmas.List.Sums.{sum_by-append}
 use Rattle.std.proofs.lemmas.List.Splits.{slice_split-cons_yes, slice_split-cons_no, length-slice_split}
 use Rattle.fpl_text.specs.Bytes.{is_border}
 use Rattle.fpl_text.specs.Fields.{is_bracket, inside, stands_in_brackets, is_bracketed, fields_of}
-use Rattle.fpl_text.specs.Borders.{parts, border_places, StandsBetween, AreBorders, IsNoted}
-use Rattle.fpl_text.specs.declared.borders.Borders.{Borders}
+use Rattle.fpl_text.specs.Borders.{parts, border_places, AreBorders, IsNoted}
+use Rattle.fpl_text.specs.declared.squeezed.Borders.{Borders}
 use Rattle.fpl_text.proofs.BordersLemmas.{places-few}
 use Rattle.fpl_text.proofs.FieldLawsProofs.{stands_spelled, spelled_from, no_bracket_from}
 

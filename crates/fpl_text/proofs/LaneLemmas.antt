@@ -1,18 +1,18 @@
 -- What the operations on vectors of 16 bytes hold at each lane.
-use Rattle.std.proofs.Common.{zero, suc, ◌+◌, ◌≡◌, ◌↔◌, ℕ, ◌%◌, ◌^◌, ◌<◌, ◌≤◌, ◌-◌, List, [], ◌∷◌, Bool, true, false, cond, not, leb, eqb, ◌&&◌, ◌||◌, length, get_or, map, replicate, refl, sym, ap, ◌∙◌, arith, w8, w64, bit_and, bit_or, ⊎_elim, inl, inr, shr-shr, ◌/◌}
+use Rattle.std.proofs.Common.{◌+◌, ◌≡◌, ◌↔◌, ℕ, ◌%◌, ◌^◌, ◌<◌, ◌≤◌, ◌-◌, List, [], ◌∷◌, Bool, true, false, cond, not, leb, eqb, ◌&&◌, ◌||◌, length, get_or, map, replicate, take, refl, sym, ap, ◌∙◌, arith, w8, w64, Fits, bit_and, bit_or, ⊎_elim, shr-shr, ◌/◌}
 use Rattle.std.specs.Int.{bit_at, trailing_ones, trailing_zeros}
 use Rattle.std.specs.Int.RustNames.{count_ones}
-use Rattle.std.specs.List.{count_by}
+use Rattle.std.specs.List.{count_by, list_all}
 use Rattle.std.specs.Simd.Lanes.{zip2, sel_l, mask_l, top}
 use Rattle.std.proofs.lemmas.Simd.{bitmask_splat, ones-mask_l, length-zip2, get_or-zip2, get_or-replicate, length-sel_l, get_or-sel_l, bit_mask_l, tops_compared, mask_l-mod, mask_l-lt}
-use Rattle.std.proofs.lemmas.Nat.Bits.{bit_at-trailing_ones, bit_at-trailing_zeros, bit_at-pow_same, bit_at-pow_other, bit_at_or, bit_at_and, bit_at-lt}
-use Rattle.std.proofs.lemmas.Nat.{and_le_l, and_le_r, shr_le}
+use Rattle.std.proofs.lemmas.Nat.Bits.{bit_at-trailing_ones, bit_at-trailing_zeros, bit_at-pow_same, bit_at-pow_other, bit_at_or}
+use Rattle.std.proofs.lemmas.Nat.{and_le_l, shr_le}
 use lib.Bits.{or_add_and}
-use Rattle.std.specs.Prelude.{◌⊎◌, max, min}
-use Rattle.std.proofs.lemmas.Bool.{cases_lt, leb-true, leb-false}
+use Rattle.std.specs.Prelude.{max}
+use Rattle.std.proofs.lemmas.Bool.{cases_lt, leb-true, leb-false, lt-leb, le-leb}
 use Rattle.std.proofs.lemmas.List.{length-map, get_or_past}
 use Rattle.std.proofs.Math.ListN.{get_or-map}
-use Rattle.fpl_text.specs.Bytes.{is_border, is_digit, is_letter, is_other_mark, is_plain}
+use Rattle.fpl_text.specs.Bytes.{is_digit, is_letter}
 use Rattle.fpl_text.specs.Lanes.{HasLanes, HasFlags, flag}
 
 and_flags : (p q : Bool) → bit_and (flag p) (flag q) ≡ flag (p && q)
@@ -216,3 +216,53 @@ front-space v long =
           let other : bit_at 256 n ≡ 0 = bit_at-pow_other 8 n (λ same. omega (arith, same)) in
           one_from (is_space (get_or v n 0)) (omega (arith, bits n, t.1, bit n, other));
     })
+
+-- ---- four bytes
+
+-- a byte is in a range if what it is above the lowest is no more than the range is wide
+in-range : (b low high : ℕ) → b < 256 → low ≤ high → high < 256 → leb ((b + (2 ^ 8 - low)) % 2 ^ 8) (high - low) ≡ (leb low b && leb b high)
+in-range b low high few order most =
+    ⊎_elim
+    (λ below. rw (lt-leb low b below) (lt-leb ((b + (2 ^ 8 - low)) % 2 ^ 8) (high - low) (omega (arith, below, few, order, most))))
+    (λ from.
+    rw (le-leb low b from)
+    (⊎_elim
+    (λ above. lt-leb ((b + (2 ^ 8 - low)) % 2 ^ 8) (high - low) (omega (arith, above, from, few, order, most)) ∙ sym (lt-leb b high above))
+    (λ within. le-leb ((b + (2 ^ 8 - low)) % 2 ^ 8) (high - low) (omega (arith, within, from, few, order, most)) ∙ sym (le-leb b high within))
+    (cases_lt high b)))
+    (cases_lt b low)
+
+all-four : (p q r s : Bool) → eqb (mask_l (p ∷ q ∷ r ∷ s ∷ [])) 15 ≡ (p && (q && (r && (s && true))))
+all-four false false false false = refl
+all-four false false false true = refl
+all-four false false true false = refl
+all-four false false true true = refl
+all-four false true false false = refl
+all-four false true false true = refl
+all-four false true true false = refl
+all-four false true true true = refl
+all-four true false false false = refl
+all-four true false false true = refl
+all-four true false true false = refl
+all-four true false true true = refl
+all-four true true false false = refl
+all-four true true false true = refl
+all-four true true true false = refl
+all-four true true true true = refl
+
+-- the bitmask of four bytes in a range
+pub four-in : (text : List ℕ) (low high : ℕ) → length text ≡ 4 → ((i : ℕ) → Fits w8 (get_or text i 0)) → low ≤ high → high < 256
+    → eqb (mask_l (map (top 7) (zip2 (λ a b. cond (leb a b) 255 0) (zip2 (λ a b. (a + (2 ^ 8 - b)) % 2 ^ 8) (take 4 text) (replicate 4 low)) (replicate 4 (high - low)))) % 2 ^ 64) 15
+    ≡ list_all (λ b. leb low b && leb b high) text
+four-in [] low high long fits order most = absurd (omega (arith, long))
+four-in (a ∷ []) low high long fits order most = absurd (omega (arith, long))
+four-in (a ∷ b ∷ []) low high long fits order most = absurd (omega (arith, long))
+four-in (a ∷ b ∷ c ∷ []) low high long fits order most = absurd (omega (arith, long))
+four-in (a ∷ b ∷ c ∷ d ∷ []) low high long fits order most =
+    let above : ℕ → ℕ = λ x. (x + (2 ^ 8 - low)) % 2 ^ 8 in
+    let test : ℕ → Bool = λ x. leb (above x) (high - low) in
+    ap (λ m. eqb m 15) (bitmask_splat w8 leb (above a ∷ above b ∷ above c ∷ above d ∷ []) 4 (high - low) refl (omega arith))
+    ∙ all-four (test a) (test b) (test c) (test d)
+    ∙ (λ i.
+    in-range a low high (fits 0).fits order most i && (in-range b low high (fits 1).fits order most i && (in-range c low high (fits 2).fits order most i && (in-range d low high (fits 3).fits order most i && true))))
+four-in (a ∷ b ∷ c ∷ d ∷ e ∷ text) low high long fits order most = absurd (omega (arith, long))

@@ -1,5 +1,5 @@
 -- What a look at 32 bytes holds at each lane.
-use Rattle.std.proofs.Common.{◌≡◌, ℕ, zero, suc, ◌+◌, ◌-◌, ◌*◌, ◌/◌, ◌%◌, ◌^◌, ◌<◌, ◌≤◌, List, [], ◌∷◌, Bool, true, false, not, cond, eqb, leb, ltb, map, ◌&&◌, ◌||◌, length, get_or, replicate, refl, sym, ap, ◌∙◌, arith, ⊎_elim, w8, w64, Fits, bit_and, bit_or, shr-shr}
+use Rattle.std.proofs.Common.{◌≡◌, ℕ, zero, suc, ◌+◌, ◌-◌, ◌*◌, ◌/◌, ◌%◌, ◌^◌, ◌<◌, ◌≤◌, List, [], ◌∷◌, ◌++◌, take, drop, Bool, true, false, not, cond, eqb, leb, ltb, map, ◌&&◌, ◌||◌, length, get_or, replicate, refl, sym, ap, ◌∙◌, arith, ⊎_elim, w8, w64, Fits, bit_and, bit_or, shr-shr}
 use Rattle.std.specs.Simd.Lanes.{zip2, sel_l, mask_l, Each1}
 use Rattle.std.specs.Int.{bit_at, bit_not, trailing_ones}
 use Rattle.std.proofs.lemmas.Nat.Bits.{bit_at-lt, bit_at_and, bit_at_or, bit_at_not, bit_at_ones, bit_at-trailing_ones}
@@ -9,12 +9,27 @@ use Rattle.std.proofs.lemmas.Nat.{and_mask, and_le_r, or_lt, shr_le}
 use Rattle.std.proofs.lemmas.Bool.{agree_below_at}
 use Rattle.fpl_text.specs.Bytes.{is_letter, is_digit, is_blank, is_border, is_other_mark, is_plain, is_accepted}
 use Rattle.fpl_text.specs.Looks.{is_solid, IsClass, HasClasses, HasSpaces, as_space, IsBits, IsLook, behind, is_kept}
-use Rattle.fpl_text.specs.declared.looks.Look.{Look}
+use Rattle.fpl_text.specs.declared.squeezed.Look.{Look}
 use Rattle.fpl_text.proofs.ByteLemmas.{accepted-is, plain-no_border}
-use Rattle.fpl_text.specs.declared.looks.TheConstants.{BY_LOW_HALF, BY_HIGH_HALF}
+use Rattle.fpl_text.specs.declared.squeezed.TheConstants.{BY_LOW_HALF, BY_HIGH_HALF}
 use Rattle.std.proofs.lemmas.Bool.{false≢true, eqb-true, eqb-false, leb-true, lt-leb, le-leb, cases_lt}
-use Rattle.std.proofs.lemmas.List.{get_or-map, length-map}
+use Rattle.std.proofs.lemmas.List.{get_or-map, length-map, get_or-drop, get_or_past, length-drop, take_all}
 use Rattle.fpl_text.proofs.LaneLemmas.{is_set, one_from, zero_from}
+
+-- zeros after a text
+zeros-after : (text : List ℕ) (n k : ℕ) → get_or (text ++ drop n (replicate 32 0)) k 0 ≡ get_or text k 0
+zeros-after [] n k =
+    get_or-drop n (replicate 32 0) k 0
+    ∙ ⊎_elim (λ l. get_or-replicate 32 (n + k) 0 0 l) (λ h. get_or_past (replicate 32 0) (n + k) 0 h) (cases_lt (n + k) 32)
+zeros-after (b ∷ text) n zero = refl
+zeros-after (b ∷ text) n (suc k) = zeros-after text n k
+
+-- the rest of a text, and zeros after it
+pub rest-at : (text rest : List ℕ) (place n k : ℕ) → rest ≡ take (length text - place) (drop place text) → get_or (rest ++ drop n (replicate 32 0)) (0 + k) 0 ≡ get_or text (place + k) 0
+rest-at text rest place n k same =
+    let all : take (length text - place) (drop place text) ≡ drop place text = take_all (length text - place) (drop place text) (omega (arith, length-drop place text)) in
+    let none : 0 + k ≡ k = omega arith in
+    zeros-after rest n (0 + k) ∙ ap (λ l. get_or l (0 + k) 0) (same ∙ all) ∙ get_or-drop place text (0 + k) 0 ∙ ap (λ i. get_or text (place + i) 0) none
 
 -- an operator on a vector and a splat
 pub splat-at : (f : ℕ → ℕ → ℕ) (v : List ℕ) (x k : ℕ) → length v ≡ 32 → k < 32 → get_or (zip2 f v (replicate 32 x)) k 0 ≡ f (get_or v k 0) x
@@ -260,4 +275,13 @@ look-is f v classes spaced borders solid accepted same held spaces b s a = recor
   borders = record { each = λ k l. b.each k l ∙ (held.each k l).border ∙ ap is_border (sym (same k l)); small = b.small };
   solid = record { each = λ k l. s.each k l ∙ (held.each k l).solid ∙ ap is_solid (sym (same k l)); small = s.small };
   accepted = record { each = λ k l. a.each k l ∙ (held.each k l).accepted ∙ ap is_accepted (sym (same k l)); small = a.small };
+}
+
+-- a look at the same bytes
+pub look-same : (look : Look) (f g : ℕ → ℕ) → ((k : ℕ) → k < 32 → f k ≡ g k) → IsLook look f → IsLook look g
+look-same look f g same seen = record {
+  spaced = record { long = seen.spaced.long; each = λ k l. seen.spaced.each k l ∙ ap as_space (same k l) };
+  borders = record { each = λ k l. seen.borders.each k l ∙ ap is_border (same k l); small = seen.borders.small };
+  solid = record { each = λ k l. seen.solid.each k l ∙ ap is_solid (same k l); small = seen.solid.small };
+  accepted = record { each = λ k l. seen.accepted.each k l ∙ ap is_accepted (same k l); small = seen.accepted.small };
 }

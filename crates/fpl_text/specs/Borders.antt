@@ -4,7 +4,7 @@ use Rattle.std.specs.Prelude.{◌≡◌, ℕ, ◌+◌, ◌-◌, ◌<◌, ◌≤�
 use Rattle.std.specs.List.{slice_split, count_by}
 use Rattle.fpl_text.specs.Bytes.{is_border}
 use Rattle.fpl_text.specs.Fields.{is_bracket, is_bracketed, fields_of, first_field, title_of, has_its_fields}
-use Rattle.fpl_text.specs.declared.borders.Borders.{Borders}
+use Rattle.fpl_text.specs.declared.squeezed.Borders.{Borders}
 use Rattle.fpl_text.specs.declared.fields.Title.{Title}
 
 -- the parts into which hyphens cut a text

@@ -2,7 +2,7 @@
 use Rattle.std.specs.Prelude.{◌≡◌, ◌<◌, ◌≤◌, ◌+◌, ◌==◌, ◌&&◌, ◌||◌, not, if◌then◌else◌, nat_le, nat_lt, ℕ, zero, suc, Bool, List, length, slice_index}
 use Rattle.std.specs.Int.{bit_at}
 use Rattle.fpl_text.specs.Bytes.{is_blank, is_border, is_plain, is_accepted}
-use Rattle.fpl_text.specs.declared.looks.Look.{Look}
+use Rattle.fpl_text.specs.declared.squeezed.Look.{Look}
 
 -- a border or a plain byte
 abbrev pub is_solid : ℕ → Bool

@@ -1,7 +1,7 @@
 -- How far a pass over a text has squeezed it.
-use Rattle.std.specs.Prelude.{◌≡◌, ◌≤◌, ◌+◌, ℕ, Bool, true, false, not, if◌then◌else◌, List, [], ◌∷◌, ◌++◌, length, take, drop, replicate, slice_index, None}
+use Rattle.std.specs.Prelude.{◌≡◌, ◌≤◌, ◌+◌, ℕ, Bool, true, false, not, if◌then◌else◌, List, [], ◌∷◌, ◌++◌, length, take, drop, None}
 use Rattle.std.specs.List.{position_from}
-use Rattle.fpl_text.specs.Bytes.{is_blank, is_border, is_accepted}
+use Rattle.fpl_text.specs.Bytes.{is_blank, is_accepted}
 use Rattle.fpl_text.specs.Squeezing.{squeezed, space_between}
 
 -- what a pass appends for the rest of a text, after the byte `before`, and after blanks or not
@@ -17,21 +17,12 @@ is_bad b = not (is_accepted b)
 abbrev pub border_or_other : Bool → ℕ
 border_or_other border = if border then 45 else 32
 
--- 32 zeros
-abbrev pub gap : List ℕ
-gap = replicate 32 0
-
--- the bytes of a text from `place` on are in `bytes` from `at_place` on, followed by zeros
-abbrev pub StandsAt : List ℕ → ℕ → List ℕ → ℕ → Type 0
-StandsAt text place bytes at_place = (k : ℕ) → slice_index bytes (at_place + k) ≡ slice_index text (place + k)
-
 -- A pass has read the first `place` bytes of a text, all accepted. If all others are accepted, too,
 -- the first `made` bytes of `out` are what it has kept, and `border` says whether the last of these
--- is a border. The bytes that are left follow these and a padding, and are followed by another.
+-- is a border. The bytes of a look fit after as many as are read.
 pub record IsPass (text out : List ℕ) (place made : ℕ) (border : Bool) : Type 0 where
   pub whole : position_from is_bad 0 text ≡ None → take made out ++ appended false (border_or_other border) (drop place text) ≡ squeezed text
   pub accepted : position_from is_bad place (drop place text) ≡ position_from is_bad 0 text
   pub room : made ≤ place
   pub within : place ≤ length text
-  pub long : length out ≡ length text + 64
-  pub left : StandsAt text place out (place + 32)
+  pub long : length text + 32 ≤ length out

@@ -1,11 +1,16 @@
 //! The kinds of bytes of a message (ICAO Doc 4444, appendix 3, and the characters that Annex 10
-//! allows in it).
+//! allows in it), of one byte and of 16 in a vector. Only this file speaks of bits of a vector.
 
-ghost use Rattle.std.specs.Prelude.{◌≡◌, ◌≤◌, length};
+ghost use Rattle.std.specs.Prelude.{◌≡◌, ◌≤◌, length, ◌<◌, ◌+◌, ◌↔◌, ◌==◌, ◌&&◌, ◌||◌};
+ghost use Rattle.std.specs.Prelude.{if◌then◌else◌, nat_le, not, ℕ, Bool, true, false};
+ghost use Rattle.std.specs.Prelude.{slice_index, take, drop, count_by};
 ghost use Rattle.std.specs.List.{list_all, prefix_len};
-ghost use Rattle.fpl_text.specs.Bytes.{is_letter, is_digit, is_letter_or_digit};
-ghost use Rattle.fpl_text.specs.Bytes.{is_blank, is_border, is_other_mark};
-ghost use Rattle.fpl_text.specs.Bytes.{is_plain};
+ghost use Rattle.fpl_text.specs.Bytes.{is_letter, is_digit, is_letter_or_digit, is_blank};
+ghost use Rattle.fpl_text.specs.Bytes.{is_border, is_other_mark, is_plain, is_path_byte};
+ghost use Rattle.std.specs.Int.{bit_at};
+ghost use Rattle.fpl_text.specs.Lanes.{HasLanes, HasFlags};
+
+use std::simd::prelude::*;
 
 /// A letter, A to Z.
 #[tactic(auto, unfolding(crate::specs::Bytes::is_letter))]
@@ -23,11 +28,35 @@ pub(crate) fn is_digit(byte: u8) -> bool
     byte.is_ascii_digit()
 }
 
+/// Whether each byte is a letter or a digit.
+const LETTERS_AND_DIGITS: [bool; 256] = [
+    false, false, false, false, false, false, false, false, false, false, false, false, false,
+    false, false, false, false, false, false, false, false, false, false, false, false, false,
+    false, false, false, false, false, false, false, false, false, false, false, false, false,
+    false, false, false, false, false, false, false, false, false, true, true, true, true, true,
+    true, true, true, true, true, false, false, false, false, false, false, false, true, true,
+    true, true, true, true, true, true, true, true, true, true, true, true, true, true, true, true,
+    true, true, true, true, true, true, true, true, false, false, false, false, false, false,
+    false, false, false, false, false, false, false, false, false, false, false, false, false,
+    false, false, false, false, false, false, false, false, false, false, false, false, false,
+    false, false, false, false, false, false, false, false, false, false, false, false, false,
+    false, false, false, false, false, false, false, false, false, false, false, false, false,
+    false, false, false, false, false, false, false, false, false, false, false, false, false,
+    false, false, false, false, false, false, false, false, false, false, false, false, false,
+    false, false, false, false, false, false, false, false, false, false, false, false, false,
+    false, false, false, false, false, false, false, false, false, false, false, false, false,
+    false, false, false, false, false, false, false, false, false, false, false, false, false,
+    false, false, false, false, false, false, false, false, false, false, false, false, false,
+    false, false, false, false, false, false, false, false, false, false, false, false, false,
+    false, false, false, false, false, false, false, false, false, false, false, false, false,
+    false, false, false,
+];
+
 /// A letter or a digit.
 pub fn is_letter_or_digit(byte: u8) -> bool
     ensures { result ≡ is_letter_or_digit byte }
 {
-    is_letter(byte) || is_digit(byte)
+    LETTERS_AND_DIGITS[usize::from(byte)]
 }
 
 /// A space, a carriage return or a line feed.
@@ -91,12 +120,252 @@ pub fn leading_letters(text: &[u8]) -> usize
     text.iter().take_while(|byte| is_letter(**byte)).count()
 }
 
-/// The number of letters and digits with which a text begins.
-pub(crate) fn leading_letters_or_digits(text: &[u8]) -> usize
+/// The number of letters and digits with which a text begins, byte by byte.
+#[inline(always)]
+fn few_letters_or_digits(text: &[u8]) -> usize
     ensures value { result ≡ prefix_len is_letter_or_digit text.now }
     ensures bound { result ≤ length text.now }
 {
     text.iter()
         .take_while(|byte| is_letter_or_digit(**byte))
         .count()
+}
+
+/// The number of letters and digits with which a text begins. Looks at 16 bytes at a time.
+pub(crate) fn leading_letters_or_digits(text: &[u8]) -> usize
+    ensures value { result ≡ prefix_len is_letter_or_digit text.now }
+    ensures bound { result ≤ length text.now }
+{
+    let mut place = 0;
+    'lanes: while text.len() - place >= 16 {
+        let count = letters_or_digits_at(text, place);
+        place += count;
+        if count < 16 {
+            return place;
+        }
+    }
+    place + few_letters_or_digits(&text[place..])
+}
+
+/// Loads the 16 bytes at `at`.
+#[inline(always)]
+pub(crate) fn load(text: &[u8], at: usize) -> u8x16
+    requires { at + 16 ≤ length text.now }
+    ensures lanes { HasLanes result (λ k. slice_index text.now (at + k)) }
+    ensures chunk { result ≡ take 16 (drop at text.now) }
+{
+    u8x16::from_slice(&text[at..])
+}
+
+/// Flags the lanes that hold this byte.
+#[inline(always)]
+fn equal_to(v: u8x16, byte: u8) -> u8x16
+    ensures { HasFlags result (λ k. slice_index v k == byte) }
+{
+    v.simd_eq(u8x16::splat(byte))
+        .select(u8x16::splat(255), u8x16::splat(0))
+}
+
+/// Flags the lanes that hold this byte or a greater one.
+#[inline(always)]
+fn at_least(v: u8x16, low: u8) -> u8x16
+    ensures { HasFlags result (λ k. nat_le low (slice_index v k)) }
+{
+    u8x16::splat(low)
+        .simd_le(v)
+        .select(u8x16::splat(255), u8x16::splat(0))
+}
+
+/// Flags the lanes that hold this byte or a lower one.
+#[inline(always)]
+fn at_most(v: u8x16, high: u8) -> u8x16
+    ensures { HasFlags result (λ k. nat_le (slice_index v k) high) }
+{
+    v.simd_le(u8x16::splat(high))
+        .select(u8x16::splat(255), u8x16::splat(0))
+}
+
+/// Flags the lanes that both vectors flag.
+#[inline(always)]
+fn both(a: u8x16, b: u8x16) -> u8x16
+    ensures { (p q : ℕ → Bool) → HasFlags a p → HasFlags b q → HasFlags result (λ k. p k && q k) }
+{
+    a & b
+}
+
+/// Flags the lanes that one of the vectors flags.
+#[inline(always)]
+fn either(a: u8x16, b: u8x16) -> u8x16
+    ensures { (p q : ℕ → Bool) → HasFlags a p → HasFlags b q → HasFlags result (λ k. p k || q k) }
+{
+    a | b
+}
+
+/// Flags the lanes that hold a byte from `low` to `high`.
+#[inline(always)]
+fn between(v: u8x16, low: u8, high: u8) -> u8x16
+    ensures { HasFlags result (λ k. nat_le low (slice_index v k) && nat_le (slice_index v k) high) }
+{
+    both(at_least(v, low), at_most(v, high))
+}
+
+/// Adds to the flags the lanes that hold this byte.
+#[inline(always)]
+fn or_equal_to(flags: u8x16, v: u8x16, byte: u8) -> u8x16
+    ensures { (p : ℕ → Bool) → HasFlags flags p
+        → HasFlags result (λ k. p k || (slice_index v k == byte)) }
+{
+    either(flags, equal_to(v, byte))
+}
+
+/// Flags the letters.
+#[inline(always)]
+pub(crate) fn letter_lanes(v: u8x16) -> u8x16
+    ensures { HasFlags result (λ k. is_letter (slice_index v k)) }
+{
+    between(v, b'A', b'Z')
+}
+
+/// Flags the letters and digits, given the flags of the letters.
+#[inline(always)]
+pub(crate) fn letter_or_digit_lanes(letters: u8x16, v: u8x16) -> u8x16
+    requires { HasFlags letters (λ k. is_letter (slice_index v k)) }
+    ensures { HasFlags result (λ k. is_letter_or_digit (slice_index v k)) }
+{
+    either(letters, between(v, b'0', b'9'))
+}
+
+/// Flags the bytes that a path may have.
+#[inline(always)]
+pub(crate) fn path_lanes(v: u8x16) -> u8x16
+    ensures { HasFlags result (λ k. is_path_byte (slice_index v k)) }
+{
+    let letters_or_digits = letter_or_digit_lanes(letter_lanes(v), v);
+    or_equal_to(or_equal_to(letters_or_digits, v, b'/'), v, b' ')
+}
+
+/// Flags the lanes that hold any other byte.
+#[inline(always)]
+pub(crate) fn other_lanes(v: u8x16, byte: u8) -> u8x16
+    ensures { HasFlags result (λ k. not (slice_index v k == byte)) }
+{
+    v.simd_eq(u8x16::splat(byte))
+        .select(u8x16::splat(0), u8x16::splat(255))
+}
+
+/// The number of consecutive lanes from `place` on that are flagged.
+#[inline(always)]
+pub(crate) fn set_lanes_from(flags: u8x16, place: usize) -> usize
+    requires { place ≤ 16 }
+    ensures bound { place + result ≤ 16 }
+    ensures set { (p : ℕ → Bool) → HasFlags flags p → (k : ℕ) → k < result → p (place + k) ≡ true }
+    ensures stops { (p : ℕ → Bool) → HasFlags flags p → place + result < 16
+        → p (place + result) ≡ false }
+{
+    (top_bits(flags) >> place).trailing_ones() as usize
+}
+
+/// The number of bytes before the first space among the 8 bytes at `at`, or 8.
+#[inline(always)]
+pub(crate) fn before_space(text: &[u8], at: usize) -> usize
+    requires { at + 8 ≤ length text.now }
+    ensures bound { result ≤ 8 }
+    ensures none { (k : ℕ) → k < result → (slice_index text.now (at + k) == 32) ≡ false }
+    ensures found { result < 8 → (slice_index text.now (at + result) == 32) ≡ true }
+{
+    let here = u8x8::from_slice(&text[at..]);
+    let spaces = here.simd_eq(u8x8::splat(b' ')).to_bitmask();
+    (spaces | 256).trailing_zeros() as usize
+}
+
+/// The number of letters and digits with which the 16 bytes at `at` begin.
+#[inline(always)]
+pub(crate) fn letters_or_digits_at(text: &[u8], at: usize) -> usize
+    requires { at + 16 ≤ length text.now }
+    ensures bound { result ≤ 16 }
+    ensures are { (k : ℕ) → k < result
+        → is_letter_or_digit (slice_index text.now (at + k)) ≡ true }
+    ensures stops { result < 16
+        → is_letter_or_digit (slice_index text.now (at + result)) ≡ false }
+{
+    let lanes = load(text, at);
+    set_lanes_from(letter_or_digit_lanes(letter_lanes(lanes), lanes), 0)
+}
+
+/// Whether four bytes are all from `low` to `high`.
+#[inline(always)]
+fn are_between(text: &[u8], low: u8, high: u8) -> bool
+    requires four { length text.now ≡ 4 }
+    requires some { low ≤ high }
+    ensures { result ≡ list_all (λ b. nat_le low b && nat_le b high) text.now }
+{
+    let above = u8x4::from_slice(text) - u8x4::splat(low);
+    above.simd_le(u8x4::splat(high - low)).to_bitmask() == 15
+}
+
+/// Whether four bytes are all digits.
+#[inline(always)]
+#[tactic(auto, unfolding(crate::specs::Bytes::is_digit))]
+pub(crate) fn are_digits(text: &[u8]) -> bool
+    requires { length text.now ≡ 4 }
+    ensures { result ≡ list_all is_digit text.now }
+{
+    are_between(text, b'0', b'9')
+}
+
+/// Whether four bytes are all letters.
+#[inline(always)]
+#[tactic(auto, unfolding(crate::specs::Bytes::is_letter))]
+pub(crate) fn are_letters(text: &[u8]) -> bool
+    requires { length text.now ≡ 4 }
+    ensures { result ≡ list_all is_letter text.now }
+{
+    are_between(text, b'A', b'Z')
+}
+
+/// The number of lanes that hold this byte.
+#[inline(always)]
+pub(crate) fn count_in(v: u8x16, byte: u8) -> usize
+    ensures value { result ≡ count_by (λ b. b == byte) v }
+    ensures bound { result ≤ 16 }
+{
+    v.simd_eq(u8x16::splat(byte)).to_bitmask().count_ones() as usize
+}
+
+/// Collects the top bit of each lane: bit k for lane k.
+#[inline(always)]
+fn top_bits(v: u8x16) -> u64
+    ensures bits { (k : ℕ) → (bit_at result k ≡ 1) ↔ (128 ≤ slice_index v k) }
+    ensures small { result < 65536 }
+{
+    v.simd_ge(u8x16::splat(128)).to_bitmask()
+}
+
+/// A letter, a digit, a stroke or a space.
+#[tactic(auto, unfolding(crate::specs::Bytes::is_path_byte))]
+fn is_path_byte(byte: u8) -> bool
+    ensures { result ≡ is_path_byte byte }
+{
+    is_letter_or_digit(byte) || byte == b'/' || byte == b' '
+}
+
+/// Whether all bytes are letters, digits, strokes and spaces, one by one.
+fn all_of_path(text: &[u8]) -> bool
+    ensures { result ≡ list_all is_path_byte text.now }
+{
+    text.iter().all(|byte| is_path_byte(*byte))
+}
+
+/// Whether all bytes of a text are letters, digits, strokes and spaces. Reads 16 bytes at a time.
+pub fn is_path(text: &[u8]) -> bool
+    ensures { result ≡ list_all is_path_byte text.now }
+{
+    let mut place = 0;
+    'looks: while text.len() - place >= 16 {
+        if set_lanes_from(path_lanes(load(text, place)), 0) < 16 {
+            return false;
+        }
+        place += 16;
+    }
+    all_of_path(&text[place..])
 }

@@ -2,7 +2,7 @@
 
 ghost use Rattle.std.specs.Prelude.{[], ◌≡◌, ◌<◌, List, ℕ};
 ghost use Rattle.std.specs.Prelude.{IsTrue, Some, length, slice_get, slice_index_or};
-ghost use Rattle.std.specs.Prelude.{IfOk, IfErr, Err, true};
+ghost use Rattle.std.specs.Prelude.{IfOk, IfErr, Err, true, take, ◌≤◌};
 ghost use Rattle.fpl_text.specs.Words.{words_of};
 ghost use Rattle.fpl_text.specs.Squeezing.{Gives};
 ghost use Rattle.fpl_text.specs.Borders.{IsNoted, IsMessage};
@@ -11,10 +11,9 @@ ghost use Rattle.fpl_text.specs.Fields.{fields_of, first_field, title_of};
 ghost use Rattle.fpl_text.specs.Fields.{begins_amendment, has_its_fields};
 ghost use Rattle.fpl_text.specs.Fields.{fields_or_fault, split_or_fault};
 
-use crate::borders::Borders;
 use crate::byte::is_digit;
 use crate::fault::TextFault;
-use crate::squeezed::Squeezed;
+use crate::squeezed::{Borders, Squeezed};
 use crate::words::Words;
 use std::alloc::{Allocator, Global};
 use std::marker::Model;
@@ -37,7 +36,9 @@ pub enum Title {
 /// The fields of a message: a squeezed text in one pair of brackets, cut at its hyphens.
 #[derive(Drop)]
 pub struct Fields<A: Allocator + Copy = Global> {
-    text: Vec<u8, A>,
+    /// The buffer of the text, which begins with it.
+    bytes: Vec<u8, A>,
+    len: usize,
     borders: Borders,
     title: Title,
 }
@@ -45,10 +46,11 @@ pub struct Fields<A: Allocator + Copy = Global> {
 impl<A: Allocator + Copy> Model for Fields<A> {
     ghost Value = { List (List ℕ) };
 
-    ghost view = { λ f. fields_of f.text.items };
+    ghost view = { λ f. fields_of (take f.len f.bytes.items) };
 
-    ghost invariant = { λ f. IsNoted f.text.items (length f.borders.places.items) f.borders
-        × IsMessage f.text.items f.title };
+    ghost invariant = { λ f. (f.len ≤ length f.bytes.items)
+        × IsNoted (take f.len f.bytes.items) (length f.borders.places.items) f.borders
+        × IsMessage (take f.len f.bytes.items) f.title };
 }
 
 /// The title with which the first field begins.
@@ -129,7 +131,7 @@ impl<A: Allocator + Copy> Fields<A> {
     pub fn count(&self) -> usize
         ensures { result ≡ length self.now }
     {
-        self.borders.field_count(self.text.as_slice())
+        self.borders.field_count(&self.bytes[..self.len])
     }
 
     /// Field `i`, counted from 0.
@@ -137,16 +139,12 @@ impl<A: Allocator + Copy> Fields<A> {
         requires { i < length self.now }
         ensures { slice_get self.now i ≡ Some result.now }
     {
-        self.borders.field(self.text.as_slice(), i)
+        self.borders.field(&self.bytes[..self.len], i)
     }
 
-    /// Discards the text and returns its empty buffer, for the next text.
-    pub fn into_room(self) -> Vec<u8, A>
-        ensures { result.items ≡ [] }
-    {
-        let mut room = self.text;
-        room.clear();
-        room
+    /// Discards the text and returns its buffer, for the next text.
+    pub fn into_room(self) -> Vec<u8, A> {
+        self.bytes
     }
 
     /// The words of field `i`, counted from 0.
@@ -166,10 +164,15 @@ impl<A: Allocator + Copy> Squeezed<A> {
     pub fn into_fields(self) -> Result<Fields<A>, TextFault>
         ensures { result ≡ fields_or_fault self }
     {
-        let Squeezed { bytes, borders } = self;
-        let title = title_in(bytes.as_slice(), &borders)?;
+        let Squeezed {
+            bytes,
+            len,
+            borders,
+        } = self;
+        let title = title_in(&bytes[..len], &borders)?;
         Ok(Fields {
-            text: bytes,
+            bytes,
+            len,
             borders,
             title,
         })

@@ -8,8 +8,7 @@ ghost use Rattle.fpl_text.specs.Moments.{digit_pair, yymmdd_of, hhmm_of};
 ghost use Rattle.fpl_text.specs.Moments.{day_digits, IsYymmdd};
 ghost use Rattle.fpl_text.specs.declared.minute.TheConstants.{GREATEST_MINUTE};
 
-use crate::date::read_date;
-use crate::day::Day;
+use crate::day::{Day, read_date};
 use crate::text::Text;
 use crate::time::TimeOfDay;
 use jiff::civil::Date;

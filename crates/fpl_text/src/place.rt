@@ -10,7 +10,7 @@ ghost use Rattle.fpl_text.specs.Places.{is_place, arrival_of, alternates_of};
 ghost use Rattle.fpl_text.specs.Places.{departure_of, destination_of};
 ghost use Rattle.fpl_text.specs.declared.time.TheConstants.{ELAPSED_LIMIT};
 
-use crate::byte::all_letters;
+use crate::byte::are_letters;
 use crate::fault::FieldFault;
 use crate::text::Text;
 use crate::time::{TimeOfDay, read_elapsed};
@@ -122,7 +122,7 @@ pub struct Destination {
 fn is_place(text: &[u8]) -> bool
     ensures { result ≡ is_place text.now }
 {
-    text.len() == 4 && all_letters(text)
+    text.len() == 4 && are_letters(text)
 }
 
 impl Departure {

@@ -1,48 +1,59 @@
-//! Texts with their blanks squeezed.
+//! Texts with their blanks squeezed, in one pass over 32 bytes at a time, which also records where
+//! the fields of a message begin and end.
 
-ghost use Rattle.std.specs.Prelude.{◌≡◌, ◌++◌, [], List, ℕ, IfOk};
-ghost use Rattle.fpl_text.specs.Passes.{gap};
+ghost use Rattle.std.specs.Prelude.{◌≡◌, ◌++◌, [], List, ℕ, IfOk, ◌<◌, ◌≤◌, ◌+◌, take, length};
+ghost use Rattle.std.specs.Prelude.{slice_index, IfErr, Ok, Err, ◌/◌, ◌%◌, ◌==◌, nat_le};
+ghost use Rattle.std.specs.Prelude.{if◌then◌else◌, true, false, ◌∷◌, slice_get, Some};
+ghost use Rattle.std.specs.Prelude.{option_copied, nat_lt};
 ghost use Rattle.fpl_text.specs.Squeezing.{squeezed_or_fault, Gives};
+ghost use Rattle.fpl_text.specs.Borders.{IsNoted, parts, AreBorders};
+ghost use Rattle.fpl_text.specs.Looks.{IsLook, HasClasses, HasSpaces, IsBits, behind, is_kept};
+ghost use Rattle.fpl_text.specs.declared.fault.TextFault.TheVariants.{Empty, BadByte};
+ghost use Rattle.std.specs.Int.{bit_at};
+ghost use Rattle.fpl_text.specs.Bytes.{is_border};
+ghost use Rattle.fpl_text.specs.declared.squeezed.TheConstants.{BY_LOW_HALF, BY_HIGH_HALF};
+ghost use Rattle.fpl_text.specs.Fields.{stands_in_brackets, is_bracketed, inside, fields_of};
 
-use crate::borders::Borders;
+use crate::byte::is_blank;
 use crate::fault::TextFault;
-use crate::pass::squeeze;
+use arrayvec::ArrayVec;
 use std::alloc::{AllocError, Allocator, Global};
 use std::marker::Model;
+use std::simd::prelude::*;
 
 /// A text in which each run of blanks is one space, with none at the ends or beside a hyphen or a
 /// bracket.
 #[derive(Drop)]
 pub struct Squeezed<A: Allocator + Copy = Global> {
+    /// The buffer, which begins with the text. What follows is left from the pass and from longer
+    /// texts before.
     pub(crate) bytes: Vec<u8, A>,
+    pub(crate) len: usize,
     pub(crate) borders: Borders,
 }
 
 impl<A: Allocator + Copy> Model for Squeezed<A> {
-    ghost use Rattle.std.specs.Prelude.{List, ℕ, length};
+    ghost use Rattle.std.specs.Prelude.{◌≤◌, List, ℕ, length, take};
     ghost use Rattle.fpl_text.specs.Borders.{IsNoted};
 
     ghost Value = { List ℕ };
 
-    ghost view = { λ s. s.bytes.items };
+    ghost view = { λ s. take s.len s.bytes.items };
 
-    ghost invariant = { λ s. IsNoted s.bytes.items (length s.borders.places.items) s.borders };
+    ghost invariant = { λ s. (s.len ≤ length s.bytes.items)
+        × IsNoted (take s.len s.bytes.items) (length s.borders.places.items) s.borders };
 }
 
-/// Copies a text into this buffer between two paddings of 32 zeros. Grows the buffer if it is too
-/// small; returns `Err` if that allocation fails.
-fn between_gaps<A: Allocator + Copy>(
-    room: Vec<u8, A>,
-    text: &[u8],
-) -> Result<Vec<u8, A>, AllocError>
-    ensures { IfOk result (λ v. v.items ≡ gap ++ (text.now ++ gap)) }
+/// Grows a buffer to this length, if it is shorter; returns `Err` if that allocation fails.
+fn at_least<A: Allocator + Copy>(room: Vec<u8, A>, len: usize) -> Result<Vec<u8, A>, AllocError>
+    ensures { IfOk result (λ v. len ≤ length v.items) }
 {
     let mut bytes = room;
-    bytes.clear();
-    bytes.reserve_exact(text.len() + 64)?;
-    bytes.extend_from_slice(&[0; 32])?;
-    bytes.extend_from_slice(text)?;
-    bytes.extend_from_slice(&[0; 32])?;
+    let more = len.saturating_sub(bytes.len());
+    if more > 0 {
+        bytes.reserve_exact(more)?;
+        bytes.resize(len, 0)?;
+    }
     Ok(bytes)
 }
 
@@ -55,14 +66,13 @@ impl<A: Allocator + Copy> Squeezed<A> {
         Squeezed::read_in(Vec::new(alloc), text)
     }
 
-    /// Squeezes a text as `read` does, into the buffer of another text. The buffer is freed if the
-    /// text is refused.
+    /// Squeezes a text as `read` does, into the buffer of another text, over what is there. The
+    /// buffer is freed if the text is refused.
     pub fn read_in(room: Vec<u8, A>, text: &[u8]) -> Result<Self, TextFault>
         ensures { Gives result (squeezed_or_fault text.now) }
     {
-        // A squeezed text is no longer than the text, so it is written over a copy: this is the one
-        // allocation.
-        let Ok(mut bytes) = between_gaps(room, text) else {
+        // A squeezed text is no longer than the text. Each look writes 32 bytes.
+        let Ok(mut bytes) = at_least(room, text.len() + TAKEN + 1) else {
             return Err(TextFault::OutOfMemory);
         };
         let (len, borders) = match squeeze(text, bytes.as_mut_slice()) {
@@ -72,8 +82,11 @@ impl<A: Allocator + Copy> Squeezed<A> {
         if len == 0 {
             return Err(TextFault::Empty);
         }
-        bytes.truncate(len);
-        Ok(Squeezed { bytes, borders })
+        Ok(Squeezed {
+            bytes,
+            len,
+            borders,
+        })
     }
 }
 
@@ -82,15 +95,351 @@ impl<A: Allocator + Copy> Squeezed<A> {
     pub fn as_bytes(&self) -> &[u8]
         ensures { result.now ≡ self.now }
     {
-        self.bytes.as_slice()
+        &self.bytes[..self.len]
     }
 
-    /// Discards the text and returns its empty buffer, for the next text.
-    pub fn into_room(self) -> Vec<u8, A>
-        ensures { result.items ≡ [] }
-    {
-        let mut room = self.bytes;
-        room.clear();
-        room
+    /// Discards the text and returns its buffer, for the next text.
+    pub fn into_room(self) -> Vec<u8, A> {
+        self.bytes
     }
+}
+
+/// Looks at the 32 bytes of the text at `place`. If fewer are left, zeros follow them.
+#[inline(always)]
+fn look_at(text: &[u8], place: usize) -> Look
+    requires within { place ≤ length text.now }
+    ensures { IsLook result (λ k. slice_index text.now (place + k)) }
+{
+    let rest = &text[place..];
+    if rest.len() >= 32 {
+        return Look::new(rest, 0);
+    }
+    let mut last = [0; 32];
+    last[..rest.len()].copy_from_slice(rest);
+    Look::new(&last, 0)
+}
+
+/// Squeezes a text to the beginning of `out`, which is longer by at least 32 bytes. Returns the
+/// length of the squeezed text and its borders, or the offset of the first byte that isn't
+/// accepted.
+pub(crate) fn squeeze(text: &[u8], out: &mut [u8]) -> Result<(usize, Borders), usize>
+    requires { length text.now + 32 ≤ length out.old }
+    ensures long { length out.new ≡ length out.old }
+    ensures within { IfOk result (λ kept. kept.0 ≤ length text.now) }
+    ensures empty { IfOk result (λ kept. kept.0 ≡ 0 → squeezed_or_fault text.now ≡ Err Empty) }
+    ensures some { IfOk result (λ kept. 0 < kept.0
+        → squeezed_or_fault text.now ≡ Ok (take kept.0 out.new)) }
+    ensures borders { IfOk result (λ kept.
+        IsNoted (take kept.0 out.new) (length kept.1.places.items) kept.1) }
+    ensures bad { IfErr result (λ place. squeezed_or_fault text.now ≡ Err (BadByte place)) }
+{
+    let most = most_recorded(text.len());
+    let mut borders = Borders::new();
+    let mut border = true;
+    let mut made = 0;
+    let mut place = 0;
+    'looks: while place < text.len() {
+        let look = look_at(text, place);
+        let (count, last) = look.kept(border);
+        // What is written after the kept bytes is overwritten later.
+        look.spaced.copy_to_slice(&mut out[made..]);
+        borders.note(out, made, look.borders, count, most);
+        border = last;
+        made += count;
+        place += count;
+        if count < TAKEN && place < text.len() {
+            if !is_blank(text[place]) {
+                return Err(place);
+            }
+            // No space is kept for this blank.
+            place += 1;
+        }
+    }
+    Ok((made, borders))
+}
+
+/// The bytes of a look, of which a pass takes all but the last: that shows what follows the others.
+pub(crate) const TAKEN: usize = 31;
+
+/// The classes that a byte may have by its low half, in either half of a vector. A border has class
+/// 128, a plain byte one of 8 to 64, a blank 2 or 4, and any other byte none.
+const BY_LOW_HALF: [u8; 32] = [
+    84, 112, 112, 112, 112, 112, 112, 120, 240, 240, 114, 40, 40, 178, 40, 56, 84, 112, 112, 112,
+    112, 112, 112, 120, 240, 240, 114, 40, 40, 178, 40, 56,
+];
+
+/// The classes that it may have by its high half.
+const BY_HIGH_HALF: [u8; 32] = [
+    2, 0, 140, 16, 32, 64, 0, 0, 0, 0, 0, 0, 0, 0, 0, 0, 2, 0, 140, 16, 32, 64, 0, 0, 0, 0, 0, 0,
+    0, 0, 0, 0,
+];
+
+/// What a look at 32 bytes shows. Bit k is for byte k.
+#[derive(Clone, Copy)]
+pub(crate) struct Look {
+    /// The bytes, with spaces for other blanks.
+    pub(crate) spaced: u8x32,
+    /// The hyphens and brackets.
+    pub(crate) borders: u64,
+    /// These and the plain bytes.
+    solid: u64,
+    /// These and the blanks.
+    accepted: u64,
+}
+
+/// The classes that each byte may have by its low half.
+#[inline(always)]
+fn by_low_half(v: u8x32) -> u8x32
+    ensures long { length result ≡ 32 }
+    ensures each { (k : ℕ) → k < 32
+        → slice_index result k ≡ slice_index BY_LOW_HALF (slice_index v k % 16) }
+{
+    u8x32::from_array(BY_LOW_HALF).swizzle_dyn_within::<16>(v & u8x32::splat(15))
+}
+
+/// The classes that it may have by its high half.
+#[inline(always)]
+fn by_high_half(v: u8x32) -> u8x32
+    ensures long { length result ≡ 32 }
+    ensures each { (k : ℕ) → k < 32
+        → slice_index result k ≡ slice_index BY_HIGH_HALF (slice_index v k / 16) }
+{
+    u8x32::from_array(BY_HIGH_HALF).swizzle_dyn_within::<16>(v >> u8x32::splat(4))
+}
+
+/// The class of each byte.
+#[inline(always)]
+fn classes(v: u8x32) -> u8x32
+    ensures { HasClasses result (λ k. slice_index v k) }
+{
+    by_low_half(v) & by_high_half(v)
+}
+
+/// Puts spaces for the bytes below the space.
+#[inline(always)]
+fn spaced(v: u8x32) -> u8x32
+    ensures { HasSpaces result (λ k. slice_index v k) }
+{
+    v.simd_max(u8x32::splat(b' '))
+}
+
+/// The lanes whose class is this one or a higher one, as bits. No class is above 128.
+#[inline(always)]
+fn bits_from(classes: u8x32, low: u8) -> u64
+    requires classes { (k : ℕ) → k < 32 → slice_index classes k ≤ 128 }
+    requires some { 1 ≤ low }
+    requires low { low ≤ 128 }
+    ensures { IsBits result (λ k. nat_le low (slice_index classes k)) }
+{
+    let raised = classes + u8x32::splat(128 - low);
+    raised.simd_ge(u8x32::splat(128)).to_bitmask()
+}
+
+impl Look {
+    /// Looks at the 32 bytes at `at`.
+    #[inline(always)]
+    pub(crate) fn new(bytes: &[u8], at: usize) -> Self
+        requires { at + 32 ≤ length bytes.now }
+        ensures { IsLook result (λ k. slice_index bytes.now (at + k)) }
+    {
+        let lanes = u8x32::from_slice(&bytes[at..]);
+        let classes = classes(lanes);
+        Look {
+            spaced: spaced(lanes),
+            borders: bits_from(classes, 128),
+            solid: bits_from(classes, 8),
+            accepted: bits_from(classes, 2),
+        }
+    }
+
+    /// Counts the first bytes, at most 31, that a pass keeps: borders, plain bytes, and a blank
+    /// before a plain byte and not after a border. `border` says whether the byte before all is a
+    /// border; the second result says so of the last that is kept, or repeats `border` if none is.
+    #[inline(always)]
+    pub(crate) fn kept(self, border: bool) -> (usize, bool)
+        requires { self.borders < 4294967296 }
+        ensures bound { result.0 ≤ 31 }
+        ensures each { (f : ℕ → ℕ) → IsLook self f → (k : ℕ) → k < result.0
+            → is_kept border f k ≡ true }
+        ensures stops { (f : ℕ → ℕ) → IsLook self f → result.0 < 31
+            → is_kept border f result.0 ≡ false }
+        ensures last { (f : ℕ → ℕ) → IsLook self f
+            → result.1 ≡ behind border (λ k. is_border (f k)) result.0 }
+    {
+        let behind = bits_behind(border, self.borders);
+        let spaces = self.accepted & (self.solid >> 1) & !((self.borders >> 1) | behind);
+        let count = ((self.solid | spaces) & 0x7fff_ffff).trailing_ones() as usize;
+        (count, bit_is_set(behind, count))
+    }
+}
+
+/// Shifts bits up by one, with `first` as the lowest bit.
+#[inline(always)]
+fn bits_behind(first: bool, bits: u64) -> u64
+    requires { bits < 4294967296 }
+    ensures first { bit_at result 0 ≡ (if first then 1 else 0) }
+    ensures others { (k : ℕ) → bit_at result (k + 1) ≡ bit_at bits k }
+{
+    2 * bits + u64::from(first)
+}
+
+/// Whether bit `place` is set.
+#[inline(always)]
+fn bit_is_set(bits: u64, place: usize) -> bool
+    requires { place < 64 }
+    ensures { result ≡ (bit_at bits place == 1) }
+{
+    (bits >> place) & 1 == 1
+}
+
+/// The borders of a squeezed text, its hyphens and brackets. An accepted message has at most 13.
+#[derive(Drop)]
+pub(crate) struct Borders {
+    /// The offsets of the first of them.
+    places: ArrayVec<u16, 13>,
+    /// How many there are after these.
+    others: usize,
+    /// How many of all are brackets.
+    brackets: usize,
+}
+
+/// How many offsets of borders are recorded for a text of this length: none if they could need more
+/// than 16 bits.
+#[inline(always)]
+pub(crate) fn most_recorded(len: usize) -> usize
+    ensures most { result ≤ 13 }
+    ensures fits { 0 < result → len ≤ 65536 }
+{
+    if len <= 65_536 { 13 } else { 0 }
+}
+
+impl Borders {
+    /// No borders yet.
+    #[inline(always)]
+    pub(crate) fn new() -> Self
+        ensures { (most : ℕ) → IsNoted [] most result }
+    {
+        Borders {
+            places: ArrayVec::new(),
+            others: 0,
+            brackets: 0,
+        }
+    }
+
+    /// Records the offset of the next border, or counts it if as many as may be are recorded.
+    #[inline(always)]
+    fn push(&mut self, place: usize, most: usize)
+        requires most { most ≤ 13 }
+        requires fits { length self.old.places.items < most → place < 65536 }
+        requires room { self.old.others < 18446744073709551615 }
+        ensures places { self.new.places.items ≡ (if nat_lt (length self.old.places.items) most
+            then self.old.places.items ++ place ∷ [] else self.old.places.items) }
+        ensures others { self.new.others ≡ (if nat_lt (length self.old.places.items) most
+            then self.old.others else self.old.others + 1) }
+        ensures brackets { self.new.brackets ≡ self.old.brackets }
+    {
+        if self.places.len() < most {
+            self.places.push(place as u16);
+        } else {
+            self.others += 1;
+        }
+    }
+
+    /// Records the borders among the `count` bytes at `made`. Bit k of `bits` is set if the byte at
+    /// `made + k` is one.
+    #[inline(always)]
+    pub(crate) fn note(&mut self, text: &[u8], made: usize, bits: u64, count: usize, most: usize)
+        requires inside { made + count ≤ length text.now }
+        requires few { count ≤ 31 }
+        requires bits { (k : ℕ) → k < count
+            → (bit_at bits k == 1) ≡ is_border (slice_index text.now (made + k)) }
+        requires noted { IsNoted (take made text.now) most self.old }
+        requires most { most ≤ 13 }
+        requires fits { 0 < most → made + count ≤ 65536 }
+        ensures { IsNoted (take (made + count) text.now) most self.new }
+    {
+        let mut later = bits & ((1 << count) - 1);
+        // The offset after the last border.
+        let mut after = made;
+        // The number of brackets stays in a register.
+        let mut brackets = self.brackets;
+        'borders: while later != 0 {
+            let index = later.trailing_zeros() as usize;
+            let place = made + index;
+            self.push(place, most);
+            brackets += usize::from(text[place] != b'-');
+            later &= !(1 << index);
+            after = place + 1;
+        }
+        self.brackets = brackets;
+    }
+
+    /// Whether the text is in one pair of brackets.
+    pub(crate) fn are_bracketed(&self, text: &[u8]) -> bool
+        requires { IsNoted text.now (length self.now.places.items) self.now }
+        ensures { result ≡ is_bracketed text.now }
+    {
+        stands_in_brackets(text) && self.brackets == 2
+    }
+
+    /// The number of fields of a text in one pair of brackets.
+    pub(crate) fn field_count(&self, text: &[u8]) -> usize
+        requires noted { IsNoted text.now (length self.now.places.items) self.now }
+        requires bracketed { is_bracketed text.now ≡ true }
+        ensures { result ≡ length (fields_of text.now) }
+    {
+        self.places.len() + self.others - 1
+    }
+
+    /// Returns part `place`, counted from 0, of what these borders cut. Only a part after the
+    /// recorded borders needs a scan, and no accepted message has one.
+    fn part<'a>(&self, inside: &'a [u8], place: usize) -> &'a [u8]
+        requires cut { AreBorders inside.now self.now.places.items }
+        requires few { length (parts inside.now) ≤ length inside.now + 1 }
+        requires place { place < length (parts inside.now) }
+        ensures { slice_get (parts inside.now) place ≡ Some result.now }
+    {
+        if place + 1 < self.places.len() {
+            let from = usize::from(self.places[place]);
+            let border = usize::from(self.places[place + 1]);
+            &inside[from..border - 1]
+        } else {
+            scanned_part(inside, place).unwrap_or(&[])
+        }
+    }
+
+    /// Field `i`, counted from 0, of a text in one pair of brackets.
+    #[tactic(auto, unfolding(crate::specs::Fields::fields_of))]
+    pub(crate) fn field<'a>(&self, text: &'a [u8], i: usize) -> &'a [u8]
+        requires noted { IsNoted text.now (length self.now.places.items) self.now }
+        requires bracketed { is_bracketed text.now ≡ true }
+        requires place { i < length (fields_of text.now) }
+        ensures { slice_get (fields_of text.now) i ≡ Some result.now }
+    {
+        self.part(inside(text), i)
+    }
+}
+
+/// Whether a text has an opening bracket first and a closing one last.
+#[tactic(auto, unfolding(crate::specs::Fields::stands_in_brackets))]
+fn stands_in_brackets(text: &[u8]) -> bool
+    ensures { result ≡ stands_in_brackets text.now }
+{
+    matches!(text, [b'(', .., b')'])
+}
+
+/// What is between the brackets of a text.
+#[tactic(auto, unfolding(crate::specs::Fields::is_bracketed, crate::specs::Fields::stands_in_brackets))]
+fn inside(text: &[u8]) -> &[u8]
+    requires { is_bracketed text.now ≡ true }
+    ensures { result.now ≡ inside text.now }
+{
+    &text[1..text.len() - 1]
+}
+
+/// Finds a part by a scan from the first one on.
+fn scanned_part(text: &[u8], place: usize) -> Option<&[u8]>
+    ensures { option_copied result ≡ slice_get (parts text.now) place }
+{
+    text.split(|byte| *byte == b'-').nth(place)
 }

@@ -1,10 +1,12 @@
 //! Times of four digits, hhmm.
 
 ghost use Rattle.std.specs.Prelude.{◌≡◌, ◌<◌, ◌≤◌, ◌+◌, ◌*◌, ◌/◌, ◌%◌, ℕ, true, ◌-◌, IfSome};
+ghost use Rattle.std.specs.Prelude.{length};
+ghost use Rattle.std.specs.List.{list_all};
 ghost use Rattle.fpl_text.specs.Bytes.{is_digit};
 ghost use Rattle.fpl_text.specs.Times.{two_digits, hhmm_below, time_of_day, elapsed_time};
 
-use crate::byte::all_digits;
+use crate::byte::are_digits;
 use std::marker::Model;
 
 /// Every elapsed time is less than this: four digits are at most 99 hours and 59 minutes.
@@ -79,20 +81,35 @@ pub(crate) fn two_digits(first: u8, second: u8) -> u8
     10 * (first - b'0') + (second - b'0')
 }
 
+/// The numbers of the first two and of the last two of four digits. They are computed at the same
+/// time, in one word.
+#[inline(always)]
+#[tactic(auto, unfolding(crate::specs::Times::two_digits, crate::specs::Bytes::is_digit))]
+fn pairs_of(text: &[u8]) -> (u32, u32)
+    requires four { length text.now ≡ 4 }
+    requires digits { list_all is_digit text.now ≡ true }
+    ensures first { result.0 ≡ two_digits text.now 0 }
+    ensures last { result.1 ≡ two_digits text.now 2 }
+    ensures bound { (result.0 < 100) × (result.1 < 100) }
+{
+    let digits = u32::from_le_bytes([text[0], text[1], text[2], text[3]]) - 0x3030_3030;
+    let pairs = 10 * digits + digits / 256;
+    (pairs % 256, pairs / 65_536 % 256)
+}
+
 /// Reads hhmm in minutes, with hours below `hours` and minutes below 60.
-#[tactic(auto, unfolding(crate::specs::Times::hhmm_below, crate::specs::Times::two_digits))]
-pub(crate) fn hhmm_below(hours: u8, text: &[u8]) -> Option<u16>
+#[tactic(auto, unfolding(crate::specs::Times::hhmm_below))]
+pub(crate) fn hhmm_below(hours: u32, text: &[u8]) -> Option<u16>
     requires { hours ≤ 100 }
     ensures value { result ≡ hhmm_below hours text.now }
     ensures bound { IfSome result (λ minutes. minutes < 60 * hours) }
 {
-    if text.len() != 4 || !all_digits(text) {
+    if text.len() != 4 || !are_digits(text) {
         return None;
     }
-    let hour = two_digits(text[0], text[1]);
-    let minute = two_digits(text[2], text[3]);
+    let (hour, minute) = pairs_of(text);
     if hour < hours && minute < 60 {
-        Some(60 * hour as u16 + minute as u16)
+        Some((60 * hour + minute) as u16)
     } else {
         None
     }

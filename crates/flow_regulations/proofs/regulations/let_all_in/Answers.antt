@@ -8,7 +8,7 @@ use Rattle.flow_slots.specs.declared.cell.Planned.{Planned}
 use Rattle.flow_slots.specs.Order.{rank}
 use Rattle.flow_slots.specs.Lineup.{MayFill, with_all_waiting}
 use Rattle.flow_regulations.specs.Regulations.{Regulation, subject_to, coming_from, waiting_from}
-use Rattle.flow_regulations.specs.declared.due.TheConstants.{ISSUE_LEAD}
+use Rattle.flow_regulations.specs.declared.due_queue.TheConstants.{ISSUE_LEAD}
 use Rattle.flow_regulations.specs.Listing.{RegulationView, regulation_of, with_lineup}
 use Rattle.flow_regulations.proofs.Coming.{sorted-waiting, may-fill}
 use Rattle.flow_plans.proofs.Entered.{entering-few}

@@ -1,7 +1,0 @@
-use Rattle.std.proofs.Common.{eqb, rules, tests}
-use Rattle.std.proofs.lemmas.Iterator.Consumers.{nth_from_yields_List}
-use Rattle.std.proofs.lemmas.Iterator.Splits.{YieldsList-from_slice_split}
-use Rattle.fpl_text.proofs.borders.scanned_part.Goals as goal
-
-pub returns : goal.returns
-returns c = nth_from_yields_List _ _ _ c.nth.ensures.ran (YieldsList-from_slice_split _ (λ b. eqb b 45) c.args.text.now c.split.ensures.rest c.split.ensures.done c.split.ensures.closure (λ x r q k. search (rules, tests)))

@@ -1,5 +1,0 @@
-use Rattle.fpl_text.proofs.LaneLemmas.{lanes-both}
-use Rattle.fpl_text.proofs.lanes.both.Goals as goal
-
-pub returns : goal.returns
-returns c = lanes-both c.args.a c.args.b

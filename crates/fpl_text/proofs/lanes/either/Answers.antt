@@ -1,5 +1,0 @@
-use Rattle.fpl_text.proofs.LaneLemmas.{lanes-either}
-use Rattle.fpl_text.proofs.lanes.either.Goals as goal
-
-pub returns : goal.returns
-returns c = lanes-either c.args.a c.args.b

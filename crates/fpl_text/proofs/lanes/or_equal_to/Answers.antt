@@ -1,4 +1,0 @@
-use Rattle.fpl_text.proofs.lanes.or_equal_to.Goals as goal
-
-pub returns : goal.returns
-returns c = λ p h. c.either.ensures _ _ h c.equal_to.ensures
