@@ -10,6 +10,7 @@ ROOT = pathlib.Path(__file__).resolve().parent.parent
 
 # The crates of tests/unit, each with the crates that it calls.
 UNIT_TESTS = {
+    "command_line": ["command_line"],
     "message": ["fpl_text", "fpl_items", "fpl_message", "jiff", "linked_list_allocator"],
     "flow": ["fpl_text", "fpl_message", "flow_plans", "flow_slots", "flow_regulations", "linked_list_allocator"],
     "log": ["flow_log"],
@@ -65,6 +66,6 @@ def placed(folder, name, stands_on, kept, proofs=True):
     if (program / "main.rt").exists():
         for source in program.glob("*.rt"):
             target = folder / "crates" / name / "src" / source.name
-            if source.name not in ("main.rt", "tests.rt") and not target.exists():
+            if source.name != "main.rt" and not target.exists():
                 shutil.copyfile(source, target)
     return folder / "crates" / name

@@ -2,8 +2,6 @@
 #![tactic(auto)]
 
 mod readable;
-#[cfg(test)]
-mod tests;
 mod words;
 
 pub use readable::readable_form;

@@ -8,6 +8,8 @@ mod readings;
 mod shared;
 mod slots;
 #[cfg(test)]
+mod stores;
+#[cfg(test)]
 mod tests;
 
 pub use desk::{AnswerFault, answer, slot_in, write_whole};

@@ -23,30 +23,3 @@ mod store;
 pub use opening::{OpenFault, open};
 pub use serving::{StoredFault, serve_stored};
 pub use store::{Store, StoreFault, write_store};
-
-#[cfg(test)]
-mod tests {
-    use super::*;
-    use flow_input::Counted;
-    use flow_log::Memory;
-    use std::test::Fail;
-
-    /// What each call ensures is what the next one requires.
-    #[test]
-    fn a_store_is_opened_and_served(rt: HostRuntime) -> Result<(), Fail> {
-        let alloc = rt.alloc();
-        let file = b"SLOTDESK STORE 1\nSETUP 2409010500 10 9 9\n-torn".to_vec(alloc)?;
-        let Ok((mut store, mut core)) = open(alloc, Memory::new(alloc, file)) else {
-            return Err(Fail::from("not opened"));
-        };
-        let input = b"SHUT RMZ01\n\n".as_slice();
-        let served = serve_stored(alloc, &mut Counted::new(input), &mut store, &mut core);
-        assert_eq!(rt; served, Ok(()));
-        let served = serve_stored(alloc, &mut Counted::new(input), &mut store, &mut core);
-        assert_eq!(rt; served, Ok(()));
-        let expected = b"1 NO 32 NoRegulation\n2 NO 32 NoRegulation\n".as_slice();
-        let memory = store.into_outside();
-        assert_eq!(rt; memory.here().given(), expected);
-        Ok(())
-    }
-}

@@ -11,12 +11,10 @@ mod run;
 mod start;
 mod stored;
 mod stores;
-#[cfg(test)]
-mod tests;
 
 use command_line::read_words;
 use feeds::SystemFeeds;
-use run::{run_fed, tell_no_memory, tell_words};
+use run::{run_words, tell_no_memory, tell_words};
 use std::io;
 use std::process::ExitCode;
 use stores::SystemStores;
@@ -36,7 +34,7 @@ fn main(rt: HostRuntime) -> ExitCode {
     let stores = SystemStores { rt: &rt };
     let feeds = SystemFeeds { rt: &rt };
     let input = rt.stdin();
-    let status = run_fed(
+    let status = run_words(
         &rt,
         &rt,
         &stores,
