@@ -1,5 +1,6 @@
 -- Rows of which only the first cells were made.
-use Rattle.std.proofs.Common.{◌≡◌, ℕ, ◌+◌, ◌-◌, ◌<◌, ◌≤◌, ◌++◌, ◌⊎◌, inl, inr, List, length, set, replicate, refl, sym, ap, ◌∙◌, arith}
+use Rattle.std.proofs.Common.{◌≡◌, ℕ, ◌+◌, ◌-◌, ◌<◌, ◌≤◌, ◌++◌, ◌⊎◌, inl, inr, [], ◌∷◌, List, length, set, replicate, refl, sym, ap, ◌∙◌, arith}
+use Rattle.std.proofs.Math.Seq.{set-append_seam}
 use Rattle.std.proofs.lemmas.Bool.{cases_lt}
 use Rattle.std.proofs.lemmas.List.{length-set, length-append, length-replicate, get_or_past, get_or_append_left, get_or-append_right, get_or-replicate, set-append_left, append_assoc, append-nil, replicate-append-replicate}
 use Rattle.flow_slots.specs.declared.cell.Cell.{Cell}
@@ -43,3 +44,20 @@ pub filled-all : (cells : List Cell) (len : ℕ) → len ≤ length cells → fi
 filled-all cells len h =
     let none : len - length cells ≡ 0 = omega arith in
     ap (λ n. cells ++ replicate n Empty) none ∙ append-nil cells
+
+-- a cell is written, as one of those that were made or as the next one
+pub filled-written : (cells : List Cell) (k : ℕ) (c : Cell) → k < length cells → set cells k c ≡ set (cells ++ replicate (k + 1 - length cells) Empty) k c
+filled-written cells k c h =
+    let none : k + 1 - length cells ≡ 0 = omega arith in
+    sym (ap (λ n. set (cells ++ replicate n Empty) k c) none ∙ ap (λ v. set v k c) (append-nil cells))
+
+pub filled-appended : (cells : List Cell) (k : ℕ) (c : Cell) → length cells ≤ k → (cells ++ replicate (k - length cells) Empty) ++ c ∷ [] ≡ set (cells ++ replicate (k + 1 - length cells) Empty) k c
+filled-appended cells k c h =
+    let n = k - length cells in
+    let more : k + 1 - length cells ≡ n + 1 = omega (arith, h) in
+    let made : k ≡ length (cells ++ replicate n Empty) = omega (arith, h, length-append cells (replicate n Empty), length-replicate n Empty) in
+    sym (ap (λ m. set (cells ++ replicate m Empty) k c) more
+    ∙ (ap (λ v. set (cells ++ v) k c) (sym (replicate-append-replicate n 1 Empty))
+    ∙ (ap (λ v. set v k c) (sym (append_assoc cells (replicate n Empty) (Empty ∷ [])))
+    ∙ (ap (λ i. set ((cells ++ replicate n Empty) ++ Empty ∷ []) i c) made
+    ∙ set-append_seam (cells ++ replicate n Empty) Empty [] c))))

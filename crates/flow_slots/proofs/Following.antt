@@ -8,7 +8,7 @@ use Rattle.flow_slots.specs.declared.cell.Cell.TheVariants.{Empty, Waiting, Fixe
 use Rattle.flow_slots.specs.Order.{stands_before}
 use Rattle.flow_slots.specs.Row.{NoneBefore, IsSettledRow, IsFixedCell, waiting_of}
 use Rattle.flow_slots.specs.Walk.{displace, has_empty, waits_before, Follows, AllFollow, ComesIn}
-use Rattle.flow_slots.proofs.Steps.{drop_at, has_empty-within, has_empty-fixed, has_empty-waiting, displace-fixed, displace-earlier}
+use Rattle.flow_slots.proofs.Steps.{drop_at, has_empty-within, has_empty-waiting, displace-earlier}
 
 pub Follows-fixed : (row : List Cell) (k f : ℕ) (x : Planned) → k < length row → Fixed f ≡ get_or row k Empty → Follows x (drop k row) → Follows x (drop (k + 1) row)
 Follows-fixed row k f x h e a = rw (drop_at row k (Fixed f) h e) at a

@@ -3,7 +3,7 @@ use Rattle.std.proofs.Common.{◌≡◌, ℕ, zero, suc, ◌+◌, ◌-◌, ◌<�
 use Rattle.std.proofs.Math.ListN.{get_or-map}
 use Rattle.std.proofs.lemmas.Bool.{false≢true}
 use Rattle.std.proofs.lemmas.Bool.Decides.{nat_tests}
-use Rattle.std.proofs.lemmas.List.{length-map, map-set}
+use Rattle.std.proofs.lemmas.List.{length-append, length-map, length-replicate, map-set}
 use Rattle.flow_slots.specs.declared.cell.Cell.{Cell}
 use Rattle.flow_slots.specs.declared.cell.Cell.TheVariants.{Empty, Waiting, Fixed}
 use Rattle.flow_slots.specs.declared.cell.Planned.{Planned}
@@ -45,6 +45,14 @@ started-more start cells len n h = ap (map (from_start start)) (filled-more cell
 pub started-set : (start : ℕ) (cells : List Cell) (len k : ℕ) (x c : Cell) → k < length cells → from_start start x ≡ c → started start (set cells k x) len ≡ set (started start cells len) k c
 started-set start cells len k x c h is =
     ap (map (from_start start)) (filled-set cells len k x h) ∙ (map-set (from_start start) (filled cells len) k x ∙ ap (set (started start cells len) k) is)
+
+pub started-written : (start : ℕ) (cells : List Cell) (len k : ℕ) (new : List Cell) (x c : Cell) → length cells ≤ len → k < len → new ≡ set (cells ++ replicate (k + 1 - length cells) Empty) k x → from_start start x ≡ c → started start new len ≡ set (started start cells len) k c
+started-written start cells len k new x c made within is same =
+    let n = k + 1 - length cells in
+    let all = cells ++ replicate n Empty in
+    let few : length cells + n ≤ len = omega (arith, made, within) in
+    let there : k < length all = omega (arith, length-append cells (replicate n Empty), length-replicate n Empty) in
+    ap (λ v. started start v len) is ∙ (started-set start all len k x c there same ∙ ap (λ v. set v k c) (started-more start cells len n few))
 
 pub row-new : (start len : ℕ) (cells : List Cell) → cells ≡ [] → (let r : CellsView = record { row = started start cells len; writes = 0; start = start } in r) ≡ record { row = replicate len Empty; writes = 0; start = start }
 row-new start len cells is =

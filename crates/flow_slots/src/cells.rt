@@ -1,7 +1,8 @@
 //! The row of slots as callers see it: the content of each slot, and how often slots were written.
 ghost use Rattle.std.specs.Prelude.{◌≡◌, ℕ, ◌+◌, ◌-◌, ◌^◌, ◌<◌, ◌≤◌, ◌++◌};
 ghost use Rattle.std.specs.Prelude.{true, ◌↔◌, IfOk, IsTrue, vec_capacity};
-ghost use Rattle.std.specs.Prelude.{None, Some, [], drop, length, map, replicate, take, vec_len};
+ghost use Rattle.std.specs.Prelude.{None, Some, [], drop, length, map, replicate, slice_set};
+ghost use Rattle.std.specs.Prelude.{take, vec_len};
 ghost use Rattle.flow_slots.specs.Cells.{CellsView, written};
 ghost use Rattle.flow_slots.specs.Changed.{gained};
 ghost use Rattle.flow_slots.specs.Lineup.{IsKept, MayFill};
@@ -60,6 +61,22 @@ fn make<A: Allocator + Copy>(row: &mut Vec<PackedCell, A>, count: u32)
 {
     while row.len() < count as usize {
         row.push_reserved(PackedCell::empty());
+    }
+}
+
+/// Writes cell `k`. If it doesn't exist yet, it is appended, after empty ones.
+#[inline(always)]
+fn put_in<A: Allocator + Copy>(row: &mut Vec<PackedCell, A>, k: u32, cell: PackedCell)
+    requires { k < vec_capacity row.old }
+    ensures items { row.new.items
+        ≡ slice_set (row.old.items ++ replicate (k + 1 - length row.old.items) Empty) k cell }
+    ensures capacity { vec_capacity row.new ≡ vec_capacity row.old }
+{
+    if (k as usize) < row.len() {
+        row[k as usize] = cell;
+    } else {
+        make(row, k);
+        row.push_reserved(cell);
     }
 }
 
@@ -271,9 +288,31 @@ impl<A: Allocator + Copy> Cells<A> {
         ensures more { self.old.writes ≤ self.new.writes }
         ensures small { k < 2 ^ 16 - 1 }
     {
-        make(&mut self.row, k + 1);
-        self.row[k as usize].set(self.start, cell);
+        put_in(&mut self.row, k, PackedCell::of(self.start, cell));
         self.writes = self.writes.saturating_add(1);
+    }
+
+    /// Writes slot `k`. The caller counts it.
+    #[inline(always)]
+    fn put(&mut self, k: u32, cell: Cell)
+        requires slot { k < length self.old.row }
+        requires kept { IsStored self.old.start cell }
+        ensures row { self.new.row ≡ slice_set self.old.row k cell }
+        ensures writes { self.new.writes ≡ self.old.writes }
+        ensures start { self.new.start ≡ self.old.start }
+        ensures small { k < 2 ^ 16 - 1 }
+    {
+        put_in(&mut self.row, k, PackedCell::of(self.start, cell));
+    }
+
+    #[inline(always)]
+    fn count(&mut self, writes: u64)
+        ensures row { self.new.row ≡ self.old.row }
+        ensures start { self.new.start ≡ self.old.start }
+        ensures writes { self.new.writes ≤ self.old.writes + writes }
+        ensures more { self.old.writes ≤ self.new.writes }
+    {
+        self.writes = self.writes.saturating_add(writes);
     }
 
     /// Freezes slot `k` for a flight that has no slot; a flight that has it provisionally is
@@ -333,9 +372,10 @@ impl<A: Allocator + Copy> Cells<A> {
         let mut next = 0;
         for planned in flights {
             let k = shape.at(planned.entry).max(next);
-            self.write(k, Cell::Waiting(*planned));
+            self.put(k, Cell::Waiting(*planned));
             places[planned.flight as usize] = HeldSlot::of(k);
             next = k + 1;
         }
+        self.count(flights.len() as u64);
     }
 }

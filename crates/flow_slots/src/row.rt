@@ -83,6 +83,20 @@ impl PackedCell {
         }
     }
 
+    /// The content of a slot, its entry counted from `start`.
+    #[inline(always)]
+    pub(crate) fn of(start: u32, cell: Cell) -> Self
+        requires { IsStored start cell }
+        ensures { from_start start result ≡ cell }
+    {
+        let word = match cell {
+            Cell::Empty => word_of(NO_ENTRY, 0),
+            Cell::Waiting(planned) => word_of(planned.entry - start, planned.flight),
+            Cell::Fixed(flight) => word_of(NO_ENTRY, flight),
+        };
+        PackedCell { word }
+    }
+
     /// A provisional flight, its entry counted from `start`.
     #[inline]
     pub(crate) fn waiting(start: u32, planned: Planned) -> Self
@@ -167,21 +181,6 @@ impl PackedCell {
         ensures { result ≡ waits_before (planned_in flight) self.now }
     {
         self.word < flight.word
-    }
-
-    /// Overwrites the cell.
-    #[inline]
-    pub(crate) fn set(&mut self, start: u32, cell: Cell)
-        requires { IsStored start cell }
-        ensures { from_start start self.new ≡ cell }
-    {
-        match cell {
-            Cell::Empty => self.word = word_of(NO_ENTRY, 0),
-            Cell::Waiting(planned) => {
-                self.word = word_of(planned.entry - start, planned.flight);
-            }
-            Cell::Fixed(flight) => self.word = word_of(NO_ENTRY, flight),
-        }
     }
 }
 

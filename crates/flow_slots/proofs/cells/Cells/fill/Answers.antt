@@ -11,12 +11,11 @@ loop-planned-init g c =
     record {
       walk = Filling-start c.args.shape.now (length c.args.places.now.items - 1) c.args.flights.now s.row c.args.places.now.items c.requires.kept c.requires.may.none_waiting c.requires.may.none_fixed;
       start = refl;
-      writes = omega arith;
-      more = omega arith;
+      writes = refl;
     }
 
-pub write-requires-clause-slot : goal.write-requires-clause-slot
-write-requires-clause-slot g c =
+pub put-requires-clause-slot : goal.put-requires-clause-slot
+put-requires-clause-slot g c =
     let none : Planned = record { entry = 0; flight = 0 } in
     let s = c.loop-planned.self in
     let x : Planned = get_or c.args.flights.now c.loop-planned.planned-index none in
@@ -31,15 +30,14 @@ loop-planned-preserved g c =
     let x : Planned = get_or c.args.flights.now c.loop-planned.planned-index none in
     let comes = comes_next _ c.args.flights.now c.loop-planned.planned-index none c.requires.may c.loop-planned-test.true in
     let slot : c.max-k.result ≡ max (first_slot c.args.shape.now x.entry) c.loop-planned.next = omega (arith, c.max-k.ensures, c.at.ensures) in
-    rw (c.write.ensures.cells, c.of.ensures) (record {
+    rw (c.put.ensures.row, c.of.ensures) (record {
       walk = Filling-step _ _ _ _ c.loop-planned.next c.max-k.result s.row c.loop-planned.places.items x c.loop-planned.invariant.walk comes slot;
-      start = c.loop-planned.invariant.start;
-      writes = omega (arith, c.loop-planned.invariant.writes);
-      more = omega (arith, c.loop-planned.invariant.more, rw c.write.ensures.cells at c.write.ensures.more);
+      start = c.put.ensures.start ∙ c.loop-planned.invariant.start;
+      writes = c.put.ensures.writes ∙ c.loop-planned.invariant.writes;
     })
 
-pub write-requires-clause-kept : goal.write-requires-clause-kept
-write-requires-clause-kept g c =
+pub put-requires-clause-kept : goal.put-requires-clause-kept
+put-requires-clause-kept g c =
     let none : Planned = record { entry = 0; flight = 0 } in
     let s = c.args.self.now in
     let x : Planned = get_or c.args.flights.now c.loop-planned.planned-index none in
@@ -47,4 +45,4 @@ write-requires-clause-kept g c =
     stored-waiting c.loop-planned.self.start c.args.shape.now (length c.args.places.now.items - 1) x (c.loop-planned.invariant.start ∙ c.requires.start) c.requires.kept.regular comes.within comes.most c.requires.kept.flights
 
 pub returns-clause-start : goal.returns-clause-start
-returns-clause-start g c = c.loop-planned.invariant.start
+returns-clause-start g c = c.count.ensures.start ∙ c.loop-planned.invariant.start

@@ -1,4 +1,4 @@
-use Rattle.std.proofs.Common.{◌≡◌, ◌+◌, ◌-◌, ◌≤◌, length}
+use Rattle.std.proofs.Common.{◌≡◌, ◌-◌, length}
 use Rattle.flow_slots.proofs.Filling.{Filling}
 use Rattle.flow_slots.proofs.cells.Cells.fill.Given as goal
 
@@ -6,6 +6,5 @@ abbrev pub invariant-loop-planned : goal.invariant-loop-planned
 invariant-loop-planned g l = record {
   walk : Filling l.shape (length l.fn.places.items - 1) l.flights l.planned-index l.next l.self.row l.places.items;
   start : l.self.start ≡ l.fn.self.start;
-  writes : l.self.writes ≤ l.fn.self.writes + l.planned-index;
-  more : l.fn.self.writes ≤ l.self.writes;
+  writes : l.self.writes ≡ l.fn.self.writes;
 }

@@ -1,20 +1,14 @@
-use Rattle.std.proofs.Common.{◌≡◌, ◌<◌, ◌+◌, ◌-◌, length, set, replicate, sym, ap, ◌∙◌, arith}
-use Rattle.std.proofs.lemmas.List.{length-append, length-replicate}
+use Rattle.std.proofs.Common.{◌≡◌, length, set, sym, ap, ◌∙◌, arith}
 use Rattle.flow_slots.specs.Cells.{CellsView, one_more}
-use Rattle.flow_slots.specs.declared.cell.Cell.TheVariants.{Empty}
-use Rattle.flow_slots.proofs.Started.{started, length-started, started-more, started-set}
+use Rattle.flow_slots.proofs.Started.{length-started, started-written}
 use Rattle.flow_slots.proofs.cells.Cells.write.Goals as goal
 
 pub returns-clause-cells : goal.returns-clause-cells
 returns-clause-cells g c =
     let s = c.self.inside in
     let k = c.args.k in
-    let more = k + 1 - length s.row.items in
     let slots : length c.args.self.now.row ≡ s.len = ap (λ v. length v.row) (sym c.self.view_is) ∙ length-started s.start s.row.items s.len c.self.invariant.made in
-    let made = ap length c.make.ensures.items in
-    let within : k < length c.make.new.row.items = omega (arith, made, length-append s.row.items (replicate more Empty), length-replicate more Empty) in
-    let same = ap (λ v. started s.start v s.len) c.make.ensures.items ∙ (started-more s.start s.row.items s.len more (omega (arith, slots, c.self.invariant.made, c.requires.slot)) ∙ ap (λ v. v.row) c.self.view_is) in
-    let row = started-set s.start c.make.new.row.items s.len k c.set.new.self c.args.cell within c.set.ensures ∙ ap (λ v. set v k c.args.cell) same in
+    let row = started-written s.start s.row.items s.len k c.put_in.new.row.items c.of.result c.args.cell c.self.invariant.made (omega (arith, slots, c.requires.slot)) c.put_in.ensures.items c.of.ensures ∙ ap (λ v. set v.row k c.args.cell) c.self.view_is in
     let writes = c.saturating_add-self-inside.ensures ∙ ap (λ v. one_more v.writes) c.self.view_is in
     let start : s.start ≡ c.args.self.now.start = ap (λ v. v.start) c.self.view_is in
     let n = c.saturating_add-self-inside.result in
