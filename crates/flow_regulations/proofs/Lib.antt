@@ -26,6 +26,7 @@ pub mod PutBack
 pub mod Queues
 pub mod Released
 pub mod Renewed
+pub mod Rounds
 pub mod Rows
 pub mod Saying
 pub mod Served
