@@ -63,7 +63,7 @@ begins_item-is word n same =
         rw (same, here, stroke, front.0) refl
 
 -- a word without a stroke begins no item
-no-item : (word : List ℕ) → lacks 47 word ≡ true → begins_item word ≡ false
+pub no-item : (word : List ℕ) → lacks 47 word ≡ true → begins_item word ≡ false
 unfolding begins_item
 no-item word none =
     let whole : before_stroke word ≡ length word =

@@ -1,14 +1,18 @@
 -- What the items of field 18 say, one after the other.
-use Rattle.std.proofs.Common.{◌≡◌, ◌≤◌, ◌+◌, ◌-◌, ℕ, zero, suc, Bool, true, false, ◌&&◌, ◌||◌, List, [], ◌∷◌, length, take, drop, refl, ap, ◌∙◌, arith, ⊎_elim, Option, None}
-use Rattle.std.proofs.lemmas.Bool.{cases_Bool, le-leb}
+use Rattle.std.proofs.Common.{◌≡◌, ◌≤◌, ◌+◌, ◌-◌, ℕ, zero, suc, Bool, true, false, ◌&&◌, ◌||◌, List, [], ◌∷◌, length, take, drop, take-append-drop, refl, sym, ap, ◌∙◌, arith, not, eqb, ⊎_elim, Option, None, Some}
+use Rattle.std.proofs.lemmas.Bool.{cases_Bool, le-leb, and_parts, false_from_ne_true, false≢true, eqb-true}
+use Rattle.std.proofs.lemmas.Option.{cond_some}
+use Rattle.std.proofs.lemmas.List.Folds.{list_all-append}
 use Rattle.std.proofs.Math.Dec.{leb-suc-suc, leb-suc-zero}
 use Rattle.std.specs.List.{list_all, prefix_len}
 use Rattle.std.specs.Prelude.{◌≢◌, codes, nat_le, IfOk, IfErr, Result, Ok, Err}
 use Rattle.fpl_items.specs.declared.fault.ItemFault.{ItemFault}
 use Rattle.fpl_items.specs.declared.fault.ItemFault.TheVariants.{OutOfMemory}
-use Rattle.fpl_text.specs.Bytes.{is_letter_or_digit}
-use Rattle.fpl_text.specs.Times.{elapsed_time}
-use Rattle.fpl_text.specs.Words.{words_of}
+use Rattle.fpl_text.specs.Bytes.{is_letter, is_digit, is_letter_or_digit}
+use Rattle.fpl_text.specs.Times.{elapsed_time, hhmm_below}
+use Rattle.fpl_text.specs.Words.{words_of, IsTimed}
+use Rattle.fpl_items.proofs.ItemsLemmas.{no-item}
+use Rattle.fpl_items.proofs.Notes.{if-both}
 use Rattle.fpl_items.specs.Kinds.{is_text}
 use lib.Pointwise.{bytes_decides}
 use Rattle.std.specs.Prelude.{is_some}
@@ -80,3 +84,42 @@ TellSoFar notes left all = (place : List ℕ) → option_or (first_for place not
 -- and counted
 abbrev pub CountSoFar : List Estimate → Bool → List ItemView → List ItemView → Type 0
 CountSoFar notes dof left all = length notes + noted_of_items dof left ≡ noted_of_items false all
+
+-- ---- a word of four letters and an elapsed time
+
+all-weaker : (p q : ℕ → Bool) → ((b : ℕ) → p b ≡ true → q b ≡ true) → (xs : List ℕ) → list_all p xs ≡ true → list_all q xs ≡ true
+all-weaker p q weaker [] h = refl
+all-weaker p q weaker (x ∷ xs) h =
+    let parts = and_parts (p x) (list_all p xs) h in
+    rw (weaker x parts.0) (all-weaker p q weaker xs parts.1)
+
+letter-too : (b : ℕ) → is_letter b ≡ true → is_letter_or_digit b ≡ true
+letter-too b is = rw is refl
+
+no-stroke : (p : ℕ → Bool) → p 47 ≡ false → (b : ℕ) → p b ≡ true → not (eqb b 47) ≡ true
+no-stroke p none b is = ap not (false_from_ne_true _ (λ yes. absurd (false≢true (sym none ∙ ap p (sym (eqb-true b 47 yes)) ∙ is))))
+
+stroke-no-letter : is_letter 47 ≡ false
+unfolding is_letter
+stroke-no-letter = refl
+
+stroke-no-digit : is_digit 47 ≡ false
+unfolding is_digit
+stroke-no-digit = refl
+
+-- an elapsed time is of digits
+timed-digits : (text : List ℕ) (minutes : ℕ) → elapsed_time text ≡ Some minutes → list_all is_digit text ≡ true
+unfolding hhmm_below
+timed-digits text minutes h = (and_parts _ _ (and_parts _ _ (and_parts _ _ (cond_some _ _ _ h).0).0).0).1
+
+pub timed-estimate : (word : List ℕ) (minutes : ℕ) → IsTimed word minutes → is_estimate word ≡ true
+unfolding is_estimate
+timed-estimate word minutes t = rw (t.long, all-weaker is_letter is_letter_or_digit letter-too (take 4 word) t.place, t.time) refl
+
+pub timed-no-item : (word : List ℕ) (minutes : ℕ) → IsTimed word minutes → begins_item word ≡ false
+timed-no-item word minutes t =
+    no-item word
+    (ap (list_all (λ b. not (eqb b 47))) (sym (take-append-drop 4 word))
+    ∙ list_all-append (λ b. not (eqb b 47)) (take 4 word) (drop 4 word)
+    ∙ if-both _ _ (all-weaker is_letter (λ b. not (eqb b 47)) (no-stroke is_letter stroke-no-letter) (take 4 word) t.place)
+    ∙ all-weaker is_digit (λ b. not (eqb b 47)) (no-stroke is_digit stroke-no-digit) (drop 4 word) (timed-digits (drop 4 word) minutes t.time))

@@ -14,7 +14,7 @@ ghost use Rattle.fpl_items.specs.Estimates.{AreEstimatesOf, PastTheEighth};
 ghost use Rattle.fpl_items.specs.Estimates.{noted_of_item, noted_of_items};
 ghost use Rattle.fpl_items.specs.Estimates.{noted_of_field, first_for};
 ghost use Rattle.fpl_items.specs.Kinds.{is_text};
-ghost use Rattle.fpl_text.specs.Words.{words_of};
+ghost use Rattle.fpl_text.specs.Words.{words_of, IsTimed};
 ghost use Rattle.fpl_items.specs.Items.{begins_item, words_before, is_estimate};
 ghost use Rattle.fpl_items.specs.Items.{is_day, item_fault, first_fault};
 ghost use Rattle.fpl_items.specs.Items.{items_of, field_fault, items_or_fault};
@@ -29,7 +29,7 @@ use crate::estimate::Estimate;
 use crate::estimates::Estimates;
 use crate::fault::ItemFault;
 use crate::item::{Item, ItemWords, Items, begins_item};
-use fpl_text::{Day, Measured, Words, all_letters_or_digits, read_elapsed};
+use fpl_text::{Day, Measured, Timed, Words, all_letters_or_digits, read_elapsed};
 use jiff::civil::Date;
 use std::alloc::{AllocError, Allocator, Global};
 use std::marker::Model;
@@ -148,6 +148,28 @@ fn note_measured<A: Allocator + Copy>(
     note_split(estimates, word)
 }
 
+/// Records the estimate that a timed word is.
+#[inline(always)]
+fn note_timed<A: Allocator + Copy>(
+    estimates: &mut Estimates<A>,
+    timed: &Timed<'_>,
+) -> Result<(), ItemFault>
+    requires timed { IsTimed timed.now.word.now timed.now.minutes }
+    requires bound { timed.now.minutes < ELAPSED_LIMIT }
+    ensures is { is_estimate timed.now.word.now ≡ true }
+    ensures within { begins_item timed.now.word.now ≡ false }
+    ensures noted { IfOk result (λ _. AddsWord estimates.old estimates.new timed.now.word.now) }
+    ensures count { IfOk result (λ _. length estimates.new ≡ length estimates.old + 1) }
+    ensures memory { IfErr result (λ fault.
+        (fault ≡ ItemFault.OutOfMemory) × (8 ≤ length estimates.old)) }
+{
+    let place = &timed.word[..4];
+    match estimates.push(place, Estimate::new(place, timed.minutes)) {
+        Ok(()) => Ok(()),
+        Err(AllocError) => Err(ItemFault::OutOfMemory),
+    }
+}
+
 /// Records the words before the next item, up to one that is no point with an elapsed time.
 fn note_before_item<A: Allocator + Copy>(
     estimates: &mut Estimates<A>,
@@ -165,13 +187,19 @@ fn note_before_item<A: Allocator + Copy>(
     ensures memory { IfErr result (λ fault. fault ≡ ItemFault.OutOfMemory
         → PastTheEighth estimates.old (prefix_len is_estimate (words_before words.entry))) }
 {
-    'words: while let Some(measured) = words.next_measured() {
+    'words: loop {
+        if let Some(timed) = words.next_timed() {
+            note_timed(estimates, &timed)?;
+            continue;
+        }
+        let Some(measured) = words.next_measured() else {
+            return Ok(());
+        };
         if begins_item(&measured) {
             return Ok(());
         }
         note_measured(estimates, &measured)?;
     }
-    Ok(())
 }
 
 /// Records the words of an EET item, up to one that is no point with an elapsed time.

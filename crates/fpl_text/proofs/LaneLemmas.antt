@@ -1,5 +1,5 @@
 -- What the operations on vectors of 16 bytes hold at each lane.
-use Rattle.std.proofs.Common.{◌+◌, ◌≡◌, ◌↔◌, ℕ, ◌%◌, ◌^◌, ◌<◌, ◌≤◌, ◌-◌, List, [], ◌∷◌, Bool, true, false, cond, not, leb, eqb, ◌&&◌, ◌||◌, length, get_or, map, replicate, take, refl, sym, ap, ◌∙◌, arith, w8, w64, Fits, bit_and, bit_or, ⊎_elim, shr-shr, ◌/◌}
+use Rattle.std.proofs.Common.{◌+◌, ◌≡◌, ◌↔◌, ℕ, ◌%◌, ◌^◌, ◌<◌, ◌≤◌, ◌-◌, List, [], ◌∷◌, Bool, true, false, cond, not, leb, eqb, ◌&&◌, ◌||◌, length, get_or, map, replicate, take, refl, sym, ap, ◌∙◌, arith, w8, w64, Fits, bit_and, bit_or, ⊎_elim, shr-shr, ◌/◌, zero, suc}
 use Rattle.std.specs.Int.{bit_at, trailing_ones, trailing_zeros}
 use Rattle.std.specs.Int.RustNames.{count_ones}
 use Rattle.std.specs.List.{count_by, list_all}
@@ -9,7 +9,7 @@ use Rattle.std.proofs.lemmas.Nat.Bits.{bit_at-trailing_ones, bit_at-trailing_zer
 use Rattle.std.proofs.lemmas.Nat.{and_le_l, shr_le}
 use lib.Bits.{or_add_and}
 use Rattle.std.specs.Prelude.{max}
-use Rattle.std.proofs.lemmas.Bool.{cases_lt, leb-true, leb-false, lt-leb, le-leb}
+use Rattle.std.proofs.lemmas.Bool.{cases_lt, leb-true, leb-false, lt-leb, le-leb, and_parts}
 use Rattle.std.proofs.lemmas.List.{length-map, get_or_past}
 use Rattle.std.proofs.Math.ListN.{get_or-map}
 use Rattle.fpl_text.specs.Bytes.{is_digit, is_letter}
@@ -80,6 +80,14 @@ flags-left t v x long =
 unlike : (p : Bool) → cond p 0 255 ≡ flag (not p)
 unlike true = refl
 unlike false = refl
+
+-- flags by the comparison of two vectors
+pub flags-each : (t : ℕ → ℕ → Bool) (a b : List ℕ) → length a ≡ 16 → length b ≡ 16
+    → HasFlags (sel_l (zip2 t a b) (replicate 16 255) (replicate 16 0)) (λ k. t (get_or a k 0) (get_or b k 0))
+flags-each t a b p q =
+    lanes-same _ _ _
+    (λ k l. λ i. cond (t (get_or a k 0) (get_or b k 0)) (get_or-replicate 16 k 255 0 l i) (get_or-replicate 16 k 0 0 l i))
+    (lanes-compared t a b (replicate 16 255) (replicate 16 0) p q refl refl)
 
 -- flags if the comparison with a splat fails
 pub flags-other : (t : ℕ → ℕ → Bool) (v : List ℕ) (x : ℕ) → length v ≡ 16
@@ -266,3 +274,36 @@ four-in (a ∷ b ∷ c ∷ d ∷ []) low high long fits order most =
     ∙ (λ i.
     in-range a low high (fits 0).fits order most i && (in-range b low high (fits 1).fits order most i && (in-range c low high (fits 2).fits order most i && (in-range d low high (fits 3).fits order most i && true))))
 four-in (a ∷ b ∷ c ∷ d ∷ e ∷ text) low high long fits order most = absurd (omega (arith, long))
+
+-- ---- four letters, four digits and a space
+
+abbrev pub timed_low : List ℕ
+timed_low = 65 ∷ 65 ∷ 65 ∷ 65 ∷ 48 ∷ 48 ∷ 48 ∷ 48 ∷ 32 ∷ 0 ∷ 0 ∷ 0 ∷ 0 ∷ 0 ∷ 0 ∷ 0 ∷ []
+
+abbrev pub timed_high : List ℕ
+timed_high = 90 ∷ 90 ∷ 90 ∷ 90 ∷ 57 ∷ 57 ∷ 57 ∷ 57 ∷ 32 ∷ 255 ∷ 255 ∷ 255 ∷ 255 ∷ 255 ∷ 255 ∷ 255 ∷ []
+
+-- lane k holds a byte between the two
+abbrev pub lies : List ℕ → ℕ → Bool
+lies v k = leb (get_or timed_low k 0) (get_or v k 0) && leb (get_or v k 0) (get_or timed_high k 0)
+
+pub timed-letter : (v : List ℕ) (k : ℕ) → k < 4 → lies v k ≡ true → is_letter (get_or v k 0) ≡ true
+unfolding is_letter
+timed-letter v zero l h = h
+timed-letter v (suc zero) l h = h
+timed-letter v (suc (suc zero)) l h = h
+timed-letter v (suc (suc (suc zero))) l h = h
+timed-letter v (suc (suc (suc (suc k)))) l h = absurd (omega arith)
+
+pub timed-digit : (v : List ℕ) (k : ℕ) → k < 4 → lies v (4 + k) ≡ true → is_digit (get_or v (4 + k) 0) ≡ true
+unfolding is_digit
+timed-digit v zero l h = h
+timed-digit v (suc zero) l h = h
+timed-digit v (suc (suc zero)) l h = h
+timed-digit v (suc (suc (suc zero))) l h = h
+timed-digit v (suc (suc (suc (suc k)))) l h = absurd (omega arith)
+
+pub timed-space : (v : List ℕ) → lies v 8 ≡ true → get_or v 8 0 ≡ 32
+timed-space v h =
+    let parts = and_parts _ _ h in
+    omega (arith, leb-true 32 (get_or v 8 0) parts.0, leb-true (get_or v 8 0) 32 parts.1)

@@ -292,6 +292,39 @@ pub(crate) fn letters_or_digits_at(text: &[u8], at: usize) -> usize
     set_lanes_from(letter_or_digit_lanes(letter_lanes(lanes), lanes), 0)
 }
 
+/// The lowest byte of each lane of a timed word: four letters, four digits, and the space after it.
+const TIMED_LOW: [u8; 16] = [65, 65, 65, 65, 48, 48, 48, 48, 32, 0, 0, 0, 0, 0, 0, 0];
+
+/// The highest byte of each.
+const TIMED_HIGH: [u8; 16] = [
+    90, 90, 90, 90, 57, 57, 57, 57, 32, 255, 255, 255, 255, 255, 255, 255,
+];
+
+/// Flags the lanes in which `low` is no more than `high`.
+#[inline(always)]
+fn in_order(low: u8x16, high: u8x16) -> u8x16
+    ensures { HasFlags result (λ k. nat_le (slice_index low k) (slice_index high k)) }
+{
+    low.simd_le(high).select(u8x16::splat(255), u8x16::splat(0))
+}
+
+/// Whether the 16 bytes at `at` begin with four letters, four digits and a space.
+#[inline(always)]
+#[tactic(auto, unfolding(crate::specs::Bytes::is_letter, crate::specs::Bytes::is_digit))]
+pub(crate) fn begins_timed(text: &[u8], at: usize) -> bool
+    requires { at + 16 ≤ length text.now }
+    ensures letters { result ≡ true → (k : ℕ) → k < 4
+        → is_letter (slice_index text.now (at + k)) ≡ true }
+    ensures digits { result ≡ true → (k : ℕ) → k < 4
+        → is_digit (slice_index text.now (at + 4 + k)) ≡ true }
+    ensures space { result ≡ true → slice_index text.now (at + 8) ≡ 32 }
+{
+    let lanes = load(text, at);
+    let from = in_order(u8x16::from_array(TIMED_LOW), lanes);
+    let to = in_order(lanes, u8x16::from_array(TIMED_HIGH));
+    set_lanes_from(both(from, to), 0) >= 9
+}
+
 /// Whether four bytes are all from `low` to `high`.
 #[inline(always)]
 fn are_between(text: &[u8], low: u8, high: u8) -> bool

@@ -52,4 +52,4 @@ pub use place::{Alternates, Departure, Destination};
 pub use squeezed::Squeezed;
 pub use text::Text;
 pub use time::{ELAPSED_LIMIT, TimeOfDay, read_elapsed};
-pub use words::{Measured, Words, space_count};
+pub use words::{Measured, Timed, Words, space_count};

@@ -124,3 +124,20 @@ pub fn read_elapsed(text: &[u8]) -> Option<u32>
     let minutes = hhmm_below(100, text)?;
     Some(u32::from(minutes))
 }
+
+/// The minutes of an elapsed time of four digits, as `read_elapsed` reads it.
+#[inline(always)]
+#[tactic(auto, unfolding(crate::specs::Times::hhmm_below))]
+pub(crate) fn elapsed_of_digits(text: &[u8]) -> Option<u32>
+    requires four { length text.now ≡ 4 }
+    requires digits { list_all is_digit text.now ≡ true }
+    ensures value { result ≡ elapsed_time text.now }
+    ensures bound { IfSome result (λ minutes. minutes < ELAPSED_LIMIT) }
+{
+    let (hour, minute) = pairs_of(text);
+    if minute < 60 {
+        Some(60 * hour + minute)
+    } else {
+        None
+    }
+}
