@@ -1,4 +1,4 @@
--- What is found by comparing sixteen bytes at once, and the rest one by one, is the first index
+-- What is found by comparing 32 bytes at once, and the rest one by one, is the first index
 -- that passes a test.
 use Rattle.std.proofs.Common.{◌≡◌, ◌+◌, ◌-◌, ◌<◌, ◌≤◌, ◌%◌, ◌^◌, ℕ, Bool, true, false, cond, leb, eqb, ltb, ◌||◌, bit_or, List, [], ◌∷◌, map, replicate, length, take, drop, get_or, Some, None, refl, sym, subst, ap, ◌∙◌, arith, w64, ⊎_elim}
 use Rattle.std.specs.Int.{bit_at, trailing_zeros}
@@ -40,39 +40,39 @@ either_tops a b [] = refl
 either_tops a b (x ∷ xs) = λ i. either_top (eqb x a) (eqb x b) i ∷ either_tops a b xs i
 
 -- `to_bitmask` of the lanes that hold one of two bytes
-pub either_bitmask : (a b : ℕ) (xs : List ℕ) → length xs ≡ 16
-    → mask_l (map (top 7) (zip2 bit_or (zip2 (λ x y. cond (eqb x y) 255 0) xs (replicate 16 a)) (zip2 (λ x y. cond (eqb x y) 255 0) xs (replicate 16 b)))) % 2 ^ 64 ≡ mask_l (map (is_byte2 a b) xs)
+pub either_bitmask : (a b : ℕ) (xs : List ℕ) → length xs ≡ 32
+    → mask_l (map (top 7) (zip2 bit_or (zip2 (λ x y. cond (eqb x y) 255 0) xs (replicate 32 a)) (zip2 (λ x y. cond (eqb x y) 255 0) xs (replicate 32 b)))) % 2 ^ 64 ≡ mask_l (map (is_byte2 a b) xs)
 either_bitmask a b xs long =
     let tops = subst
     (λ n. map (top 7) (zip2 bit_or (zip2 (λ x y. cond (eqb x y) 255 0) xs (replicate n a)) (zip2 (λ x y. cond (eqb x y) 255 0) xs (replicate n b))) ≡ map (is_byte2 a b) xs)
     long (either_tops a b xs) in
     ap (λ ms. mask_l ms % 2 ^ 64) tops ∙ mask_l-mod (map (is_byte2 a b) xs) 64 (omega (arith, length-map xs (is_byte2 a b), long))
 
--- a vector of sixteen bytes that has one
-pub found-position : (test : ℕ → Bool) (bytes : List ℕ) (at m : ℕ) → at + 16 ≤ length bytes → NoneBefore test bytes at → m ≡ mask_l (map test (chunk at 16 bytes)) → 0 < m
+-- a vector of 32 bytes that has one
+pub found-position : (test : ℕ → Bool) (bytes : List ℕ) (at m : ℕ) → at + 32 ≤ length bytes → NoneBefore test bytes at → m ≡ mask_l (map test (chunk at 32 bytes)) → 0 < m
     → Some (at + trailing_zeros w64 m) ≡ position test bytes
 found-position test bytes at m room none is some =
-    let lanes = chunk at 16 bytes in
-    let long : length lanes ≡ 16 = length-chunk at 16 bytes room in
+    let lanes = chunk at 32 bytes in
+    let long : length lanes ≡ 32 = length-chunk at 32 bytes room in
     let n = mask_l (map test lanes) in
-    let few : n < 65536 = rw (length-map lanes test, long) at (mask_l-lt (map test lanes)) in
+    let few : n < 4294967296 = rw (length-map lanes test, long) at (mask_l-lt (map test lanes)) in
     let r = trailing_zeros w64 n in
     let counted = trailing_mask_l test 64 lanes (omega arith) (omega arith) in
     let t = bit_at-trailing_zeros w64 n (omega arith) (omega arith) in
-    let past : bit_at n 16 ≡ 0 = bit_mask_l (map test lanes) 16 ∙ ap (λ b. cond b 1 0) (get_or_past (map test lanes) 16 false (omega (arith, length-map lanes test, long))) in
-    let most : r ≤ 16 = run_in_chunk_le test bytes at 16 r 0 room counted in
-    let inside : r < 16 =
-    ⊎_elim (λ l. l) (λ h. let end : r ≡ 16 = omega (arith, most, h) in let one : bit_at n 16 ≡ 1 = rw end at t.1 in absurd (omega (arith, past, one))) (cases_lt r 16) in
+    let past : bit_at n 32 ≡ 0 = bit_mask_l (map test lanes) 32 ∙ ap (λ b. cond b 1 0) (get_or_past (map test lanes) 32 false (omega (arith, length-map lanes test, long))) in
+    let most : r ≤ 32 = run_in_chunk_le test bytes at 32 r 0 room counted in
+    let inside : r < 32 =
+    ⊎_elim (λ l. l) (λ h. let end : r ≡ 32 = omega (arith, most, h) in let one : bit_at n 32 ≡ 1 = rw end at t.1 in absurd (omega (arith, past, one))) (cases_lt r 32) in
     rw is
     (first-position test bytes (at + r) (omega (arith, inside))
-    (λ k l. ⊎_elim (λ h. none k h) (λ h. run_in_chunk_fails test bytes at 16 r 0 room counted k h l) (cases_lt k at))
-    (run_in_chunk_stops test bytes at 16 r 0 room counted inside))
+    (λ k l. ⊎_elim (λ h. none k h) (λ h. run_in_chunk_fails test bytes at 32 r 0 room counted k h l) (cases_lt k at))
+    (run_in_chunk_stops test bytes at 32 r 0 room counted inside))
 
 -- one that finds none
-pub none-farther : (test : ℕ → Bool) (bytes : List ℕ) (at m : ℕ) → at + 16 ≤ length bytes → NoneBefore test bytes at → m ≡ mask_l (map test (chunk at 16 bytes)) → m ≡ 0
-    → NoneBefore test bytes (at + 16)
+pub none-farther : (test : ℕ → Bool) (bytes : List ℕ) (at m : ℕ) → at + 32 ≤ length bytes → NoneBefore test bytes at → m ≡ mask_l (map test (chunk at 32 bytes)) → m ≡ 0
+    → NoneBefore test bytes (at + 32)
 none-farther test bytes at m room none is zero k l =
-    ⊎_elim (λ h. none k h) (λ h. none_from_empty_mask test bytes at 16 0 room (sym is ∙ zero) k h l) (cases_lt k at)
+    ⊎_elim (λ h. none k h) (λ h. none_from_empty_mask test bytes at 32 0 room (sym is ∙ zero) k h l) (cases_lt k at)
 
 later : (test : ℕ → Bool) (bytes : List ℕ) (at j : ℕ) → at ≤ j → test (get_or (drop at bytes) (j - at) 0) ≡ false → test (get_or bytes j 0) ≡ false
 later test bytes at j h fails = let same : at + (j - at) ≡ j = omega (arith, h) in rw (get_or-drop at bytes (j - at) 0, same) at fails

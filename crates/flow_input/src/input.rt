@@ -278,20 +278,20 @@ fn first_of_few(byte: u8, other: u8, bytes: &[u8]) -> Option<usize>
     bytes.iter().position(|it| *it == byte || *it == other)
 }
 
-/// The index of the first of two bytes, compared in 16-byte vectors. Frames are short, so the wider
+/// The index of the first of two bytes, compared in 32-byte vectors. Frames are short, so the wider
 /// vectors of the crate `memchr` gain nothing.
 pub(crate) fn first_of(byte: u8, other: u8, bytes: &[u8]) -> Option<usize>
     ensures { result ≡ position (is_byte2 byte other) bytes.now }
 {
     let mut at = 0;
-    'looks: while bytes.len() - at >= 16 {
-        let lanes = u8x16::from_slice(&bytes[at..]);
-        let found = lanes.simd_eq(u8x16::splat(byte)) | lanes.simd_eq(u8x16::splat(other));
+    'looks: while bytes.len() - at >= 32 {
+        let lanes = u8x32::from_slice(&bytes[at..]);
+        let found = lanes.simd_eq(u8x32::splat(byte)) | lanes.simd_eq(u8x32::splat(other));
         let bits = found.to_bitmask();
         if bits != 0 {
             return Some(at + bits.trailing_zeros() as usize);
         }
-        at += 16;
+        at += 32;
     }
     let rest = first_of_few(byte, other, &bytes[at..])?;
     Some(at + rest)

@@ -6,14 +6,14 @@ use Rattle.flow_input.proofs.input.first_of.Goals as goal
 
 pub returns-then-bits-ne0 : goal.returns-then-bits-ne0
 returns-then-bits-ne0 c =
-    let room : c.looks.at + 16 ≤ length c.args.bytes.now = omega (arith, c.looks-test.true) in
-    let is = either_bitmask c.args.byte c.args.other (take 16 (drop c.looks.at c.args.bytes.now)) (length-chunk c.looks.at 16 c.args.bytes.now room) in
+    let room : c.looks.at + 32 ≤ length c.args.bytes.now = omega (arith, c.looks-test.true) in
+    let is = either_bitmask c.args.byte c.args.other (take 32 (drop c.looks.at c.args.bytes.now)) (length-chunk c.looks.at 32 c.args.bytes.now room) in
     found-position (is_byte2 c.args.byte c.args.other) c.args.bytes.now c.looks.at _ room c.looks.invariant.none is (omega (arith, c.if-bits-ne0.true))
 
 pub looks-preserved : goal.looks-preserved
 looks-preserved c =
-    let room : c.looks.at + 16 ≤ length c.args.bytes.now = omega (arith, c.looks-test.true) in
-    let is = either_bitmask c.args.byte c.args.other (take 16 (drop c.looks.at c.args.bytes.now)) (length-chunk c.looks.at 16 c.args.bytes.now room) in
+    let room : c.looks.at + 32 ≤ length c.args.bytes.now = omega (arith, c.looks-test.true) in
+    let is = either_bitmask c.args.byte c.args.other (take 32 (drop c.looks.at c.args.bytes.now)) (length-chunk c.looks.at 32 c.args.bytes.now room) in
     record {
       within = room;
       none = none-farther (is_byte2 c.args.byte c.args.other) c.args.bytes.now c.looks.at _ room c.looks.invariant.none is c.if-bits-ne0.false;
