@@ -391,6 +391,17 @@ fn read_field<A: Allocator + Copy>(
 }
 
 impl<A: Allocator + Copy> Other18<A> {
+    /// What a field without items says. Doesn't allocate.
+    pub fn none(alloc: A) -> Self
+        ensures { TellsOf [] result }
+    {
+        Other18 {
+            estimates: Estimates::new(alloc),
+            day: None,
+            exempt: false,
+        }
+    }
+
     /// Reads field 18: `0`, or one or more items. Refuses the first fault from the left:
     /// `BadField(18)` for a field that doesn't begin with an item, and for an EET item with a word
     /// that is no point with an elapsed time; `BadDate` for a DOF item that is not exactly one
@@ -403,16 +414,32 @@ impl<A: Allocator + Copy> Other18<A> {
         ensures memory { IfErr result
             (λ fault. fault ≡ ItemFault.OutOfMemory → 8 < noted_of_field field.now) }
     {
+        let mut other = Other18::none(alloc);
+        match other.renew(alloc, field) {
+            Ok(()) => Ok(other),
+            Err(fault) => Err(fault),
+        }
+    }
+
+    /// Reads another field 18 into this value, as [`read`](Other18::read) does, which saves copies
+    /// of it. An `Err` leaves it unchanged.
+    pub fn renew(&mut self, alloc: A, field: &[u8]) -> Result<(), ItemFault>
+        ensures value { ReadsAs (λ _. items_of (words_of field.now)) result
+            (items_or_fault field.now) }
+        ensures tells { IfOk result (λ _. TellsOf (items_of (words_of field.now)) self.new) }
+        ensures unchanged { IfErr result (λ _. self.new ≡ self.old) }
+        ensures memory { IfErr result
+            (λ fault. fault ≡ ItemFault.OutOfMemory → 8 < noted_of_field field.now) }
+    {
         let mut estimates = Estimates::new(alloc);
         let effects = match read_field(&mut estimates, field) {
             Ok(effects) => effects,
             Err(fault) => return Err(fault),
         };
-        Ok(Other18 {
-            estimates,
-            day: effects.day,
-            exempt: effects.exempt,
-        })
+        self.estimates = estimates;
+        self.day = effects.day;
+        self.exempt = effects.exempt;
+        Ok(())
     }
 
     /// The day of flight of the first DOF item.

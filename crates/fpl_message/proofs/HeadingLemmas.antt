@@ -16,7 +16,7 @@ use Rattle.fpl_message.specs.declared.refusal.Refusal.{Refusal}
 use Rattle.fpl_message.specs.declared.refusal.Refusal.TheVariants as refusal
 use Rattle.fpl_message.specs.Filings.{FilingView}
 use Rattle.fpl_message.specs.Messages.{field, Message, Order}
-use Rattle.fpl_message.specs.FlightPlans.{fpl_of}
+use Rattle.fpl_message.specs.FlightPlans.{fpl_of, flight_of}
 use Rattle.fpl_message.specs.ShortMessages.{opening_of}
 use Rattle.fpl_message.specs.Modifications.{chg_of}
 use Rattle.fpl_message.specs.Orders.{order_of}
@@ -25,7 +25,7 @@ use Rattle.fpl_message.specs.Reads.{msg, ord, begins_message, titled_message, me
 
 -- a message without a right field 3 is refused
 titled-none : (title : Option Title) (fields : List (List ℕ)) → heading_of (field fields 0) ≡ None → IsErr (titled_message title fields)
-unfolding fpl_of opening_of chg_of
+unfolding fpl_of flight_of opening_of chg_of
 titled-none (Some title.Fpl) fields h = rw h refl
 titled-none (Some title.Dla) fields h = rw h refl
 titled-none (Some title.Cnl) fields h = rw h refl

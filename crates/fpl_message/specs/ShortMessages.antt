@@ -12,10 +12,14 @@ use Rattle.fpl_message.specs.declared.short_message.Dep.{Dep}
 use Rattle.fpl_message.specs.Refusals.{◌>>=◌, by_items, in_field}
 use Rattle.fpl_message.specs.Messages.{field}
 
--- the day of the DOF item of field 18, the fifth field, if there is one
+-- the day of the DOF item of a field 18
+abbrev pub day_of_other : List ℕ → Result (Option ℕ) Refusal
+day_of_other field = by_items (items_or_fault field) >>= (λ items. Ok (day_of_items items))
+
+-- the day of field 18, the fifth field, if there is one
 abbrev pub other_day : Bool → List (List ℕ) → Result (Option ℕ) Refusal
 other_day has_other fields =
-    if has_other then by_items (items_or_fault (field fields 4)) >>= (λ items. Ok (day_of_items items)) else Ok None
+    if has_other then day_of_other (field fields 4) else Ok None
 
 -- fields 3, 7, 13 and 16, and then field 18 or none, read from the left
 unfoldable pub opening_of : Bool → List (List ℕ) → Result Opening Refusal

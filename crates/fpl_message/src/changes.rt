@@ -176,7 +176,8 @@ impl<A: Allocator + Copy> Changes<A> {
         if self.field18.is_some() {
             return Err(Fault::Refused(Refusal::DuplicateItem));
         }
-        let other = Other18::read(alloc, amended_at(fields, place))?;
+        let mut other = Other18::none(alloc);
+        other.renew(alloc, amended_at(fields, place))?;
         self.field18 = Some(place);
         self.other = Some(other);
         Ok(())

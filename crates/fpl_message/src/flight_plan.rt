@@ -1,11 +1,11 @@
 //! The filed flight plan message, FPL.
-ghost use Rattle.std.specs.Prelude.{◌≡◌, ◌<◌, length, Some, Ok, IfOk, IfErr};
+ghost use Rattle.std.specs.Prelude.{◌≡◌, ◌≢◌, ◌<◌, true, length, Ok, Err, IfOk, IfErr};
 ghost use Rattle.fpl_message.specs.Refusals.{ReturnsAs, RunsOutOnlyIf, IsPastTheEighth};
 ghost use Rattle.fpl_items.specs.Routes.{is_route, path_or_fault};
 ghost use Rattle.fpl_text.specs.Words.{words_of};
 ghost use Rattle.fpl_items.specs.Items.{items_of};
 ghost use Rattle.fpl_items.specs.Other18.{TellsOf};
-ghost use Rattle.fpl_message.specs.FlightPlans.{fpl_of};
+ghost use Rattle.fpl_message.specs.FlightPlans.{fpl_of, flight_of};
 ghost use Rattle.fpl_message.specs.Messages.{field};
 ghost use Rattle.fpl_text.specs.declared.time.TheConstants.{ELAPSED_LIMIT};
 
@@ -17,16 +17,22 @@ use std::alloc::{Allocator, Global};
 use std::marker::Model;
 use std::mem::replace;
 
-/// A filed flight plan (ICAO Doc 4444, appendix 2), with the squeezed texts of its nine fields.
+/// What fields 7 to 16 of a flight plan say.
 #[derive(Drop)]
-pub struct Fpl<A: Allocator + Copy = Global> {
-    fields: Fields<A>,
+pub struct Flight {
     ident: Ident,
     rules: Rules,
     craft: Craft,
     departure: Departure,
     destination: Destination,
     elapsed: u32,
+}
+
+/// A filed flight plan (ICAO Doc 4444, appendix 2), with the squeezed texts of its nine fields.
+#[derive(Drop)]
+pub struct Fpl<A: Allocator + Copy = Global> {
+    fields: Fields<A>,
+    flight: Flight,
     other: Other18<A>,
 }
 
@@ -43,34 +49,30 @@ impl<A: Allocator + Copy> Model for Fpl<A> {
 
     ghost view = { λ m. record {
       fields = m.fields;
-      ident = m.ident;
-      rules = m.rules;
-      craft = m.craft;
-      departure = m.departure;
-      destination = m.destination;
-      elapsed = m.elapsed;
+      ident = m.flight.ident;
+      rules = m.flight.rules;
+      craft = m.flight.craft;
+      departure = m.flight.departure;
+      destination = m.flight.destination;
+      elapsed = m.flight.elapsed;
       items = items_of (words_of (field m.fields 8));
     } };
 
     ghost invariant = { λ m. (length m.fields ≡ 9) × (is_route (field m.fields 6) ≡ true)
-        × (m.elapsed < ELAPSED_LIMIT)
+        × (m.flight.elapsed < ELAPSED_LIMIT)
         × TellsOf (items_of (words_of (field m.fields 8))) m.other };
 }
 
-impl<A: Allocator + Copy> Fpl<A> {
-    /// Reads the fields of an FPL, from the left. Allocates only for a ninth estimate of field 18,
-    /// and for a flight plan if there is no spare box.
-    #[tactic(auto, unfolding(crate::specs::FlightPlans::fpl_of))]
-    pub(crate) fn read(
-        alloc: A,
-        room: &mut Vec<u8, A>,
-        spare: &mut Option<Box<Fpl<A>, A>>,
-        fields: Fields<A>,
-    ) -> Result<Box<Fpl<A>, A>, Fault>
-        requires { length fields ≡ 9 }
-        ensures value { ReturnsAs (λ b. b.value) result (fpl_of fields) }
-        ensures memory { RunsOutOnlyIf result
-            (IfErr (fpl_of fields) (λ _. IsPastTheEighth (field fields 8) (fpl_of fields))) }
+impl Flight {
+    /// Reads the fields of an FPL before field 18, from the left.
+    #[inline(always)]
+    #[tactic(auto, unfolding(crate::specs::FlightPlans::flight_of))]
+    fn read<A: Allocator + Copy>(fields: &Fields<A>) -> Result<Flight, Fault>
+        requires { length fields.now ≡ 9 }
+        ensures value { ReturnsAs (λ flight. flight) result (flight_of fields.now) }
+        ensures memory { result ≢ Err Fault.OutOfMemory }
+        ensures route { IfOk result (λ _. is_route (field fields.now 6) ≡ true) }
+        ensures bound { IfOk result (λ flight. flight.elapsed < ELAPSED_LIMIT) }
     {
         let _heading = Heading::read(fields.field(0))?;
         let ident = Ident::read(fields.field(1))?;
@@ -87,76 +89,106 @@ impl<A: Allocator + Copy> Fpl<A> {
         let Some(elapsed) = destination.elapsed else {
             return Err(Fault::Refused(Refusal::BadField(16)));
         };
-        let other = Other18::read(alloc, fields.field(8))?;
-        let plan = Fpl {
-            fields,
+        Ok(Flight {
             ident,
             rules,
             craft,
             departure,
             destination,
             elapsed,
-            other,
-        };
+        })
+    }
+}
+
+impl<A: Allocator + Copy> Fpl<A> {
+    /// Reads the fields of an FPL, from the left. Allocates only for a ninth estimate of field 18,
+    /// and for a flight plan if there is no spare box.
+    pub(crate) fn read(
+        alloc: A,
+        room: &mut Vec<u8, A>,
+        spare: &mut Option<Box<Fpl<A>, A>>,
+        fields: Fields<A>,
+    ) -> Result<Box<Fpl<A>, A>, Fault>
+        requires { length fields ≡ 9 }
+        ensures value { ReturnsAs (λ b. b.value) result (fpl_of fields) }
+        ensures memory { RunsOutOnlyIf result
+            (IfErr (fpl_of fields) (λ _. IsPastTheEighth (field fields 8) (fpl_of fields))) }
+    {
         let Some(mut last) = spare.take() else {
-            return boxed(alloc, plan);
+            return Fpl::first(alloc, fields);
         };
-        last.renew(room, plan);
-        Ok(last)
+        match last.renew(alloc, room, fields) {
+            Ok(()) => Ok(last),
+            Err(fault) => {
+                *spare = Some(last);
+                Err(fault)
+            }
+        }
     }
 
-    /// Replaces the plan, and leaves the buffer of its text in `room`. It is inlined, since the
-    /// plan would be copied once more to be passed.
-    #[inline(always)]
-    fn renew(&mut self, room: &mut Vec<u8, A>, plan: Fpl<A>)
-        ensures { self.new ≡ plan }
+    /// Reads the fields of an FPL for which there is no spare box.
+    #[cold]
+    #[inline(never)]
+    #[tactic(auto, unfolding(crate::specs::FlightPlans::fpl_of))]
+    fn first(alloc: A, fields: Fields<A>) -> Result<Box<Fpl<A>, A>, Fault>
+        requires { length fields ≡ 9 }
+        ensures value { ReturnsAs (λ b. b.value) result (fpl_of fields) }
+        ensures memory { RunsOutOnlyIf result
+            (IfErr (fpl_of fields) (λ _. IsPastTheEighth (field fields 8) (fpl_of fields))) }
     {
-        let Fpl {
-            fields,
-            ident,
-            rules,
-            craft,
-            departure,
-            destination,
-            elapsed,
-            other,
-        } = plan;
+        let flight = Flight::read(&fields)?;
+        let other = Other18::read(alloc, fields.field(8))?;
+        boxed(
+            alloc,
+            Fpl {
+                fields,
+                flight,
+                other,
+            },
+        )
+    }
+
+    /// Reads other fields into this plan, and leaves the buffer of its text in `room`.
+    #[tactic(auto, unfolding(crate::specs::FlightPlans::fpl_of))]
+    fn renew(&mut self, alloc: A, room: &mut Vec<u8, A>, fields: Fields<A>) -> Result<(), Fault>
+        requires { length fields ≡ 9 }
+        ensures value { ReturnsAs (λ _. self.new) result (fpl_of fields) }
+        ensures memory { RunsOutOnlyIf result
+            (IfErr (fpl_of fields) (λ _. IsPastTheEighth (field fields 8) (fpl_of fields))) }
+    {
+        let flight = Flight::read(&fields)?;
+        self.other.renew(alloc, fields.field(8))?;
         *room = replace(&mut self.fields, fields).into_room();
-        self.ident = ident;
-        self.rules = rules;
-        self.craft = craft;
-        self.departure = departure;
-        self.destination = destination;
-        self.elapsed = elapsed;
-        self.other = other;
+        self.flight = flight;
+        Ok(())
     }
 
     /// Returns the identification, of field 7.
     pub fn ident(&self) -> &Ident
         ensures { result.now ≡ self.now.ident }
     {
-        &self.ident
+        &self.flight.ident
     }
 
     /// Returns the flight rules and the type of flight, of field 8.
     pub fn rules(&self) -> &Rules
         ensures { result.now ≡ self.now.rules }
     {
-        &self.rules
+        &self.flight.rules
     }
 
     /// Returns the aircraft, of field 9.
     pub fn craft(&self) -> &Craft
         ensures { result.now ≡ self.now.craft }
     {
-        &self.craft
+        &self.flight.craft
     }
 
     /// Returns the departure aerodrome and the off-block time, of field 13.
     pub fn departure(&self) -> &Departure
         ensures { result.now ≡ self.now.departure }
     {
-        &self.departure
+        &self.flight.departure
     }
 
     /// Returns the route, of field 15. It is read anew at each call, since a desk never asks for
@@ -172,7 +204,7 @@ impl<A: Allocator + Copy> Fpl<A> {
     pub fn destination(&self) -> &Destination
         ensures { result.now ≡ self.now.destination }
     {
-        &self.destination
+        &self.flight.destination
     }
 
     /// Returns the total elapsed time of field 16 in minutes, at most 5,999.
@@ -180,7 +212,7 @@ impl<A: Allocator + Copy> Fpl<A> {
         ensures value { result ≡ self.now.elapsed }
         ensures bound { result < ELAPSED_LIMIT }
     {
-        self.elapsed
+        self.flight.elapsed
     }
 
     /// Returns what the items of field 18 say.

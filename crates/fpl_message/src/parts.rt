@@ -4,7 +4,7 @@ ghost use Rattle.std.specs.Prelude.{◌≡◌, true};
 ghost use Rattle.fpl_items.specs.Estimates.{noted_of_field};
 ghost use Rattle.fpl_message.specs.Messages.{field};
 ghost use Rattle.fpl_message.specs.Refusals.{ReturnsAs, RunsOutOnlyIf, IsPastTheEighth};
-ghost use Rattle.fpl_message.specs.ShortMessages.{opening_of, other_day};
+ghost use Rattle.fpl_message.specs.ShortMessages.{opening_of, other_day, day_of_other};
 
 use crate::fault::Fault;
 use fpl_items::Other18;
@@ -76,6 +76,7 @@ pub(crate) fn read_opening<A: Allocator + Copy>(
 }
 
 /// Reads the day of field 18, the fifth field, if there is one.
+#[inline(always)]
 fn read_day<A: Allocator + Copy>(
     alloc: A,
     has_other: bool,
@@ -89,6 +90,16 @@ fn read_day<A: Allocator + Copy>(
     if !has_other {
         return Ok(None);
     }
-    let other = Other18::read(alloc, fields.field(4))?;
+    read_day_of(alloc, fields.field(4))
+}
+
+/// Reads the day of a field 18. Most messages have none, so this is a call.
+#[inline(never)]
+fn read_day_of<A: Allocator + Copy>(alloc: A, field: &[u8]) -> Result<Option<Day>, Fault>
+    ensures value { ReturnsAs (λ day. day) result (day_of_other field.now) }
+    ensures memory { RunsOutOnlyIf result (8 < noted_of_field field.now) }
+{
+    let mut other = Other18::none(alloc);
+    other.renew(alloc, field)?;
     Ok(other.day())
 }
