@@ -1,18 +1,19 @@
 -- What the operations on vectors of 16 bytes hold at each lane.
-use Rattle.std.proofs.Common.{◌+◌, ◌≡◌, ◌↔◌, ℕ, ◌%◌, ◌^◌, ◌<◌, ◌≤◌, ◌-◌, List, [], ◌∷◌, Bool, true, false, cond, not, leb, eqb, ◌&&◌, ◌||◌, length, get_or, map, replicate, take, refl, sym, ap, ◌∙◌, arith, w8, w64, Fits, bit_and, bit_or, ⊎_elim, shr-shr, ◌/◌, zero, suc}
+use Rattle.std.proofs.Common.{◌+◌, ◌≡◌, ◌↔◌, ℕ, ◌%◌, ◌^◌, ◌<◌, ◌≤◌, ◌-◌, List, [], ◌∷◌, Bool, true, false, cond, not, leb, eqb, ◌&&◌, ◌||◌, length, get_or, map, replicate, take, refl, sym, ap, ◌∙◌, arith, w8, w64, Fits, bit_and, bit_or, ⊎_elim, shr-shr, ◌/◌, zero, suc, ◌*◌, ◌++◌, drop}
 use Rattle.std.specs.Int.{bit_at, trailing_ones, trailing_zeros}
 use Rattle.std.specs.Int.RustNames.{count_ones}
 use Rattle.std.specs.List.{count_by, list_all}
-use Rattle.std.specs.Simd.Lanes.{zip2, sel_l, mask_l, top}
-use Rattle.std.proofs.lemmas.Simd.{bitmask_splat, ones-mask_l, length-zip2, get_or-zip2, get_or-replicate, length-sel_l, get_or-sel_l, bit_mask_l, tops_compared, mask_l-mod, mask_l-lt}
+use Rattle.std.specs.Simd.Lanes.{Each1, zip2, sel_l, mask_l, top}
+use Rattle.std.specs.Cmp.{both_ways}
+use Rattle.std.proofs.lemmas.Simd.{bitmask_splat, ones-mask_l, length-zip2, get_or-zip2, get_or-replicate, length-sel_l, get_or-sel_l, bit_mask_l, tops_compared, mask_l-mod, mask_l-lt, length-chunk, chunk-fits}
 use Rattle.std.proofs.lemmas.Nat.Bits.{bit_at-trailing_ones, bit_at-trailing_zeros, bit_at-pow_same, bit_at-pow_other, bit_at_or}
 use Rattle.std.proofs.lemmas.Nat.{and_le_l, shr_le}
 use lib.Bits.{or_add_and}
 use Rattle.std.specs.Prelude.{max}
-use Rattle.std.proofs.lemmas.Bool.{cases_lt, leb-true, leb-false, lt-leb, le-leb, and_parts}
-use Rattle.std.proofs.lemmas.List.{length-map, get_or_past}
+use Rattle.std.proofs.lemmas.Bool.{cases_lt, leb-true, leb-false, lt-leb, le-leb, and_parts, eqb-true, eq-eqb, agree_below_at}
+use Rattle.std.proofs.lemmas.List.{length-map, get_or_past, length-append, length-take}
 use Rattle.std.proofs.Math.ListN.{get_or-map}
-use Rattle.fpl_text.specs.Bytes.{is_digit, is_letter}
+use Rattle.fpl_text.specs.Bytes.{is_digit, is_letter, is_letter_or_digit}
 use Rattle.fpl_text.specs.Lanes.{HasLanes, HasFlags, flag}
 
 and_flags : (p q : Bool) → bit_and (flag p) (flag q) ≡ flag (p && q)
@@ -307,3 +308,103 @@ pub timed-space : (v : List ℕ) → lies v 8 ≡ true → get_or v 8 0 ≡ 32
 timed-space v h =
     let parts = and_parts _ _ h in
     omega (arith, leb-true 32 (get_or v 8 0) parts.0, leb-true (get_or v 8 0) 32 parts.1)
+
+-- ---- 4 to 8 bytes
+
+double : (n : ℕ) → 2 ^ suc n ≡ 2 * 2 ^ n
+double n = omega arith
+
+-- the bitmask of lanes that all pass
+all-set : (ms : List Bool) → eqb (mask_l ms) (2 ^ length ms - 1) ≡ list_all (λ m. m) ms
+all-set [] = refl
+all-set (false ∷ ms) = not_from_ne (eqb (0 + 2 * mask_l ms) (2 ^ suc (length ms) - 1)) (λ e. let same = eqb-true _ _ e in absurd (omega (arith, same, double (length ms), mask_l-lt ms)))
+  where
+    not_from_ne : (b : Bool) → (b ≡ true → ⊥) → b ≡ false
+    not_from_ne true f = absurd (f refl)
+    not_from_ne false f = refl
+all-set (true ∷ ms) =
+    both_ways (eqb (1 + 2 * mask_l ms) (2 ^ suc (length ms) - 1)) (eqb (mask_l ms) (2 ^ length ms - 1))
+    (λ e. let same = eqb-true _ _ e in eq-eqb _ _ (omega (arith, same, double (length ms), mask_l-lt ms)))
+    (λ e. let same = eqb-true _ _ e in eq-eqb _ _ (omega (arith, same, double (length ms), mask_l-lt ms)))
+    ∙ all-set ms
+
+abbrev in_either : ℕ → Bool
+in_either x = leb 128 (bit_or (cond (leb ((x + (2 ^ 8 - 65)) % 2 ^ 8) 25) 255 0) (cond (leb ((x + (2 ^ 8 - 48)) % 2 ^ 8) 9) 255 0))
+
+either-is : (x : ℕ) → x < 256 → in_either x ≡ is_letter_or_digit x
+unfolding is_letter is_digit
+either-is x l = agree_below_at (λ b. in_either b) (λ b. is_letter_or_digit b) 256 x refl l
+
+all-either : (v : List ℕ) → Each1 (Fits w8) v → list_all (λ m. m) (map in_either v) ≡ list_all is_letter_or_digit v
+all-either [] fits = refl
+all-either (x ∷ v) fits = λ i. either-is x fits.0.fits i && all-either v fits.1 i
+
+-- the two comparisons of eight lanes
+pub eight-in : (v : List ℕ) → length v ≡ 8 → Each1 (Fits w8) v
+    → eqb (mask_l (map (top 7) (zip2 bit_or
+    (zip2 (λ a b. cond (leb a b) 255 0) (zip2 (λ a b. (a + (2 ^ 8 - b)) % 2 ^ 8) v (replicate 8 65)) (replicate 8 25))
+    (zip2 (λ a b. cond (leb a b) 255 0) (zip2 (λ a b. (a + (2 ^ 8 - b)) % 2 ^ 8) v (replicate 8 48)) (replicate 8 9)))) % 2 ^ 64) 255
+    ≡ list_all is_letter_or_digit v
+eight-in (a ∷ b ∷ c ∷ d ∷ e ∷ f ∷ g ∷ h ∷ []) long fits =
+    let v : List ℕ = a ∷ b ∷ c ∷ d ∷ e ∷ f ∷ g ∷ h ∷ [] in
+    ap (λ m. eqb m 255) (mask_l-mod (map in_either v) 64 (omega arith)) ∙ all-set (map in_either v) ∙ all-either v fits
+eight-in [] long fits = absurd (omega (arith, long))
+eight-in (a ∷ []) long fits = absurd (omega (arith, long))
+eight-in (a ∷ b ∷ []) long fits = absurd (omega (arith, long))
+eight-in (a ∷ b ∷ c ∷ []) long fits = absurd (omega (arith, long))
+eight-in (a ∷ b ∷ c ∷ d ∷ []) long fits = absurd (omega (arith, long))
+eight-in (a ∷ b ∷ c ∷ d ∷ e ∷ []) long fits = absurd (omega (arith, long))
+eight-in (a ∷ b ∷ c ∷ d ∷ e ∷ f ∷ []) long fits = absurd (omega (arith, long))
+eight-in (a ∷ b ∷ c ∷ d ∷ e ∷ f ∷ g ∷ []) long fits = absurd (omega (arith, long))
+eight-in (a ∷ b ∷ c ∷ d ∷ e ∷ f ∷ g ∷ h ∷ i ∷ v) long fits = absurd (omega (arith, long))
+
+-- the first and the last four bytes
+abbrev pub ends : List ℕ → List ℕ
+ends text = take 4 text ++ take 4 (drop (length text - 4) text)
+
+pub length-ends : (text : List ℕ) → 4 ≤ length text → length (ends text) ≡ 8
+length-ends text long =
+    length-append (take 4 text) (take 4 (drop (length text - 4) text))
+    ∙ omega (arith, length-take 4 text, length-chunk (length text - 4) 4 text (omega (arith, long)), long)
+
+pub ends-all : (p : ℕ → Bool) (text : List ℕ) → 4 ≤ length text → length text ≤ 8 → list_all p (ends text) ≡ list_all p text
+ends-all p (a ∷ b ∷ c ∷ d ∷ []) long short = by (p a) (p b) (p c) (p d) where
+  by : (a b c d : Bool) → (a && (b && (c && (d && (a && (b && (c && (d && true)))))))) ≡ (a && (b && (c && (d && true))))
+  by false b c d = refl
+  by true false c d = refl
+  by true true false d = refl
+  by true true true false = refl
+  by true true true true = refl
+ends-all p (a ∷ b ∷ c ∷ d ∷ e ∷ []) long short = by (p a) (p b) (p c) (p d) (p e) where
+  by : (a b c d e : Bool) → (a && (b && (c && (d && (b && (c && (d && (e && true)))))))) ≡ (a && (b && (c && (d && (e && true)))))
+  by false b c d e = refl
+  by true false c d e = refl
+  by true true false d e = refl
+  by true true true false e = refl
+  by true true true true e = refl
+ends-all p (a ∷ b ∷ c ∷ d ∷ e ∷ f ∷ []) long short = by (p a) (p b) (p c) (p d) (p e) (p f) where
+  by : (a b c d e f : Bool) → (a && (b && (c && (d && (c && (d && (e && (f && true)))))))) ≡ (a && (b && (c && (d && (e && (f && true))))))
+  by false b c d e f = refl
+  by true false c d e f = refl
+  by true true false d e f = refl
+  by true true true false e f = refl
+  by true true true true e f = refl
+ends-all p (a ∷ b ∷ c ∷ d ∷ e ∷ f ∷ g ∷ []) long short = by (p a) (p b) (p c) (p d) (p e) (p f) (p g) where
+  by : (a b c d e f g : Bool) → (a && (b && (c && (d && (d && (e && (f && (g && true)))))))) ≡ (a && (b && (c && (d && (e && (f && (g && true)))))))
+  by false b c d e f g = refl
+  by true false c d e f g = refl
+  by true true false d e f g = refl
+  by true true true false e f g = refl
+  by true true true true e f g = refl
+ends-all p (a ∷ b ∷ c ∷ d ∷ e ∷ f ∷ g ∷ h ∷ []) long short = refl
+ends-all p (a ∷ b ∷ c ∷ d ∷ e ∷ f ∷ g ∷ h ∷ i ∷ text) long short = absurd (omega (arith, short))
+ends-all p [] long short = absurd (omega (arith, long))
+ends-all p (a ∷ []) long short = absurd (omega (arith, long))
+ends-all p (a ∷ b ∷ []) long short = absurd (omega (arith, long))
+ends-all p (a ∷ b ∷ c ∷ []) long short = absurd (omega (arith, long))
+
+pub ends-fit : (text : List ℕ) → ((i : ℕ) → Fits w8 (get_or text i 0)) → Each1 (Fits w8) (ends text)
+ends-fit text fits = both (take 4 text) _ (chunk-fits w8 0 4 text fits) (chunk-fits w8 (length text - 4) 4 text fits) where
+  both : (xs ys : List ℕ) → Each1 (Fits w8) xs → Each1 (Fits w8) ys → Each1 (Fits w8) (xs ++ ys)
+  both [] ys f g = g
+  both (x ∷ xs) ys f g = (f.0, both xs ys f.1 g)

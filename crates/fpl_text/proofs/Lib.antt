@@ -3,6 +3,7 @@ pub mod CutLemmas
 pub mod DaysLemmas
 pub mod FieldLawsProofs
 pub mod FieldPartsProofs
+pub mod IdentLemmas
 pub mod PathLemmas
 pub mod PlacesLemmas
 pub mod TextLemmas

@@ -1,7 +1,7 @@
 //! The kinds of bytes of a message (ICAO Doc 4444, appendix 3, and the characters that Annex 10
 //! allows in it), of one byte and of 16 in a vector. Only this file speaks of bits of a vector.
 
-ghost use Rattle.std.specs.Prelude.{◌≡◌, ◌≤◌, length, ◌<◌, ◌+◌, ◌↔◌, ◌==◌, ◌&&◌, ◌||◌};
+ghost use Rattle.std.specs.Prelude.{◌≡◌, ◌≤◌, length, ◌<◌, ◌+◌, ◌-◌, ◌++◌, ◌↔◌, ◌==◌, ◌&&◌, ◌||◌};
 ghost use Rattle.std.specs.Prelude.{if◌then◌else◌, nat_le, not, ℕ, Bool, true, false};
 ghost use Rattle.std.specs.Prelude.{slice_index, take, drop, count_by};
 ghost use Rattle.std.specs.List.{list_all, prefix_len};
@@ -354,6 +354,29 @@ pub(crate) fn are_letters(text: &[u8]) -> bool
     ensures { result ≡ list_all is_letter text.now }
 {
     are_between(text, b'A', b'Z')
+}
+
+/// The first and the last four of 4 to 8 bytes, which together are all of them.
+#[inline(always)]
+fn both_ends(text: &[u8]) -> u8x8
+    requires { 4 ≤ length text.now }
+    ensures { result ≡ take 4 text.now ++ take 4 (drop (length text.now - 4) text.now) }
+{
+    let last = u8x4::from_slice(&text[text.len() - 4..]);
+    u8x4::from_slice(text).shuffle(last, [0, 1, 2, 3, 4, 5, 6, 7])
+}
+
+/// Whether 4 to 8 bytes are all letters or digits.
+#[inline(always)]
+pub(crate) fn are_letters_or_digits(text: &[u8]) -> bool
+    requires some { 4 ≤ length text.now }
+    requires few { length text.now ≤ 8 }
+    ensures { result ≡ list_all is_letter_or_digit text.now }
+{
+    let ends = both_ends(text);
+    let letters = (ends - u8x8::splat(b'A')).simd_le(u8x8::splat(25));
+    let digits = (ends - u8x8::splat(b'0')).simd_le(u8x8::splat(9));
+    (letters | digits).to_bitmask() == 255
 }
 
 /// The number of lanes that hold this byte.

@@ -1,10 +1,12 @@
 //! Field 7: aircraft identification.
 
-ghost use Rattle.std.specs.Prelude.{◌≡◌, ◌<◌, ◌-◌, true};
+ghost use Rattle.std.specs.Prelude.{◌≡◌, ◌<◌, ◌-◌, ◌&&◌, true, length, nat_le};
+ghost use Rattle.std.specs.List.{list_all};
+ghost use Rattle.fpl_text.specs.Bytes.{is_letter_or_digit};
 ghost use Rattle.fpl_text.specs.Places.{is_octal, transponder_of, ident_of};
 ghost use Rattle.std.specs.Option.{ok_or};
 
-use crate::byte::leading_letters_or_digits;
+use crate::byte::{are_letters_or_digits, leading_letters_or_digits};
 use crate::fault::FieldFault;
 use crate::text::Text;
 
@@ -53,25 +55,44 @@ fn transponder_of(text: &[u8]) -> Option<Option<u16>>
     Some(Some(64 * high + low))
 }
 
+/// Whether a field is a name of 4 to 7 letters or digits, as most are, and has no code.
+#[inline(always)]
+fn is_name(field: &[u8]) -> bool
+    ensures { result ≡ nat_le 4 (length field.now) && (nat_le (length field.now) 7
+        && list_all is_letter_or_digit field.now) }
+{
+    field.len() >= 4 && field.len() <= 7 && are_letters_or_digits(field)
+}
+
+/// Reads a field of any form.
+#[inline(never)]
+#[tactic(auto, unfolding(crate::specs::Places::ident_of))]
+fn read_any(field: &[u8]) -> Option<Ident>
+    ensures { result ≡ ident_of field.now }
+{
+    let name_len = leading_letters_or_digits(field);
+    if name_len < 1 || name_len > 7 {
+        return None;
+    }
+    let (name, rest) = field.split_at(name_len);
+    let code = transponder_of(rest)?;
+    let name = Text::new(name);
+    Some(Ident { name, code })
+}
+
 impl Ident {
     /// Reads field 7: 1 to 7 letters or digits, then optionally `/A` and four digits 0 to 7. Any
     /// other text is `BadField(7)`.
     #[inline]
-    #[tactic(auto, unfolding(crate::specs::Places::ident_of))]
     pub fn read(field: &[u8]) -> Result<Ident, FieldFault>
         ensures { result ≡ ok_or (ident_of field.now) (FieldFault.BadField 7) }
     {
-        let name_len = leading_letters_or_digits(field);
-        if name_len < 1 || name_len > 7 {
-            return Err(FieldFault::BadField(7));
+        if is_name(field) {
+            return Ok(Ident {
+                name: Text::new(field),
+                code: None,
+            });
         }
-        let (name, rest) = field.split_at(name_len);
-        match transponder_of(rest) {
-            Some(code) => Ok(Ident {
-                name: Text::new(name),
-                code,
-            }),
-            None => Err(FieldFault::BadField(7)),
-        }
+        read_any(field).ok_or(FieldFault::BadField(7))
     }
 }

@@ -1,6 +1,6 @@
 //! Short texts of bounded length.
 
-ghost use Rattle.std.specs.Prelude.{◌≡◌, ◌≤◌, [], List, ℕ, length, nat_eq};
+ghost use Rattle.std.specs.Prelude.{◌≡◌, ◌≤◌, ◌++◌, [], List, ℕ, length, drop, nat_eq};
 ghost use Rattle.std.specs.Cmp.{on_equiv, on_per, partial_equiv_from_equiv};
 ghost use Rattle.std.specs.Cmp.Lexicographic.{pointwise, nat_list_eq_equiv};
 ghost use Rattle.std.specs.Cmp.Rules.{hashing};
@@ -78,6 +78,22 @@ impl<const N: usize> Default for Text<N> {
     }
 }
 
+/// Copies bytes to the beginning of a longer slice.
+#[inline(always)]
+fn put_first(to: &mut [u8], bytes: &[u8])
+    requires { length bytes.now ≤ length to.old }
+    ensures { to.new ≡ bytes.now ++ drop (length bytes.now) to.old }
+{
+    let len = bytes.len();
+    if len < 4 || len > 8 {
+        to[..len].copy_from_slice(bytes);
+    } else {
+        // Two copies of a fixed length, which may overlap, cost less than one of any length.
+        to[..4].copy_from_slice(&bytes[..4]);
+        to[len - 4..len].copy_from_slice(&bytes[len - 4..]);
+    }
+}
+
 impl<const N: usize> Text<N> {
     /// The text of these bytes, at most `N`.
     pub fn new(bytes: &[u8]) -> Self
@@ -86,7 +102,7 @@ impl<const N: usize> Text<N> {
         ensures { result ≡ bytes.now }
     {
         let mut text = [0; N];
-        text[..bytes.len()].copy_from_slice(bytes);
+        put_first(&mut text, bytes);
         Text {
             bytes: text,
             len: bytes.len() as u8,
