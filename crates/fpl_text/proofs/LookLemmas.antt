@@ -4,7 +4,7 @@ use Rattle.std.specs.Simd.Lanes.{zip2, sel_l, mask_l, Each1}
 use Rattle.std.specs.Int.{bit_at, bit_not, trailing_ones}
 use Rattle.std.proofs.lemmas.Nat.Bits.{bit_at-lt, bit_at_and, bit_at_or, bit_at_not, bit_at_ones, bit_at-trailing_ones}
 use Rattle.std.specs.Prelude.{max, min}
-use Rattle.std.proofs.lemmas.Simd.{length-sel_l, get_or-sel_l, bit_mask_l, mask_l-lt, length-zip2, get_or-zip2, get_or-replicate, length-swz_l, get_or-swz_l_below, swz_l, SwzOk, SwzOk-from_below, Each1-from_get_or, Each1-get_or}
+use Rattle.std.proofs.lemmas.Simd.{length-sel_l, get_or-sel_l, bit_mask_l, mask_l-lt, length-zip2, get_or-zip2, get_or-replicate, length-replicate, length-swz_l, get_or-swz_l_below, swz_l, SwzOk, SwzOk-from_below, Each1-from_get_or, Each1-get_or}
 use Rattle.std.proofs.lemmas.Nat.{and_mask, and_le_r, or_lt, shr_le}
 use Rattle.std.proofs.lemmas.Bool.{agree_below_at}
 use Rattle.fpl_text.specs.Bytes.{is_letter, is_digit, is_blank, is_border, is_other_mark, is_plain, is_accepted}
@@ -13,23 +13,31 @@ use Rattle.fpl_text.specs.declared.squeezed.Look.{Look}
 use Rattle.fpl_text.proofs.ByteLemmas.{accepted-is, plain-no_border}
 use Rattle.fpl_text.specs.declared.squeezed.TheConstants.{BY_LOW_HALF, BY_HIGH_HALF}
 use Rattle.std.proofs.lemmas.Bool.{false≢true, eqb-true, eqb-false, leb-true, lt-leb, le-leb, cases_lt}
-use Rattle.std.proofs.lemmas.List.{get_or-map, length-map, get_or-drop, get_or_past, length-drop, take_all}
+use Rattle.std.proofs.lemmas.List.{get_or-map, get_or-append-add, length-map, get_or-drop, get_or_past, length-drop, length-take, take_all}
 use Rattle.fpl_text.proofs.LaneLemmas.{is_set, one_from, zero_from}
 
 -- zeros after a text
-zeros-after : (text : List ℕ) (n k : ℕ) → get_or (text ++ drop n (replicate 32 0)) k 0 ≡ get_or text k 0
-zeros-after [] n k =
-    get_or-drop n (replicate 32 0) k 0
-    ∙ ⊎_elim (λ l. get_or-replicate 32 (n + k) 0 0 l) (λ h. get_or_past (replicate 32 0) (n + k) 0 h) (cases_lt (n + k) 32)
+zeros-after : (text : List ℕ) (n k : ℕ) → get_or (text ++ replicate n 0) k 0 ≡ get_or text k 0
+zeros-after [] n k = ⊎_elim (λ l. get_or-replicate n k 0 0 l) (λ h. get_or_past (replicate n 0) k 0 (omega (arith, h, length-replicate {A = ℕ} n 0))) (cases_lt k n)
 zeros-after (b ∷ text) n zero = refl
 zeros-after (b ∷ text) n (suc k) = zeros-after text n k
 
--- the rest of a text, and zeros after it
-pub rest-at : (text rest : List ℕ) (place n k : ℕ) → rest ≡ take (length text - place) (drop place text) → get_or (rest ++ drop n (replicate 32 0)) (0 + k) 0 ≡ get_or text (place + k) 0
-rest-at text rest place n k same =
-    let all : take (length text - place) (drop place text) ≡ drop place text = take_all (length text - place) (drop place text) (omega (arith, length-drop place text)) in
-    let none : 0 + k ≡ k = omega arith in
-    zeros-after rest n (0 + k) ∙ ap (λ l. get_or l (0 + k) 0) (same ∙ all) ∙ get_or-drop place text (0 + k) 0 ∙ ap (λ i. get_or text (place + i) 0) none
+-- the last 32 bytes of a text, and zeros after them
+pub last-at : (text last : List ℕ) (k : ℕ) → 32 ≤ length text → length text ≤ k + 32 → last ≡ take (length text - (length text - 32)) (drop (length text - 32) text)
+    → get_or (last ++ replicate 32 0) (k + 32 - length text) 0 ≡ get_or text k 0
+last-at text last k long from same =
+    let all = take_all (length text - (length text - 32)) (drop (length text - 32) text) (omega (arith, length-drop (length text - 32) text, long)) in
+    let there : length text - 32 + (k + 32 - length text) ≡ k = omega (arith, long, from) in
+    zeros-after last 32 (k + 32 - length text) ∙ ap (λ l. get_or l (k + 32 - length text) 0) (same ∙ all)
+    ∙ get_or-drop (length text - 32) text (k + 32 - length text) 0 ∙ ap (λ i. get_or text i 0) there
+
+-- a shorter text after zeros, and zeros after it
+pub short-at : (text before last : List ℕ) (k : ℕ) → length before ≡ 32 → length text < 32 → last ≡ take (32 - length text) before ++ text
+    → get_or (last ++ replicate 32 0) (k + 32 - length text) 0 ≡ get_or text k 0
+short-at text before last k long short same =
+    let there : length (take (32 - length text) before) + k ≡ k + 32 - length text = omega (arith, length-take (32 - length text) before, long, short) in
+    zeros-after last 32 (k + 32 - length text) ∙ ap (λ l. get_or l (k + 32 - length text) 0) same
+    ∙ ap (λ i. get_or (take (32 - length text) before ++ text) i 0) (sym there) ∙ get_or-append-add (take (32 - length text) before) text k 0
 
 -- an operator on a vector and a splat
 pub splat-at : (f : ℕ → ℕ → ℕ) (v : List ℕ) (x k : ℕ) → length v ≡ 32 → k < 32 → get_or (zip2 f v (replicate 32 x)) k 0 ≡ f (get_or v k 0) x

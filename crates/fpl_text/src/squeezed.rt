@@ -1,12 +1,13 @@
 //! Texts with their blanks squeezed, in one pass over 32 bytes at a time, which also records where
 //! the fields of a message begin and end.
 
-ghost use Rattle.std.specs.Prelude.{◌≡◌, ◌++◌, [], List, ℕ, IfOk, ◌<◌, ◌≤◌, ◌+◌, take, length};
+ghost use Rattle.std.specs.Prelude.{◌≡◌, ◌++◌, [], List, ℕ, IfOk, ◌<◌, ◌≤◌, ◌+◌, ◌-◌, take, length};
 ghost use Rattle.std.specs.Prelude.{slice_index, IfErr, Ok, Err, ◌/◌, ◌%◌, ◌==◌, nat_le};
 ghost use Rattle.std.specs.Prelude.{if◌then◌else◌, true, false, ◌∷◌, slice_get, Some};
 ghost use Rattle.std.specs.Prelude.{option_copied, nat_lt};
 ghost use Rattle.fpl_text.specs.Squeezing.{squeezed_or_fault, Gives};
 ghost use Rattle.fpl_text.specs.Borders.{IsNoted, parts, AreBorders};
+ghost use Rattle.fpl_text.specs.Passes.{IsPass};
 ghost use Rattle.fpl_text.specs.Looks.{IsLook, HasClasses, HasSpaces, IsBits, behind, is_kept};
 ghost use Rattle.fpl_text.specs.declared.fault.TextFault.TheVariants.{Empty, BadByte};
 ghost use Rattle.std.specs.Int.{bit_at};
@@ -104,19 +105,86 @@ impl<A: Allocator + Copy> Squeezed<A> {
     }
 }
 
-/// Looks at the 32 bytes of the text at `place`. If fewer are left, zeros follow them.
+/// Copies bytes to the end of a longer slice.
 #[inline(always)]
-fn look_at(text: &[u8], place: usize) -> Look
-    requires within { place ≤ length text.now }
-    ensures { IsLook result (λ k. slice_index text.now (place + k)) }
+fn put_last(to: &mut [u8], bytes: &[u8])
+    requires { length bytes.now ≤ length to.old }
+    ensures { to.new ≡ take (length to.old - length bytes.now) to.old ++ bytes.now }
 {
-    let rest = &text[place..];
-    if rest.len() >= 32 {
-        return Look::new(rest, 0);
+    let from = to.len() - bytes.len();
+    to[from..].copy_from_slice(bytes);
+}
+
+/// The last 32 bytes of a text, or zeros and a shorter text, and 32 zeros after them.
+#[inline(always)]
+fn last_bytes(text: &[u8]) -> [u8; 64]
+    ensures { (k : ℕ) → length text.now ≤ k + 32
+        → slice_index result (k + 32 - length text.now) ≡ slice_index text.now k }
+{
+    let mut last = [0; 64];
+    if text.len() >= 32 {
+        last[..32].copy_from_slice(&text[text.len() - 32..]);
+    } else {
+        put_last(&mut last[..32], text);
     }
-    let mut last = [0; 32];
-    last[..rest.len()].copy_from_slice(rest);
-    Look::new(&last, 0)
+    last
+}
+
+/// How far a pass has come in a text.
+#[derive(Clone, Copy)]
+struct Pass {
+    /// The offset of the next byte to look at.
+    place: usize,
+    /// The number of bytes that are kept.
+    made: usize,
+    /// Whether the last of these is a border, or there is none.
+    border: bool,
+}
+
+impl Pass {
+    /// Takes what a look at the next 32 bytes shows, and the borders among it. Returns the offset
+    /// of a byte that isn't accepted.
+    #[inline(always)]
+    fn take(
+        self,
+        look: Look,
+        text: &[u8],
+        out: &mut [u8],
+        borders: &mut Borders,
+        most: usize,
+    ) -> Result<Pass, usize>
+        requires pass { IsPass text.now out.old self.place self.made self.border }
+        requires more { self.place < length text.now }
+        requires look { IsLook look (λ k. slice_index text.now (self.place + k)) }
+        requires noted { IsNoted (take self.made out.old) most borders.old }
+        requires most { most ≤ 13 }
+        requires fits { 0 < most → length text.now ≤ 65536 }
+        ensures long { length out.new ≡ length out.old }
+        ensures pass { IfOk result (λ next.
+            IsPass text.now out.new next.place next.made next.border) }
+        ensures further { IfOk result (λ next. self.place < next.place) }
+        ensures noted { IfOk result (λ next. IsNoted (take next.made out.new) most borders.new) }
+        ensures bad { IfErr result (λ place. squeezed_or_fault text.now ≡ Err (BadByte place)) }
+    {
+        let (count, border) = look.kept(self.border);
+        // What is written after the kept bytes is overwritten later.
+        look.spaced.copy_to_slice(&mut out[self.made..]);
+        borders.note(out, self.made, look.borders, count, most);
+        let made = self.made + count;
+        let mut place = self.place + count;
+        if count < TAKEN && place < text.len() {
+            if !is_blank(text[place]) {
+                return Err(place);
+            }
+            // No space is kept for this blank.
+            place += 1;
+        }
+        Ok(Pass {
+            place,
+            made,
+            border,
+        })
+    }
 }
 
 /// Squeezes a text to the beginning of `out`, which is longer by at least 32 bytes. Returns the
@@ -135,27 +203,21 @@ pub(crate) fn squeeze(text: &[u8], out: &mut [u8]) -> Result<(usize, Borders), u
 {
     let most = most_recorded(text.len());
     let mut borders = Borders::new();
-    let mut border = true;
-    let mut made = 0;
-    let mut place = 0;
-    'looks: while place < text.len() {
-        let look = look_at(text, place);
-        let (count, last) = look.kept(border);
-        // What is written after the kept bytes is overwritten later.
-        look.spaced.copy_to_slice(&mut out[made..]);
-        borders.note(out, made, look.borders, count, most);
-        border = last;
-        made += count;
-        place += count;
-        if count < TAKEN && place < text.len() {
-            if !is_blank(text[place]) {
-                return Err(place);
-            }
-            // No space is kept for this blank.
-            place += 1;
-        }
+    let mut pass = Pass {
+        place: 0,
+        made: 0,
+        border: true,
+    };
+    'wholes: while text.len() - pass.place >= 32 {
+        let look = Look::new(text, pass.place);
+        pass = pass.take(look, text, out, &mut borders, most)?;
     }
-    Ok((made, borders))
+    let last = last_bytes(text);
+    'rests: while pass.place < text.len() {
+        let look = Look::new(&last, pass.place + 32 - text.len());
+        pass = pass.take(look, text, out, &mut borders, most)?;
+    }
+    Ok((pass.made, borders))
 }
 
 /// The bytes of a look, of which a pass takes all but the last: that shows what follows the others.
