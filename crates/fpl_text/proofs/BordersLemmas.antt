@@ -1,13 +1,13 @@
 -- Noting the borders of a text.
-use Rattle.std.proofs.Common.{◌≡◌, ℕ, zero, suc, ◌+◌, ◌-◌, ◌*◌, ◌%◌, ◌^◌, ◌<◌, ◌≤◌, Bool, true, false, cond, eqb, ltb, List, [], ◌∷◌, ◌++◌, length, get_or, take, sym, refl, ap, ◌∙◌, arith, ◌⊎◌, inl, inr, ⊎_elim, length-append, bit_and, w64}
+use Rattle.std.proofs.Common.{◌≡◌, ℕ, zero, suc, shr-shr, ◌+◌, ◌-◌, ◌*◌, ◌/◌, ◌%◌, ◌^◌, ◌<◌, ◌≤◌, Bool, true, false, cond, eqb, ltb, List, [], ◌∷◌, ◌++◌, length, get_or, take, sym, refl, ap, ◌∙◌, arith, ◌⊎◌, inl, inr, ⊎_elim, length-append, bit_and, w64}
 use Rattle.std.specs.Prelude.{min}
 use Rattle.std.specs.List.{count_by}
-use Rattle.std.specs.Int.{bit_at, bit_not, trailing_zeros}
+use Rattle.std.specs.Int.{bit_at, trailing_zeros}
 use Rattle.std.proofs.lemmas.Bool.{cases_Bool, cases_lt, cond-true, cond-false, lt-ltb, le-ltb, ltb-true, ltb-false, eqb-true, eqb-false}
 use Rattle.std.proofs.lemmas.List.{take_all, take_more, take-append-le, length-take, append-nil}
 use Rattle.std.proofs.lemmas.List.Sums.{count_by-le-length, count_by_more_no, count_by_more_yes}
-use Rattle.std.proofs.lemmas.Nat.{and_le_l, one_shl}
-use Rattle.std.proofs.lemmas.Nat.Bits.{bit_at-zero, bit_at_and, bit_at_not, bit_at_ones, bit_at_ones_above, bit_at-pow_same, bit_at-pow_other, bit_at-trailing_zeros, bit_at-lt}
+use Rattle.std.proofs.lemmas.Nat.{and_le_r}
+use Rattle.std.proofs.lemmas.Nat.Bits.{bit_at-zero, bit_at_and, bit_at_cat_low, bit_at_cat_high, same_from_bits, bit_at_ones, bit_at_ones_above, bit_at-pow_same, bit_at-pow_other, bit_at-trailing_zeros, bit_at-lt}
 use Rattle.fpl_text.specs.Bytes.{is_border}
 use Rattle.fpl_text.specs.Fields.{is_bracket}
 use Rattle.fpl_text.specs.Borders.{border_places, IsNoted}
@@ -184,8 +184,48 @@ pub record IsNext (text : List ℕ) (made bits count after index later : ℕ) : 
   pub behind : after ≤ made + index
   pub border : is_border (get_or text (made + index) 0) ≡ true
   pub none : (k : ℕ) → after ≤ k → k < made + index → is_border (get_or text k 0) ≡ false
-  pub left : AreLeft text made bits count (made + index + 1) (bit_and later (bit_not w64 (1 * 2 ^ index % 2 ^ 64)))
-  pub less : bit_and later (bit_not w64 (1 * 2 ^ index % 2 ^ 64)) < later
+  pub left : AreLeft text made bits count (made + index + 1) (bit_and later (later - 1))
+  pub less : bit_and later (later - 1) < later
+
+-- a number less 1 has the bits below its lowest 1 set, that one not, and the others as they were
+lowest-cleared : (n t k : ℕ) → bit_at n t ≡ 1 → ((i : ℕ) → i < t → bit_at n i ≡ 0) → bit_at (bit_and n (n - 1)) k ≡ min (bit_at n k) (1 - bit_at (2 ^ t) k)
+lowest-cleared n t k one none =
+    omega (arith, bit_at_and n (n - 1) k, before k (cases_lt k t) (cases_lt t k), bit_at-lt n k)
+  where
+    top : ℕ
+    top = n / 2 ^ (t + 1)
+
+    power : 2 ^ (t + 1) ≡ 2 * 2 ^ t
+    power = let step : t + 1 ≡ suc t = omega arith in rw step (double t) where
+      double : (n : ℕ) → 2 ^ suc n ≡ 2 * 2 ^ n
+      double n = omega arith
+
+    some : 0 < 2 ^ t
+    some = omega arith
+
+    bits_are : (i : ℕ) → (i < t + 1) ⊎ (t + 1 ≤ i) → (i < t) ⊎ (t ≤ i) → bit_at n i ≡ bit_at (top * 2 ^ (t + 1) + 2 ^ t) i
+    bits_are i (inl low) (inl below) = none i below ∙ sym (bit_at_cat_low top (t + 1) (2 ^ t) i low ∙ bit_at-pow_other t i (λ same. omega (arith, same, below)))
+    bits_are i (inl low) (inr from) =
+        let same : i ≡ t = omega (arith, low, from) in
+        rw same (one ∙ sym (bit_at_cat_low top (t + 1) (2 ^ t) t (omega arith) ∙ bit_at-pow_same t))
+    bits_are i (inr high) other =
+        let there : t + 1 + (i - (t + 1)) ≡ i = omega (arith, high) in
+        sym (bit_at_cat_high top (t + 1) (2 ^ t) i (omega (arith, power, some)) high ∙ ap (λ x. x % 2) (shr-shr n (t + 1) (i - (t + 1))) ∙ ap (bit_at n) there)
+
+    whole : n ≡ top * 2 ^ (t + 1) + 2 ^ t
+    whole = same_from_bits n (top * 2 ^ (t + 1) + 2 ^ t) (λ i. bits_are i (cases_lt i (t + 1)) (cases_lt i t))
+
+    less : n - 1 ≡ top * 2 ^ (t + 1) + (2 ^ t - 1)
+    less = omega (arith, whole, some)
+
+    before : (k : ℕ) → (k < t) ⊎ (t ≤ k) → (t < k) ⊎ (k ≤ t) → min (bit_at n k) (bit_at (n - 1) k) ≡ min (bit_at n k) (1 - bit_at (2 ^ t) k)
+    before k (inl below) other = let zeros = none k below in omega arith
+    before k (inr from) (inr upto) =
+        let same : k ≡ t = omega (arith, from, upto) in
+        rw same (let cleared = ap (λ m. bit_at m t) less ∙ bit_at_cat_low top (t + 1) (2 ^ t - 1) t (omega arith) ∙ bit_at_ones_above t t (omega arith) in omega (arith, cleared, bit_at-pow_same t))
+    before k (inr from) (inl above) =
+        let kept = ap (λ m. bit_at m k) less ∙ bit_at_cat_high top (t + 1) (2 ^ t - 1) k (omega (arith, power, some)) (omega (arith, above)) ∙ sym (ap (λ m. bit_at m k) whole ∙ bit_at_cat_high top (t + 1) (2 ^ t) k (omega (arith, power, some)) (omega (arith, above))) in
+        omega (arith, kept, bit_at-pow_other t k (λ same. omega (arith, same, above)), bit_at-lt n k)
 
 positive : (n : ℕ) → (n ≡ 0 → ⊥) → 0 < n
 positive zero f = absurd (f refl)
@@ -203,31 +243,22 @@ left-next text made bits count after later few small left some =
     (cases_lt (made + index) after) in
     let bit : bit_at bits index ≡ 1 =
     sym (cond-false (ltb (made + index) after) 0 (bit_at bits index) (le-ltb (made + index) after behind)) ∙ sym (left.over index inside) ∙ t.1 in
-    let one : 1 * 2 ^ index % 2 ^ 64 ≡ 2 ^ index = one_shl index 64 t.0 in
-    let low : 2 ^ index < 2 ^ 64 = omega (arith, one) in
-    let rest = bit_and later (bit_not w64 (2 ^ index)) in
-    let of_rest : (k : ℕ) → k < 64 → bit_at rest k ≡ min (bit_at later k) (1 - bit_at (2 ^ index) k) =
-    (λ k l. bit_at_and later (bit_not w64 (2 ^ index)) k ∙ ap (min (bit_at later k)) (bit_at_not w64 (2 ^ index) k low l)) in
-    let gone : bit_at rest index ≡ 0 = omega (arith, of_rest index t.0, bit_at-pow_same index) in
+    let rest = bit_and later (later - 1) in
+    let of_rest : (k : ℕ) → k < 64 → bit_at rest k ≡ min (bit_at later k) (1 - bit_at (2 ^ index) k) = (λ k l. lowest-cleared later index k t.1 t.2) in
     record {
       inside = inside;
       behind = behind;
       border = sym (left.are index inside) ∙ ap (λ x. eqb x 1) bit;
       none = λ k l h.
           no-border text made bits count after later k left l (omega (arith, h, inside)) (t.2 (k - made) (omega (arith, h, left.low, l)));
-      left = rw one (record {
+      left = record {
         low = omega arith;
         high = omega (arith, inside);
         over = λ k l. over index rest k l (cases_lt k index) (cases_lt index k) of_rest t.2 behind;
-        past = λ k h. omega (arith, bit_at_and later (bit_not w64 (2 ^ index)) k, left.past k h);
+        past = λ k h. omega (arith, bit_at_and later (later - 1) k, left.past k h);
         are = left.are;
-      });
-      less = rw one
-          (⊎_elim (λ l. l)
-          (λ h.
-          let same : rest ≡ later = omega (arith, h, and_le_l later (bit_not w64 (2 ^ index))) in
-          absurd (omega (arith, t.1, gone, ap (λ x. bit_at x index) same)))
-          (cases_lt rest later));
+      };
+      less = let some_left = positive later some in omega (arith, and_le_r later (later - 1), some_left);
     }
   where
     over : (index rest k : ℕ) → k < count → (k < index) ⊎ (index ≤ k) → (index < k) ⊎ (k ≤ index) → ((k : ℕ) → k < 64 → bit_at rest k ≡ min (bit_at later k) (1 - bit_at (2 ^ index) k))

@@ -142,8 +142,9 @@ struct Pass {
 }
 
 impl Pass {
-    /// Takes what a look at the next 32 bytes shows, and the borders among it. Returns the offset
-    /// of a byte that isn't accepted.
+    /// Goes on by what a look at the next 32 bytes shows: keeps the first of them, notes their
+    /// borders, and drops a blank after them. Returns `Err` with the offset of a byte that isn't
+    /// accepted.
     #[inline(always)]
     fn take(
         self,
@@ -430,7 +431,7 @@ impl Borders {
             let place = made + index;
             self.push(place, most);
             brackets += usize::from(text[place] != b'-');
-            later &= !(1 << index);
+            later &= later - 1;
             after = place + 1;
         }
         self.brackets = brackets;
