@@ -284,12 +284,3 @@ look-is f v classes spaced borders solid accepted same held spaces b s a = recor
   solid = record { each = λ k l. s.each k l ∙ (held.each k l).solid ∙ ap is_solid (sym (same k l)); small = s.small };
   accepted = record { each = λ k l. a.each k l ∙ (held.each k l).accepted ∙ ap is_accepted (sym (same k l)); small = a.small };
 }
-
--- a look at the same bytes
-pub look-same : (look : Look) (f g : ℕ → ℕ) → ((k : ℕ) → k < 32 → f k ≡ g k) → IsLook look f → IsLook look g
-look-same look f g same seen = record {
-  spaced = record { long = seen.spaced.long; each = λ k l. seen.spaced.each k l ∙ ap as_space (same k l) };
-  borders = record { each = λ k l. seen.borders.each k l ∙ ap is_border (same k l); small = seen.borders.small };
-  solid = record { each = λ k l. seen.solid.each k l ∙ ap is_solid (same k l); small = seen.solid.small };
-  accepted = record { each = λ k l. seen.accepted.each k l ∙ ap is_accepted (same k l); small = seen.accepted.small };
-}
