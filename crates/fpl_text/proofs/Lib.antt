@@ -17,3 +17,4 @@ pub mod MomentYears
 pub mod LaneLemmas
 pub mod LookLemmas
 pub mod MomentFronts
+pub mod DigitLemmas

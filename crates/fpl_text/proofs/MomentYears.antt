@@ -110,3 +110,10 @@ moment-length text minute h =
     ten true true false day time d t is = absurd cc
     ten true false clock day time d t is = absurd cc
     ten false early clock day time d t is = absurd cc
+
+pub moment-other_length : (text : List ℕ) → (length text ≡ 10 → ⊥) → moment_of text ≡ None
+moment-other_length text other = none (moment_of text) refl
+  where
+    none : (read : Option ℕ) → moment_of text ≡ read → read ≡ None
+    none None is = refl
+    none (Some minute) is = absurd (other (moment-length text minute is))

@@ -336,16 +336,6 @@ fn are_between(text: &[u8], low: u8, high: u8) -> bool
     above.simd_le(u8x4::splat(high - low)).to_bitmask() == 15
 }
 
-/// Whether four bytes are all digits.
-#[inline(always)]
-#[tactic(auto, unfolding(crate::specs::Bytes::is_digit))]
-pub(crate) fn are_digits(text: &[u8]) -> bool
-    requires { length text.now ≡ 4 }
-    ensures { result ≡ list_all is_digit text.now }
-{
-    are_between(text, b'0', b'9')
-}
-
 /// Whether four bytes are all letters.
 #[inline(always)]
 #[tactic(auto, unfolding(crate::specs::Bytes::is_letter))]

@@ -1,14 +1,15 @@
 //! Days of the calendar, and their dates of six digits.
 
 ghost use Rattle.std.specs.Prelude.{◌≡◌, ◌≤◌, ◌<◌, ℕ, pos, unsigned_abs, ◌+◌, true, false};
-ghost use Rattle.std.specs.Prelude.{MatchOption, IfSome};
+ghost use Rattle.std.specs.Prelude.{MatchOption, IfSome, length, take, drop, ◌++◌, ◌&&◌, codes};
+ghost use Rattle.std.specs.List.{list_all};
 ghost use Rattle.jiff_core.specs.Calendar.{IsBetween};
 ghost use Rattle.jiff_core.specs.Date.{epoch_day, IsYmd};
 ghost use Rattle.fpl_text.specs.Moments.{day_of, last_day, end_of_2099, is_civil_date};
 ghost use Rattle.fpl_text.specs.Moments.{ReadsDate};
+ghost use Rattle.fpl_text.specs.Bytes.{is_digit};
 
-use crate::byte::all_digits;
-use crate::time::two_digits;
+use crate::time::{other_than_digits, pairs_of};
 use jiff::civil::Date;
 use jiff_core::civil;
 use std::marker::Model;
@@ -100,8 +101,28 @@ fn civil_date(yy: u8, month: u8, day: u8) -> Option<Date>
     }
 }
 
+/// The year and the month of yymmdd, and its day with two digits 0 after it.
+#[inline(always)]
+fn parts_of(text: &[u8]) -> ([u8; 4], [u8; 4])
+    requires { length text.now ≡ 6 }
+    ensures front { result.0 ≡ take 4 text.now }
+    ensures back { result.1 ≡ drop 4 text.now ++ codes "00" }
+{
+    (
+        [text[0], text[1], text[2], text[3]],
+        [text[4], text[5], b'0', b'0'],
+    )
+}
+
+/// Whether all eight bytes are digits, by one comparison.
+#[inline(always)]
+fn are_digits(front: [u8; 4], back: [u8; 4]) -> bool
+    ensures { result ≡ list_all is_digit front && list_all is_digit back }
+{
+    other_than_digits(front) | other_than_digits(back) == 0
+}
+
 /// Reads yymmdd, a date of the years 2000 to 2099.
-#[tactic(auto, unfolding(crate::specs::Times::two_digits))]
 #[inline]
 pub(crate) fn read_date(text: &[u8]) -> Option<Date>
     ensures value { ReadsDate text.now result }
@@ -110,12 +131,11 @@ pub(crate) fn read_date(text: &[u8]) -> Option<Date>
     if text.len() != 6 {
         return None;
     }
-    if !all_digits(text) {
+    let (front, back) = parts_of(text);
+    if !are_digits(front, back) {
         return None;
     }
-    civil_date(
-        two_digits(text[0], text[1]),
-        two_digits(text[2], text[3]),
-        two_digits(text[4], text[5]),
-    )
+    let (year, month) = pairs_of(front);
+    let (day, _) = pairs_of(back);
+    civil_date(year as u8, month as u8, day as u8)
 }

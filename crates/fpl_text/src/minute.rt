@@ -166,7 +166,7 @@ fn minute_at(date: Date, time: TimeOfDay) -> Minute
 pub fn read_moment(text: &[u8]) -> Option<Minute>
     ensures { result ≡ moment_of text.now }
 {
-    if text.len() < 6 {
+    if text.len() != 10 {
         return None;
     }
     let (day, time) = text.split_at(6);

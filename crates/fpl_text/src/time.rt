@@ -1,12 +1,11 @@
 //! Times of four digits, hhmm.
 
 ghost use Rattle.std.specs.Prelude.{◌≡◌, ◌<◌, ◌≤◌, ◌+◌, ◌*◌, ◌/◌, ◌%◌, ℕ, true, ◌-◌, IfSome};
-ghost use Rattle.std.specs.Prelude.{length};
+ghost use Rattle.std.specs.Prelude.{length, ◌==◌};
 ghost use Rattle.std.specs.List.{list_all};
 ghost use Rattle.fpl_text.specs.Bytes.{is_digit};
 ghost use Rattle.fpl_text.specs.Times.{two_digits, hhmm_below, time_of_day, elapsed_time};
 
-use crate::byte::are_digits;
 use std::marker::Model;
 
 /// Every elapsed time is less than this: four digits are at most 99 hours and 59 minutes.
@@ -81,38 +80,63 @@ pub(crate) fn two_digits(first: u8, second: u8) -> u8
     10 * (first - b'0') + (second - b'0')
 }
 
+/// 0 if four bytes are all digits, and any other number if not. A byte is a digit exactly if what
+/// it is above `0`, and 6 more than that, are both below 16.
+#[inline(always)]
+pub(crate) fn other_than_digits(bytes: [u8; 4]) -> u32
+    ensures { (result == 0) ≡ list_all is_digit bytes }
+{
+    let digits = u32::from_le_bytes(bytes).wrapping_sub(0x3030_3030);
+    (digits & 0xf0f0_f0f0) | (digits.wrapping_add(0x0606_0606) & 0xf0f0_f0f0)
+}
+
 /// The numbers of the first two and of the last two of four digits. They are computed at the same
 /// time, in one word.
 #[inline(always)]
 #[tactic(auto, unfolding(crate::specs::Times::two_digits, crate::specs::Bytes::is_digit))]
-fn pairs_of(text: &[u8]) -> (u32, u32)
-    requires four { length text.now ≡ 4 }
-    requires digits { list_all is_digit text.now ≡ true }
-    ensures first { result.0 ≡ two_digits text.now 0 }
-    ensures last { result.1 ≡ two_digits text.now 2 }
+pub(crate) fn pairs_of(bytes: [u8; 4]) -> (u32, u32)
+    requires { list_all is_digit bytes ≡ true }
+    ensures first { result.0 ≡ two_digits bytes 0 }
+    ensures last { result.1 ≡ two_digits bytes 2 }
     ensures bound { (result.0 < 100) × (result.1 < 100) }
 {
-    let digits = u32::from_le_bytes([text[0], text[1], text[2], text[3]]) - 0x3030_3030;
+    let digits = u32::from_le_bytes(bytes) - 0x3030_3030;
     let pairs = 10 * digits + digits / 256;
     (pairs % 256, pairs / 65_536 % 256)
 }
 
+/// The four bytes of a text of that length.
+#[inline(always)]
+fn four_bytes(text: &[u8]) -> [u8; 4]
+    requires { length text.now ≡ 4 }
+    ensures { result ≡ text.now }
+{
+    [text[0], text[1], text[2], text[3]]
+}
+
 /// Reads hhmm in minutes, with hours below `hours` and minutes below 60.
+#[inline]
 #[tactic(auto, unfolding(crate::specs::Times::hhmm_below))]
 pub(crate) fn hhmm_below(hours: u32, text: &[u8]) -> Option<u16>
     requires { hours ≤ 100 }
     ensures value { result ≡ hhmm_below hours text.now }
     ensures bound { IfSome result (λ minutes. minutes < 60 * hours) }
 {
-    if text.len() != 4 || !are_digits(text) {
+    if text.len() != 4 {
         return None;
     }
-    let (hour, minute) = pairs_of(text);
-    if hour < hours && minute < 60 {
-        Some((60 * hour + minute) as u16)
-    } else {
-        None
+    let bytes = four_bytes(text);
+    if other_than_digits(bytes) != 0 {
+        return None;
     }
+    let (hour, minute) = pairs_of(bytes);
+    if hour >= hours {
+        return None;
+    }
+    if minute >= 60 {
+        return None;
+    }
+    Some((60 * hour + minute) as u16)
 }
 
 /// Reads an elapsed time hhmm, of hours 00 to 99 and minutes 00 to 59, in minutes. `None` for any
@@ -134,7 +158,7 @@ pub(crate) fn elapsed_of_digits(text: &[u8]) -> Option<u32>
     ensures value { result ≡ elapsed_time text.now }
     ensures bound { IfSome result (λ minutes. minutes < ELAPSED_LIMIT) }
 {
-    let (hour, minute) = pairs_of(text);
+    let (hour, minute) = pairs_of(four_bytes(text));
     if minute < 60 {
         Some(60 * hour + minute)
     } else {

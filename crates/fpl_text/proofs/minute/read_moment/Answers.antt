@@ -1,15 +1,15 @@
-use Rattle.std.proofs.Common.{◌+◌, ◌*◌, ◌<◌, ◌≤◌, take, sym, ap, ◌∙◌, arith, length-take}
+use Rattle.std.proofs.Common.{◌+◌, ◌*◌, ◌<◌, ◌≤◌, take, sym, ap, ◌∙◌, arith}
 use Rattle.std.specs.Prelude.{Some}
 use Rattle.std.proofs.lemmas.Bool.{lt-leb, le-leb}
 use Rattle.std.proofs.lemmas.Int.{ints}
 use Rattle.fpl_text.specs.Moments.{year_of}
-use Rattle.fpl_text.proofs.MomentsLemmas.{is_date-other_length, moment-no_date, moment-late, moment-no_time, moment-some, day_number-parts}
+use Rattle.fpl_text.proofs.MomentsLemmas.{moment-no_date, moment-late, moment-no_time, moment-some, day_number-parts}
+use Rattle.fpl_text.proofs.MomentYears.{moment-other_length}
 use Rattle.fpl_text.proofs.minute.read_moment.Goals as goal
 use Rattle.fpl_text.proofs.minute.read_moment.Goals.{In_ok-date}
 
-pub returns-then-text-lt6 : goal.returns-then-text-lt6
-returns-then-text-lt6 c =
-    sym (moment-no_date c.args.text.now (is_date-other_length _ (λ six. absurd (omega (arith, length-take 6 c.args.text.now)))))
+pub returns-then-text-ne10 : goal.returns-then-text-ne10
+returns-then-text-ne10 c = sym (moment-other_length c.args.text.now c.if-text-ne10.true)
 
 pub returns-in_err-date : goal.returns-in_err-date
 returns-in_err-date c =
