@@ -253,7 +253,10 @@ impl<A: Allocator + Copy> Changes<A> {
         self.rules = None;
         self.departure = None;
         self.destination = None;
-        self.other = None;
+        // An empty one isn't written again, since it is large.
+        if self.other.is_some() {
+            self.other = None;
+        }
         self.field8 = None;
         self.field9 = None;
         self.field10 = None;
