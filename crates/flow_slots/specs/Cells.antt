@@ -12,5 +12,9 @@ pub record CellsView : Type 0 where
 abbrev pub one_more : ℕ → ℕ
 one_more writes = min (writes + 1) (2 ^ 64 - 1)
 
+-- and of several
+abbrev pub more_by : ℕ → ℕ → ℕ
+more_by count writes = min (writes + count) (2 ^ 64 - 1)
+
 abbrev pub written : CellsView → ℕ → Cell → CellsView
 written c k cell = record { row = slice_set c.row k cell; writes = one_more c.writes; start = c.start }

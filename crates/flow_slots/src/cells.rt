@@ -3,7 +3,7 @@ ghost use Rattle.std.specs.Prelude.{◌≡◌, ℕ, ◌+◌, ◌-◌, ◌^◌, �
 ghost use Rattle.std.specs.Prelude.{true, ◌↔◌, IfOk, IsTrue, vec_capacity};
 ghost use Rattle.std.specs.Prelude.{None, Some, [], drop, length, map, replicate, slice_set};
 ghost use Rattle.std.specs.Prelude.{take, vec_len};
-ghost use Rattle.flow_slots.specs.Cells.{CellsView, written};
+ghost use Rattle.flow_slots.specs.Cells.{CellsView, more_by, written};
 ghost use Rattle.flow_slots.specs.Changed.{gained};
 ghost use Rattle.flow_slots.specs.Lineup.{IsKept, MayFill};
 ghost use Rattle.flow_slots.specs.MadeRow.{EndsEmpty, filled};
@@ -309,7 +309,7 @@ impl<A: Allocator + Copy> Cells<A> {
     fn count(&mut self, writes: u64)
         ensures row { self.new.row ≡ self.old.row }
         ensures start { self.new.start ≡ self.old.start }
-        ensures writes { self.new.writes ≤ self.old.writes + writes }
+        ensures writes { self.new.writes ≡ more_by writes self.old.writes }
         ensures more { self.old.writes ≤ self.new.writes }
     {
         self.writes = self.writes.saturating_add(writes);
@@ -366,7 +366,7 @@ impl<A: Allocator + Copy> Cells<A> {
         ensures start { self.new.start ≡ self.old.start }
         ensures waiting { waiting_of self.new.row ≡ flights.now }
         ensures fixed { fixed_of 0 self.new.row ≡ [] }
-        ensures writes { self.new.writes ≤ self.old.writes + length flights.now }
+        ensures writes { self.new.writes ≡ more_by (length flights.now) self.old.writes }
         ensures more { self.old.writes ≤ self.new.writes }
     {
         let mut next = 0;

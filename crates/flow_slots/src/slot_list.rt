@@ -3,6 +3,7 @@
 ghost use Rattle.std.specs.Prelude.{◌≡◌, ℕ, ◌+◌, ◌<◌, ◌≤◌, length, [], None};
 ghost use Rattle.std.specs.Prelude.{Some, ◌↔◌, IfOk, OnOk, IfSome, IsSome};
 ghost use Rattle.std.specs.Prelude.{IsTrue};
+ghost use Rattle.flow_slots.specs.Cells.{more_by};
 ghost use Rattle.flow_slots.specs.Period.{IsWithin, IsRegular, most_flights, most_slots};
 ghost use Rattle.flow_slots.specs.Changed.{moved_flights};
 ghost use Rattle.flow_slots.specs.Delay.{HasLeastDelay, Rise, waiting_slots};
@@ -227,6 +228,7 @@ impl<A: Allocator + Copy> SlotList<A> {
         requires { MayFill flights.now self.old.lineup }
         ensures lineup { self.new.lineup ≡ with_all_waiting flights.now self.old.lineup }
         ensures writes { self.new.writes ≤ self.old.writes + length flights.now }
+        ensures counted { self.new.writes ≡ more_by (length flights.now) self.old.writes }
         ensures more { self.old.writes ≤ self.new.writes }
     {
         self.cells
