@@ -284,7 +284,9 @@ pub(crate) fn first_of(byte: u8, other: u8, bytes: &[u8]) -> Option<usize>
     ensures { result ≡ position (is_byte2 byte other) bytes.now }
 {
     let mut at = 0;
-    'looks: while bytes.len() - at >= 32 {
+    // The offset after the last at which 32 bytes are left.
+    let end = bytes.len().saturating_sub(31);
+    'looks: while at < end {
         let lanes = u8x32::from_slice(&bytes[at..]);
         let found = lanes.simd_eq(u8x32::splat(byte)) | lanes.simd_eq(u8x32::splat(other));
         let bits = found.to_bitmask();
