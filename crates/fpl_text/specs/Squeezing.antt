@@ -56,3 +56,9 @@ abbrev pub Gives : {A : Type 0} → Result A TextFault → Result A TextFault �
 Gives (Ok x) expected = expected ≡ Ok x
 Gives (Err OutOfMemory) expected = Unit {0}
 Gives (Err fault) expected = expected ≡ Err fault
+
+-- The same of a call that leaves a value, seen by `view`.
+abbrev pub GivesAs : {A B : Type 0} → (A → B) → Result A TextFault → Result B TextFault → Type 0
+GivesAs view (Ok x) expected = expected ≡ Ok (view x)
+GivesAs view (Err OutOfMemory) expected = Unit {0}
+GivesAs view (Err fault) expected = expected ≡ Err fault

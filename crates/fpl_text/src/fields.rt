@@ -2,7 +2,7 @@
 
 ghost use Rattle.std.specs.Prelude.{[], ◌≡◌, ◌<◌, List, ℕ};
 ghost use Rattle.std.specs.Prelude.{IsTrue, Some, length, slice_get, slice_index_or};
-ghost use Rattle.std.specs.Prelude.{IfOk, IfErr, Err, true, take, ◌≤◌};
+ghost use Rattle.std.specs.Prelude.{IfOk, IfErr, Ok, Err, true, take, ◌≤◌};
 ghost use Rattle.fpl_text.specs.Words.{words_of};
 ghost use Rattle.fpl_text.specs.Squeezing.{Gives};
 ghost use Rattle.fpl_text.specs.Borders.{IsNoted, IsMessage};
@@ -13,10 +13,11 @@ ghost use Rattle.fpl_text.specs.Fields.{fields_or_fault, split_or_fault};
 
 use crate::byte::is_digit;
 use crate::fault::TextFault;
-use crate::squeezed::{Borders, Squeezed};
+use crate::squeezed::Squeezed;
 use crate::words::Words;
 use std::alloc::{Allocator, Global};
 use std::marker::Model;
+use std::mem::swap;
 
 /// The kinds of messages (ICAO Doc 4444, appendix 3).
 #[derive(Clone, Copy, Debug, PartialEq, Eq)]
@@ -33,24 +34,34 @@ pub enum Title {
     Dep,
 }
 
-/// The fields of a message: a squeezed text in one pair of brackets, cut at its hyphens.
+/// The fields of a message, read where they are: a squeezed text in one pair of brackets, cut at
+/// its hyphens.
+#[derive(Drop)]
+pub struct FieldsRef<'a, A: Allocator + Copy = Global> {
+    text: &'a Squeezed<A>,
+}
+
+impl<'a, A: Allocator + Copy> Model for FieldsRef<'a, A> {
+    ghost Value = { List (List ℕ) };
+
+    ghost view = { λ f. fields_of f.text.now };
+
+    ghost invariant = { λ f. is_bracketed f.text.now ≡ true };
+}
+
+/// The fields of a message, with their text.
 #[derive(Drop)]
 pub struct Fields<A: Allocator + Copy = Global> {
-    /// The buffer of the text, which begins with it.
-    bytes: Vec<u8, A>,
-    len: usize,
-    borders: Borders,
+    text: Squeezed<A>,
     title: Title,
 }
 
 impl<A: Allocator + Copy> Model for Fields<A> {
     ghost Value = { List (List ℕ) };
 
-    ghost view = { λ f. fields_of (take f.len f.bytes.items) };
+    ghost view = { λ f. fields_of f.text };
 
-    ghost invariant = { λ f. (f.len ≤ length f.bytes.items)
-        × IsNoted (take f.len f.bytes.items) (length f.borders.places.items) f.borders
-        × IsMessage (take f.len f.bytes.items) f.title };
+    ghost invariant = { λ f. IsMessage f.text f.title };
 }
 
 /// The title with which the first field begins.
@@ -86,39 +97,62 @@ pub fn begins_amendment(field: &[u8]) -> bool
 }
 
 /// Whether a message of this title may have these fields.
-fn has_its_fields(title: Title, text: &[u8], borders: &Borders) -> bool
-    requires noted { IsNoted text.now (length borders.now.places.items) borders.now }
-    requires bracketed { is_bracketed text.now ≡ true }
+fn has_its_fields<A: Allocator + Copy>(title: Title, text: &Squeezed<A>) -> bool
+    requires { is_bracketed text.now ≡ true }
     ensures { result ≡ has_its_fields title (fields_of text.now) }
 {
-    let count = borders.field_count(text);
+    let count = text.field_count();
     match title {
         Title::Fpl => count == 9,
         Title::Dla | Title::Cnl | Title::Dep => count == 4 || count == 5,
-        Title::Chg => count > 5 || (count == 5 && begins_amendment(borders.field(text, 4))),
+        Title::Chg => count > 5 || (count == 5 && begins_amendment(text.field(4))),
     }
 }
 
-/// The title of a message, or its first fault.
-#[tactic(auto, unfolding(crate::specs::Fields::fields_or_fault))]
-fn title_in(text: &[u8], borders: &Borders) -> Result<Title, TextFault>
-    requires { IsNoted text.now (length borders.now.places.items) borders.now }
-    ensures ok { IfOk result (λ title. IsMessage text.now title) }
-    ensures err { IfErr result (λ fault. fields_or_fault text.now ≡ Err fault) }
-{
-    if !borders.are_bracketed(text) {
-        return Err(TextFault::NoBracket);
+impl<'a, A: Allocator + Copy> FieldsRef<'a, A> {
+    /// The number of fields.
+    pub fn count(&self) -> usize
+        ensures { result ≡ length self.now }
+    {
+        self.text.field_count()
     }
-    let Some(title) = title_of(borders.field(text, 0)) else {
-        return Err(TextFault::UnknownTitle);
-    };
-    if !has_its_fields(title, text, borders) {
-        return Err(TextFault::FieldCount);
+
+    /// Field `i`, counted from 0.
+    pub fn field(&self, i: usize) -> &'a [u8]
+        requires { i < length self.now }
+        ensures { slice_get self.now i ≡ Some result.now }
+    {
+        self.text.field(i)
     }
-    Ok(title)
+
+    /// The words of field `i`, counted from 0.
+    pub fn words(&self, i: usize) -> Words<'a>
+        requires { i < length self.now }
+        ensures { result ≡ words_of (slice_index_or self.now i []) }
+    {
+        Words::new(self.field(i))
+    }
 }
 
 impl<A: Allocator + Copy> Fields<A> {
+    /// The fields of a text that is a message of this title.
+    pub fn new(text: Squeezed<A>, title: Title) -> Self
+        requires { IsMessage text title }
+        ensures { result ≡ fields_of text }
+    {
+        Fields { text, title }
+    }
+
+    /// Exchanges the text of these fields for another, which is a message of this title. Doesn't
+    /// allocate.
+    pub fn exchange(&mut self, text: &mut Squeezed<A>, title: Title)
+        requires { IsMessage text.old title }
+        ensures { self.new ≡ fields_of text.old }
+    {
+        swap(&mut self.text, text);
+        self.title = title;
+    }
+
     /// The title of the message. The message has a number of fields that this title allows.
     pub fn title(&self) -> Title
         ensures title { title_of (first_field self.now) ≡ Some result }
@@ -127,11 +161,18 @@ impl<A: Allocator + Copy> Fields<A> {
         self.title
     }
 
+    /// The fields, without their text.
+    pub fn by_ref(&self) -> FieldsRef<'_, A>
+        ensures { result ≡ self.now }
+    {
+        FieldsRef { text: &self.text }
+    }
+
     /// The number of fields.
     pub fn count(&self) -> usize
         ensures { result ≡ length self.now }
     {
-        self.borders.field_count(&self.bytes[..self.len])
+        self.by_ref().count()
     }
 
     /// Field `i`, counted from 0.
@@ -139,12 +180,7 @@ impl<A: Allocator + Copy> Fields<A> {
         requires { i < length self.now }
         ensures { slice_get self.now i ≡ Some result.now }
     {
-        self.borders.field(&self.bytes[..self.len], i)
-    }
-
-    /// Discards the text and returns its buffer, for the next text.
-    pub fn into_room(self) -> Vec<u8, A> {
-        self.bytes
+        self.by_ref().field(i)
     }
 
     /// The words of field `i`, counted from 0.
@@ -152,30 +188,37 @@ impl<A: Allocator + Copy> Fields<A> {
         requires { i < length self.now }
         ensures { result ≡ words_of (slice_index_or self.now i []) }
     {
-        Words::new(self.field(i))
+        self.by_ref().words(i)
     }
 }
 
 impl<A: Allocator + Copy> Squeezed<A> {
-    /// Cuts the text at its hyphens into the fields of a message. Refuses, in this order, a text
-    /// that isn't in one pair of brackets, an unknown title, and a number of fields that the title
-    /// doesn't have. Allocates nothing.
+    /// The title of this message. Refuses, in this order, a text that isn't in one pair of
+    /// brackets, an unknown title, and a number of fields that the title doesn't have.
     #[tactic(auto, unfolding(crate::specs::Fields::fields_or_fault))]
-    pub fn into_fields(self) -> Result<Fields<A>, TextFault>
-        ensures { result ≡ fields_or_fault self }
+    pub fn title(&self) -> Result<Title, TextFault>
+        ensures ok { IfOk result (λ title. IsMessage self.now title) }
+        ensures fields { IfOk result (λ _. fields_or_fault self.now ≡ Ok (fields_of self.now)) }
+        ensures err { IfErr result (λ fault. fields_or_fault self.now ≡ Err fault) }
     {
-        let Squeezed {
-            bytes,
-            len,
-            borders,
-        } = self;
-        let title = title_in(&bytes[..len], &borders)?;
-        Ok(Fields {
-            bytes,
-            len,
-            borders,
-            title,
-        })
+        if !self.is_bracketed() {
+            return Err(TextFault::NoBracket);
+        }
+        let Some(title) = title_of(self.field(0)) else {
+            return Err(TextFault::UnknownTitle);
+        };
+        if !has_its_fields(title, self) {
+            return Err(TextFault::FieldCount);
+        }
+        Ok(title)
+    }
+
+    /// The fields of a message of this title.
+    pub fn fields(&self, title: Title) -> FieldsRef<'_, A>
+        requires { IsMessage self.now title }
+        ensures { result ≡ fields_of self.now }
+    {
+        FieldsRef { text: self }
     }
 }
 
@@ -186,5 +229,7 @@ impl<A: Allocator + Copy> Squeezed<A> {
 pub fn split<A: Allocator + Copy>(alloc: A, text: &[u8]) -> Result<Fields<A>, TextFault>
     ensures { Gives result (split_or_fault text.now) }
 {
-    Squeezed::read(alloc, text)?.into_fields()
+    let text = Squeezed::read(alloc, text)?;
+    let title = text.title()?;
+    Ok(Fields::new(text, title))
 }

@@ -43,7 +43,7 @@ pub use byte::{
 pub use craft::{Craft, Equipment, FlightKind, FlightRules, Rules, Wake, is_equipment};
 pub use day::Day;
 pub use fault::{FieldFault, TextFault};
-pub use fields::{Fields, Title, begins_amendment, split};
+pub use fields::{Fields, FieldsRef, Title, begins_amendment, split};
 pub use heading::Heading;
 pub use ident::Ident;
 pub use minute::{GREATEST_MINUTE, Minute, YEAR_2000, YEAR_2099, read_moment};

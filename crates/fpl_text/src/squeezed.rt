@@ -4,8 +4,8 @@
 ghost use Rattle.std.specs.Prelude.{◌≡◌, ◌++◌, [], List, ℕ, IfOk, ◌<◌, ◌≤◌, ◌+◌, ◌-◌, take, length};
 ghost use Rattle.std.specs.Prelude.{slice_index, IfErr, Ok, Err, ◌/◌, ◌%◌, ◌==◌, nat_le};
 ghost use Rattle.std.specs.Prelude.{if◌then◌else◌, true, false, ◌∷◌, slice_get, Some};
-ghost use Rattle.std.specs.Prelude.{option_copied, nat_lt};
-ghost use Rattle.fpl_text.specs.Squeezing.{squeezed_or_fault, Gives};
+ghost use Rattle.std.specs.Prelude.{option_copied, nat_lt, OnOk, OnErr};
+ghost use Rattle.fpl_text.specs.Squeezing.{squeezed_or_fault, Gives, GivesAs};
 ghost use Rattle.fpl_text.specs.Borders.{IsNoted, parts, AreBorders};
 ghost use Rattle.fpl_text.specs.Passes.{IsPass};
 ghost use Rattle.fpl_text.specs.Looks.{IsLook, HasClasses, HasSpaces, IsBits, behind, is_kept};
@@ -28,9 +28,9 @@ use std::simd::prelude::*;
 pub struct Squeezed<A: Allocator + Copy = Global> {
     /// The buffer, which begins with the text. What follows is left from the pass and from longer
     /// texts before.
-    pub(crate) bytes: Vec<u8, A>,
-    pub(crate) len: usize,
-    pub(crate) borders: Borders,
+    bytes: Vec<u8, A>,
+    len: usize,
+    borders: Borders,
 }
 
 impl<A: Allocator + Copy> Model for Squeezed<A> {
@@ -46,52 +46,86 @@ impl<A: Allocator + Copy> Model for Squeezed<A> {
 }
 
 /// Grows a buffer to this length, if it is shorter; returns `Err` if that allocation fails.
-fn at_least<A: Allocator + Copy>(room: Vec<u8, A>, len: usize) -> Result<Vec<u8, A>, AllocError>
-    ensures { IfOk result (λ v. len ≤ length v.items) }
+fn grow<A: Allocator + Copy>(bytes: &mut Vec<u8, A>, len: usize) -> Result<(), AllocError>
+    ensures { OnOk result (len ≤ length bytes.new.items) }
 {
-    let mut bytes = room;
     let more = len.saturating_sub(bytes.len());
     if more > 0 {
         bytes.reserve_exact(more)?;
         bytes.resize(len, 0)?;
     }
-    Ok(bytes)
+    Ok(())
+}
+
+/// Squeezes a text to the beginning of a buffer, which grows if it is too short, and records its
+/// borders in place of others. Returns the length of the squeezed text, or why there is none.
+#[inline(always)]
+fn squeeze_over<A: Allocator + Copy>(
+    text: &[u8],
+    bytes: &mut Vec<u8, A>,
+    borders: &mut Borders,
+) -> Result<usize, TextFault>
+    ensures within { IfOk result (λ len. len ≤ length bytes.new.items) }
+    ensures text { GivesAs (λ len. take len bytes.new.items) result
+        (squeezed_or_fault text.now) }
+    ensures borders { IfOk result (λ len.
+        IsNoted (take len bytes.new.items) (length borders.new.places.items) borders.new) }
+{
+    // A squeezed text is no longer than the text. Each look writes 32 bytes.
+    let Ok(()) = grow(bytes, text.len() + TAKEN + 1) else {
+        return Err(TextFault::OutOfMemory);
+    };
+    borders.clear();
+    let len = match squeeze(text, bytes.as_mut_slice(), borders) {
+        Ok(len) => len,
+        Err(place) => return Err(TextFault::BadByte(place)),
+    };
+    if len == 0 {
+        return Err(TextFault::Empty);
+    }
+    Ok(len)
 }
 
 impl<A: Allocator + Copy> Squeezed<A> {
+    /// The empty text. Doesn't allocate.
+    pub fn new(alloc: A) -> Self
+        ensures { result ≡ [] }
+    {
+        Squeezed {
+            bytes: Vec::new(alloc),
+            len: 0,
+            borders: Borders::new(),
+        }
+    }
+
     /// Squeezes a text in one pass over its bytes. A text of blanks alone is `Empty`; else the
     /// first byte that isn't accepted is `BadByte`. Returns `OutOfMemory` if allocation fails.
     pub fn read(alloc: A, text: &[u8]) -> Result<Self, TextFault>
         ensures { Gives result (squeezed_or_fault text.now) }
     {
-        Squeezed::read_in(Vec::new(alloc), text)
+        let mut squeezed = Squeezed::new(alloc);
+        squeezed.renew(text)?;
+        Ok(squeezed)
     }
 
-    /// Squeezes a text as `read` does, into the buffer of another text, over what is there. The
-    /// buffer is freed if the text is refused.
-    pub fn read_in(room: Vec<u8, A>, text: &[u8]) -> Result<Self, TextFault>
-        ensures { Gives result (squeezed_or_fault text.now) }
+    /// Squeezes a text as `read` does, over this one. After an `Err` this is the empty text.
+    pub fn renew(&mut self, text: &[u8]) -> Result<(), TextFault>
+        ensures value { GivesAs (λ _. self.new) result (squeezed_or_fault text.now) }
+        ensures empty { OnErr result (self.new ≡ []) }
     {
-        // A squeezed text is no longer than the text. Each look writes 32 bytes.
-        let Ok(mut bytes) = at_least(room, text.len() + TAKEN + 1) else {
-            return Err(TextFault::OutOfMemory);
-        };
-        let (len, borders) = match squeeze(text, bytes.as_mut_slice()) {
-            Ok(kept) => kept,
-            Err(place) => return Err(TextFault::BadByte(place)),
-        };
-        if len == 0 {
-            return Err(TextFault::Empty);
+        match squeeze_over(text, &mut self.bytes, &mut self.borders) {
+            Ok(len) => {
+                self.len = len;
+                Ok(())
+            }
+            Err(fault) => {
+                self.len = 0;
+                self.borders.clear();
+                Err(fault)
+            }
         }
-        Ok(Squeezed {
-            bytes,
-            len,
-            borders,
-        })
     }
-}
 
-impl<A: Allocator + Copy> Squeezed<A> {
     /// The squeezed text.
     pub fn as_bytes(&self) -> &[u8]
         ensures { result.now ≡ self.now }
@@ -99,9 +133,28 @@ impl<A: Allocator + Copy> Squeezed<A> {
         &self.bytes[..self.len]
     }
 
-    /// Discards the text and returns its buffer, for the next text.
-    pub fn into_room(self) -> Vec<u8, A> {
-        self.bytes
+    /// Whether the text is in one pair of brackets.
+    pub(crate) fn is_bracketed(&self) -> bool
+        ensures { result ≡ is_bracketed self.now }
+    {
+        self.borders.are_bracketed(&self.bytes[..self.len])
+    }
+
+    /// The number of fields, if the text is in one pair of brackets.
+    pub(crate) fn field_count(&self) -> usize
+        requires { is_bracketed self.now ≡ true }
+        ensures { result ≡ length (fields_of self.now) }
+    {
+        self.borders.field_count(&self.bytes[..self.len])
+    }
+
+    /// Field `i`, counted from 0, if the text is in one pair of brackets.
+    pub(crate) fn field(&self, i: usize) -> &[u8]
+        requires bracketed { is_bracketed self.now ≡ true }
+        requires place { i < length (fields_of self.now) }
+        ensures { slice_get (fields_of self.now) i ≡ Some result.now }
+    {
+        self.borders.field(&self.bytes[..self.len], i)
     }
 }
 
@@ -188,22 +241,22 @@ impl Pass {
     }
 }
 
-/// Squeezes a text to the beginning of `out`, which is longer by at least 32 bytes. Returns the
-/// length of the squeezed text and its borders, or the offset of the first byte that isn't
+/// Squeezes a text to the beginning of `out`, which is longer by at least 32 bytes, and records its
+/// borders. Returns the length of the squeezed text, or the offset of the first byte that isn't
 /// accepted.
-pub(crate) fn squeeze(text: &[u8], out: &mut [u8]) -> Result<(usize, Borders), usize>
-    requires { length text.now + 32 ≤ length out.old }
+fn squeeze(text: &[u8], out: &mut [u8], borders: &mut Borders) -> Result<usize, usize>
+    requires fits { length text.now + 32 ≤ length out.old }
+    requires none { (most : ℕ) → IsNoted [] most borders.old }
     ensures long { length out.new ≡ length out.old }
-    ensures within { IfOk result (λ kept. kept.0 ≤ length text.now) }
-    ensures empty { IfOk result (λ kept. kept.0 ≡ 0 → squeezed_or_fault text.now ≡ Err Empty) }
-    ensures some { IfOk result (λ kept. 0 < kept.0
-        → squeezed_or_fault text.now ≡ Ok (take kept.0 out.new)) }
+    ensures within { IfOk result (λ kept. kept ≤ length text.now) }
+    ensures empty { IfOk result (λ kept. kept ≡ 0 → squeezed_or_fault text.now ≡ Err Empty) }
+    ensures some { IfOk result (λ kept. 0 < kept
+        → squeezed_or_fault text.now ≡ Ok (take kept out.new)) }
     ensures borders { IfOk result (λ kept.
-        IsNoted (take kept.0 out.new) (length kept.1.places.items) kept.1) }
+        IsNoted (take kept out.new) (length borders.new.places.items) borders.new) }
     ensures bad { IfErr result (λ place. squeezed_or_fault text.now ≡ Err (BadByte place)) }
 {
     let most = most_recorded(text.len());
-    let mut borders = Borders::new();
     let mut pass = Pass {
         place: 0,
         made: 0,
@@ -211,14 +264,14 @@ pub(crate) fn squeeze(text: &[u8], out: &mut [u8]) -> Result<(usize, Borders), u
     };
     'wholes: while text.len() - pass.place >= 32 {
         let look = Look::new(text, pass.place);
-        pass = pass.take(look, text, out, &mut borders, most)?;
+        pass = pass.take(look, text, out, borders, most)?;
     }
     let last = last_bytes(text);
     'rests: while pass.place < text.len() {
         let look = Look::new(&last, pass.place + 32 - text.len());
-        pass = pass.take(look, text, out, &mut borders, most)?;
+        pass = pass.take(look, text, out, borders, most)?;
     }
-    Ok((pass.made, borders))
+    Ok(pass.made)
 }
 
 /// The bytes of a look, of which a pass takes all but the last: that shows what follows the others.
@@ -389,6 +442,16 @@ impl Borders {
         }
     }
 
+    /// Forgets all borders.
+    #[inline(always)]
+    fn clear(&mut self)
+        ensures { (most : ℕ) → IsNoted [] most self.new }
+    {
+        self.places.clear();
+        self.others = 0;
+        self.brackets = 0;
+    }
+
     /// Records the offset of the next border, or counts it if as many as may be are recorded.
     #[inline(always)]
     fn push(&mut self, place: usize, most: usize)
@@ -438,7 +501,7 @@ impl Borders {
     }
 
     /// Whether the text is in one pair of brackets.
-    pub(crate) fn are_bracketed(&self, text: &[u8]) -> bool
+    fn are_bracketed(&self, text: &[u8]) -> bool
         requires { IsNoted text.now (length self.now.places.items) self.now }
         ensures { result ≡ is_bracketed text.now }
     {
@@ -446,7 +509,7 @@ impl Borders {
     }
 
     /// The number of fields of a text in one pair of brackets.
-    pub(crate) fn field_count(&self, text: &[u8]) -> usize
+    fn field_count(&self, text: &[u8]) -> usize
         requires noted { IsNoted text.now (length self.now.places.items) self.now }
         requires bracketed { is_bracketed text.now ≡ true }
         ensures { result ≡ length (fields_of text.now) }
@@ -473,7 +536,7 @@ impl Borders {
 
     /// Field `i`, counted from 0, of a text in one pair of brackets.
     #[tactic(auto, unfolding(crate::specs::Fields::fields_of))]
-    pub(crate) fn field<'a>(&self, text: &'a [u8], i: usize) -> &'a [u8]
+    fn field<'a>(&self, text: &'a [u8], i: usize) -> &'a [u8]
         requires noted { IsNoted text.now (length self.now.places.items) self.now }
         requires bracketed { is_bracketed text.now ≡ true }
         requires place { i < length (fields_of text.now) }

@@ -5,8 +5,8 @@ use Rattle.fpl_text.proofs.squeezed.squeeze.Goals as goal
 
 pub wholes-init : goal.wholes-init
 wholes-init c = record {
-  pass = pass-start c.args.text.now c.args.out.now c.requires;
-  noted = c.new-borders.ensures c.most_recorded-most.result;
+  pass = pass-start c.args.text.now c.args.out.now c.requires.fits;
+  noted = c.requires.none c.most_recorded-most.result;
 }
 
 pub returns-clause-empty : goal.returns-clause-empty
