@@ -5,7 +5,7 @@ use Rattle.std.specs.List.{list_all, position_from}
 use Rattle.fpl_text.specs.declared.fault.TextFault.{TextFault}
 use Rattle.fpl_text.specs.declared.fault.TextFault.TheVariants as text
 use Rattle.fpl_text.specs.Bytes.{is_blank, is_accepted}
-use Rattle.fpl_text.specs.Squeezing.{squeezed_unless, squeezed_or_fault, Gives}
+use Rattle.fpl_text.specs.Squeezing.{squeezed_unless, squeezed_or_fault, GivesAs}
 use Rattle.fpl_text.specs.declared.fields.Title.{Title}
 use Rattle.fpl_text.specs.Fields.{is_bracketed, fields_of, first_field, title_of, has_its_fields, counted_fields, fields_or_fault}
 use Rattle.fpl_message.specs.declared.fault.Fault.TheVariants.{OutOfMemory}
@@ -32,13 +32,13 @@ bad-below bytes place e = at (list_all is_blank bytes) (position_from (λ b. not
     at false (Some p) is fault = omega (arith, position_from-below (λ b. not (is_accepted b)) 0 bytes place cc)
 
 -- the offset of a byte that no message has, in at most 2,000 bytes, is stored in 16 bits
-pub squeezed-fits : (bytes : List ℕ) (fault : TextFault) → length bytes ≤ 2000 → Gives {A = List ℕ} (Err fault) (squeezed_or_fault bytes) → PlaceFits fault
-squeezed-fits bytes text.Empty few e = tt
-squeezed-fits bytes (text.BadByte place) few e = omega (arith, bad-below bytes place e)
-squeezed-fits bytes text.NoBracket few e = tt
-squeezed-fits bytes text.UnknownTitle few e = tt
-squeezed-fits bytes text.FieldCount few e = tt
-squeezed-fits bytes text.OutOfMemory few e = tt
+pub squeezed-fits : {A : Type 0} (view : A → List ℕ) (bytes : List ℕ) (fault : TextFault) → length bytes ≤ 2000 → GivesAs view (Err fault) (squeezed_or_fault bytes) → PlaceFits fault
+squeezed-fits view bytes text.Empty few e = tt
+squeezed-fits view bytes (text.BadByte place) few e = omega (arith, bad-below bytes place e)
+squeezed-fits view bytes text.NoBracket few e = tt
+squeezed-fits view bytes text.UnknownTitle few e = tt
+squeezed-fits view bytes text.FieldCount few e = tt
+squeezed-fits view bytes text.OutOfMemory few e = tt
 
 -- a squeezed text is not refused for a byte
 not-bad : (bytes : List ℕ) (place : ℕ) → fields_or_fault bytes ≡ Err (text.BadByte place) → ⊥

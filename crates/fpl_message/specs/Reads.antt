@@ -42,10 +42,14 @@ titled_message None fields = Err refusal.UnknownTitle
 abbrev pub message_of : List (List ℕ) → Result ReadingView Refusal
 message_of fields = titled_message (title_of (first_field fields)) fields >>= (λ m. Ok (msg m))
 
+-- what a squeezed text says as a message, or why it is none
+abbrev pub message_or_refusal : List ℕ → Result ReadingView Refusal
+message_or_refusal text = by_text (fields_or_fault text) >>= message_of
+
 -- a squeezed text that begins with an opening bracket is a message, any other an order
 abbrev pub reading_of_squeezed : Edition → List ℕ → Result ReadingView Refusal
 reading_of_squeezed edition text =
-    if begins_message text then by_text (fields_or_fault text) >>= message_of
+    if begins_message text then message_or_refusal text
     else order_or_refusal edition text >>= (λ order. Ok (ord order))
 
 -- what a filing says, or its first refusal

@@ -16,7 +16,7 @@ use crate::fault::Fault;
 use crate::parts::{Parts, read_opening};
 use crate::refusal::Refusal;
 use fpl_items::{Other18, is_route};
-use fpl_text::{Craft, Departure, Destination, Fields, Rules, begins_amendment, is_equipment};
+use fpl_text::{Craft, Departure, Destination, FieldsRef, Rules, begins_amendment, is_equipment};
 use std::alloc::{Allocator, Global};
 
 /// What a modification changes. An amended text is stored as the index of its field 22 among the
@@ -60,7 +60,10 @@ fn amended_text(field: &[u8]) -> &[u8]
 }
 
 /// The amended text of the field 22 at index `place`.
-pub(crate) fn amended_at<A: Allocator + Copy>(fields: &Fields<A>, place: usize) -> &[u8]
+pub(crate) fn amended_at<'a, A: Allocator + Copy>(
+    fields: &FieldsRef<'a, A>,
+    place: usize,
+) -> &'a [u8]
     requires { place < length fields.now }
     ensures { result.now ≡ amended_text (field fields.now place) }
 {
@@ -68,7 +71,7 @@ pub(crate) fn amended_at<A: Allocator + Copy>(fields: &Fields<A>, place: usize) 
 }
 
 impl<A: Allocator + Copy> Changes<A> {
-    fn amend_rules(&mut self, fields: &Fields<A>, place: usize) -> Result<(), Fault>
+    fn amend_rules(&mut self, fields: &FieldsRef<'_, A>, place: usize) -> Result<(), Fault>
         requires { place < length fields.now }
         ensures change { ReturnsAs (λ _. kept fields.now self.new) result
             (amend_rules (amended_text (field fields.now place)) (kept fields.now self.old)) }
@@ -84,7 +87,7 @@ impl<A: Allocator + Copy> Changes<A> {
         Ok(())
     }
 
-    fn amend_craft(&mut self, fields: &Fields<A>, place: usize) -> Result<(), Fault>
+    fn amend_craft(&mut self, fields: &FieldsRef<'_, A>, place: usize) -> Result<(), Fault>
         requires { place < length fields.now }
         ensures change { ReturnsAs (λ _. kept fields.now self.new) result
             (amend_craft (amended_text (field fields.now place)) (kept fields.now self.old)) }
@@ -99,7 +102,7 @@ impl<A: Allocator + Copy> Changes<A> {
         Ok(())
     }
 
-    fn amend_equipment(&mut self, fields: &Fields<A>, place: usize) -> Result<(), Fault>
+    fn amend_equipment(&mut self, fields: &FieldsRef<'_, A>, place: usize) -> Result<(), Fault>
         requires { place < length fields.now }
         ensures change { ReturnsAs (λ _. kept fields.now self.new) result
             (amend_equipment (amended_text (field fields.now place)) (kept fields.now self.old)) }
@@ -116,7 +119,7 @@ impl<A: Allocator + Copy> Changes<A> {
         Ok(())
     }
 
-    fn amend_departure(&mut self, fields: &Fields<A>, place: usize) -> Result<(), Fault>
+    fn amend_departure(&mut self, fields: &FieldsRef<'_, A>, place: usize) -> Result<(), Fault>
         requires { place < length fields.now }
         ensures change { ReturnsAs (λ _. kept fields.now self.new) result
             (amend_departure (amended_text (field fields.now place)) (kept fields.now self.old)) }
@@ -131,7 +134,7 @@ impl<A: Allocator + Copy> Changes<A> {
         Ok(())
     }
 
-    fn amend_route(&mut self, fields: &Fields<A>, place: usize) -> Result<(), Fault>
+    fn amend_route(&mut self, fields: &FieldsRef<'_, A>, place: usize) -> Result<(), Fault>
         requires { place < length fields.now }
         ensures change { ReturnsAs (λ _. kept fields.now self.new) result
             (amend_route (amended_text (field fields.now place)) (kept fields.now self.old)) }
@@ -149,7 +152,7 @@ impl<A: Allocator + Copy> Changes<A> {
     }
 
     /// Field 16, whose time and alternates may be missing.
-    fn amend_destination(&mut self, fields: &Fields<A>, place: usize) -> Result<(), Fault>
+    fn amend_destination(&mut self, fields: &FieldsRef<'_, A>, place: usize) -> Result<(), Fault>
         requires { place < length fields.now }
         ensures change { ReturnsAs (λ _. kept fields.now self.new) result
             (amend_destination (amended_text (field fields.now place)) (kept fields.now self.old)) }
@@ -164,7 +167,7 @@ impl<A: Allocator + Copy> Changes<A> {
         Ok(())
     }
 
-    fn amend_other(&mut self, alloc: A, fields: &Fields<A>, place: usize) -> Result<(), Fault>
+    fn amend_other(&mut self, alloc: A, fields: &FieldsRef<'_, A>, place: usize) -> Result<(), Fault>
         requires { place < length fields.now }
         ensures change { ReturnsAs (λ _. kept fields.now self.new) result
             (amend_other (amended_text (field fields.now place)) (kept fields.now self.old)) }
@@ -185,7 +188,7 @@ impl<A: Allocator + Copy> Changes<A> {
 
     /// Adds what the field 22 at index `place` amends.
     #[tactic(auto, unfolding(crate::specs::Modifications::amend, crate::specs::Modifications::amend_numbered))]
-    fn amend(&mut self, alloc: A, fields: &Fields<A>, place: usize) -> Result<(), Fault>
+    fn amend(&mut self, alloc: A, fields: &FieldsRef<'_, A>, place: usize) -> Result<(), Fault>
         requires { place < length fields.now }
         ensures change { ReturnsAs (λ _. kept fields.now self.new) result
             (amend (field fields.now place) (kept fields.now self.old)) }
@@ -212,7 +215,7 @@ impl<A: Allocator + Copy> Changes<A> {
 
     /// Adds what the fields 22 from index `first` on amend.
     #[tactic(auto, using(crate::proofs::ModificationLemmas::amended_steps))]
-    fn amend_from(&mut self, alloc: A, fields: &Fields<A>, first: usize) -> Result<(), Fault>
+    fn amend_from(&mut self, alloc: A, fields: &FieldsRef<'_, A>, first: usize) -> Result<(), Fault>
         requires { first ≤ length fields.now }
         ensures change { ReturnsAs (λ _. kept fields.now self.new) result
             (amend_all (drop first fields.now) (kept fields.now self.old)) }
@@ -244,7 +247,7 @@ impl<A: Allocator + Copy> Changes<A> {
 
     /// Reads the fields of a CHG, from the left, and replaces all changes.
     #[tactic(auto, unfolding(crate::specs::Modifications::chg_of))]
-    pub(crate) fn read(&mut self, alloc: A, fields: &Fields<A>) -> Result<(), Fault>
+    pub(crate) fn read(&mut self, alloc: A, fields: &FieldsRef<'_, A>) -> Result<(), Fault>
         requires { 5 ≤ length fields.now }
         ensures change { ReturnsAs (λ _. kept fields.now self.new) result (chg_of fields.now) }
         ensures memory { RunsOutOnlyIf result (ChgNotesNine fields.now) }

@@ -8,7 +8,7 @@ use crate::edition::Edition;
 use crate::filed_text::{FiledText, FilingFault, MAX_BYTES};
 use crate::filing_reader::{FilingReader, heading_of};
 use crate::message::Reading;
-use fpl_text::Heading;
+use fpl_text::{Heading, Squeezed};
 use std::alloc::{AllocError, Allocator, Global};
 use std::marker::Model;
 
@@ -71,17 +71,17 @@ impl<A: Allocator + Copy> Filing<A> {
         Ok(Filing { text, reader })
     }
 
-    /// Creates the filing of a text, which is read in `room`. The buffer is left there for the next
-    /// text, unless the message or a fault keeps it. Returns the text if an allocation fails.
+    /// Creates the filing of a text, which is squeezed over `last`. That is left for the next text.
+    /// Returns the text if an allocation fails.
     pub fn of_text(
         alloc: A,
-        room: &mut Vec<u8, A>,
+        last: &mut Squeezed<A>,
         text: FiledText<A>,
     ) -> Result<Self, (AllocError, FiledText<A>)>
         ensures value { IfOk result (λ filing. filing ≡ text) }
         ensures back { IfErr result (λ refused. refused.1 ≡ text) }
     {
-        match FilingReader::read_in(alloc, room, text.edition(), text.text()) {
+        match FilingReader::read_in(alloc, last, text.edition(), text.text()) {
             Ok(reader) => Ok(Filing { text, reader }),
             Err(AllocError) => Err((AllocError, text)),
         }

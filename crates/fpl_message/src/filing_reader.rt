@@ -1,13 +1,14 @@
 //! The reader of filings, which parses their bytes, and reuses its memory from text to text.
 
 ghost use Rattle.std.specs.Prelude.{◌≡◌, ◌≤◌, length, OnOk, OnErr, IfOk, ◌≢◌, Err};
-ghost use Rattle.fpl_message.specs.Reads.{reading_of, bad, reading_or_refusal, message_of};
+ghost use Rattle.fpl_message.specs.Reads.{reading_of, bad, reading_or_refusal, message_or_refusal};
 ghost use Rattle.fpl_message.specs.Reads.{begins_message, heading_of_bytes};
 ghost use Rattle.fpl_message.specs.Said.{said};
 ghost use Rattle.fpl_message.specs.declared.filed_text.TheConstants.{MAX_BYTES};
 ghost use Rattle.fpl_message.specs.Refusals.{ReturnsAs, by_text};
 ghost use Rattle.fpl_text.specs.Squeezing.{squeezed_or_fault};
-ghost use Rattle.fpl_text.specs.Fields.{fields_or_fault};
+ghost use Rattle.fpl_text.specs.Fields.{fields_of, fields_or_fault};
+ghost use Rattle.fpl_text.specs.Borders.{IsMessage};
 
 use crate::edition::Edition;
 use crate::fault::{Fault, boxed, text_fault};
@@ -18,7 +19,7 @@ use crate::order::{OpenReg, Order, read_order};
 use crate::parts::Opening;
 use crate::refusal::Refusal;
 use crate::short_message::{Cnl, Dep, Dla, read_short};
-use fpl_text::{Fields, Heading, Squeezed, Title};
+use fpl_text::{Heading, Squeezed, Title};
 use std::alloc::{AllocError, Allocator, Global};
 use std::marker::Model;
 use std::mem::replace;
@@ -27,8 +28,8 @@ use std::mem::replace;
 /// Contracts see what the last one says.
 #[derive(Drop)]
 pub struct FilingReader<A: Allocator + Copy = Global> {
-    /// The buffer in which texts are squeezed.
-    room: Vec<u8, A>,
+    /// The last text, or one that was read before it.
+    squeezed: Squeezed<A>,
     /// The boxes of former messages, for the next ones.
     spares: Spares<A>,
     reading: Reading<A>,
@@ -49,17 +50,17 @@ impl<A: Allocator + Copy> FilingReader<A> {
         ensures { result ≡ bad Refusal.Empty }
     {
         FilingReader {
-            room: Vec::new(alloc),
+            squeezed: Squeezed::new(alloc),
             spares: Spares::none(),
             reading: Reading::Bad(Refusal::Empty),
         }
     }
 
-    /// A reader that has read these bytes by the rules of `edition` in `room`. The buffer is left
-    /// there for the next text, unless the message or a fault keeps it.
+    /// A reader that has read these bytes by the rules of `edition`, squeezed over `last`, which is
+    /// left for the next text.
     pub(crate) fn read_in(
         alloc: A,
-        room: &mut Vec<u8, A>,
+        last: &mut Squeezed<A>,
         edition: Edition,
         bytes: &[u8],
     ) -> Result<Self, AllocError>
@@ -70,7 +71,7 @@ impl<A: Allocator + Copy> FilingReader<A> {
         let mut reader = FilingReader::new(alloc);
         read(
             alloc,
-            room,
+            last,
             &mut reader.spares,
             &mut reader.reading,
             edition,
@@ -90,7 +91,7 @@ impl<A: Allocator + Copy> FilingReader<A> {
         self.clear();
         let Ok(()) = read(
             alloc,
-            &mut self.room,
+            &mut self.squeezed,
             &mut self.spares,
             &mut self.reading,
             edition,
@@ -150,14 +151,13 @@ impl<A: Allocator + Copy> Spares<A> {
 }
 
 /// Reads at most 2,000 bytes by the rules of an edition, and replaces another reading. They are
-/// squeezed in `room`, which is left for the next text, unless the message or a fault keeps it; a
-/// message is stored in the spare box of its kind, if there is one. Returns `Err` if an allocation
-/// fails.
+/// squeezed over `last`; a message is stored in the spare box of its kind, if there is one. Returns
+/// `Err` if an allocation fails.
 #[inline(always)]
 #[tactic(auto, unfolding(crate::specs::Reads::reading_of))]
 pub(crate) fn read<A: Allocator + Copy>(
     alloc: A,
-    room: &mut Vec<u8, A>,
+    last: &mut Squeezed<A>,
     spares: &mut Spares<A>,
     reading: &mut Reading<A>,
     edition: Edition,
@@ -167,7 +167,7 @@ pub(crate) fn read<A: Allocator + Copy>(
     ensures { OnOk result (said reading.new
         ≡ reading_of (record { edition = edition; bytes = bytes.now })) }
 {
-    match read_filed(alloc, room, spares, reading, edition, bytes) {
+    match read_filed(alloc, last, spares, reading, edition, bytes) {
         Ok(()) => Ok(()),
         Err(Fault::Refused(refusal)) => {
             *reading = Reading::Bad(refusal);
@@ -180,7 +180,7 @@ pub(crate) fn read<A: Allocator + Copy>(
 /// Returns what the bytes say, or why they are refused.
 fn read_filed<A: Allocator + Copy>(
     alloc: A,
-    room: &mut Vec<u8, A>,
+    last: &mut Squeezed<A>,
     spares: &mut Spares<A>,
     reading: &mut Reading<A>,
     edition: Edition,
@@ -190,34 +190,35 @@ fn read_filed<A: Allocator + Copy>(
     ensures { ReturnsAs (λ _. said reading.new) result
         (reading_or_refusal (record { edition = edition; bytes = bytes.now })) }
 {
-    let squeezed = squeezed(replace(room, Vec::new(alloc)), bytes)?;
-    if !begins_message(squeezed.as_bytes()) {
-        let order = read_order(alloc, &mut spares.open, edition, squeezed.as_bytes());
-        *room = squeezed.into_room();
-        *reading = Reading::Ord(order?);
+    squeeze(last, bytes)?;
+    if !begins_message(last.as_bytes()) {
+        let order = read_order(alloc, &mut spares.open, edition, last.as_bytes())?;
+        *reading = Reading::Ord(order);
         return Ok(());
     }
-    read_message(alloc, room, spares, reading, fields_of(squeezed)?)
+    read_message(alloc, last, spares, reading)
 }
 
-/// Squeezes bytes in `room`; returns why that isn't possible, if so.
-fn squeezed<A: Allocator + Copy>(room: Vec<u8, A>, bytes: &[u8]) -> Result<Squeezed<A>, Fault>
+/// Squeezes bytes over the last text; returns why that isn't possible, if so.
+fn squeeze<A: Allocator + Copy>(last: &mut Squeezed<A>, bytes: &[u8]) -> Result<(), Fault>
     requires { length bytes.now ≤ MAX_BYTES }
-    ensures { ReturnsAs (λ text. text) result (by_text (squeezed_or_fault bytes.now)) }
+    ensures { ReturnsAs (λ _. last.new) result (by_text (squeezed_or_fault bytes.now)) }
 {
-    match Squeezed::read_in(room, bytes) {
-        Ok(squeezed) => Ok(squeezed),
+    match last.renew(bytes) {
+        Ok(()) => Ok(()),
         Err(fault) => Err(text_fault(fault)),
     }
 }
 
-/// Splits a squeezed text into fields, or returns why it has none. Doesn't allocate.
-fn fields_of<A: Allocator + Copy>(squeezed: Squeezed<A>) -> Result<Fields<A>, Fault>
-    ensures value { ReturnsAs (λ fields. fields) result (by_text (fields_or_fault squeezed)) }
+/// The title of a squeezed text, or why it has no fields. Doesn't allocate.
+fn title_of<A: Allocator + Copy>(squeezed: &Squeezed<A>) -> Result<Title, Fault>
+    ensures ok { IfOk result (λ title. IsMessage squeezed.now title) }
+    ensures value { ReturnsAs (λ _. fields_of squeezed.now) result
+        (by_text (fields_or_fault squeezed.now)) }
     ensures memory { result ≢ Err Fault.OutOfMemory }
 {
-    match squeezed.into_fields() {
-        Ok(fields) => Ok(fields),
+    match squeezed.title() {
+        Ok(title) => Ok(title),
         Err(fault) => Err(text_fault(fault)),
     }
 }
@@ -230,15 +231,16 @@ pub(crate) fn heading_of<A: Allocator + Copy>(
     requires { length bytes.now ≤ MAX_BYTES }
     ensures { IfOk result (λ heading. heading ≡ heading_of_bytes bytes.now) }
 {
-    let squeezed = match squeezed(Vec::new(alloc), bytes) {
-        Ok(squeezed) => squeezed,
+    let mut squeezed = Squeezed::new(alloc);
+    match squeeze(&mut squeezed, bytes) {
+        Ok(()) => {}
         Err(Fault::Refused(_)) => return Ok(None),
         Err(Fault::OutOfMemory) => return Err(AllocError),
-    };
-    let Ok(fields) = fields_of(squeezed) else {
+    }
+    let Ok(title) = title_of(&squeezed) else {
         return Ok(None);
     };
-    match Heading::read(fields.field(0)) {
+    match Heading::read(squeezed.fields(title).field(0)) {
         Ok(heading) => Ok(Some(heading)),
         Err(_) => Ok(None),
     }
@@ -255,31 +257,30 @@ fn begins_message(text: &[u8]) -> bool
     }
 }
 
-/// Reads the fields of a message, and replaces another reading. Those of an FPL and of a CHG stay
-/// in the message, and the buffer of the spare box that it takes is left for the next text; that of
-/// the others is left too.
+/// Reads a squeezed text as a message, and replaces another reading. That of an FPL and of a CHG
+/// stays in the message, and that of the spare box that it takes is left for the next text.
 fn read_message<A: Allocator + Copy>(
     alloc: A,
-    room: &mut Vec<u8, A>,
+    text: &mut Squeezed<A>,
     spares: &mut Spares<A>,
     reading: &mut Reading<A>,
-    fields: Fields<A>,
 ) -> Result<(), Fault>
-    ensures { ReturnsAs (λ _. said reading.new) result (message_of fields) }
+    ensures { ReturnsAs (λ _. said reading.new) result (message_or_refusal text.old) }
 {
-    let message = match fields.title() {
-        Title::Fpl => Message::Fpl(Fpl::read(alloc, room, &mut spares.fpl, fields)?),
-        Title::Chg => Message::Chg(Chg::read(alloc, room, &mut spares.chg, fields)?),
+    let title = title_of(text)?;
+    let message = match title {
+        Title::Fpl => Message::Fpl(Fpl::read(alloc, text, &mut spares.fpl)?),
+        Title::Chg => Message::Chg(Chg::read(alloc, text, &mut spares.chg)?),
         Title::Dla => {
-            let Opening { parts, time } = read_short(alloc, room, fields)?;
+            let Opening { parts, time } = read_short(alloc, &text.fields(title))?;
             Message::Dla(Dla { parts, time })
         }
         Title::Cnl => {
-            let Opening { parts, .. } = read_short(alloc, room, fields)?;
+            let Opening { parts, .. } = read_short(alloc, &text.fields(title))?;
             Message::Cnl(Cnl { parts })
         }
         Title::Dep => {
-            let Opening { parts, time } = read_short(alloc, room, fields)?;
+            let Opening { parts, time } = read_short(alloc, &text.fields(title))?;
             Message::Dep(Dep { parts, time })
         }
     };

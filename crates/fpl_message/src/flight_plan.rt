@@ -2,6 +2,8 @@
 ghost use Rattle.std.specs.Prelude.{◌≡◌, ◌≢◌, ◌<◌, true, length, Ok, Err, IfOk, IfErr};
 ghost use Rattle.fpl_message.specs.Refusals.{ReturnsAs, RunsOutOnlyIf, IsPastTheEighth};
 ghost use Rattle.fpl_items.specs.Routes.{is_route, path_or_fault};
+ghost use Rattle.fpl_text.specs.Fields.{fields_of};
+ghost use Rattle.fpl_text.specs.Borders.{IsMessage};
 ghost use Rattle.fpl_text.specs.Words.{words_of};
 ghost use Rattle.fpl_items.specs.Items.{items_of};
 ghost use Rattle.fpl_items.specs.Other18.{TellsOf};
@@ -12,7 +14,8 @@ ghost use Rattle.fpl_text.specs.declared.time.TheConstants.{ELAPSED_LIMIT};
 use crate::fault::{Fault, boxed};
 use crate::refusal::Refusal;
 use fpl_items::{ItemFault, Items, Other18, Route, is_route};
-use fpl_text::{Craft, Departure, Destination, Fields, Heading, Ident, Rules, is_equipment};
+use fpl_text::{Craft, Departure, Destination, Fields, FieldsRef, Heading, Ident, Rules};
+use fpl_text::{Squeezed, Title, is_equipment};
 use std::alloc::{Allocator, Global};
 use std::marker::Model;
 use std::mem::replace;
@@ -67,7 +70,7 @@ impl Flight {
     /// Reads the fields of an FPL before field 18, from the left.
     #[inline(always)]
     #[tactic(auto, unfolding(crate::specs::FlightPlans::flight_of))]
-    fn read<A: Allocator + Copy>(fields: &Fields<A>) -> Result<Flight, Fault>
+    fn read<A: Allocator + Copy>(fields: &FieldsRef<'_, A>) -> Result<Flight, Fault>
         requires { length fields.now ≡ 9 }
         ensures value { ReturnsAs (λ flight. flight) result (flight_of fields.now) }
         ensures memory { result ≢ Err Fault.OutOfMemory }
@@ -101,23 +104,23 @@ impl Flight {
 }
 
 impl<A: Allocator + Copy> Fpl<A> {
-    /// Reads the fields of an FPL, from the left. Allocates only for a ninth estimate of field 18,
-    /// and for a flight plan if there is no spare box.
+    /// Reads the fields of an FPL, from the left. The text stays in the plan; that of the spare box
+    /// is left in its place, or the empty one. Allocates only for a ninth estimate of field 18, and
+    /// for a flight plan if there is no spare box.
     pub(crate) fn read(
         alloc: A,
-        room: &mut Vec<u8, A>,
+        text: &mut Squeezed<A>,
         spare: &mut Option<Box<Fpl<A>, A>>,
-        fields: Fields<A>,
     ) -> Result<Box<Fpl<A>, A>, Fault>
-        requires { length fields ≡ 9 }
-        ensures value { ReturnsAs (λ b. b.value) result (fpl_of fields) }
-        ensures memory { RunsOutOnlyIf result
-            (IfErr (fpl_of fields) (λ _. IsPastTheEighth (field fields 8) (fpl_of fields))) }
+        requires { IsMessage text.old Title.Fpl }
+        ensures value { ReturnsAs (λ b. b.value) result (fpl_of (fields_of text.old)) }
+        ensures memory { RunsOutOnlyIf result (IfErr (fpl_of (fields_of text.old))
+            (λ _. IsPastTheEighth (field (fields_of text.old) 8) (fpl_of (fields_of text.old)))) }
     {
         let Some(mut last) = spare.take() else {
-            return Fpl::first(alloc, fields);
+            return Fpl::first(alloc, text);
         };
-        match last.renew(alloc, room, fields) {
+        match last.renew(alloc, text) {
             Ok(()) => Ok(last),
             Err(fault) => {
                 *spare = Some(last);
@@ -130,13 +133,15 @@ impl<A: Allocator + Copy> Fpl<A> {
     #[cold]
     #[inline(never)]
     #[tactic(auto, unfolding(crate::specs::FlightPlans::fpl_of))]
-    fn first(alloc: A, fields: Fields<A>) -> Result<Box<Fpl<A>, A>, Fault>
-        requires { length fields ≡ 9 }
-        ensures value { ReturnsAs (λ b. b.value) result (fpl_of fields) }
-        ensures memory { RunsOutOnlyIf result
-            (IfErr (fpl_of fields) (λ _. IsPastTheEighth (field fields 8) (fpl_of fields))) }
+    fn first(alloc: A, text: &mut Squeezed<A>) -> Result<Box<Fpl<A>, A>, Fault>
+        requires { IsMessage text.old Title.Fpl }
+        ensures value { ReturnsAs (λ b. b.value) result (fpl_of (fields_of text.old)) }
+        ensures memory { RunsOutOnlyIf result (IfErr (fpl_of (fields_of text.old))
+            (λ _. IsPastTheEighth (field (fields_of text.old) 8) (fpl_of (fields_of text.old)))) }
     {
-        let flight = Flight::read(&fields)?;
+        let text = replace(text, Squeezed::new(alloc));
+        let fields = Fields::new(text, Title::Fpl);
+        let flight = Flight::read(&fields.by_ref())?;
         let other = Other18::read(alloc, fields.field(8))?;
         boxed(
             alloc,
@@ -148,17 +153,18 @@ impl<A: Allocator + Copy> Fpl<A> {
         )
     }
 
-    /// Reads other fields into this plan, and leaves the buffer of its text in `room`.
+    /// Reads another text into this plan, and leaves its own in place of it.
     #[tactic(auto, unfolding(crate::specs::FlightPlans::fpl_of))]
-    fn renew(&mut self, alloc: A, room: &mut Vec<u8, A>, fields: Fields<A>) -> Result<(), Fault>
-        requires { length fields ≡ 9 }
-        ensures value { ReturnsAs (λ _. self.new) result (fpl_of fields) }
-        ensures memory { RunsOutOnlyIf result
-            (IfErr (fpl_of fields) (λ _. IsPastTheEighth (field fields 8) (fpl_of fields))) }
+    fn renew(&mut self, alloc: A, text: &mut Squeezed<A>) -> Result<(), Fault>
+        requires { IsMessage text.old Title.Fpl }
+        ensures value { ReturnsAs (λ _. self.new) result (fpl_of (fields_of text.old)) }
+        ensures memory { RunsOutOnlyIf result (IfErr (fpl_of (fields_of text.old))
+            (λ _. IsPastTheEighth (field (fields_of text.old) 8) (fpl_of (fields_of text.old)))) }
     {
+        let fields = text.fields(Title::Fpl);
         let flight = Flight::read(&fields)?;
         self.other.renew(alloc, fields.field(8))?;
-        *room = replace(&mut self.fields, fields).into_room();
+        self.fields.exchange(text, Title::Fpl);
         self.flight = flight;
         Ok(())
     }

@@ -4,6 +4,8 @@ ghost use Rattle.std.specs.Option.{ForSome};
 ghost use Rattle.fpl_items.specs.Other18.{TellsOfAny};
 ghost use Rattle.fpl_message.specs.Refusals.{ReturnsAs, RunsOutOnlyIf};
 ghost use Rattle.fpl_message.specs.Modifications.{chg_of};
+ghost use Rattle.fpl_text.specs.Fields.{fields_of};
+ghost use Rattle.fpl_text.specs.Borders.{IsMessage};
 ghost use Rattle.fpl_message.specs.NinthEstimates.{ChgNotesNine};
 ghost use Rattle.fpl_message.specs.KeptChanges.{text_at, items_at};
 ghost use Rattle.fpl_text.specs.declared.time.TheConstants.{ELAPSED_LIMIT};
@@ -12,7 +14,7 @@ use crate::changes::{Changes, amended_at};
 use crate::fault::{Fault, boxed};
 use crate::parts::Parts;
 use fpl_items::Other18;
-use fpl_text::{Departure, Destination, Fields, Rules};
+use fpl_text::{Departure, Destination, Fields, FieldsRef, Rules, Squeezed, Title};
 use std::alloc::{Allocator, Global};
 use std::marker::Model;
 use std::mem::replace;
@@ -38,21 +40,22 @@ impl<A: Allocator + Copy> Model for Chg<A> {
 }
 
 impl<A: Allocator + Copy> Chg<A> {
-    /// Reads the fields of a CHG, from the left.
+    /// Reads the fields of a CHG, from the left. The text stays in the message; that of the spare
+    /// box is left in its place, or the empty one.
     pub(crate) fn read(
         alloc: A,
-        room: &mut Vec<u8, A>,
+        text: &mut Squeezed<A>,
         spare: &mut Option<Box<Chg<A>, A>>,
-        fields: Fields<A>,
     ) -> Result<Box<Chg<A>, A>, Fault>
-        requires { 5 ≤ length fields }
-        ensures value { ReturnsAs (λ b. b.value) result (chg_of fields) }
-        ensures memory { RunsOutOnlyIf result (IfErr (chg_of fields) (λ _. ChgNotesNine fields)) }
+        requires { IsMessage text.old Title.Chg }
+        ensures value { ReturnsAs (λ b. b.value) result (chg_of (fields_of text.old)) }
+        ensures memory { RunsOutOnlyIf result
+            (IfErr (chg_of (fields_of text.old)) (λ _. ChgNotesNine (fields_of text.old))) }
     {
         let Some(mut last) = spare.take() else {
-            return Chg::first(alloc, fields);
+            return Chg::first(alloc, text);
         };
-        match last.renew(alloc, room, fields) {
+        match last.renew(alloc, text) {
             Ok(()) => Ok(last),
             Err(fault) => {
                 *spare = Some(last);
@@ -64,24 +67,27 @@ impl<A: Allocator + Copy> Chg<A> {
     /// Reads the fields of a CHG for which there is no spare box.
     #[cold]
     #[inline(never)]
-    fn first(alloc: A, fields: Fields<A>) -> Result<Box<Chg<A>, A>, Fault>
-        requires { 5 ≤ length fields }
-        ensures value { ReturnsAs (λ b. b.value) result (chg_of fields) }
-        ensures memory { RunsOutOnlyIf result (IfErr (chg_of fields) (λ _. ChgNotesNine fields)) }
+    fn first(alloc: A, text: &mut Squeezed<A>) -> Result<Box<Chg<A>, A>, Fault>
+        requires { IsMessage text.old Title.Chg }
+        ensures value { ReturnsAs (λ b. b.value) result (chg_of (fields_of text.old)) }
+        ensures memory { RunsOutOnlyIf result
+            (IfErr (chg_of (fields_of text.old)) (λ _. ChgNotesNine (fields_of text.old))) }
     {
+        let text = replace(text, Squeezed::new(alloc));
+        let fields = Fields::new(text, Title::Chg);
         let mut changes = Changes::none();
-        changes.read(alloc, &fields)?;
+        changes.read(alloc, &fields.by_ref())?;
         boxed(alloc, Chg { fields, changes })
     }
 
-    /// Reads other fields into this message, and leaves the buffer of its text in `room`.
-    fn renew(&mut self, alloc: A, room: &mut Vec<u8, A>, fields: Fields<A>) -> Result<(), Fault>
-        requires { 5 ≤ length fields }
-        ensures value { ReturnsAs (λ _. self.new) result (chg_of fields) }
-        ensures memory { RunsOutOnlyIf result (ChgNotesNine fields) }
+    /// Reads another text into this message, and leaves its own in place of it.
+    fn renew(&mut self, alloc: A, text: &mut Squeezed<A>) -> Result<(), Fault>
+        requires { IsMessage text.old Title.Chg }
+        ensures value { ReturnsAs (λ _. self.new) result (chg_of (fields_of text.old)) }
+        ensures memory { RunsOutOnlyIf result (ChgNotesNine (fields_of text.old)) }
     {
-        *room = replace(&mut self.fields, fields).into_room();
-        self.changes.read(alloc, &self.fields)
+        self.fields.exchange(text, Title::Chg);
+        self.changes.read(alloc, &self.fields.by_ref())
     }
 
     /// Returns what identifies the plan.
@@ -126,40 +132,43 @@ impl<A: Allocator + Copy> Chg<A> {
     pub fn field8(&self) -> Option<&[u8]>
         ensures { option_copied result ≡ self.now.field8 }
     {
-        text_at(&self.fields, self.changes.field8)
+        text_at(&self.fields.by_ref(), self.changes.field8)
     }
 
     /// Returns the squeezed text of an amended field 9.
     pub fn field9(&self) -> Option<&[u8]>
         ensures { option_copied result ≡ self.now.field9 }
     {
-        text_at(&self.fields, self.changes.field9)
+        text_at(&self.fields.by_ref(), self.changes.field9)
     }
 
     /// Returns the squeezed text of an amended field 10.
     pub fn field10(&self) -> Option<&[u8]>
         ensures { option_copied result ≡ self.now.field10 }
     {
-        text_at(&self.fields, self.changes.field10)
+        text_at(&self.fields.by_ref(), self.changes.field10)
     }
 
     /// Returns the squeezed text of an amended field 15.
     pub fn field15(&self) -> Option<&[u8]>
         ensures { option_copied result ≡ self.now.field15 }
     {
-        text_at(&self.fields, self.changes.field15)
+        text_at(&self.fields.by_ref(), self.changes.field15)
     }
 
     /// Returns the squeezed text of an amended field 18.
     pub fn field18(&self) -> Option<&[u8]>
         ensures { option_copied result ≡ self.now.field18 }
     {
-        text_at(&self.fields, self.changes.field18)
+        text_at(&self.fields.by_ref(), self.changes.field18)
     }
 }
 
 /// The amended text at index `place`, if there is one.
-fn text_at<A: Allocator + Copy>(fields: &Fields<A>, place: Option<usize>) -> Option<&[u8]>
+fn text_at<'a, A: Allocator + Copy>(
+    fields: &FieldsRef<'a, A>,
+    place: Option<usize>,
+) -> Option<&'a [u8]>
     requires { ForSome place (λ at. at < length fields.now) }
     ensures { option_copied result ≡ text_at fields.now place }
 {

@@ -8,7 +8,7 @@ ghost use Rattle.fpl_message.specs.ShortMessages.{opening_of, other_day, day_of_
 
 use crate::fault::Fault;
 use fpl_items::Other18;
-use fpl_text::{Day, Departure, Destination, Fields, Heading, Ident, Text, TimeOfDay};
+use fpl_text::{Day, Departure, Destination, FieldsRef, Heading, Ident, Text, TimeOfDay};
 use std::alloc::Allocator;
 
 /// What identifies the plan that a message is about (ICAO Doc 4444, appendix 3, field types 7, 13,
@@ -50,7 +50,7 @@ pub struct Opening {
 pub(crate) fn read_opening<A: Allocator + Copy>(
     alloc: A,
     has_other: bool,
-    fields: &Fields<A>,
+    fields: &FieldsRef<'_, A>,
 ) -> Result<Opening, Fault>
     requires four { 4 ≤ length fields.now }
     requires other { IsTrue has_other → 4 < length fields.now }
@@ -80,7 +80,7 @@ pub(crate) fn read_opening<A: Allocator + Copy>(
 fn read_day<A: Allocator + Copy>(
     alloc: A,
     has_other: bool,
-    fields: &Fields<A>,
+    fields: &FieldsRef<'_, A>,
 ) -> Result<Option<Day>, Fault>
     requires { IsTrue has_other → 4 < length fields.now }
     ensures value { ReturnsAs (λ day. day) result (other_day has_other fields.now) }

@@ -6,7 +6,7 @@ ghost use Rattle.fpl_message.specs.ShortMessages.{short_opening_of};
 
 use crate::fault::Fault;
 use crate::parts::{Opening, Parts, read_opening};
-use fpl_text::{Fields, TimeOfDay};
+use fpl_text::{FieldsRef, TimeOfDay};
 use std::alloc::Allocator;
 
 /// A delay: the plan leaves its blocks at this time of day.
@@ -29,20 +29,17 @@ pub struct Dep {
     pub time: TimeOfDay,
 }
 
-/// Reads the fields of a DLA, a CNL or a DEP, from the left. The buffer of the text is left for the
-/// next one. Allocates only for a ninth estimate in field 18.
+/// Reads the fields of a DLA, a CNL or a DEP, from the left. Allocates only for a ninth
+/// estimate in field 18.
 pub(crate) fn read_short<A: Allocator + Copy>(
     alloc: A,
-    room: &mut Vec<u8, A>,
-    fields: Fields<A>,
+    fields: &FieldsRef<'_, A>,
 ) -> Result<Opening, Fault>
-    requires { 4 ≤ length fields }
-    ensures value { ReturnsAs (λ opening. opening) result (short_opening_of fields) }
+    requires { 4 ≤ length fields.now }
+    ensures value { ReturnsAs (λ opening. opening) result (short_opening_of fields.now) }
     ensures memory { RunsOutOnlyIf result
-        (((length fields == 5) ≡ true)
-        × IsPastTheEighth (field fields 4) (short_opening_of fields)) }
+        (((length fields.now == 5) ≡ true)
+        × IsPastTheEighth (field fields.now 4) (short_opening_of fields.now)) }
 {
-    let opening = read_opening(alloc, fields.count() == 5, &fields);
-    *room = fields.into_room();
-    opening
+    read_opening(alloc, fields.count() == 5, fields)
 }

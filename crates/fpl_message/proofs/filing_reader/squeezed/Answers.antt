@@ -1,5 +1,0 @@
-use Rattle.fpl_message.proofs.PlaceLemmas.{squeezed-fits}
-use Rattle.fpl_message.proofs.filing_reader.squeezed.Goals as goal
-
-pub text_fault-requires : goal.text_fault-requires
-text_fault-requires g c = squeezed-fits c.args.bytes.now c.in-Err.fault c.requires c.in-Err.ensures
