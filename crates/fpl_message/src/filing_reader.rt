@@ -103,13 +103,21 @@ impl<A: Allocator + Copy> FilingReader<A> {
         Ok(())
     }
 
-    /// Drops what the last bytes said, and keeps its box.
+    /// Drops what the last bytes said, and keeps its box. Most readings have none, and aren't moved.
     #[inline(always)]
     fn clear(&mut self)
         ensures { self.new ≡ bad Refusal.Empty }
     {
-        let last = replace(&mut self.reading, Reading::Bad(Refusal::Empty));
-        self.spares.keep(last);
+        let has_box = matches!(
+            self.reading,
+            Reading::Msg(Message::Fpl(_) | Message::Chg(_)) | Reading::Ord(Order::OpenReg(_))
+        );
+        if has_box {
+            let last = replace(&mut self.reading, Reading::Bad(Refusal::Empty));
+            self.spares.keep(last);
+        } else {
+            self.reading = Reading::Bad(Refusal::Empty);
+        }
     }
 
     /// Returns what the last bytes say, or their first refusal.

@@ -75,7 +75,7 @@ fn squeeze_over<A: Allocator + Copy>(
     let Ok(()) = grow(bytes, text.len() + TAKEN + 1) else {
         return Err(TextFault::OutOfMemory);
     };
-    borders.clear();
+    *borders = Borders::new();
     let len = match squeeze(text, bytes.as_mut_slice(), borders) {
         Ok(len) => len,
         Err(place) => return Err(TextFault::BadByte(place)),
@@ -120,7 +120,7 @@ impl<A: Allocator + Copy> Squeezed<A> {
             }
             Err(fault) => {
                 self.len = 0;
-                self.borders.clear();
+                self.borders = Borders::new();
                 Err(fault)
             }
         }
@@ -440,16 +440,6 @@ impl Borders {
             others: 0,
             brackets: 0,
         }
-    }
-
-    /// Forgets all borders.
-    #[inline(always)]
-    fn clear(&mut self)
-        ensures { (most : ℕ) → IsNoted [] most self.new }
-    {
-        self.places.clear();
-        self.others = 0;
-        self.brackets = 0;
     }
 
     /// Records the offset of the next border, or counts it if as many as may be are recorded.
