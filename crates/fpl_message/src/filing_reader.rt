@@ -113,11 +113,19 @@ impl<A: Allocator + Copy> FilingReader<A> {
             Reading::Msg(Message::Fpl(_) | Message::Chg(_)) | Reading::Ord(Order::OpenReg(_))
         );
         if has_box {
-            let last = replace(&mut self.reading, Reading::Bad(Refusal::Empty));
-            self.spares.keep(last);
+            self.clear_box();
         } else {
             self.reading = Reading::Bad(Refusal::Empty);
         }
+    }
+
+    /// Drops what the last bytes said, and keeps its box.
+    #[inline(never)]
+    fn clear_box(&mut self)
+        ensures { self.new ≡ bad Refusal.Empty }
+    {
+        let last = replace(&mut self.reading, Reading::Bad(Refusal::Empty));
+        self.spares.keep(last);
     }
 
     /// Returns what the last bytes say, or their first refusal.

@@ -1,5 +1,6 @@
 -- What a look at 32 bytes holds at each lane.
-use Rattle.std.proofs.Common.{◌≡◌, ℕ, zero, suc, ◌+◌, ◌-◌, ◌*◌, ◌/◌, ◌%◌, ◌^◌, ◌<◌, ◌≤◌, List, [], ◌∷◌, ◌++◌, take, drop, Bool, true, false, not, cond, eqb, leb, ltb, map, ◌&&◌, ◌||◌, length, get_or, replicate, refl, sym, ap, ◌∙◌, arith, ⊎_elim, w8, w64, Fits, bit_and, bit_or, shr-shr}
+use Rattle.std.proofs.Common.{◌≡◌, ℕ, zero, suc, ◌+◌, ◌-◌, ◌*◌, ◌/◌, ◌%◌, ◌^◌, ◌<◌, ◌≤◌, List, [], ◌∷◌, ◌++◌, take, drop, Bool, true, false, not, cond, eqb, leb, ltb, map, ◌&&◌, ◌||◌, length, get_or, replicate, refl, sym, ap, ◌∙◌, arith, ⊎_elim, length-append, w8, w64, Fits, bit_and, bit_or, shr-shr}
+use borrow.Rule.Slice.PartMut.{put_mid, post_of}
 use Rattle.std.specs.Simd.Lanes.{zip2, sel_l, mask_l, Each1}
 use Rattle.std.specs.Int.{bit_at, bit_not, trailing_ones}
 use Rattle.std.proofs.lemmas.Nat.Bits.{bit_at-lt, bit_at_and, bit_at_or, bit_at_not, bit_at_ones, bit_at-trailing_ones}
@@ -13,7 +14,7 @@ use Rattle.fpl_text.specs.declared.squeezed.Look.{Look}
 use Rattle.fpl_text.proofs.ByteLemmas.{accepted-is, plain-no_border}
 use Rattle.fpl_text.specs.declared.squeezed.TheConstants.{BY_LOW_HALF, BY_HIGH_HALF}
 use Rattle.std.proofs.lemmas.Bool.{false≢true, eqb-true, eqb-false, leb-true, lt-leb, le-leb, cases_lt}
-use Rattle.std.proofs.lemmas.List.{get_or-map, get_or-append-add, length-map, get_or-drop, get_or_past, length-drop, length-take, take_all}
+use Rattle.std.proofs.lemmas.List.{get_or-map, get_or-append-add, length-map, get_or-drop, get_or_past, length-drop, length-take, take_all, append-nil, take-append-le, take-take, drop_all, take-append-drop}
 use Rattle.fpl_text.proofs.LaneLemmas.{is_set, one_from, zero_from}
 
 -- zeros after a text
@@ -38,6 +39,21 @@ short-at text before last k long short same =
     let there : length (take (32 - length text) before) + k ≡ k + 32 - length text = omega (arith, length-take (32 - length text) before, long, short) in
     zeros-after last 32 (k + 32 - length text) ∙ ap (λ l. get_or l (k + 32 - length text) 0) same
     ∙ ap (λ i. get_or (take (32 - length text) before ++ text) i 0) (sym there) ∙ get_or-append-add (take (32 - length text) before) text k 0
+
+-- the first and the last `half` of at most twice as many bytes are all of them
+pub ends-cover : (bytes rest first last : List ℕ) (half : ℕ) → half ≤ length bytes → length bytes ≤ half + half → length rest ≡ length bytes - half
+    → first ≡ take half bytes → last ≡ take (length bytes - (length bytes - half)) (drop (length bytes - half) bytes)
+    → put_mid (length bytes - half) (length bytes - (length bytes - half)) (first ++ rest) last ≡ bytes
+ends-cover bytes rest first last half least most others front back =
+    let from = length bytes - half in
+    let long : length first ≡ half = ap length front ∙ omega (arith, length-take half bytes, least) in
+    let begun : take from (first ++ rest) ≡ take from bytes = take-append-le from first rest (omega (arith, long, most)) ∙ ap (λ l. take from l) front ∙ take-take from half bytes (omega (arith, most)) in
+    let ended : last ≡ drop from bytes = back ∙ take_all (length bytes - from) (drop from bytes) (omega (arith, length-drop from bytes)) in
+    let none : post_of from (length bytes - from) (first ++ rest) ≡ [] = drop_all _ (drop from (first ++ rest)) (omega (arith, length-drop from (first ++ rest), length-append first rest, long, others, least)) in
+    ap (λ l. l ++ (last ++ post_of from (length bytes - from) (first ++ rest))) begun
+    ∙ ap (λ l. take from bytes ++ (last ++ l)) none
+    ∙ ap (λ l. take from bytes ++ l) (append-nil last ∙ ended)
+    ∙ take-append-drop from bytes
 
 -- an operator on a vector and a splat
 pub splat-at : (f : ℕ → ℕ → ℕ) (v : List ℕ) (x k : ℕ) → length v ≡ 32 → k < 32 → get_or (zip2 f v (replicate 32 x)) k 0 ≡ f (get_or v k 0) x

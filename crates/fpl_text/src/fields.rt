@@ -118,6 +118,7 @@ impl<'a, A: Allocator + Copy> FieldsRef<'a, A> {
     }
 
     /// Field `i`, counted from 0.
+    #[inline]
     pub fn field(&self, i: usize) -> &'a [u8]
         requires { i < length self.now }
         ensures { slice_get self.now i ≡ Some result.now }

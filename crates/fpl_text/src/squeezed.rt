@@ -158,6 +158,27 @@ impl<A: Allocator + Copy> Squeezed<A> {
     }
 }
 
+/// Copies bytes over as many others.
+#[inline(always)]
+fn put_over(to: &mut [u8], bytes: &[u8])
+    requires { length to.old ≡ length bytes.now }
+    ensures { to.new ≡ bytes.now }
+{
+    let len = bytes.len();
+    // Two copies of a fixed length, which may overlap, cost less than one of any length.
+    if len < 8 {
+        to[..len].copy_from_slice(bytes);
+    } else if len < 16 {
+        to[..8].copy_from_slice(&bytes[..8]);
+        to[len - 8..len].copy_from_slice(&bytes[len - 8..]);
+    } else if len <= 32 {
+        to[..16].copy_from_slice(&bytes[..16]);
+        to[len - 16..len].copy_from_slice(&bytes[len - 16..]);
+    } else {
+        to[..len].copy_from_slice(bytes);
+    }
+}
+
 /// Copies bytes to the end of a longer slice.
 #[inline(always)]
 fn put_last(to: &mut [u8], bytes: &[u8])
@@ -165,7 +186,7 @@ fn put_last(to: &mut [u8], bytes: &[u8])
     ensures { to.new ≡ take (length to.old - length bytes.now) to.old ++ bytes.now }
 {
     let from = to.len() - bytes.len();
-    to[from..].copy_from_slice(bytes);
+    put_over(&mut to[from..], bytes);
 }
 
 /// The last 32 bytes of a text, or zeros and a shorter text, and 32 zeros after them.
@@ -475,6 +496,9 @@ impl Borders {
         ensures { IsNoted (take (made + count) text.now) most self.new }
     {
         let mut later = bits & ((1 << count) - 1);
+        if later == 0 {
+            return;
+        }
         // The offset after the last border.
         let mut after = made;
         // The number of brackets stays in a register.

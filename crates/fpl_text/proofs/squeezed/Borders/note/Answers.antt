@@ -5,6 +5,14 @@ use Rattle.std.proofs.lemmas.Nat.{one_shl}
 use Rattle.fpl_text.proofs.BordersLemmas.{AreLeft, left-all, left-next, left-none, noted-none, noted-border, noted-few}
 use Rattle.fpl_text.proofs.squeezed.Borders.note.Goals as goal
 
+pub returns-then-later-eq0 : goal.returns-then-later-eq0
+returns-then-later-eq0 c =
+    let left : AreLeft c.args.text.now c.args.made c.args.bits c.args.count c.args.made (bit_and c.args.bits (1 * 2 ^ c.args.count % 18446744073709551616 - 1)) =
+    rw (one_shl c.args.count 64 (omega (arith, c.requires.few))) (left-all c.args.text.now c.args.made c.args.bits c.args.count c.requires.bits) in
+    noted-none c.args.text.now c.args.made c.args.count c.args.most _ c.requires.inside
+    (λ k low high. left-none c.args.text.now c.args.made c.args.bits c.args.count c.args.made _ k left c.if-later-eq0.true low (omega (arith, high)))
+    c.requires.noted
+
 pub borders-init : goal.borders-init
 borders-init c = record { left = init c.requires.few; noted = c.requires.noted } where
   init : c.args.count ≤ 31 → AreLeft c.args.text.now c.args.made c.args.bits c.args.count c.args.made (bit_and c.args.bits (1 * 2 ^ c.args.count % 18446744073709551616 - 1))
