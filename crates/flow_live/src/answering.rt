@@ -12,6 +12,7 @@ use flow_core::{StepFault, journal_full_line, too_long_line};
 use flow_desk::{Desk, Follower, Name, Pass};
 use flow_input::Input;
 use fpl_message::{FiledText, Filing};
+use fpl_text::Squeezed;
 use std::alloc::{AllocError, Allocator, Global};
 use std::collections::VecDeque;
 use std::sync::Wait;
@@ -23,8 +24,8 @@ const AT_ONCE: usize = 64;
 /// The filings of a feeder that are ready to be filed, and the answers to those that were.
 #[derive(Drop)]
 pub(crate) struct Batch<N: Name, A: Allocator + Copy = Global> {
-    /// The buffer in which texts are read.
-    room: Vec<u8, A>,
+    /// The last text that was read, over which the next is squeezed.
+    last: Squeezed<A>,
     ready: VecDeque<Filing<A>, A>,
     pub answers: Vec<u8, A>,
     /// What the feeder's pass has seen.
@@ -38,7 +39,7 @@ impl<N: Name, A: Allocator + Copy> Batch<N, A> {
         ensures seen { result.seen ≡ seen }
     {
         Batch {
-            room: Vec::new(alloc),
+            last: Squeezed::new(alloc),
             ready: VecDeque::new(alloc),
             answers: Vec::new(alloc),
             seen,
@@ -114,7 +115,7 @@ fn prepare<N: Name, A: Allocator + Copy>(
     let Ok(text) = FiledText::new(alloc, frame) else {
         return Err(AllocError);
     };
-    let Ok(filing) = Filing::of_text(alloc, &mut batch.room, text) else {
+    let Ok(filing) = Filing::of_text(alloc, &mut batch.last, text) else {
         return Err(AllocError);
     };
     batch.ready.push_back_reserved(filing);

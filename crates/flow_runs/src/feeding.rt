@@ -9,6 +9,7 @@ ghost use Rattle.flow_runs.specs.Filing.{FiledTo, RanFeed, RanFeeds};
 use flow_core::StepFault;
 use flow_desk::{Desk, End, Name, Pass};
 use fpl_message::{FiledText, Filing};
+use fpl_text::Squeezed;
 use std::alloc::{AllocError, Allocator, Global};
 use std::collections::VecDeque;
 use std::sync::Wait;
@@ -36,7 +37,7 @@ const AHEAD: usize = 64;
 fn read_ahead<A: Allocator + Copy>(
     alloc: A,
     at_once: usize,
-    room: &mut Vec<u8, A>,
+    last: &mut Squeezed<A>,
     left: &mut VecDeque<FiledText<A>, A>,
     ready: &mut VecDeque<Filing<A>, A>,
 ) -> Result<(), AllocError>
@@ -53,7 +54,7 @@ fn read_ahead<A: Allocator + Copy>(
         let Some(text) = left.pop_front() else {
             return Ok(());
         };
-        match Filing::of_text(alloc, room, text) {
+        match Filing::of_text(alloc, last, text) {
             Ok(filing) => ready.push_back_reserved(filing),
             Err((AllocError, text)) => {
                 left.push_front_reserved(text);
@@ -89,7 +90,7 @@ fn file_next<N: Name, Q: Wait + Drop, P: Wait, A: Allocator + Copy>(
     alloc: A,
     desk: &Desk<N, Q, A>,
     at_once: usize,
-    room: &mut Vec<u8, A>,
+    last: &mut Squeezed<A>,
     ready: &mut VecDeque<Filing<A>, A>,
     feed: &mut Feed<N, A>,
 ) -> bool
@@ -105,7 +106,7 @@ fn file_next<N: Name, Q: Wait + Drop, P: Wait, A: Allocator + Copy>(
         feed.end = End::Finished;
         return false;
     }
-    let read = read_ahead(alloc, at_once, room, &mut feed.left, ready);
+    let read = read_ahead(alloc, at_once, last, &mut feed.left, ready);
     if let Err(fault) = desk.file_all(wait, alloc, &mut feed.pass, ready) {
         put_back(ready, &mut feed.left);
         feed.end = End::Stopped(fault);
@@ -129,9 +130,9 @@ fn run_feed<N: Name, Q: Wait + Drop, P: Wait, A: Allocator + Copy>(
     ensures { RanFeed N.setup feed.old.pass feed.old.left.items feed.new.pass
         feed.new.left.items feed.new.end }
 {
-    let mut room = Vec::new(alloc);
+    let mut last = Squeezed::new(alloc);
     let mut ready = VecDeque::new(alloc);
-    while file_next(wait, alloc, desk, at_once, &mut room, &mut ready, feed) {}
+    while file_next(wait, alloc, desk, at_once, &mut last, &mut ready, feed) {}
 }
 
 /// Runs all feeds at the same time, each in a thread of its own if one can be created.

@@ -167,7 +167,12 @@ impl<A: Allocator + Copy> Changes<A> {
         Ok(())
     }
 
-    fn amend_other(&mut self, alloc: A, fields: &FieldsRef<'_, A>, place: usize) -> Result<(), Fault>
+    fn amend_other(
+        &mut self,
+        alloc: A,
+        fields: &FieldsRef<'_, A>,
+        place: usize,
+    ) -> Result<(), Fault>
         requires { place < length fields.now }
         ensures change { ReturnsAs (λ _. kept fields.now self.new) result
             (amend_other (amended_text (field fields.now place)) (kept fields.now self.old)) }

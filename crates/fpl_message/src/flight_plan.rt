@@ -14,8 +14,10 @@ ghost use Rattle.fpl_text.specs.declared.time.TheConstants.{ELAPSED_LIMIT};
 use crate::fault::{Fault, boxed};
 use crate::refusal::Refusal;
 use fpl_items::{ItemFault, Items, Other18, Route, is_route};
-use fpl_text::{Craft, Departure, Destination, Fields, FieldsRef, Heading, Ident, Rules};
-use fpl_text::{Squeezed, Title, is_equipment};
+use fpl_text::{
+    Craft, Departure, Destination, Fields, FieldsRef, Heading, Ident, Rules, Squeezed, Title,
+    is_equipment,
+};
 use std::alloc::{Allocator, Global};
 use std::marker::Model;
 use std::mem::replace;
