@@ -103,7 +103,7 @@ impl<A: Allocator + Copy> FilingReader<A> {
         Ok(())
     }
 
-    /// Drops what the last bytes said, and keeps its box. Most readings have none, and aren't moved.
+    /// Drops what the last bytes said, and keeps its box. A reading without one isn't moved.
     #[inline(always)]
     fn clear(&mut self)
         ensures { self.new ≡ bad Refusal.Empty }
@@ -253,10 +253,10 @@ pub(crate) fn heading_of<A: Allocator + Copy>(
         Err(Fault::Refused(_)) => return Ok(None),
         Err(Fault::OutOfMemory) => return Err(AllocError),
     }
-    let Ok(title) = title_of(&squeezed) else {
+    let Ok(_title) = title_of(&squeezed) else {
         return Ok(None);
     };
-    match Heading::read(squeezed.fields(title).field(0)) {
+    match Heading::read(squeezed.fields().field(0)) {
         Ok(heading) => Ok(Some(heading)),
         Err(_) => Ok(None),
     }
@@ -283,20 +283,19 @@ fn read_message<A: Allocator + Copy>(
 ) -> Result<(), Fault>
     ensures { ReturnsAs (λ _. said reading.new) result (message_or_refusal text.old) }
 {
-    let title = title_of(text)?;
-    let message = match title {
+    let message = match title_of(text)? {
         Title::Fpl => Message::Fpl(Fpl::read(alloc, text, &mut spares.fpl)?),
         Title::Chg => Message::Chg(Chg::read(alloc, text, &mut spares.chg)?),
         Title::Dla => {
-            let Opening { parts, time } = read_short(alloc, &text.fields(title))?;
+            let Opening { parts, time } = read_short(alloc, &text.fields())?;
             Message::Dla(Dla { parts, time })
         }
         Title::Cnl => {
-            let Opening { parts, .. } = read_short(alloc, &text.fields(title))?;
+            let Opening { parts, .. } = read_short(alloc, &text.fields())?;
             Message::Cnl(Cnl { parts })
         }
         Title::Dep => {
-            let Opening { parts, time } = read_short(alloc, &text.fields(title))?;
+            let Opening { parts, time } = read_short(alloc, &text.fields())?;
             Message::Dep(Dep { parts, time })
         }
     };

@@ -163,7 +163,7 @@ impl<A: Allocator + Copy> Fpl<A> {
         ensures memory { RunsOutOnlyIf result (IfErr (fpl_of (fields_of text.old))
             (λ _. IsPastTheEighth (field (fields_of text.old) 8) (fpl_of (fields_of text.old)))) }
     {
-        let fields = text.fields(Title::Fpl);
+        let fields = text.fields();
         let flight = Flight::read(&fields)?;
         self.other.renew(alloc, fields.field(8))?;
         self.fields.exchange(text, Title::Fpl);

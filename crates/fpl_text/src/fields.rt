@@ -125,14 +125,6 @@ impl<'a, A: Allocator + Copy> FieldsRef<'a, A> {
     {
         self.text.field(i)
     }
-
-    /// The words of field `i`, counted from 0.
-    pub fn words(&self, i: usize) -> Words<'a>
-        requires { i < length self.now }
-        ensures { result ≡ words_of (slice_index_or self.now i []) }
-    {
-        Words::new(self.field(i))
-    }
 }
 
 impl<A: Allocator + Copy> Fields<A> {
@@ -189,7 +181,7 @@ impl<A: Allocator + Copy> Fields<A> {
         requires { i < length self.now }
         ensures { result ≡ words_of (slice_index_or self.now i []) }
     {
-        self.by_ref().words(i)
+        Words::new(self.field(i))
     }
 }
 
@@ -214,9 +206,9 @@ impl<A: Allocator + Copy> Squeezed<A> {
         Ok(title)
     }
 
-    /// The fields of a message of this title.
-    pub fn fields(&self, title: Title) -> FieldsRef<'_, A>
-        requires { IsMessage self.now title }
+    /// The fields of this message, where they are.
+    pub fn fields(&self) -> FieldsRef<'_, A>
+        requires { is_bracketed self.now ≡ true }
         ensures { result ≡ fields_of self.now }
     {
         FieldsRef { text: self }
