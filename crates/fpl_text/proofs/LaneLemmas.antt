@@ -276,37 +276,42 @@ four-in (a ∷ b ∷ c ∷ d ∷ []) low high long fits order most =
     in-range a low high (fits 0).fits order most i && (in-range b low high (fits 1).fits order most i && (in-range c low high (fits 2).fits order most i && (in-range d low high (fits 3).fits order most i && true))))
 four-in (a ∷ b ∷ c ∷ d ∷ e ∷ text) low high long fits order most = absurd (omega (arith, long))
 
--- ---- four letters, four digits and a space
+-- ---- four letters, an elapsed time and a space
 
-abbrev pub timed_low : List ℕ
-timed_low = 65 ∷ 65 ∷ 65 ∷ 65 ∷ 48 ∷ 48 ∷ 48 ∷ 48 ∷ 32 ∷ 0 ∷ 0 ∷ 0 ∷ 0 ∷ 0 ∷ 0 ∷ 0 ∷ []
+abbrev pub estimate_low : List ℕ
+estimate_low = 65 ∷ 65 ∷ 65 ∷ 65 ∷ 48 ∷ 48 ∷ 48 ∷ 48 ∷ 32 ∷ 0 ∷ 0 ∷ 0 ∷ 0 ∷ 0 ∷ 0 ∷ 0 ∷ []
 
-abbrev pub timed_high : List ℕ
-timed_high = 90 ∷ 90 ∷ 90 ∷ 90 ∷ 57 ∷ 57 ∷ 57 ∷ 57 ∷ 32 ∷ 255 ∷ 255 ∷ 255 ∷ 255 ∷ 255 ∷ 255 ∷ 255 ∷ []
+abbrev pub estimate_high : List ℕ
+estimate_high = 90 ∷ 90 ∷ 90 ∷ 90 ∷ 57 ∷ 57 ∷ 53 ∷ 57 ∷ 32 ∷ 255 ∷ 255 ∷ 255 ∷ 255 ∷ 255 ∷ 255 ∷ 255 ∷ []
 
 -- lane k holds a byte between the two
 abbrev pub lies : List ℕ → ℕ → Bool
-lies v k = leb (get_or timed_low k 0) (get_or v k 0) && leb (get_or v k 0) (get_or timed_high k 0)
+lies v k = leb (get_or estimate_low k 0) (get_or v k 0) && leb (get_or v k 0) (get_or estimate_high k 0)
 
-pub timed-letter : (v : List ℕ) (k : ℕ) → k < 4 → lies v k ≡ true → is_letter (get_or v k 0) ≡ true
+pub estimate-letter : (v : List ℕ) (k : ℕ) → k < 4 → lies v k ≡ true → is_letter (get_or v k 0) ≡ true
 unfolding is_letter
-timed-letter v zero l h = h
-timed-letter v (suc zero) l h = h
-timed-letter v (suc (suc zero)) l h = h
-timed-letter v (suc (suc (suc zero))) l h = h
-timed-letter v (suc (suc (suc (suc k)))) l h = absurd (omega arith)
+estimate-letter v zero l h = h
+estimate-letter v (suc zero) l h = h
+estimate-letter v (suc (suc zero)) l h = h
+estimate-letter v (suc (suc (suc zero))) l h = h
+estimate-letter v (suc (suc (suc (suc k)))) l h = absurd (omega arith)
 
-pub timed-digit : (v : List ℕ) (k : ℕ) → k < 4 → lies v (4 + k) ≡ true → is_digit (get_or v (4 + k) 0) ≡ true
+pub estimate-digit : (v : List ℕ) (k : ℕ) → k < 4 → lies v (4 + k) ≡ true → is_digit (get_or v (4 + k) 0) ≡ true
 unfolding is_digit
-timed-digit v zero l h = h
-timed-digit v (suc zero) l h = h
-timed-digit v (suc (suc zero)) l h = h
-timed-digit v (suc (suc (suc zero))) l h = h
-timed-digit v (suc (suc (suc (suc k)))) l h = absurd (omega arith)
+estimate-digit v zero l h = h
+estimate-digit v (suc zero) l h = h
+estimate-digit v (suc (suc zero)) l h =
+    let parts : (leb 48 (get_or v 6 0) ≡ true) × (leb (get_or v 6 0) 53 ≡ true) = and_parts _ _ h in
+    rw (parts.0, le-leb (get_or v 6 0) 57 (omega (arith, leb-true (get_or v 6 0) 53 parts.1))) refl
+estimate-digit v (suc (suc (suc zero))) l h = h
+estimate-digit v (suc (suc (suc (suc k)))) l h = absurd (omega arith)
 
-pub timed-space : (v : List ℕ) → lies v 8 ≡ true → get_or v 8 0 ≡ 32
-timed-space v h =
-    let parts = and_parts _ _ h in
+pub estimate-tens : (v : List ℕ) → lies v 6 ≡ true → get_or v 6 0 ≤ 53
+estimate-tens v h = leb-true (get_or v 6 0) 53 (and_parts _ _ h).1
+
+pub estimate-space : (v : List ℕ) → lies v 8 ≡ true → get_or v 8 0 ≡ 32
+estimate-space v h =
+    let parts : (leb 32 (get_or v 8 0) ≡ true) × (leb (get_or v 8 0) 32 ≡ true) = and_parts _ _ h in
     omega (arith, leb-true 32 (get_or v 8 0) parts.0, leb-true (get_or v 8 0) 32 parts.1)
 
 -- ---- 4 to 8 bytes

@@ -1,5 +1,5 @@
 -- The words of a squeezed text, which its spaces separate.
-use Rattle.std.specs.Prelude.{◌≡◌, ◌≤◌, ◌<◌, ◌+◌, ℕ, Bool, not, ◌==◌, nat_le, if◌then◌else◌, List, [], ◌∷◌, length, slice_index, take, drop, true, Some}
+use Rattle.std.specs.Prelude.{◌≡◌, ◌≤◌, ◌<◌, ◌+◌, ℕ, Bool, not, ◌==◌, nat_le, if◌then◌else◌, List, [], ◌∷◌, length, slice_index, take, drop, true, is_some}
 use Rattle.std.specs.List.{slice_split, list_all}
 use Rattle.fpl_text.specs.Bytes.{is_letter}
 use Rattle.fpl_text.specs.Times.{elapsed_time}
@@ -18,11 +18,11 @@ pub record HoldWord (lanes : List ℕ) (place : ℕ) (word : List ℕ) : Type 0 
   pub same : (k : ℕ) → k < length word → slice_index lanes (place + k) ≡ slice_index word k
   pub space : place + length word < 16 → slice_index lanes (place + length word) ≡ 32
 
--- a word of four letters and an elapsed time of this many minutes
-pub record IsTimed (word : List ℕ) (minutes : ℕ) : Type 0 where
+-- a word of four letters and an elapsed time
+pub record IsFourLetterEstimate (word : List ℕ) : Type 0 where
   pub long : length word ≡ 8
   pub place : list_all is_letter (take 4 word) ≡ true
-  pub time : elapsed_time (drop 4 word) ≡ Some minutes
+  pub time : is_some (elapsed_time (drop 4 word)) ≡ true
 
 -- a text doesn't have this byte
 abbrev pub lacks : ℕ → List ℕ → Bool

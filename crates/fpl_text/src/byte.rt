@@ -292,12 +292,13 @@ pub(crate) fn letters_or_digits_at(text: &[u8], at: usize) -> usize
     set_lanes_from(letter_or_digit_lanes(letter_lanes(lanes), lanes), 0)
 }
 
-/// The lowest byte of each lane of a timed word: four letters, four digits, and the space after it.
-const TIMED_LOW: [u8; 16] = [65, 65, 65, 65, 48, 48, 48, 48, 32, 0, 0, 0, 0, 0, 0, 0];
+/// The lowest byte of each lane of an estimate: four letters, a time of four digits, and the space
+/// after it.
+const ESTIMATE_LOW: [u8; 16] = [65, 65, 65, 65, 48, 48, 48, 48, 32, 0, 0, 0, 0, 0, 0, 0];
 
-/// The highest byte of each.
-const TIMED_HIGH: [u8; 16] = [
-    90, 90, 90, 90, 57, 57, 57, 57, 32, 255, 255, 255, 255, 255, 255, 255,
+/// The highest byte of each. The tens of the minutes are at most `5`.
+const ESTIMATE_HIGH: [u8; 16] = [
+    90, 90, 90, 90, 57, 57, 53, 57, 32, 255, 255, 255, 255, 255, 255, 255,
 ];
 
 /// Flags the lanes in which `low` is no more than `high`.
@@ -308,20 +309,21 @@ fn in_order(low: u8x16, high: u8x16) -> u8x16
     low.simd_le(high).select(u8x16::splat(255), u8x16::splat(0))
 }
 
-/// Whether the 16 bytes at `at` begin with four letters, four digits and a space.
+/// Whether the 16 bytes at `at` begin with four letters, an elapsed time and a space.
 #[inline(always)]
 #[tactic(auto, unfolding(crate::specs::Bytes::is_letter, crate::specs::Bytes::is_digit))]
-pub(crate) fn begins_timed(text: &[u8], at: usize) -> bool
+pub(crate) fn begins_estimate(text: &[u8], at: usize) -> bool
     requires { at + 16 ≤ length text.now }
     ensures letters { result ≡ true → (k : ℕ) → k < 4
         → is_letter (slice_index text.now (at + k)) ≡ true }
     ensures digits { result ≡ true → (k : ℕ) → k < 4
         → is_digit (slice_index text.now (at + 4 + k)) ≡ true }
+    ensures tens { result ≡ true → slice_index text.now (at + 6) ≤ 53 }
     ensures space { result ≡ true → slice_index text.now (at + 8) ≡ 32 }
 {
     let lanes = load(text, at);
-    let from = in_order(u8x16::from_array(TIMED_LOW), lanes);
-    let to = in_order(lanes, u8x16::from_array(TIMED_HIGH));
+    let from = in_order(u8x16::from_array(ESTIMATE_LOW), lanes);
+    let to = in_order(lanes, u8x16::from_array(ESTIMATE_HIGH));
     set_lanes_from(both(from, to), 0) >= 9
 }
 

@@ -51,5 +51,5 @@ pub use part::{MOST_PARTS, Part};
 pub use place::{Alternates, Departure, Destination};
 pub use squeezed::Squeezed;
 pub use text::Text;
-pub use time::{ELAPSED_LIMIT, TimeOfDay, read_elapsed};
-pub use words::{Measured, Timed, Words, space_count};
+pub use time::{ELAPSED_LIMIT, TimeOfDay, minutes_of_elapsed, read_elapsed};
+pub use words::{Measured, Words, space_count};

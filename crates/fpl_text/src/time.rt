@@ -1,7 +1,7 @@
 //! Times of four digits, hhmm.
 
 ghost use Rattle.std.specs.Prelude.{◌≡◌, ◌<◌, ◌≤◌, ◌+◌, ◌*◌, ◌/◌, ◌%◌, ℕ, true, ◌-◌, IfSome};
-ghost use Rattle.std.specs.Prelude.{length, ◌==◌};
+ghost use Rattle.std.specs.Prelude.{length, ◌==◌, is_some};
 ghost use Rattle.std.specs.List.{list_all};
 ghost use Rattle.fpl_text.specs.Bytes.{is_digit};
 ghost use Rattle.fpl_text.specs.Times.{two_digits, hhmm_below, time_of_day, elapsed_time};
@@ -149,19 +149,14 @@ pub fn read_elapsed(text: &[u8]) -> Option<u32>
     Some(u32::from(minutes))
 }
 
-/// The minutes of an elapsed time of four digits, as `read_elapsed` reads it.
-#[inline(always)]
+/// The minutes of an elapsed time, as `read_elapsed` reads it.
+#[inline]
 #[tactic(auto, unfolding(crate::specs::Times::hhmm_below))]
-pub(crate) fn elapsed_of_digits(text: &[u8]) -> Option<u32>
-    requires four { length text.now ≡ 4 }
-    requires digits { list_all is_digit text.now ≡ true }
-    ensures value { result ≡ elapsed_time text.now }
-    ensures bound { IfSome result (λ minutes. minutes < ELAPSED_LIMIT) }
+pub fn minutes_of_elapsed(time: &[u8]) -> u32
+    requires { is_some (elapsed_time time.now) ≡ true }
+    ensures value { elapsed_time time.now ≡ Some result }
+    ensures bound { result < ELAPSED_LIMIT }
 {
-    let (hour, minute) = pairs_of(four_bytes(text));
-    if minute < 60 {
-        Some(60 * hour + minute)
-    } else {
-        None
-    }
+    let (hours, minutes) = pairs_of(four_bytes(time));
+    60 * hours + minutes
 }
