@@ -1,12 +1,10 @@
--- What is recorded of EET items (ICAO Doc 4444, appendix 3, field type 18), so that field 18 is
--- read once.
-use Rattle.std.specs.Prelude.{◌≡◌, ◌<◌, ℕ, ◌+◌, Bool, false, ◌&&◌, ◌||◌, nat_le, if◌then◌else◌, List, [], ◌∷◌, length, slice_index_or, Option, Some, None, is_some, codes}
-use Rattle.std.specs.List.{prefix_len}
+-- What is recorded of EET items (ICAO Doc 4444, appendix 3, field type 18).
+use Rattle.std.specs.Prelude.{◌≡◌, ℕ, ◌+◌, Bool, true, false, ◌&&◌, nat_le, if◌then◌else◌, List, [], ◌∷◌, length, Option, Some, None, codes}
+use Rattle.std.specs.List.{list_all}
 use Rattle.std.specs.Option.{option_or}
-use Rattle.fpl_text.specs.Words.{words_of}
 use Rattle.fpl_items.specs.declared.estimate.Estimate.{Estimate}
 use Rattle.fpl_items.specs.Kinds.{is_text}
-use Rattle.fpl_items.specs.Items.{ItemView, begins_item, items_of, is_estimate, is_dof, item_fault, estimate_for, elapsed_to}
+use Rattle.fpl_items.specs.Items.{ItemView, is_estimate, estimate_for, elapsed_to}
 use Rattle.fpl_items.specs.Points.{may_have, stored_name}
 
 -- whether an estimate is for a point
@@ -39,24 +37,18 @@ AddsItem before after item =
 abbrev pub AreEstimatesOf : List ItemView → List Estimate → Type 0
 AreEstimatesOf items notes = (place : List ℕ) → first_for place notes ≡ elapsed_to place items
 
--- with `more` estimates recorded after those before, there are more than eight
-abbrev pub PastTheEighth : List Estimate → ℕ → Type 0
-PastTheEighth before more = (0 < more) × (8 < length before + more)
+-- the number of estimates of an item, each of whose words is one
+abbrev pub estimates_in : ItemView → ℕ
+estimates_in item = if is_text (codes "EET") item.name then length item.words else 0
 
--- the number of estimates recorded of an item: those with which an EET item begins
-abbrev pub noted_of_item : ItemView → ℕ
-noted_of_item item = if is_text (codes "EET") item.name then prefix_len is_estimate item.words else 0
+-- and of all items
+abbrev pub estimate_count : List ItemView → ℕ
+estimate_count [] = 0
+estimate_count (item ∷ items) = estimates_in item + estimate_count items
 
--- of items, up to the first fault; `dof` if there was a DOF before
-abbrev pub noted_of_items : Bool → List ItemView → ℕ
-noted_of_items dof [] = 0
-noted_of_items dof (item ∷ items) =
-    noted_of_item item + (if is_some (item_fault dof item) then 0 else noted_of_items (dof || is_dof item) items)
-
--- and of a field, which has a fault if it doesn't begin with an item
-abbrev pub noted_of_field : List ℕ → ℕ
-noted_of_field field =
-    if begins_item (slice_index_or (words_of field) 0 []) then noted_of_items false (items_of (words_of field)) else 0
+-- every word of an EET item is an estimate
+abbrev pub has_estimates : ItemView → Bool
+has_estimates item = if is_text (codes "EET") item.name then list_all is_estimate item.words else true
 
 -- a bit set that has the point of each estimate
 abbrev pub HasPlacesOf : ℕ → List Estimate → Type 0

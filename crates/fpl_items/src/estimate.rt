@@ -18,20 +18,6 @@ pub struct Estimate {
     ghost bound: { minutes < ELAPSED_LIMIT },
 }
 
-/// An estimate without a point, for unused elements of an array.
-impl Default for Estimate {
-    ghost use Rattle.std.specs.Prelude.{◌≡◌};
-
-    ghost is_default = { λ e. e.minutes ≡ 0 };
-
-    fn default() -> Self {
-        Estimate {
-            name: [0; 12],
-            minutes: 0,
-        }
-    }
-}
-
 impl Estimate {
     ghost use Rattle.fpl_items.specs.Estimates.{is_for};
 

@@ -2,13 +2,15 @@
 
 ghost use Rattle.std.specs.Prelude.{◌≡◌, ◌≤◌, ◌==◌, ◌&&◌, ◌∷◌, ◌++◌, []};
 ghost use Rattle.std.specs.Prelude.{nat_le, nat_lt, List, ℕ, true, IsTrue, length};
-ghost use Rattle.std.specs.Prelude.{take, slice_index, MatchOption};
+ghost use Rattle.std.specs.Prelude.{take, slice_index, MatchOption, IfSome, false};
 ghost use Rattle.std.specs.Iterator.{YieldsFirst, YieldsFirstRef, item_count};
 ghost use Rattle.std.specs.List.{prefix_len};
+ghost use Rattle.std.specs.Str.{bytes_eq};
 ghost use Rattle.fpl_text.specs.Bytes.{is_letter, is_letter_or_digit};
 ghost use Rattle.fpl_text.specs.Words.{words_of};
 ghost use Rattle.fpl_items.specs.Kinds.{before_stroke};
 ghost use Rattle.fpl_items.specs.Items.{begins_item, own_words, own_list, words_before, items_of};
+ghost use Rattle.fpl_items.specs.Items.{is_estimate};
 
 use fpl_text::{Measured, Words, is_letter};
 use std::marker::Model;
@@ -34,6 +36,30 @@ pub(crate) fn begins_item(measured: &Measured<'_>) -> bool
         → measured.now.letters_or_digits ≡ before_stroke measured.now.word.now }
 {
     has_name(measured.letters_or_digits, measured.word)
+}
+
+/// Whether an item has this name.
+#[inline]
+pub(crate) fn is_name(name: &[u8], known: &[u8; 3]) -> bool
+    ensures { result ≡ bytes_eq name.now known.now }
+{
+    if name.len() != 3 {
+        return false;
+    }
+    name[0] == known[0] && name[1] == known[1] && name[2] == known[2]
+}
+
+/// Takes the next word if one look shows that it is an estimate, as it shows of most; takes none
+/// else.
+#[inline(always)]
+#[tactic(auto, using(crate::proofs::OtherLemmas::four_letter_estimate, crate::proofs::OtherLemmas::four_letter_no_item,))]
+pub(crate) fn next_estimate<'a>(words: &mut Words<'a>) -> Option<&'a [u8]>
+    ensures next { MatchOption result (words.new ≡ words.old)
+        (λ word. words.old ≡ word.now ∷ words.new) }
+    ensures is { IfSome result (λ word. is_estimate word.now ≡ true) }
+    ensures within { IfSome result (λ word. begins_item word.now ≡ false) }
+{
+    words.next_estimate()
 }
 
 /// Iterates over the words of an item, which end before the next item.

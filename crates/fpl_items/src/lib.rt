@@ -17,8 +17,8 @@ mod other;
 mod route;
 
 pub use estimate::{Estimate, bit_of, may_have};
-pub use estimates::{Estimates, KeptEstimates};
+pub use estimates::Estimates;
 pub use fault::ItemFault;
 pub use item::{Item, ItemWords, Items};
-pub use other::Other18;
+pub use other::{Effects, Other18};
 pub use route::{Element, Kind, Route, is_route};

@@ -1,228 +1,116 @@
 //! Field 18: other information.
 
-ghost use Rattle.std.specs.Prelude.{◌≡◌, ◌≢◌, ◌≤◌, ◌<◌, ◌+◌, ◌-◌, ◌∷◌, ◌++◌, OnOk, OnErr};
-ghost use Rattle.std.specs.Prelude.{true, false, is_some, slice_index_or, length, drop};
+ghost use Rattle.std.specs.Prelude.{◌≡◌, ◌≢◌, ◌≤◌, ◌<◌, ◌+◌, ◌-◌, true, is_some};
+ghost use Rattle.std.specs.Prelude.{slice_index_or, length, drop, false};
 ghost use Rattle.std.specs.Prelude.{[], None, Some, IfSome, IfOk, IfErr, List, MatchOption, pos};
 ghost use Rattle.jiff_core.specs.Date.{epoch_day};
 ghost use Rattle.std.specs.List.{list_all, list_any, prefix_len};
 ghost use Rattle.fpl_text.specs.Bytes.{is_letter_or_digit};
 ghost use Rattle.fpl_text.specs.Times.{elapsed_time};
-ghost use Rattle.fpl_items.specs.declared.estimate.Estimate.{Estimate as Note};
-ghost use Rattle.fpl_items.specs.Points.{stored_name};
-ghost use Rattle.fpl_items.specs.Estimates.{AddsWord, AddsWords, AddsItem};
-ghost use Rattle.fpl_items.specs.Estimates.{AreEstimatesOf, PastTheEighth};
-ghost use Rattle.fpl_items.specs.Estimates.{noted_of_item, noted_of_items};
-ghost use Rattle.fpl_items.specs.Estimates.{noted_of_field, first_for};
+ghost use Rattle.fpl_items.specs.Estimates.{estimates_in, estimate_count};
+ghost use Rattle.fpl_items.specs.Estimates.{AreEstimatesOf, first_for};
 ghost use Rattle.fpl_items.specs.Kinds.{is_text};
-ghost use Rattle.fpl_text.specs.Words.{words_of, IsTimed};
+ghost use Rattle.fpl_text.specs.Words.{words_of};
 ghost use Rattle.fpl_items.specs.Items.{begins_item, words_before, is_estimate};
 ghost use Rattle.fpl_items.specs.Items.{is_day, item_fault, first_fault};
 ghost use Rattle.fpl_items.specs.Items.{items_of, field_fault, items_or_fault};
 ghost use Rattle.fpl_items.specs.Items.{elapsed_to, is_exempt, day_of_words};
-ghost use Rattle.fpl_items.specs.Items.{ItemView, day_of_items, Say, SaysAfter};
+ghost use Rattle.fpl_items.specs.Items.{ItemView, day_of_items, SaysAfter};
 ghost use Rattle.fpl_items.specs.Routes.{ReadsAs};
-ghost use Rattle.fpl_items.specs.Other18.{TellsOf};
+ghost use Rattle.fpl_items.specs.Other18.{TellsOf, TellsAllOf};
 ghost use Rattle.fpl_text.specs.declared.time.TheConstants.{ELAPSED_LIMIT};
-ghost use Rattle.std.specs.Str.{bytes_eq};
 
-use crate::estimate::Estimate;
 use crate::estimates::Estimates;
 use crate::fault::ItemFault;
-use crate::item::{Item, ItemWords, Items, begins_item};
-use fpl_text::{Day, Measured, Timed, Words, all_letters_or_digits, read_elapsed};
+use crate::item::{Item, ItemWords, Items, begins_item, is_name, next_estimate};
+use fpl_text::{Day, Measured, Words, all_letters_or_digits, read_elapsed};
 use jiff::civil::Date;
 use std::alloc::{AllocError, Allocator, Global};
 use std::marker::Model;
 
-/// Appends the estimate for a point that doesn't have four letters. Most have, so this is a call:
-/// the loop over the others then saves no registers.
-#[inline(never)]
-fn push_other<A: Allocator + Copy>(
-    estimates: &mut Estimates<A>,
-    place: &[u8],
-    minutes: u32,
-) -> Result<(), AllocError>
-    requires place { length place.now ≤ 11 }
-    requires minutes { minutes < ELAPSED_LIMIT }
-    ensures ok { OnOk result ((note : Note) × (note.name ≡ stored_name place.now)
-        × (note.minutes ≡ minutes) × (estimates.new ≡ estimates.old ++ note ∷ [])) }
-    ensures err { OnErr result (8 ≤ length estimates.old) }
-{
-    estimates.push(place, Estimate::new(place, minutes))?;
-    Ok(())
-}
-
-/// Records the estimate that a word of 5 to 15 bytes is, a point and an elapsed time, if its last
-/// four bytes are one. The caller checks the point. As a call it takes 6 % more instructions in
-/// texts of 1,440 bytes.
+/// Whether a word of 5 bytes or more ends with an elapsed time.
 #[inline(always)]
-fn note_split<A: Allocator + Copy>(
-    estimates: &mut Estimates<A>,
-    word: &[u8],
-) -> Result<(), ItemFault>
-    requires least { 5 ≤ length word.now }
-    requires most { length word.now ≤ 15 }
-    ensures time { IfOk result
-        (λ _. is_some (elapsed_time (drop (length word.now - 4) word.now)) ≡ true) }
-    ensures noted { IfOk result (λ _. AddsWord estimates.old estimates.new word.now) }
-    ensures count { IfOk result (λ _. length estimates.new ≡ length estimates.old + 1) }
-    ensures fault { IfErr result
-        (λ fault. fault ≢ ItemFault.OutOfMemory → fault ≡ ItemFault.BadField 18) }
-    ensures no_time { IfErr result (λ fault. fault ≢ ItemFault.OutOfMemory
-        → is_some (elapsed_time (drop (length word.now - 4) word.now)) ≡ false) }
-    ensures memory { IfErr result (λ fault. fault ≡ ItemFault.OutOfMemory
-        → (is_some (elapsed_time (drop (length word.now - 4) word.now)) ≡ true)
-        × (8 ≤ length estimates.old)) }
+fn ends_with_time(word: &[u8]) -> bool
+    requires { 5 ≤ length word.now }
+    ensures { result ≡ is_some (elapsed_time (drop (length word.now - 4) word.now)) }
 {
-    let (place, time) = word.split_at(word.len() - 4);
-    let Some(minutes) = read_elapsed(time) else {
-        return Err(ItemFault::BadField(18));
-    };
-    // Most points have four letters; their estimates stay in registers until they are in the list.
-    if place.len() == 4 {
-        let Ok(()) = estimates.push(place, Estimate::new(place, minutes)) else {
-            return Err(ItemFault::OutOfMemory);
-        };
-        return Ok(());
-    }
-    let Ok(()) = push_other(estimates, place, minutes) else {
-        return Err(ItemFault::OutOfMemory);
-    };
-    Ok(())
+    read_elapsed(&word[word.len() - 4..]).is_some()
 }
 
-/// Records the estimate that a word is; any other word is refused.
+/// Whether a word is an estimate: a point and an elapsed time.
 #[tactic(auto, unfolding(crate::specs::Items::is_estimate))]
-fn note_word<A: Allocator + Copy>(
-    estimates: &mut Estimates<A>,
-    word: &[u8],
-) -> Result<(), ItemFault>
-    ensures is { IfOk result (λ _. is_estimate word.now ≡ true) }
-    ensures noted { IfOk result (λ _. AddsWord estimates.old estimates.new word.now) }
-    ensures count { IfOk result (λ _. length estimates.new ≡ length estimates.old + 1) }
-    ensures fault { IfErr result
-        (λ fault. fault ≢ ItemFault.OutOfMemory → fault ≡ ItemFault.BadField 18) }
-    ensures none { IfErr result
-        (λ fault. fault ≢ ItemFault.OutOfMemory → is_estimate word.now ≡ false) }
-    ensures memory { IfErr result (λ fault. fault ≡ ItemFault.OutOfMemory
-        → (is_estimate word.now ≡ true) × (8 ≤ length estimates.old)) }
+fn is_estimate(word: &[u8]) -> bool
+    ensures { result ≡ is_estimate word.now }
 {
     if word.len() < 5 || word.len() > 15 {
-        return Err(ItemFault::BadField(18));
+        return false;
     }
     if !all_letters_or_digits(&word[..word.len() - 4]) {
-        return Err(ItemFault::BadField(18));
+        return false;
     }
-    note_split(estimates, word)
+    ends_with_time(word)
 }
 
-/// Records the estimate that a measured word is; any other word is refused.
+/// Whether a measured word is an estimate.
 #[inline]
-#[tactic(auto, unfolding(crate::specs::Items::is_estimate))]
-fn note_measured<A: Allocator + Copy>(
-    estimates: &mut Estimates<A>,
-    measured: &Measured<'_>,
-) -> Result<(), ItemFault>
+fn is_measured_estimate(measured: &Measured<'_>) -> bool
     requires { measured.now.letters_or_digits
         ≡ prefix_len is_letter_or_digit measured.now.word.now }
-    ensures is { IfOk result (λ _. is_estimate measured.now.word.now ≡ true) }
-    ensures noted { IfOk result (λ _. AddsWord estimates.old estimates.new measured.now.word.now) }
-    ensures count { IfOk result (λ _. length estimates.new ≡ length estimates.old + 1) }
-    ensures fault { IfErr result
-        (λ fault. fault ≢ ItemFault.OutOfMemory → fault ≡ ItemFault.BadField 18) }
-    ensures none { IfErr result
-        (λ fault. fault ≢ ItemFault.OutOfMemory → is_estimate measured.now.word.now ≡ false) }
-    ensures memory { IfErr result (λ fault. fault ≡ ItemFault.OutOfMemory
-        → (is_estimate measured.now.word.now ≡ true) × (8 ≤ length estimates.old)) }
+    ensures { result ≡ is_estimate measured.now.word.now }
 {
     let word = measured.word;
     if word.len() < 5 {
-        return Err(ItemFault::BadField(18));
+        return false;
     }
     if word.len() > 15 {
-        return Err(ItemFault::BadField(18));
+        return false;
     }
     if measured.letters_or_digits < word.len() - 4 {
-        return Err(ItemFault::BadField(18));
+        return false;
     }
-    note_split(estimates, word)
+    ends_with_time(word)
 }
 
-/// Records the estimate that a timed word is.
-#[inline(always)]
-fn note_timed<A: Allocator + Copy>(
-    estimates: &mut Estimates<A>,
-    timed: &Timed<'_>,
-) -> Result<(), ItemFault>
-    requires timed { IsTimed timed.now.word.now timed.now.minutes }
-    requires bound { timed.now.minutes < ELAPSED_LIMIT }
-    ensures is { is_estimate timed.now.word.now ≡ true }
-    ensures within { begins_item timed.now.word.now ≡ false }
-    ensures noted { IfOk result (λ _. AddsWord estimates.old estimates.new timed.now.word.now) }
-    ensures count { IfOk result (λ _. length estimates.new ≡ length estimates.old + 1) }
-    ensures memory { IfErr result (λ fault.
-        (fault ≡ ItemFault.OutOfMemory) × (8 ≤ length estimates.old)) }
+/// The number of the words before the next item, if all are estimates.
+fn estimates_before_item(mut words: Words<'_>) -> Option<usize>
+    requires { length (words_before words) ≤ usize.MAX }
+    ensures all { is_some result ≡ list_all is_estimate (words_before words.entry) }
+    ensures count { IfSome result (λ count. count ≡ length (words_before words.entry)) }
 {
-    let place = &timed.word[..4];
-    match estimates.push(place, Estimate::new(place, timed.minutes)) {
-        Ok(()) => Ok(()),
-        Err(AllocError) => Err(ItemFault::OutOfMemory),
-    }
-}
-
-/// Records the words before the next item, up to one that is no point with an elapsed time.
-fn note_before_item<A: Allocator + Copy>(
-    estimates: &mut Estimates<A>,
-    mut words: Words<'_>,
-) -> Result<(), ItemFault>
-    ensures are { IfOk result (λ _. list_all is_estimate (words_before words.entry) ≡ true) }
-    ensures noted { IfOk result
-        (λ _. AddsWords estimates.old estimates.new (words_before words.entry)) }
-    ensures count { IfOk result (λ _. length estimates.new
-        ≡ length estimates.old + prefix_len is_estimate (words_before words.entry)) }
-    ensures fault { IfErr result
-        (λ fault. fault ≢ ItemFault.OutOfMemory → fault ≡ ItemFault.BadField 18) }
-    ensures other { IfErr result (λ fault. fault ≢ ItemFault.OutOfMemory
-        → list_all is_estimate (words_before words.entry) ≡ false) }
-    ensures memory { IfErr result (λ fault. fault ≡ ItemFault.OutOfMemory
-        → PastTheEighth estimates.old (prefix_len is_estimate (words_before words.entry))) }
-{
+    let mut count = 0;
     'words: loop {
-        if let Some(timed) = words.next_timed() {
-            note_timed(estimates, &timed)?;
+        if next_estimate(&mut words).is_some() {
+            count += 1;
             continue;
         }
         let Some(measured) = words.next_measured() else {
-            return Ok(());
+            return Some(count);
         };
         if begins_item(&measured) {
-            return Ok(());
+            return Some(count);
         }
-        note_measured(estimates, &measured)?;
+        if !is_measured_estimate(&measured) {
+            return None;
+        }
+        count += 1;
     }
 }
 
-/// Records the words of an EET item, up to one that is no point with an elapsed time.
-fn note_words<A: Allocator + Copy>(
-    estimates: &mut Estimates<A>,
-    words: ItemWords<'_>,
-) -> Result<(), ItemFault>
-    ensures are { IfOk result (λ _. list_all is_estimate words.entry ≡ true) }
-    ensures noted { IfOk result (λ _. AddsWords estimates.old estimates.new words.entry) }
-    ensures count { IfOk result (λ _. length estimates.new
-        ≡ length estimates.old + prefix_len is_estimate words.entry) }
-    ensures fault { IfErr result
-        (λ fault. fault ≢ ItemFault.OutOfMemory → fault ≡ ItemFault.BadField 18) }
-    ensures other { IfErr result
-        (λ fault. fault ≢ ItemFault.OutOfMemory → list_all is_estimate words.entry ≡ false) }
-    ensures memory { IfErr result (λ fault. fault ≡ ItemFault.OutOfMemory
-        → PastTheEighth estimates.old (prefix_len is_estimate words.entry)) }
+/// The number of the words of an EET item, if all are estimates.
+fn count_estimates(words: ItemWords<'_>) -> Option<usize>
+    requires { length words ≤ usize.MAX }
+    ensures all { is_some result ≡ list_all is_estimate words.entry }
+    ensures count { IfSome result (λ count. count ≡ length words.entry) }
 {
     let ItemWords { own, following } = words;
-    if let Some(word) = own {
-        note_word(estimates, word)?;
+    let Some(word) = own else {
+        return estimates_before_item(following);
+    };
+    if !is_estimate(word) {
+        return None;
     }
-    note_before_item(estimates, following)
+    let count = estimates_before_item(following)?;
+    Some(1 + count)
 }
 
 /// The day of exactly one word, which is a date.
@@ -244,41 +132,28 @@ fn has_word(mut words: ItemWords<'_>, word: &[u8]) -> bool
     words.any(|other| other == word)
 }
 
-/// Whether an item has this name.
-#[inline]
-fn is_name(name: &[u8], known: &[u8; 3]) -> bool
-    ensures { result ≡ bytes_eq name.now known.now }
-{
-    if name.len() != 3 {
-        return false;
-    }
-    name[0] == known[0] && name[1] == known[1] && name[2] == known[2]
-}
-
-/// What items say of a flight: its day, if there was a DOF, and whether it is exempt.
+/// What the items of field 18 say of a flight, and how many estimates they have. Contracts relate it
+/// to the items of the text.
 #[derive(Clone, Copy)]
-struct Effects {
+pub struct Effects {
+    /// The day of the first DOF item.
     day: Option<Day>,
     exempt: bool,
+    /// The number of estimates of the EET items.
+    estimates: usize,
 }
 
 impl Effects {
-    /// The effects with one more item, whose estimates are recorded, or the fault of that item.
+    /// The effects with one more item, or the fault of that item.
     #[tactic(auto, unfolding(crate::specs::Items::item_fault))]
-    fn with<A: Allocator + Copy>(
-        self,
-        estimates: &mut Estimates<A>,
-        item: &Item<'_>,
-    ) -> Result<Effects, ItemFault>
+    fn with(self, item: &Item<'_>) -> Result<Effects, ItemFault>
+        requires { self.estimates + estimates_in item.now ≤ usize.MAX }
         ensures says { IfOk result
             (λ next. SaysAfter self.day self.exempt item.now next.day next.exempt) }
-        ensures noted { IfOk result (λ _. AddsItem estimates.old estimates.new item.now) }
         ensures count { IfOk result
-            (λ _. length estimates.new ≡ length estimates.old + noted_of_item item.now) }
-        ensures fault { IfErr result (λ fault. fault ≢ ItemFault.OutOfMemory
-            → item_fault (is_some self.day) item.now ≡ Some fault) }
-        ensures memory { IfErr result (λ fault. fault ≡ ItemFault.OutOfMemory
-            → PastTheEighth estimates.old (noted_of_item item.now)) }
+            (λ next. next.estimates ≡ self.estimates + estimates_in item.now) }
+        ensures fault { IfErr result (λ fault. item_fault (is_some self.day) item.now ≡ Some fault) }
+        ensures memory { IfErr result (λ fault. fault ≢ ItemFault.OutOfMemory) }
     {
         let name = item.name();
         if is_name(name, b"DOF") {
@@ -291,162 +166,64 @@ impl Effects {
             return Ok(Effects {
                 day: Some(day),
                 exempt: self.exempt,
+                estimates: self.estimates,
             });
         }
         if is_name(name, b"EET") {
-            note_words(estimates, item.words())?;
-            return Ok(self);
+            let Some(count) = count_estimates(item.words()) else {
+                return Err(ItemFault::BadField(18));
+            };
+            return Ok(Effects {
+                day: self.day,
+                exempt: self.exempt,
+                estimates: self.estimates + count,
+            });
         }
         let exempts = is_name(name, b"STS") && has_word(item.words(), b"ATFMX");
         Ok(Effects {
             day: self.day,
             exempt: self.exempt || exempts,
+            estimates: self.estimates,
         })
     }
-}
 
-/// Reads items and records their estimates. Stops at the first fault from the left.
-fn read_items<A: Allocator + Copy>(
-    estimates: &mut Estimates<A>,
-    items: Items<'_>,
-) -> Result<Effects, ItemFault>
-    requires { estimates.old ≡ [] }
-    ensures faultless { IfOk result (λ _. first_fault false items.entry ≡ None) }
-    ensures says { IfOk result (λ all. Say items.entry all.day all.exempt) }
-    ensures noted { IfOk result (λ _. AreEstimatesOf items.entry estimates.new) }
-    ensures fault { IfErr result
-        (λ fault. fault ≢ ItemFault.OutOfMemory → first_fault false items.entry ≡ Some fault) }
-    ensures memory { IfErr result
-        (λ fault. fault ≡ ItemFault.OutOfMemory → 8 < noted_of_items false items.entry) }
-{
-    let mut effects = Effects {
-        day: None,
-        exempt: false,
-    };
-    for item in items {
-        effects = effects.with(estimates, &item)?;
-    }
-    Ok(effects)
-}
-
-/// What field 18 says (ICAO Doc 4444, appendix 3, field type 18), kept without its text. Contracts
-/// relate it to the items of the text.
-#[derive(Drop)]
-pub struct Other18<A: Allocator + Copy = Global> {
-    /// The estimates of the EET items.
-    estimates: Estimates<A>,
-    day: Option<Day>,
-    exempt: bool,
-}
-
-impl<A: Allocator + Copy> Model for Other18<A> {
-    ghost use Rattle.fpl_items.specs.Other18.{Other18View};
-
-    ghost Value = { Other18View };
-
-    ghost view = { λ o. record {
-      estimates = o.estimates;
-      day = o.day;
-      exempt = o.exempt;
-    } };
-}
-
-/// Whether the first word of a field begins an item.
-#[tactic(auto, unfolding(crate::specs::Items::begins_item))]
-fn begins_with_item(field: &[u8]) -> bool
-    ensures { result ≡ begins_item (slice_index_or (words_of field.now) 0 []) }
-{
-    match Words::new(field).next_measured() {
-        Some(measured) => begins_item(&measured),
-        None => false,
-    }
-}
-
-/// Reads a field that isn't 0, and records the estimates of its items, or returns its first fault.
-#[tactic(auto, unfolding(crate::specs::Items::field_fault))]
-fn read_field<A: Allocator + Copy>(
-    estimates: &mut Estimates<A>,
-    field: &[u8],
-) -> Result<Effects, ItemFault>
-    requires { estimates.old ≡ [] }
-    ensures faultless { IfOk result (λ _. field_fault field.now ≡ None) }
-    ensures says { IfOk result (λ all. Say (items_of (words_of field.now)) all.day all.exempt) }
-    ensures noted { IfOk result
-        (λ _. AreEstimatesOf (items_of (words_of field.now)) estimates.new) }
-    ensures fault { IfErr result
-        (λ fault. fault ≢ ItemFault.OutOfMemory → field_fault field.now ≡ Some fault) }
-    ensures memory { IfErr result
-        (λ fault. fault ≡ ItemFault.OutOfMemory → 8 < noted_of_field field.now) }
-{
-    if field == b"0".as_slice() {
-        return Ok(Effects {
-            day: None,
-            exempt: false,
-        });
-    }
-    if !begins_with_item(field) {
-        return Err(ItemFault::BadField(18));
-    }
-    read_items(estimates, Items::new(field))
-}
-
-impl<A: Allocator + Copy> Other18<A> {
-    /// What a field without items says. Doesn't allocate.
-    pub fn none(alloc: A) -> Self
+    /// What no items say.
+    fn none() -> Effects
         ensures { TellsOf [] result }
     {
-        Other18 {
-            estimates: Estimates::new(alloc),
+        Effects {
             day: None,
             exempt: false,
+            estimates: 0,
         }
     }
 
-    /// Reads field 18: `0`, or one or more items. Refuses the first fault from the left:
+    /// Checks field 18: `0`, or one or more items. Refuses the first fault from the left:
     /// `BadField(18)` for a field that doesn't begin with an item, and for an EET item with a word
     /// that is no point with an elapsed time; `BadDate` for a DOF item that is not exactly one
-    /// date; `DuplicateItem` for a second DOF. Allocates only for estimates after the eighth;
-    /// `OutOfMemory` may come before a fault in what follows.
-    pub fn read(alloc: A, field: &[u8]) -> Result<Self, ItemFault>
-        ensures value { ReadsAs (λ other. items_of (words_of field.now)) result
-            (items_or_fault field.now) }
-        ensures tells { IfOk result (TellsOf (items_of (words_of field.now))) }
-        ensures memory { IfErr result
-            (λ fault. fault ≡ ItemFault.OutOfMemory → 8 < noted_of_field field.now) }
-    {
-        let mut other = Other18::none(alloc);
-        match other.renew(alloc, field) {
-            Ok(()) => Ok(other),
-            Err(fault) => Err(fault),
-        }
-    }
-
-    /// Reads another field 18 into this value, as [`read`](Other18::read) does, which saves copies
-    /// of it. An `Err` leaves it unchanged.
-    pub fn renew(&mut self, alloc: A, field: &[u8]) -> Result<(), ItemFault>
+    /// date; `DuplicateItem` for a second DOF. Doesn't allocate.
+    #[tactic(auto, unfolding(crate::specs::Items::field_fault))]
+    pub fn read(field: &[u8]) -> Result<Effects, ItemFault>
         ensures value { ReadsAs (λ _. items_of (words_of field.now)) result
             (items_or_fault field.now) }
-        ensures tells { IfOk result (λ _. TellsOf (items_of (words_of field.now)) self.new) }
-        ensures unchanged { IfErr result (λ _. self.new ≡ self.old) }
-        ensures memory { IfErr result
-            (λ fault. fault ≡ ItemFault.OutOfMemory → 8 < noted_of_field field.now) }
+        ensures faultless { IfOk result (λ _. field_fault field.now ≡ None) }
+        ensures tells { IfOk result (TellsOf (items_of (words_of field.now))) }
+        ensures memory { IfErr result (λ fault. fault ≢ ItemFault.OutOfMemory) }
     {
-        let mut estimates = Estimates::new(alloc);
-        let effects = match read_field(&mut estimates, field) {
-            Ok(effects) => effects,
-            Err(fault) => return Err(fault),
-        };
-        self.estimates = estimates;
-        self.day = effects.day;
-        self.exempt = effects.exempt;
-        Ok(())
+        if field == b"0".as_slice() {
+            return Ok(Effects::none());
+        }
+        if !begins_with_item(field) {
+            return Err(ItemFault::BadField(18));
+        }
+        read_items(Items::new(field))
     }
 
     /// The day of flight of the first DOF item.
     pub fn day(&self) -> Option<Day>
         ensures value { result ≡ self.now.day }
-        ensures items { (items : List ItemView) → TellsOf items self.now
-            → result ≡ day_of_items items }
+        ensures items { (items : List ItemView) → TellsOf items self.now → result
+            ≡ day_of_items items }
     {
         self.day
     }
@@ -463,10 +240,114 @@ impl<A: Allocator + Copy> Other18<A> {
         }
     }
 
+    /// Whether an STS item exempts the flight from slot allocation: STS/ATFMX (EUROCONTROL ATFCM
+    /// Users Manual).
+    pub fn exempt(&self) -> bool
+        ensures value { result ≡ self.now.exempt }
+        ensures items { (items : List ItemView) → TellsOf items self.now → result ≡ is_exempt items }
+    {
+        self.exempt
+    }
+
+    /// Reads the estimates of the EET items. `field` must be the text from which this was read,
+    /// which isn't kept here. Returns `Err` if allocation fails.
+    pub fn estimates<A: Allocator + Copy>(
+        &self,
+        alloc: A,
+        field: &[u8],
+    ) -> Result<Estimates<A>, AllocError>
+        requires faultless { field_fault field.now ≡ None }
+        requires tells { TellsOf (items_of (words_of field.now)) self.now }
+        ensures { IfOk result (AreEstimatesOf (items_of (words_of field.now))) }
+    {
+        Estimates::read(alloc, field, self.estimates)
+    }
+}
+
+/// Whether the first word of a field begins an item.
+#[tactic(auto, unfolding(crate::specs::Items::begins_item))]
+fn begins_with_item(field: &[u8]) -> bool
+    ensures { result ≡ begins_item (slice_index_or (words_of field.now) 0 []) }
+{
+    match Words::new(field).next_measured() {
+        Some(measured) => begins_item(&measured),
+        None => false,
+    }
+}
+
+/// Reads items. Stops at the first fault from the left.
+fn read_items(items: Items<'_>) -> Result<Effects, ItemFault>
+    requires { estimate_count items ≤ usize.MAX }
+    ensures faultless { IfOk result (λ _. first_fault false items.entry ≡ None) }
+    ensures tells { IfOk result (TellsOf items.entry) }
+    ensures fault { IfErr result (λ fault. first_fault false items.entry ≡ Some fault) }
+    ensures memory { IfErr result (λ fault. fault ≢ ItemFault.OutOfMemory) }
+{
+    let mut effects = Effects::none();
+    for item in items {
+        effects = effects.with(&item)?;
+    }
+    Ok(effects)
+}
+
+/// What field 18 says (ICAO Doc 4444, appendix 3, field type 18), with its estimates, kept without
+/// its text. Contracts relate it to the items of the text.
+#[derive(Drop)]
+pub struct Other18<A: Allocator + Copy = Global> {
+    effects: Effects,
+    estimates: Estimates<A>,
+}
+
+impl<A: Allocator + Copy> Model for Other18<A> {
+    ghost use Rattle.fpl_items.specs.Other18.{Other18View};
+
+    ghost Value = { Other18View };
+
+    ghost view = { λ o. record {
+      effects = o.effects;
+      estimates = o.estimates;
+    } };
+}
+
+impl<A: Allocator + Copy> Other18<A> {
+    /// Reads field 18, as [`Effects::read`] does, with its estimates. `OutOfMemory` comes only for
+    /// a field that isn't refused.
+    pub fn read(alloc: A, field: &[u8]) -> Result<Self, ItemFault>
+        ensures value { ReadsAs (λ other. items_of (words_of field.now)) result
+            (items_or_fault field.now) }
+        ensures tells { IfOk result (TellsAllOf (items_of (words_of field.now))) }
+        ensures memory { IfErr result
+            (λ fault. fault ≡ ItemFault.OutOfMemory → field_fault field.now ≡ None) }
+    {
+        let effects = Effects::read(field)?;
+        let Ok(estimates) = effects.estimates(alloc, field) else {
+            return Err(ItemFault::OutOfMemory);
+        };
+        Ok(Other18 { effects, estimates })
+    }
+
+    /// The day of flight of the first DOF item.
+    pub fn day(&self) -> Option<Day>
+        ensures value { result ≡ self.now.effects.day }
+        ensures items { (items : List ItemView) → TellsAllOf items self.now
+            → result ≡ day_of_items items }
+    {
+        self.effects.day()
+    }
+
+    /// The day of flight as a date.
+    pub fn date(&self) -> Option<Date>
+        ensures { MatchOption result (self.now.effects.day ≡ None)
+            (λ date. IfSome self.now.effects.day (λ day. epoch_day date ≡ pos day)
+            × (is_some self.now.effects.day ≡ true)) }
+    {
+        self.effects.date()
+    }
+
     /// The items, in order. `field` must be the text from which this was read, which isn't kept
     /// here.
     pub fn items<'a>(&self, field: &'a [u8]) -> Items<'a>
-        requires { TellsOf (items_of (words_of field.now)) self.now }
+        requires { TellsAllOf (items_of (words_of field.now)) self.now }
         ensures { result ≡ items_of (words_of field.now) }
     {
         Items::new(field)
@@ -475,7 +356,7 @@ impl<A: Allocator + Copy> Other18<A> {
     /// The estimates of the EET items.
     pub fn estimates(&self) -> &Estimates<A>
         ensures value { result.now ≡ self.now.estimates }
-        ensures items { (items : List ItemView) → TellsOf items self.now
+        ensures items { (items : List ItemView) → TellsAllOf items self.now
             → AreEstimatesOf items result.now }
     {
         &self.estimates
@@ -484,20 +365,19 @@ impl<A: Allocator + Copy> Other18<A> {
     /// The elapsed time, in minutes, of the first estimate for the point `place`.
     pub fn elapsed(&self, place: &[u8]) -> Option<u32>
         ensures value { result ≡ first_for place.now self.now.estimates }
-        ensures items { (items : List ItemView) → TellsOf items self.now
+        ensures items { (items : List ItemView) → TellsAllOf items self.now
             → result ≡ elapsed_to place.now items }
         ensures bound { IfSome result (λ minutes. minutes < ELAPSED_LIMIT) }
     {
         self.estimates.elapsed(place)
     }
 
-    /// Whether an STS item exempts the flight from slot allocation: STS/ATFMX (EUROCONTROL ATFCM
-    /// Users Manual).
+    /// Whether an STS item exempts the flight from slot allocation.
     pub fn exempt(&self) -> bool
-        ensures value { result ≡ self.now.exempt }
-        ensures items { (items : List ItemView) → TellsOf items self.now → result
+        ensures value { result ≡ self.now.effects.exempt }
+        ensures items { (items : List ItemView) → TellsAllOf items self.now → result
             ≡ is_exempt items }
     {
-        self.exempt
+        self.effects.exempt()
     }
 }

@@ -1,7 +1,10 @@
-use Rattle.std.specs.Prelude.{is_some}
-use Rattle.fpl_items.proofs.OtherLemmas.{SaySoFar, TellSoFar, CountSoFar}
+use Rattle.std.proofs.Common.{◌≡◌, ◌+◌}
+use Rattle.fpl_items.specs.Estimates.{estimate_count}
+use Rattle.fpl_items.proofs.OtherLemmas.{SaySoFar}
 use Rattle.fpl_items.proofs.other.read_items.Given as goal
 
 abbrev pub invariant-loop-item : goal.invariant-loop-item
-invariant-loop-item g l = SaySoFar l.effects.day l.effects.exempt l.item-iterator l.fn.items × TellSoFar l.estimates l.item-iterator l.fn.items
-    × CountSoFar l.estimates (is_some l.effects.day) l.item-iterator l.fn.items
+invariant-loop-item l = record {
+  say : SaySoFar l.effects.day l.effects.exempt l.item-iterator l.fn.items;
+  counted : l.effects.estimates + estimate_count l.item-iterator ≡ estimate_count l.fn.items;
+}

@@ -1,0 +1,9 @@
+use Rattle.std.proofs.Common.{arith, sym, ◌∙◌}
+use Rattle.fpl_items.proofs.OtherLemmas.{zero-tells, count-fits}
+use Rattle.fpl_items.proofs.other.Effects.read.Goals as goal
+
+pub returns-then-eq-clause-tells : goal.returns-then-eq-clause-tells
+returns-then-eq-clause-tells c = zero-tells c.args.field.now c.none.result (rw c.as_slice.ensures at (sym c.eq.ensures ∙ c.if-eq.true)) c.none.ensures
+
+pub read_items-requires : goal.read_items-requires
+read_items-requires c = rw c.new.ensures (omega (arith, count-fits c.args.field.now))
