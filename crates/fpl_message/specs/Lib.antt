@@ -11,4 +11,3 @@ pub mod Orders
 pub mod SaidOrders
 pub mod Reads
 pub mod Said
-pub mod NinthEstimates

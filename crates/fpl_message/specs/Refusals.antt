@@ -1,12 +1,10 @@
 -- Refusals, and the steps of a reading that stops at the first.
-use Rattle.std.specs.Prelude.{◌≡◌, ◌<◌, ◌^◌, ℕ, List, Option, Result, Ok, Err, IfErr}
+use Rattle.std.specs.Prelude.{◌≡◌, ◌<◌, ◌^◌, ℕ, Option, Result, Ok, Err}
 use Rattle.std.specs.Option.{ok_or}
 use Rattle.fpl_text.specs.declared.fault.TextFault.{TextFault}
 use Rattle.fpl_text.specs.declared.fault.TextFault.TheVariants as text
 use Rattle.fpl_text.specs.declared.fault.FieldFault.{FieldFault}
 use Rattle.fpl_text.specs.declared.fault.FieldFault.TheVariants as fields
-use Rattle.fpl_items.specs.Estimates.{noted_of_field}
-use Rattle.fpl_items.specs.Items.{items_or_fault}
 use Rattle.fpl_items.specs.declared.fault.ItemFault.{ItemFault}
 use Rattle.fpl_items.specs.declared.fault.ItemFault.TheVariants as item
 use Rattle.fpl_message.specs.declared.refusal.Refusal.{Refusal}
@@ -87,8 +85,3 @@ abbrev pub RunsOutOnlyIf : {X : Type 0} → Result X Fault → Type 0 → Type 0
 RunsOutOnlyIf (Ok x) P = Unit {0}
 RunsOutOnlyIf (Err OutOfMemory) P = P
 RunsOutOnlyIf (Err (Refused refusal)) P = Unit {0}
-
--- Field 18 has a ninth estimate, and nothing that is read before it is refused.
-abbrev pub IsPastTheEighth : {X : Type 0} → List ℕ → Result X Refusal → Type 0
-IsPastTheEighth field expected =
-    (8 < noted_of_field field) × IfErr expected (λ refusal. by_items (items_or_fault field) ≡ Err refusal)

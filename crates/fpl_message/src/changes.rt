@@ -1,7 +1,7 @@
 //! The amended fields of a modification, field type 22.
 ghost use Rattle.std.specs.Prelude.{◌≡◌, ◌≢◌, Err, ◌≤◌, ◌<◌, drop, length, true, IfOk};
 ghost use Rattle.fpl_text.specs.Fields.{begins_amendment};
-ghost use Rattle.fpl_message.specs.Refusals.{ReturnsAs, RunsOutOnlyIf, IsPastTheEighth};
+ghost use Rattle.fpl_message.specs.Refusals.{ReturnsAs};
 ghost use Rattle.fpl_message.specs.Messages.{field};
 ghost use Rattle.fpl_message.specs.Modifications.{amended_number, amended_text};
 ghost use Rattle.fpl_message.specs.Modifications.{amend_rules, amend_craft};
@@ -10,24 +10,23 @@ ghost use Rattle.fpl_message.specs.Modifications.{amend_route, amend_destination
 ghost use Rattle.fpl_message.specs.Modifications.{amend_other, amend_numbered};
 ghost use Rattle.fpl_message.specs.Modifications.{amend, amend_all, chg_of};
 ghost use Rattle.fpl_message.specs.KeptChanges.{kept, StandAmong};
-ghost use Rattle.fpl_message.specs.NinthEstimates.{NotesNine, ChgNotesNine};
 
 use crate::fault::Fault;
 use crate::parts::{Parts, read_opening};
 use crate::refusal::Refusal;
-use fpl_items::{Other18, is_route};
+use fpl_items::{Effects, is_route};
 use fpl_text::{Craft, Departure, Destination, FieldsRef, Rules, begins_amendment, is_equipment};
-use std::alloc::{Allocator, Global};
+use std::alloc::Allocator;
 
 /// What a modification changes. An amended text is stored as the index of its field 22 among the
 /// fields of the message.
 #[derive(Drop)]
-pub struct Changes<A: Allocator + Copy = Global> {
+pub struct Changes {
     pub parts: Parts,
     pub rules: Option<Rules>,
     pub departure: Option<Departure>,
     pub destination: Option<Destination>,
-    pub other: Option<Other18<A>>,
+    pub other: Option<Effects>,
     pub field8: Option<usize>,
     pub field9: Option<usize>,
     pub field10: Option<usize>,
@@ -70,8 +69,12 @@ pub(crate) fn amended_at<'a, A: Allocator + Copy>(
     amended_text(fields.field(place))
 }
 
-impl<A: Allocator + Copy> Changes<A> {
-    fn amend_rules(&mut self, fields: &FieldsRef<'_, A>, place: usize) -> Result<(), Fault>
+impl Changes {
+    fn amend_rules<A: Allocator + Copy>(
+        &mut self,
+        fields: &FieldsRef<'_, A>,
+        place: usize,
+    ) -> Result<(), Fault>
         requires { place < length fields.now }
         ensures change { ReturnsAs (λ _. kept fields.now self.new) result
             (amend_rules (amended_text (field fields.now place)) (kept fields.now self.old)) }
@@ -87,7 +90,11 @@ impl<A: Allocator + Copy> Changes<A> {
         Ok(())
     }
 
-    fn amend_craft(&mut self, fields: &FieldsRef<'_, A>, place: usize) -> Result<(), Fault>
+    fn amend_craft<A: Allocator + Copy>(
+        &mut self,
+        fields: &FieldsRef<'_, A>,
+        place: usize,
+    ) -> Result<(), Fault>
         requires { place < length fields.now }
         ensures change { ReturnsAs (λ _. kept fields.now self.new) result
             (amend_craft (amended_text (field fields.now place)) (kept fields.now self.old)) }
@@ -102,7 +109,11 @@ impl<A: Allocator + Copy> Changes<A> {
         Ok(())
     }
 
-    fn amend_equipment(&mut self, fields: &FieldsRef<'_, A>, place: usize) -> Result<(), Fault>
+    fn amend_equipment<A: Allocator + Copy>(
+        &mut self,
+        fields: &FieldsRef<'_, A>,
+        place: usize,
+    ) -> Result<(), Fault>
         requires { place < length fields.now }
         ensures change { ReturnsAs (λ _. kept fields.now self.new) result
             (amend_equipment (amended_text (field fields.now place)) (kept fields.now self.old)) }
@@ -119,7 +130,11 @@ impl<A: Allocator + Copy> Changes<A> {
         Ok(())
     }
 
-    fn amend_departure(&mut self, fields: &FieldsRef<'_, A>, place: usize) -> Result<(), Fault>
+    fn amend_departure<A: Allocator + Copy>(
+        &mut self,
+        fields: &FieldsRef<'_, A>,
+        place: usize,
+    ) -> Result<(), Fault>
         requires { place < length fields.now }
         ensures change { ReturnsAs (λ _. kept fields.now self.new) result
             (amend_departure (amended_text (field fields.now place)) (kept fields.now self.old)) }
@@ -134,7 +149,11 @@ impl<A: Allocator + Copy> Changes<A> {
         Ok(())
     }
 
-    fn amend_route(&mut self, fields: &FieldsRef<'_, A>, place: usize) -> Result<(), Fault>
+    fn amend_route<A: Allocator + Copy>(
+        &mut self,
+        fields: &FieldsRef<'_, A>,
+        place: usize,
+    ) -> Result<(), Fault>
         requires { place < length fields.now }
         ensures change { ReturnsAs (λ _. kept fields.now self.new) result
             (amend_route (amended_text (field fields.now place)) (kept fields.now self.old)) }
@@ -152,7 +171,11 @@ impl<A: Allocator + Copy> Changes<A> {
     }
 
     /// Field 16, whose time and alternates may be missing.
-    fn amend_destination(&mut self, fields: &FieldsRef<'_, A>, place: usize) -> Result<(), Fault>
+    fn amend_destination<A: Allocator + Copy>(
+        &mut self,
+        fields: &FieldsRef<'_, A>,
+        place: usize,
+    ) -> Result<(), Fault>
         requires { place < length fields.now }
         ensures change { ReturnsAs (λ _. kept fields.now self.new) result
             (amend_destination (amended_text (field fields.now place)) (kept fields.now self.old)) }
@@ -167,39 +190,33 @@ impl<A: Allocator + Copy> Changes<A> {
         Ok(())
     }
 
-    fn amend_other(
+    fn amend_other<A: Allocator + Copy>(
         &mut self,
-        alloc: A,
         fields: &FieldsRef<'_, A>,
         place: usize,
     ) -> Result<(), Fault>
         requires { place < length fields.now }
         ensures change { ReturnsAs (λ _. kept fields.now self.new) result
             (amend_other (amended_text (field fields.now place)) (kept fields.now self.old)) }
-        ensures memory { RunsOutOnlyIf result
-            (IsPastTheEighth (amended_text (field fields.now place))
-            (amend_other (amended_text (field fields.now place)) (kept fields.now self.old))) }
+        ensures memory { result ≢ Err Fault.OutOfMemory }
         ensures stand { StandAmong fields.now self.old → StandAmong fields.now self.new }
     {
         if self.field18.is_some() {
             return Err(Fault::Refused(Refusal::DuplicateItem));
         }
-        let mut other = Other18::none(alloc);
-        other.renew(alloc, amended_at(fields, place))?;
+        let effects = Effects::read(amended_at(fields, place))?;
         self.field18 = Some(place);
-        self.other = Some(other);
+        self.other = Some(effects);
         Ok(())
     }
 
     /// Adds what the field 22 at index `place` amends.
     #[tactic(auto, unfolding(crate::specs::Modifications::amend, crate::specs::Modifications::amend_numbered))]
-    fn amend(&mut self, alloc: A, fields: &FieldsRef<'_, A>, place: usize) -> Result<(), Fault>
+    fn amend<A: Allocator + Copy>(&mut self, fields: &FieldsRef<'_, A>, place: usize) -> Result<(), Fault>
         requires { place < length fields.now }
         ensures change { ReturnsAs (λ _. kept fields.now self.new) result
             (amend (field fields.now place) (kept fields.now self.old)) }
-        ensures memory { RunsOutOnlyIf result
-            (IsPastTheEighth (amended_text (field fields.now place))
-            (amend (field fields.now place) (kept fields.now self.old))) }
+        ensures memory { result ≢ Err Fault.OutOfMemory }
         ensures stand { StandAmong fields.now self.old → StandAmong fields.now self.new }
     {
         let field = fields.field(place);
@@ -213,23 +230,26 @@ impl<A: Allocator + Copy> Changes<A> {
             13 => self.amend_departure(fields, place),
             15 => self.amend_route(fields, place),
             16 => self.amend_destination(fields, place),
-            18 => self.amend_other(alloc, fields, place),
+            18 => self.amend_other(fields, place),
             number => Err(Fault::Refused(Refusal::UnsupportedAmendment(number))),
         }
     }
 
     /// Adds what the fields 22 from index `first` on amend.
     #[tactic(auto, using(crate::proofs::ModificationLemmas::amended_steps))]
-    fn amend_from(&mut self, alloc: A, fields: &FieldsRef<'_, A>, first: usize) -> Result<(), Fault>
+    fn amend_from<A: Allocator + Copy>(
+        &mut self,
+        fields: &FieldsRef<'_, A>,
+        first: usize,
+    ) -> Result<(), Fault>
         requires { first ≤ length fields.now }
         ensures change { ReturnsAs (λ _. kept fields.now self.new) result
             (amend_all (drop first fields.now) (kept fields.now self.old)) }
-        ensures memory { RunsOutOnlyIf result
-            (NotesNine (drop first fields.now) (kept fields.now self.old)) }
+        ensures memory { result ≢ Err Fault.OutOfMemory }
         ensures stand { StandAmong fields.now self.old → StandAmong fields.now self.new }
     {
         for place in first..fields.count() {
-            self.amend(alloc, fields, place)?;
+            self.amend(fields, place)?;
         }
         Ok(())
     }
@@ -252,28 +272,25 @@ impl<A: Allocator + Copy> Changes<A> {
 
     /// Reads the fields of a CHG, from the left, and replaces all changes.
     #[tactic(auto, unfolding(crate::specs::Modifications::chg_of))]
-    pub(crate) fn read(&mut self, alloc: A, fields: &FieldsRef<'_, A>) -> Result<(), Fault>
+    pub(crate) fn read<A: Allocator + Copy>(&mut self, fields: &FieldsRef<'_, A>) -> Result<(), Fault>
         requires { 5 ≤ length fields.now }
         ensures change { ReturnsAs (λ _. kept fields.now self.new) result (chg_of fields.now) }
-        ensures memory { RunsOutOnlyIf result (ChgNotesNine fields.now) }
+        ensures memory { result ≢ Err Fault.OutOfMemory }
         ensures stand { StandAmong fields.now self.new }
     {
         self.rules = None;
         self.departure = None;
         self.destination = None;
-        // An empty one isn't written again, since it is large.
-        if self.other.is_some() {
-            self.other = None;
-        }
+        self.other = None;
         self.field8 = None;
         self.field9 = None;
         self.field10 = None;
         self.field15 = None;
         self.field18 = None;
         let has_other = !begins_amendment(fields.field(4));
-        let opening = read_opening(alloc, has_other, fields)?;
+        let opening = read_opening(has_other, fields)?;
         self.parts = opening.parts;
         let first = if has_other { 5 } else { 4 };
-        self.amend_from(alloc, fields, first)
+        self.amend_from(fields, first)
     }
 }

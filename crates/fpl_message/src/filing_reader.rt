@@ -287,15 +287,15 @@ fn read_message<A: Allocator + Copy>(
         Title::Fpl => Message::Fpl(Fpl::read(alloc, text, &mut spares.fpl)?),
         Title::Chg => Message::Chg(Chg::read(alloc, text, &mut spares.chg)?),
         Title::Dla => {
-            let Opening { parts, time } = read_short(alloc, &text.fields())?;
+            let Opening { parts, time } = read_short(&text.fields())?;
             Message::Dla(Dla { parts, time })
         }
         Title::Cnl => {
-            let Opening { parts, .. } = read_short(alloc, &text.fields())?;
+            let Opening { parts, .. } = read_short(&text.fields())?;
             Message::Cnl(Cnl { parts })
         }
         Title::Dep => {
-            let Opening { parts, time } = read_short(alloc, &text.fields())?;
+            let Opening { parts, time } = read_short(&text.fields())?;
             Message::Dep(Dep { parts, time })
         }
     };

@@ -1,24 +1,25 @@
 //! The filed flight plan message, FPL.
-ghost use Rattle.std.specs.Prelude.{◌≡◌, ◌≢◌, ◌<◌, true, length, Ok, Err, IfOk, IfErr};
-ghost use Rattle.fpl_message.specs.Refusals.{ReturnsAs, RunsOutOnlyIf, IsPastTheEighth};
+ghost use Rattle.std.specs.Prelude.{◌≡◌, ◌≢◌, ◌<◌, true, length, Ok, Err, IfOk, IfErr, IsOk};
+ghost use Rattle.fpl_message.specs.Refusals.{ReturnsAs, RunsOutOnlyIf};
 ghost use Rattle.fpl_items.specs.Routes.{is_route, path_or_fault};
 ghost use Rattle.fpl_text.specs.Fields.{fields_of};
 ghost use Rattle.fpl_text.specs.Borders.{IsMessage};
 ghost use Rattle.fpl_text.specs.Words.{words_of};
 ghost use Rattle.fpl_items.specs.Items.{items_of};
 ghost use Rattle.fpl_items.specs.Other18.{TellsOf};
+ghost use Rattle.fpl_items.specs.Estimates.{AreEstimatesOf};
 ghost use Rattle.fpl_message.specs.FlightPlans.{fpl_of, flight_of};
 ghost use Rattle.fpl_message.specs.Messages.{field};
 ghost use Rattle.fpl_text.specs.declared.time.TheConstants.{ELAPSED_LIMIT};
 
 use crate::fault::{Fault, boxed};
 use crate::refusal::Refusal;
-use fpl_items::{ItemFault, Items, Other18, Route, is_route};
+use fpl_items::{Effects, Estimates, ItemFault, Items, Route, is_route};
 use fpl_text::{
     Craft, Departure, Destination, Fields, FieldsRef, Heading, Ident, Rules, Squeezed, Title,
     is_equipment,
 };
-use std::alloc::{Allocator, Global};
+use std::alloc::{AllocError, Allocator, Global};
 use std::marker::Model;
 use std::mem::replace;
 
@@ -38,13 +39,13 @@ pub struct Flight {
 pub struct Fpl<A: Allocator + Copy = Global> {
     fields: Fields<A>,
     flight: Flight,
-    other: Other18<A>,
+    effects: Effects,
 }
 
 impl<A: Allocator + Copy> Model for Fpl<A> {
-    ghost use Rattle.std.specs.Prelude.{◌≡◌, ◌<◌, true, length};
+    ghost use Rattle.std.specs.Prelude.{◌≡◌, ◌<◌, true, length, None};
     ghost use Rattle.fpl_text.specs.Words.{words_of};
-    ghost use Rattle.fpl_items.specs.Items.{items_of};
+    ghost use Rattle.fpl_items.specs.Items.{items_of, field_fault};
     ghost use Rattle.fpl_items.specs.Other18.{TellsOf};
     ghost use Rattle.fpl_items.specs.Routes.{is_route};
     ghost use Rattle.fpl_message.specs.Messages.{FplView, field};
@@ -65,7 +66,8 @@ impl<A: Allocator + Copy> Model for Fpl<A> {
 
     ghost invariant = { λ m. (length m.fields ≡ 9) × (is_route (field m.fields 6) ≡ true)
         × (m.flight.elapsed < ELAPSED_LIMIT)
-        × TellsOf (items_of (words_of (field m.fields 8))) m.other };
+        × (field_fault (field m.fields 8) ≡ None)
+        × TellsOf (items_of (words_of (field m.fields 8))) m.effects };
 }
 
 impl Flight {
@@ -107,8 +109,8 @@ impl Flight {
 
 impl<A: Allocator + Copy> Fpl<A> {
     /// Reads the fields of an FPL, from the left. The text stays in the plan; that of the spare box
-    /// is left in its place, or the empty one. Allocates only for a ninth estimate of field 18, and
-    /// for a flight plan if there is no spare box.
+    /// is left in its place, or the empty one. Allocates only for a flight plan that is accepted, if
+    /// there is no spare box.
     pub(crate) fn read(
         alloc: A,
         text: &mut Squeezed<A>,
@@ -116,13 +118,12 @@ impl<A: Allocator + Copy> Fpl<A> {
     ) -> Result<Box<Fpl<A>, A>, Fault>
         requires { IsMessage text.old Title.Fpl }
         ensures value { ReturnsAs (λ b. b.value) result (fpl_of (fields_of text.old)) }
-        ensures memory { RunsOutOnlyIf result (IfErr (fpl_of (fields_of text.old))
-            (λ _. IsPastTheEighth (field (fields_of text.old) 8) (fpl_of (fields_of text.old)))) }
+        ensures memory { RunsOutOnlyIf result (IsOk (fpl_of (fields_of text.old))) }
     {
         let Some(mut last) = spare.take() else {
             return Fpl::first(alloc, text);
         };
-        match last.renew(alloc, text) {
+        match last.renew(text) {
             Ok(()) => Ok(last),
             Err(fault) => {
                 *spare = Some(last);
@@ -138,36 +139,35 @@ impl<A: Allocator + Copy> Fpl<A> {
     fn first(alloc: A, text: &mut Squeezed<A>) -> Result<Box<Fpl<A>, A>, Fault>
         requires { IsMessage text.old Title.Fpl }
         ensures value { ReturnsAs (λ b. b.value) result (fpl_of (fields_of text.old)) }
-        ensures memory { RunsOutOnlyIf result (IfErr (fpl_of (fields_of text.old))
-            (λ _. IsPastTheEighth (field (fields_of text.old) 8) (fpl_of (fields_of text.old)))) }
+        ensures memory { RunsOutOnlyIf result (IsOk (fpl_of (fields_of text.old))) }
     {
         let text = replace(text, Squeezed::new(alloc));
         let fields = Fields::new(text, Title::Fpl);
         let flight = Flight::read(&fields.by_ref())?;
-        let other = Other18::read(alloc, fields.field(8))?;
+        let effects = Effects::read(fields.field(8))?;
         boxed(
             alloc,
             Fpl {
                 fields,
                 flight,
-                other,
+                effects,
             },
         )
     }
 
     /// Reads another text into this plan, and leaves its own in place of it.
     #[tactic(auto, unfolding(crate::specs::FlightPlans::fpl_of))]
-    fn renew(&mut self, alloc: A, text: &mut Squeezed<A>) -> Result<(), Fault>
+    fn renew(&mut self, text: &mut Squeezed<A>) -> Result<(), Fault>
         requires { IsMessage text.old Title.Fpl }
         ensures value { ReturnsAs (λ _. self.new) result (fpl_of (fields_of text.old)) }
-        ensures memory { RunsOutOnlyIf result (IfErr (fpl_of (fields_of text.old))
-            (λ _. IsPastTheEighth (field (fields_of text.old) 8) (fpl_of (fields_of text.old)))) }
+        ensures memory { result ≢ Err Fault.OutOfMemory }
     {
         let fields = text.fields();
         let flight = Flight::read(&fields)?;
-        self.other.renew(alloc, fields.field(8))?;
+        let effects = Effects::read(fields.field(8))?;
         self.fields.exchange(text, Title::Fpl);
         self.flight = flight;
+        self.effects = effects;
         Ok(())
     }
 
@@ -224,11 +224,18 @@ impl<A: Allocator + Copy> Fpl<A> {
     }
 
     /// Returns what the items of field 18 say.
-    pub fn other(&self) -> &Other18<A>
+    pub fn other(&self) -> &Effects
         ensures value { TellsOf self.now.items result.now }
         ensures items { self.now.items ≡ items_of (words_of (field self.now.fields 8)) }
     {
-        &self.other
+        &self.effects
+    }
+
+    /// Reads the estimates of the EET items of field 18. Returns `Err` if allocation fails.
+    pub fn estimates<B: Allocator + Copy>(&self, alloc: B) -> Result<Estimates<B>, AllocError>
+        ensures { IfOk result (AreEstimatesOf self.now.items) }
+    {
+        self.effects.estimates(alloc, self.fields.field(8))
     }
 
     /// Returns the items of field 18, in order. They are read anew at each call, since a desk never

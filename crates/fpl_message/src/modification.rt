@@ -1,21 +1,21 @@
 //! The modification message, CHG.
-ghost use Rattle.std.specs.Prelude.{◌≡◌, ◌≤◌, ◌<◌, length, option_copied, IfErr, IfSome};
+ghost use Rattle.std.specs.Prelude.{◌≡◌, ◌≢◌, ◌≤◌, ◌<◌, length, option_copied, IfSome};
+ghost use Rattle.std.specs.Prelude.{Err, IfOk, IsOk};
 ghost use Rattle.std.specs.Option.{ForSome};
-ghost use Rattle.fpl_items.specs.Other18.{TellsOfAny};
+ghost use Rattle.fpl_items.specs.Other18.{TellsOfAny, AreEstimatesOfAny};
 ghost use Rattle.fpl_message.specs.Refusals.{ReturnsAs, RunsOutOnlyIf};
 ghost use Rattle.fpl_message.specs.Modifications.{chg_of};
 ghost use Rattle.fpl_text.specs.Fields.{fields_of};
 ghost use Rattle.fpl_text.specs.Borders.{IsMessage};
-ghost use Rattle.fpl_message.specs.NinthEstimates.{ChgNotesNine};
 ghost use Rattle.fpl_message.specs.KeptChanges.{text_at, items_at};
 ghost use Rattle.fpl_text.specs.declared.time.TheConstants.{ELAPSED_LIMIT};
 
 use crate::changes::{Changes, amended_at};
 use crate::fault::{Fault, boxed};
 use crate::parts::Parts;
-use fpl_items::Other18;
+use fpl_items::{Effects, Estimates};
 use fpl_text::{Departure, Destination, Fields, FieldsRef, Rules, Squeezed, Title};
-use std::alloc::{Allocator, Global};
+use std::alloc::{AllocError, Allocator, Global};
 use std::marker::Model;
 use std::mem::replace;
 
@@ -24,7 +24,7 @@ use std::mem::replace;
 #[derive(Drop)]
 pub struct Chg<A: Allocator + Copy = Global> {
     fields: Fields<A>,
-    changes: Changes<A>,
+    changes: Changes,
 }
 
 impl<A: Allocator + Copy> Model for Chg<A> {
@@ -41,7 +41,8 @@ impl<A: Allocator + Copy> Model for Chg<A> {
 
 impl<A: Allocator + Copy> Chg<A> {
     /// Reads the fields of a CHG, from the left. The text stays in the message; that of the spare
-    /// box is left in its place, or the empty one.
+    /// box is left in its place, or the empty one. Allocates only for a modification that is
+    /// accepted, if there is no spare box.
     pub(crate) fn read(
         alloc: A,
         text: &mut Squeezed<A>,
@@ -49,13 +50,12 @@ impl<A: Allocator + Copy> Chg<A> {
     ) -> Result<Box<Chg<A>, A>, Fault>
         requires { IsMessage text.old Title.Chg }
         ensures value { ReturnsAs (λ b. b.value) result (chg_of (fields_of text.old)) }
-        ensures memory { RunsOutOnlyIf result
-            (IfErr (chg_of (fields_of text.old)) (λ _. ChgNotesNine (fields_of text.old))) }
+        ensures memory { RunsOutOnlyIf result (IsOk (chg_of (fields_of text.old))) }
     {
         let Some(mut last) = spare.take() else {
             return Chg::first(alloc, text);
         };
-        match last.renew(alloc, text) {
+        match last.renew(text) {
             Ok(()) => Ok(last),
             Err(fault) => {
                 *spare = Some(last);
@@ -70,24 +70,23 @@ impl<A: Allocator + Copy> Chg<A> {
     fn first(alloc: A, text: &mut Squeezed<A>) -> Result<Box<Chg<A>, A>, Fault>
         requires { IsMessage text.old Title.Chg }
         ensures value { ReturnsAs (λ b. b.value) result (chg_of (fields_of text.old)) }
-        ensures memory { RunsOutOnlyIf result
-            (IfErr (chg_of (fields_of text.old)) (λ _. ChgNotesNine (fields_of text.old))) }
+        ensures memory { RunsOutOnlyIf result (IsOk (chg_of (fields_of text.old))) }
     {
         let text = replace(text, Squeezed::new(alloc));
         let fields = Fields::new(text, Title::Chg);
         let mut changes = Changes::none();
-        changes.read(alloc, &fields.by_ref())?;
+        changes.read(&fields.by_ref())?;
         boxed(alloc, Chg { fields, changes })
     }
 
     /// Reads another text into this message, and leaves its own in place of it.
-    fn renew(&mut self, alloc: A, text: &mut Squeezed<A>) -> Result<(), Fault>
+    fn renew(&mut self, text: &mut Squeezed<A>) -> Result<(), Fault>
         requires { IsMessage text.old Title.Chg }
         ensures value { ReturnsAs (λ _. self.new) result (chg_of (fields_of text.old)) }
-        ensures memory { RunsOutOnlyIf result (ChgNotesNine (fields_of text.old)) }
+        ensures memory { result ≢ Err Fault.OutOfMemory }
     {
         self.fields.exchange(text, Title::Chg);
-        self.changes.read(alloc, &self.fields.by_ref())
+        self.changes.read(&self.fields.by_ref())
     }
 
     /// Returns what identifies the plan.
@@ -121,11 +120,29 @@ impl<A: Allocator + Copy> Chg<A> {
     }
 
     /// Returns what an amended field 18 says.
-    pub fn other(&self) -> Option<&Other18<A>>
+    pub fn other(&self) -> Option<&Effects>
         ensures value { TellsOfAny self.now.items (option_copied result) }
         ensures items { self.now.items ≡ items_at self.now.field18 }
     {
         self.changes.other.as_ref()
+    }
+
+    /// Reads the estimates of the EET items of an amended field 18. Returns `Err` if allocation
+    /// fails.
+    pub fn estimates<B: Allocator + Copy>(
+        &self,
+        alloc: B,
+    ) -> Result<Option<Estimates<B>>, AllocError>
+        ensures { IfOk result (AreEstimatesOfAny self.now.items) }
+    {
+        let Some(effects) = &self.changes.other else {
+            return Ok(None);
+        };
+        let Some(place) = self.changes.field18 else {
+            return Ok(None);
+        };
+        let field = amended_at(&self.fields.by_ref(), place);
+        Ok(Some(effects.estimates(alloc, field)?))
     }
 
     /// Returns the squeezed text of an amended field 8.

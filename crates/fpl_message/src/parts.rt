@@ -1,13 +1,11 @@
 //! What identifies the plan that a message is about.
 ghost use Rattle.std.specs.Prelude.{◌≤◌, ◌<◌, length, IsTrue};
-ghost use Rattle.std.specs.Prelude.{◌≡◌, true};
-ghost use Rattle.fpl_items.specs.Estimates.{noted_of_field};
-ghost use Rattle.fpl_message.specs.Messages.{field};
-ghost use Rattle.fpl_message.specs.Refusals.{ReturnsAs, RunsOutOnlyIf, IsPastTheEighth};
+ghost use Rattle.std.specs.Prelude.{◌≢◌, Err};
+ghost use Rattle.fpl_message.specs.Refusals.{ReturnsAs};
 ghost use Rattle.fpl_message.specs.ShortMessages.{opening_of, other_day, day_of_other};
 
 use crate::fault::Fault;
-use fpl_items::Other18;
+use fpl_items::Effects;
 use fpl_text::{Day, Departure, Destination, FieldsRef, Heading, Ident, Text, TimeOfDay};
 use std::alloc::Allocator;
 
@@ -48,22 +46,19 @@ pub struct Opening {
 /// Reads fields 3, 7, 13 and 16, and the field 18 that may come after them, from the left.
 #[tactic(auto, unfolding(crate::specs::ShortMessages::opening_of))]
 pub(crate) fn read_opening<A: Allocator + Copy>(
-    alloc: A,
     has_other: bool,
     fields: &FieldsRef<'_, A>,
 ) -> Result<Opening, Fault>
     requires four { 4 ≤ length fields.now }
     requires other { IsTrue has_other → 4 < length fields.now }
     ensures value { ReturnsAs (λ opening. opening) result (opening_of has_other fields.now) }
-    ensures memory { RunsOutOnlyIf result
-        ((has_other ≡ true)
-        × IsPastTheEighth (field fields.now 4) (opening_of has_other fields.now)) }
+    ensures memory { result ≢ Err Fault.OutOfMemory }
 {
     let _heading = Heading::read(fields.field(0))?;
     let ident = Ident::read(fields.field(1))?;
     let departure = Departure::read(fields.field(2))?;
     let destination = Destination::read(fields.field(3))?;
-    let day = read_day(alloc, has_other, fields)?;
+    let day = read_day(has_other, fields)?;
     Ok(Opening {
         parts: Parts {
             ident: ident.name,
@@ -77,29 +72,23 @@ pub(crate) fn read_opening<A: Allocator + Copy>(
 
 /// Reads the day of field 18, the fifth field, if there is one.
 #[inline(always)]
-fn read_day<A: Allocator + Copy>(
-    alloc: A,
-    has_other: bool,
-    fields: &FieldsRef<'_, A>,
-) -> Result<Option<Day>, Fault>
+fn read_day<A: Allocator + Copy>(has_other: bool, fields: &FieldsRef<'_, A>) -> Result<Option<Day>, Fault>
     requires { IsTrue has_other → 4 < length fields.now }
     ensures value { ReturnsAs (λ day. day) result (other_day has_other fields.now) }
-    ensures memory { RunsOutOnlyIf result ((has_other ≡ true)
-        × (8 < noted_of_field (field fields.now 4))) }
+    ensures memory { result ≢ Err Fault.OutOfMemory }
 {
     if !has_other {
         return Ok(None);
     }
-    read_day_of(alloc, fields.field(4))
+    read_day_of(fields.field(4))
 }
 
 /// Reads the day of a field 18. Most messages have none, so this is a call.
 #[inline(never)]
-fn read_day_of<A: Allocator + Copy>(alloc: A, field: &[u8]) -> Result<Option<Day>, Fault>
+fn read_day_of(field: &[u8]) -> Result<Option<Day>, Fault>
     ensures value { ReturnsAs (λ day. day) result (day_of_other field.now) }
-    ensures memory { RunsOutOnlyIf result (8 < noted_of_field field.now) }
+    ensures memory { result ≢ Err Fault.OutOfMemory }
 {
-    let mut other = Other18::none(alloc);
-    other.renew(alloc, field)?;
-    Ok(other.day())
+    let effects = Effects::read(field)?;
+    Ok(effects.day())
 }

@@ -1,7 +1,6 @@
 //! The messages DLA, CNL and DEP.
-ghost use Rattle.std.specs.Prelude.{◌≡◌, ◌≤◌, ◌==◌, true, length};
-ghost use Rattle.fpl_message.specs.Messages.{field};
-ghost use Rattle.fpl_message.specs.Refusals.{ReturnsAs, RunsOutOnlyIf, IsPastTheEighth};
+ghost use Rattle.std.specs.Prelude.{◌≢◌, ◌≤◌, length, Err};
+ghost use Rattle.fpl_message.specs.Refusals.{ReturnsAs};
 ghost use Rattle.fpl_message.specs.ShortMessages.{short_opening_of};
 
 use crate::fault::Fault;
@@ -29,17 +28,11 @@ pub struct Dep {
     pub time: TimeOfDay,
 }
 
-/// Reads the fields of a DLA, a CNL or a DEP, from the left. Allocates only for a ninth
-/// estimate in field 18.
-pub(crate) fn read_short<A: Allocator + Copy>(
-    alloc: A,
-    fields: &FieldsRef<'_, A>,
-) -> Result<Opening, Fault>
+/// Reads the fields of a DLA, a CNL or a DEP, from the left. Doesn't allocate.
+pub(crate) fn read_short<A: Allocator + Copy>(fields: &FieldsRef<'_, A>) -> Result<Opening, Fault>
     requires { 4 ≤ length fields.now }
     ensures value { ReturnsAs (λ opening. opening) result (short_opening_of fields.now) }
-    ensures memory { RunsOutOnlyIf result
-        (((length fields.now == 5) ≡ true)
-        × IsPastTheEighth (field fields.now 4) (short_opening_of fields.now)) }
+    ensures memory { result ≢ Err Fault.OutOfMemory }
 {
-    read_opening(alloc, fields.count() == 5, fields)
+    read_opening(fields.count() == 5, fields)
 }
