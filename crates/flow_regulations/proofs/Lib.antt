@@ -26,7 +26,7 @@ pub mod PutBack
 pub mod Queues
 pub mod Released
 pub mod Renewed
-pub mod Rounds
+pub mod Rising
 pub mod Rows
 pub mod Saying
 pub mod Served

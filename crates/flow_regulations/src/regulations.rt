@@ -58,8 +58,8 @@ pub struct Regulations<A: Allocator + Copy = Global> {
     table: PlaceTable<A>,
     /// The flights that enter a regulation when it is opened, in a buffer that is reused.
     coming: Vec<Planned, A>,
-    /// Their indices in the order, in a buffer that is reused.
-    targets: Vec<u32, A>,
+    /// The same flights in order, in a buffer that is reused.
+    ordered: Vec<Planned, A>,
 }
 
 impl<A: Allocator + Copy> Model for Regulations<A> {
@@ -97,7 +97,7 @@ impl<A: Allocator + Copy> Regulations<A> {
             marks: HeldMarks::new(alloc),
             table: PlaceTable::new(alloc),
             coming: Vec::new(alloc),
-            targets: Vec::new(alloc),
+            ordered: Vec::new(alloc),
         }
     }
 
@@ -147,8 +147,8 @@ impl<A: Allocator + Copy> Regulations<A> {
         self.regulations.reserve(1)?;
         self.marks.make(alloc, self.max_plans)?;
         self.table.make(alloc)?;
-        let (coming, targets) = (&mut self.coming, &mut self.targets);
-        let due = let_all_in(&mut regulation, plans, now, coming, targets)?;
+        let (coming, ordered) = (&mut self.coming, &mut self.ordered);
+        let due = let_all_in(&mut regulation, plans, now, coming, ordered)?;
         settle(&mut regulation, plans, now, due);
         self.marks.open(&self.regulations, &regulation);
         self.table.open(&self.regulations, &regulation);
@@ -572,7 +572,7 @@ fn let_all_in<A: Allocator + Copy>(
     plans: &PlanStore<A>,
     now: Minute,
     coming: &mut Vec<Planned, A>,
-    targets: &mut Vec<u32, A>,
+    ordered: &mut Vec<Planned, A>,
 ) -> Result<bool, AllocError>
     requires room { length plans.now.plans ≤ regulation.old.lineup.capacity }
     requires empty { regulation.old ≡ opened plans.now.taxi [] regulation.old }
@@ -581,9 +581,9 @@ fn let_all_in<A: Allocator + Copy>(
     ensures due { IfOk result (λ due. due ≡ false → NoneDue now plans.now.plans regulation.new) }
 {
     let first = regulation.note_coming(plans, coming)?;
-    targets.reserve((plans.count() as usize).saturating_sub(targets.len()))?;
+    ordered.reserve((plans.count() as usize).saturating_sub(ordered.len()))?;
     let (start, _end) = regulation.list().shape().period();
-    put_in_order(coming, start, targets);
+    put_in_order(coming, start, ordered);
     regulation.fill(coming);
     let due = is_due_from(first, now);
     Ok(due)

@@ -1,13 +1,9 @@
-use Rattle.std.proofs.Common.{◌≡◌, ◌+◌, ◌++◌, ◌≤◌, ℕ, List, [], length, take, drop, rules, sym, ap, subst, ◌∙◌, arith}
-use Rattle.std.specs.List.Sorted.{IsPermutation, IsNonDecreasingBy}
-use Rattle.std.proofs.Math.Seq.{take-append_seam}
+use Rattle.std.proofs.Common.{◌≡◌, ◌+◌, ◌≤◌, List, [], length, rules, sym, ap, subst, ◌∙◌, arith}
 use Rattle.std.proofs.lemmas.Bool.{leb-false}
-use Rattle.std.proofs.lemmas.List.Sorted.{length_permutation}
 use Rattle.flow_plans.specs.Plans.{PlanView}
 use Rattle.flow_slots.specs.declared.cell.Planned.{Planned}
-use Rattle.flow_slots.specs.Order.{rank}
 use Rattle.flow_slots.specs.Lineup.{MayFill, with_all_waiting}
-use Rattle.flow_regulations.specs.Regulations.{Regulation, subject_to, coming_from, waiting_from}
+use Rattle.flow_regulations.specs.Regulations.{Regulation, subject_to}
 use Rattle.flow_regulations.specs.declared.due_queue.TheConstants.{ISSUE_LEAD}
 use Rattle.flow_regulations.specs.Listing.{RegulationView, regulation_of, with_lineup}
 use Rattle.flow_regulations.proofs.Coming.{sorted-waiting, may-fill}
@@ -15,19 +11,11 @@ use Rattle.flow_plans.proofs.Entered.{entering-few}
 use Rattle.flow_regulations.proofs.Undue.{undue-opened}
 use Rattle.flow_regulations.proofs.regulations.let_all_in.Goals as goal
 
--- the items of a vector, sorted, are the flights with provisional slots
-in-order : (taxi n : ℕ) (r : Regulation) (plans : List PlanView) (noted row read : List Planned) → length plans ≤ 20000 → noted ≡ coming_from 1 taxi r plans → n ≡ length noted → IsPermutation noted row → IsNonDecreasingBy rank row → read ≡ take n (row ++ drop (length row) noted) → read ≡ waiting_from 1 taxi r [] plans
-in-order taxi n r plans noted row read few is all moved up e =
-    let same : n ≡ length row = omega (arith, all, length_permutation noted row moved) in
-    let whole : take n (row ++ drop (length row) noted) ≡ row = ap (λ m. take m (row ++ drop (length row) noted)) same ∙ take-append_seam row (drop (length row) noted) in
-    e ∙ (whole ∙ sorted-waiting taxi 20000 r plans noted row few (omega arith) is moved up)
-
 pub put_in_order-requires : goal.put_in_order-requires
 put_in_order-requires g c =
     let few = entering-few 1 (subject_to c.args.plans.now.taxi (regulation_of c.args.regulation.now)) c.args.plans.now.plans in
     let noted = ap length c.in_ok-first.ensures.coming in
-    let all = ap length c.deref_mut.ensures.value in
-    omega (arith, few, noted, all, c.in_ok-reserve.ensures.ok, c.count.ensures.count)
+    omega (arith, few, noted, c.note_coming.new.coming.ok.0, c.in_ok-reserve.ensures.ok, c.count.ensures.count)
 
 pub fill-requires : goal.fill-requires
 fill-requires g c =
@@ -36,9 +24,10 @@ fill-requires g c =
     let l : RegulationView = c.args.regulation.now in
     let r : Regulation = regulation_of l in
     let noted : List Planned = c.note_coming.new.coming.items in
-    let row : List Planned = c.put_in_order.new.flights in
-    let moved : IsPermutation noted row = subst (λ xs. IsPermutation xs row) c.deref_mut.ensures.value c.put_in_order.ensures.permutation in
-    let waiting = in-order taxi c.note_coming.new.coming.len r plans noted row c.deref.result.now (omega (arith, c.count.ensures.count, c.count.ensures.bound)) c.in_ok-first.ensures.coming (omega (arith, c.note_coming.new.coming.ok.0)) moved c.put_in_order.ensures.order c.deref.ensures.value in
+    let row : List Planned = c.put_in_order.new.flights.items in
+    let few : length plans ≤ 20000 = omega (arith, c.count.ensures.count, c.count.ensures.bound) in
+    let sorted = sorted-waiting taxi 20000 r plans noted row few (omega arith) c.in_ok-first.ensures.coming c.put_in_order.ensures.permutation c.put_in_order.ensures.order in
+    let waiting = c.deref.ensures.value ∙ sorted in
     let none : l.lineup.waiting ≡ [] = ap (λ v. v.lineup.waiting) c.requires.empty in
     let unfixed : l.lineup.fixed ≡ [] = ap (λ v. v.lineup.fixed) c.requires.empty in
     let M : List Planned → Type 0 = λ ws. MayFill ws l.lineup in
@@ -51,9 +40,10 @@ returns-clause-opened g c =
     let l : RegulationView = c.args.regulation.now in
     let r : Regulation = regulation_of l in
     let noted : List Planned = c.note_coming.new.coming.items in
-    let row : List Planned = c.put_in_order.new.flights in
-    let moved : IsPermutation noted row = subst (λ xs. IsPermutation xs row) c.deref_mut.ensures.value c.put_in_order.ensures.permutation in
-    let waiting = in-order taxi c.note_coming.new.coming.len r plans noted row c.deref.result.now (omega (arith, c.count.ensures.count, c.count.ensures.bound)) c.in_ok-first.ensures.coming (omega (arith, c.note_coming.new.coming.ok.0)) moved c.put_in_order.ensures.order c.deref.ensures.value in
+    let row : List Planned = c.put_in_order.new.flights.items in
+    let few : length plans ≤ 20000 = omega (arith, c.count.ensures.count, c.count.ensures.bound) in
+    let sorted = sorted-waiting taxi 20000 r plans noted row few (omega arith) c.in_ok-first.ensures.coming c.put_in_order.ensures.permutation c.put_in_order.ensures.order in
+    let waiting = c.deref.ensures.value ∙ sorted in
     c.fill.ensures ∙ ap (λ ws. with_lineup (with_all_waiting ws l.lineup) l) waiting
 
 pub returns-clause-due : goal.returns-clause-due
