@@ -1,6 +1,7 @@
 pub mod Runs
 pub mod Lines
 pub mod Digits
+pub mod Pairs
 pub mod KeptEntries
 pub mod Rows
 pub mod Serves

@@ -228,6 +228,13 @@ pub(crate) fn put(line: &mut Line, text: &[u8])
     let _all = line.try_extend_from_slice(text);
 }
 
+/// The numbers below 100, in two digits each.
+const PAIRS: [u8; 200] = *b"0001020304050607080910111213141516171819\
+    2021222324252627282930313233343536373839\
+    4041424344454647484950515253545556575859\
+    6061626364656667686970717273747576777879\
+    8081828384858687888990919293949596979899";
+
 /// Appends two digits of a number below 100.
 fn put_pair(line: &mut Line, number: u32)
     requires below { number < 100 }
@@ -236,8 +243,9 @@ fn put_pair(line: &mut Line, number: u32)
         ∷ (48 + number % 10) ∷ [] }
     ensures len { array_vec_len line.new ≡ array_vec_len line.old + 2 }
 {
-    line.push(b'0' + (number / 10) as u8);
-    line.push(b'0' + (number % 10) as u8);
+    let index = 2 * number as usize;
+    line.push(PAIRS[index]);
+    line.push(PAIRS[index + 1]);
 }
 
 /// Appends a number below 100 in decimal digits.
