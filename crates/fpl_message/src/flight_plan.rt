@@ -233,7 +233,8 @@ impl<A: Allocator + Copy> Fpl<A> {
 
     /// Reads the estimates of the EET items of field 18. Returns `Err` if allocation fails.
     pub fn estimates<B: Allocator + Copy>(&self, alloc: B) -> Result<Estimates<B>, AllocError>
-        ensures { IfOk result (AreEstimatesOf self.now.items) }
+        ensures value { IfOk result (AreEstimatesOf self.now.items) }
+        ensures items { self.now.items ≡ items_of (words_of (field self.now.fields 8)) }
     {
         self.effects.estimates(alloc, self.fields.field(8))
     }

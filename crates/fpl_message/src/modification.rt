@@ -133,7 +133,8 @@ impl<A: Allocator + Copy> Chg<A> {
         &self,
         alloc: B,
     ) -> Result<Option<Estimates<B>>, AllocError>
-        ensures { IfOk result (AreEstimatesOfAny self.now.items) }
+        ensures value { IfOk result (AreEstimatesOfAny self.now.items) }
+        ensures items { self.now.items ≡ items_at self.now.field18 }
     {
         let Some(effects) = &self.changes.other else {
             return Ok(None);

@@ -29,7 +29,7 @@ or_flags false true = refl
 or_flags false false = refl
 
 -- an operator on two vectors
-lanes-zip2 : (f : ℕ → ℕ → ℕ) (a b : List ℕ) → length a ≡ 16 → length b ≡ 16 → HasLanes (zip2 f a b) (λ k. f (get_or a k 0) (get_or b k 0))
+pub lanes-zip2 : (f : ℕ → ℕ → ℕ) (a b : List ℕ) → length a ≡ 16 → length b ≡ 16 → HasLanes (zip2 f a b) (λ k. f (get_or a k 0) (get_or b k 0))
 lanes-zip2 f a b p q = record {
   long = length-zip2 f a b (p ∙ sym q) ∙ p;
   each = λ k l. get_or-zip2 f a b k 0 0 0 (omega arith) (omega arith);
@@ -281,37 +281,41 @@ four-in (a ∷ b ∷ c ∷ d ∷ e ∷ text) low high long fits order most = abs
 abbrev pub estimate_low : List ℕ
 estimate_low = 65 ∷ 65 ∷ 65 ∷ 65 ∷ 48 ∷ 48 ∷ 48 ∷ 48 ∷ 32 ∷ 0 ∷ 0 ∷ 0 ∷ 0 ∷ 0 ∷ 0 ∷ 0 ∷ []
 
-abbrev pub estimate_high : List ℕ
-estimate_high = 90 ∷ 90 ∷ 90 ∷ 90 ∷ 57 ∷ 57 ∷ 53 ∷ 57 ∷ 32 ∷ 255 ∷ 255 ∷ 255 ∷ 255 ∷ 255 ∷ 255 ∷ 255 ∷ []
+abbrev pub estimate_width : List ℕ
+estimate_width = 25 ∷ 25 ∷ 25 ∷ 25 ∷ 9 ∷ 9 ∷ 5 ∷ 9 ∷ 0 ∷ 255 ∷ 255 ∷ 255 ∷ 255 ∷ 255 ∷ 255 ∷ 255 ∷ []
 
--- lane k holds a byte between the two
+-- lane k holds a byte that is no more than its width above its lowest
 abbrev pub lies : List ℕ → ℕ → Bool
-lies v k = leb (get_or estimate_low k 0) (get_or v k 0) && leb (get_or v k 0) (get_or estimate_high k 0)
+lies v k = leb ((get_or v k 0 + (256 - get_or estimate_low k 0)) % 256) (get_or estimate_width k 0)
 
-pub estimate-letter : (v : List ℕ) (k : ℕ) → k < 4 → lies v k ≡ true → is_letter (get_or v k 0) ≡ true
+pub estimate-letter : (v : List ℕ) (k : ℕ) → k < 4 → get_or v k 0 < 256 → lies v k ≡ true → is_letter (get_or v k 0) ≡ true
 unfolding is_letter
-estimate-letter v zero l h = h
-estimate-letter v (suc zero) l h = h
-estimate-letter v (suc (suc zero)) l h = h
-estimate-letter v (suc (suc (suc zero))) l h = h
-estimate-letter v (suc (suc (suc (suc k)))) l h = absurd (omega arith)
+estimate-letter v zero l fits h = sym (in-range (get_or v 0 0) 65 90 fits (omega arith) (omega arith)) ∙ h
+estimate-letter v (suc zero) l fits h = sym (in-range (get_or v 1 0) 65 90 fits (omega arith) (omega arith)) ∙ h
+estimate-letter v (suc (suc zero)) l fits h = sym (in-range (get_or v 2 0) 65 90 fits (omega arith) (omega arith)) ∙ h
+estimate-letter v (suc (suc (suc zero))) l fits h = sym (in-range (get_or v 3 0) 65 90 fits (omega arith) (omega arith)) ∙ h
+estimate-letter v (suc (suc (suc (suc k)))) l fits h = absurd (omega arith)
 
-pub estimate-digit : (v : List ℕ) (k : ℕ) → k < 4 → lies v (4 + k) ≡ true → is_digit (get_or v (4 + k) 0) ≡ true
+-- the tens of the minutes
+tens-lie : (v : List ℕ) → get_or v 6 0 < 256 → lies v 6 ≡ true → (leb 48 (get_or v 6 0) ≡ true) × (leb (get_or v 6 0) 53 ≡ true)
+tens-lie v fits h = and_parts _ _ (sym (in-range (get_or v 6 0) 48 53 fits (omega arith) (omega arith)) ∙ h)
+
+pub estimate-digit : (v : List ℕ) (k : ℕ) → k < 4 → get_or v (4 + k) 0 < 256 → lies v (4 + k) ≡ true → is_digit (get_or v (4 + k) 0) ≡ true
 unfolding is_digit
-estimate-digit v zero l h = h
-estimate-digit v (suc zero) l h = h
-estimate-digit v (suc (suc zero)) l h =
-    let parts : (leb 48 (get_or v 6 0) ≡ true) × (leb (get_or v 6 0) 53 ≡ true) = and_parts _ _ h in
+estimate-digit v zero l fits h = sym (in-range (get_or v 4 0) 48 57 fits (omega arith) (omega arith)) ∙ h
+estimate-digit v (suc zero) l fits h = sym (in-range (get_or v 5 0) 48 57 fits (omega arith) (omega arith)) ∙ h
+estimate-digit v (suc (suc zero)) l fits h =
+    let parts = tens-lie v fits h in
     rw (parts.0, le-leb (get_or v 6 0) 57 (omega (arith, leb-true (get_or v 6 0) 53 parts.1))) refl
-estimate-digit v (suc (suc (suc zero))) l h = h
-estimate-digit v (suc (suc (suc (suc k)))) l h = absurd (omega arith)
+estimate-digit v (suc (suc (suc zero))) l fits h = sym (in-range (get_or v 7 0) 48 57 fits (omega arith) (omega arith)) ∙ h
+estimate-digit v (suc (suc (suc (suc k)))) l fits h = absurd (omega arith)
 
-pub estimate-tens : (v : List ℕ) → lies v 6 ≡ true → get_or v 6 0 ≤ 53
-estimate-tens v h = leb-true (get_or v 6 0) 53 (and_parts _ _ h).1
+pub estimate-tens : (v : List ℕ) → get_or v 6 0 < 256 → lies v 6 ≡ true → get_or v 6 0 ≤ 53
+estimate-tens v fits h = leb-true (get_or v 6 0) 53 (tens-lie v fits h).1
 
-pub estimate-space : (v : List ℕ) → lies v 8 ≡ true → get_or v 8 0 ≡ 32
-estimate-space v h =
-    let parts : (leb 32 (get_or v 8 0) ≡ true) × (leb (get_or v 8 0) 32 ≡ true) = and_parts _ _ h in
+pub estimate-space : (v : List ℕ) → get_or v 8 0 < 256 → lies v 8 ≡ true → get_or v 8 0 ≡ 32
+estimate-space v fits h =
+    let parts : (leb 32 (get_or v 8 0) ≡ true) × (leb (get_or v 8 0) 32 ≡ true) = and_parts _ _ (sym (in-range (get_or v 8 0) 32 32 fits (omega arith) (omega arith)) ∙ h) in
     omega (arith, leb-true 32 (get_or v 8 0) parts.0, leb-true (get_or v 8 0) 32 parts.1)
 
 -- ---- 4 to 8 bytes

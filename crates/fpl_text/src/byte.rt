@@ -1,7 +1,7 @@
 //! The kinds of bytes of a message (ICAO Doc 4444, appendix 3, and the characters that Annex 10
 //! allows in it), of one byte and of 16 in a vector. Only this file speaks of bits of a vector.
 
-ghost use Rattle.std.specs.Prelude.{◌≡◌, ◌≤◌, length, ◌<◌, ◌+◌, ◌-◌, ◌++◌, ◌↔◌, ◌==◌, ◌&&◌, ◌||◌};
+ghost use Rattle.std.specs.Prelude.{◌≡◌, ◌≤◌, length, ◌<◌, ◌+◌, ◌-◌, ◌%◌, ◌++◌, ◌↔◌, ◌==◌, ◌&&◌, ◌||◌};
 ghost use Rattle.std.specs.Prelude.{if◌then◌else◌, nat_le, not, ℕ, Bool, true, false};
 ghost use Rattle.std.specs.Prelude.{slice_index, take, drop, count_by};
 ghost use Rattle.std.specs.List.{list_all, prefix_len};
@@ -296,10 +296,18 @@ pub(crate) fn letters_or_digits_at(text: &[u8], at: usize) -> usize
 /// after it.
 const ESTIMATE_LOW: [u8; 16] = [65, 65, 65, 65, 48, 48, 48, 48, 32, 0, 0, 0, 0, 0, 0, 0];
 
-/// The highest byte of each. The tens of the minutes are at most `5`.
-const ESTIMATE_HIGH: [u8; 16] = [
-    90, 90, 90, 90, 57, 57, 53, 57, 32, 255, 255, 255, 255, 255, 255, 255,
+/// By how much the highest byte of each is above it. The tens of the minutes are at most `5`.
+const ESTIMATE_WIDTH: [u8; 16] = [
+    25, 25, 25, 25, 9, 9, 5, 9, 0, 255, 255, 255, 255, 255, 255, 255,
 ];
+
+/// By how much each lane is above that of `low`, modulo 256.
+#[inline(always)]
+fn above_lanes(v: u8x16, low: u8x16) -> u8x16
+    ensures { HasLanes result (λ k. (slice_index v k + (256 - slice_index low k)) % 256) }
+{
+    v - low
+}
 
 /// Flags the lanes in which `low` is no more than `high`.
 #[inline(always)]
@@ -321,10 +329,8 @@ pub(crate) fn begins_estimate(text: &[u8], at: usize) -> bool
     ensures tens { result ≡ true → slice_index text.now (at + 6) ≤ 53 }
     ensures space { result ≡ true → slice_index text.now (at + 8) ≡ 32 }
 {
-    let lanes = load(text, at);
-    let from = in_order(u8x16::from_array(ESTIMATE_LOW), lanes);
-    let to = in_order(lanes, u8x16::from_array(ESTIMATE_HIGH));
-    set_lanes_from(both(from, to), 0) >= 9
+    let above = above_lanes(load(text, at), u8x16::from_array(ESTIMATE_LOW));
+    set_lanes_from(in_order(above, u8x16::from_array(ESTIMATE_WIDTH)), 0) >= 9
 }
 
 /// Whether four bytes are all from `low` to `high`.
