@@ -6,9 +6,8 @@ ghost use Rattle.fpl_items.specs.Other18.{TellsOfAny};
 ghost use Rattle.flow_plans.specs.Changes.{elapsed_after, alternates_after};
 ghost use Rattle.fpl_text.specs.declared.time.TheConstants.{ELAPSED_LIMIT};
 
-use fpl_items::Other18;
+use fpl_items::Effects;
 use fpl_text::{Alternates, Destination, FlightRules, Rules};
-use std::alloc::Allocator;
 
 pub(crate) fn text_after<'a>(held: &'a [u8], amended: Option<&'a [u8]>) -> &'a [u8]
     ensures { result.now ≡ unwrap_or (option_copied amended.entry) held.now }
@@ -29,12 +28,12 @@ pub(crate) fn rules_after(held: FlightRules, amended: Option<&Rules>) -> FlightR
 }
 
 /// Whether an amended field 18 exempts the flight; `held` if it isn't amended.
-pub(crate) fn exempt_after<A: Allocator + Copy>(held: bool, amended: Option<&Other18<A>>) -> bool
+pub(crate) fn exempt_after(held: bool, amended: Option<&Effects>) -> bool
     ensures { (items : Option (List ItemView)) → TellsOfAny items (option_copied amended.entry)
         → result ≡ option_map_or is_exempt items held }
 {
     match amended {
-        Some(other) => other.exempt(),
+        Some(effects) => effects.exempt(),
         None => held,
     }
 }

@@ -10,8 +10,8 @@
 //! - *Outlines* (`outline`): index entries that say where and when a plan's flight may be, in 24
 //!   bytes a plan. OPEN scans these, and reads the plans of those flights that may enter its point
 //!   in its period. An outline may say too much, never too little.
-//! - *Estimates* (`texts`): what the EET items of field 18 say, copied from the message that was
-//!   read.
+//! - *Estimates* (`texts`): what the EET items of field 18 say, read when a plan is made or
+//!   amended.
 //! - *Places* (`texts`): a bit for each aerodrome or route point that a flight enters, by which the
 //!   open regulations that may apply to it are found.
 //!

@@ -22,7 +22,7 @@ ghost use Rattle.flow_plans.specs.Times.{off_blocks_end};
 use crate::amended_values::{alternates_after, elapsed_after, exempt_after, rules_after};
 use crate::first_letters::letters_of;
 use crate::texts::{Texts, exchange_texts, words_of_ends};
-use fpl_items::Other18;
+use fpl_items::Effects;
 use fpl_message::{Chg, Fpl, Parts, Spot};
 use fpl_text::{Alternates, Day, ELAPSED_LIMIT, FlightRules, Minute, Text};
 use std::alloc::{AllocError, Allocator, Global};
@@ -122,12 +122,12 @@ impl Key {
 }
 
 /// The day of a DOF item in an amended field 18.
-fn day_of<A: Allocator + Copy>(amended: Option<&Other18<A>>) -> Option<Day>
+fn day_of(amended: Option<&Effects>) -> Option<Day>
     ensures { (items : Option (List ItemView)) → TellsOfAny items (option_copied amended.entry)
         → result ≡ option_map_or day_of_items items None }
 {
     match amended {
-        Some(other) => other.day(),
+        Some(effects) => effects.day(),
         None => None,
     }
 }
@@ -249,7 +249,7 @@ impl<A: Allocator + Copy> Plan<A> {
         requires { off_block < off_blocks_end }
         ensures { IfOk result (λ p. p ≡ plan_of off_block message.now) }
     {
-        let estimates = message.other().estimates().kept(alloc)?;
+        let estimates = message.estimates(alloc)?;
         let texts = Texts::new(
             alloc,
             message.field(2),

@@ -4,11 +4,11 @@
 //! bit of the name.
 
 ghost use Rattle.std.specs.Prelude.{◌≡◌, ◌≤◌, ◌<◌, ◌+◌, ◌++◌, true, length, List, ℕ};
-ghost use Rattle.std.specs.Prelude.{option_copied, MatchOption, IfOk, IfSome, IsSome, Option};
+ghost use Rattle.std.specs.Prelude.{MatchOption, IfOk, IfSome, IsSome};
 ghost use Rattle.fpl_text.specs.Words.{words_of};
-ghost use Rattle.fpl_items.specs.Items.{ItemView, items_of, elapsed_to};
-ghost use Rattle.fpl_items.specs.Other18.{TellsOfAny};
+ghost use Rattle.fpl_items.specs.Items.{items_of, elapsed_to};
 ghost use Rattle.fpl_items.specs.Estimates.{AreEstimatesOf};
+ghost use Rattle.fpl_message.specs.KeptChanges.{items_at};
 ghost use Rattle.flow_plans.specs.Changes.{texts_after};
 ghost use Rattle.flow_plans.specs.Plans.{TextsView, texts_or};
 ghost use Rattle.flow_plans.specs.Near.{word_at, HasBitsOf, table_row};
@@ -17,7 +17,7 @@ ghost use Rattle.fpl_text.specs.declared.time.TheConstants.{ELAPSED_LIMIT};
 ghost use Rattle.std.specs.Int.{bit_at};
 
 use crate::amended_values::text_after;
-use fpl_items::{KeptEstimates, Other18, bit_of};
+use fpl_items::{Estimates, bit_of};
 use fpl_message::{Chg, Spot};
 use std::alloc::{AllocError, Allocator, Global};
 use std::marker::Model;
@@ -27,7 +27,7 @@ use std::mem;
 /// many, so each of their end offsets takes two bytes.
 #[derive(Drop)]
 pub(crate) struct Texts<A: Allocator + Copy = Global> {
-    estimates: KeptEstimates<A>,
+    estimates: Estimates<A>,
     bytes: Vec<u8, A>,
     end8: u16,
     end9: u16,
@@ -80,18 +80,18 @@ fn keeps_texts<A: Allocator + Copy>(message: &Chg<A>) -> bool
         && message.field18().is_none()
 }
 
-/// A copy of the estimates of an amended field 18, or else of those held.
+/// The estimates of an amended field 18, or else a copy of those held.
 fn estimates_after<A: Allocator + Copy>(
     alloc: A,
-    held: &KeptEstimates<A>,
-    amended: Option<&Other18<A>>,
-) -> Result<KeptEstimates<A>, AllocError>
-    ensures { IfOk result (λ after. (items : Option (List ItemView))
-        → TellsOfAny items (option_copied amended.entry)
-        → MatchOption items (after ≡ held.now) (λ items. AreEstimatesOf items after)) }
+    held: &Estimates<A>,
+    message: &Chg<A>,
+) -> Result<Estimates<A>, AllocError>
+    ensures value { IfOk result (λ after. MatchOption message.now.items (after ≡ held.now)
+        (λ items. AreEstimatesOf items after)) }
+    ensures items { message.now.items ≡ items_at message.now.field18 }
 {
-    match amended {
-        Some(other) => other.estimates().kept(alloc),
+    match message.estimates(alloc)? {
+        Some(estimates) => Ok(estimates),
         None => held.copied(alloc),
     }
 }
@@ -118,7 +118,7 @@ impl<A: Allocator + Copy> Texts<A> {
         field10: &[u8],
         field15: &[u8],
         field18: &[u8],
-        estimates: KeptEstimates<A>,
+        estimates: Estimates<A>,
     ) -> Result<Self, AllocError>
         requires { AreEstimatesOf (items_of (words_of field18.now)) estimates }
         ensures { IfOk result (λ t. t ≡ record {
@@ -174,7 +174,7 @@ impl<A: Allocator + Copy> Texts<A> {
     fn rewritten(&self, alloc: A, message: &Chg<A>) -> Result<Box<Self, A>, AllocError>
         ensures { IfOk result (λ texts. texts.value ≡ texts_after self.now message.now) }
     {
-        let estimates = estimates_after(alloc, self.estimates(), message.other())?;
+        let estimates = estimates_after(alloc, self.estimates(), message)?;
         let texts = Texts::new(
             alloc,
             text_after(self.field8(), message.field8()),
@@ -217,7 +217,7 @@ impl<A: Allocator + Copy> Texts<A> {
         &self.bytes[usize::from(self.end15)..]
     }
 
-    fn estimates(&self) -> &KeptEstimates<A>
+    fn estimates(&self) -> &Estimates<A>
         ensures { AreEstimatesOf (items_of (words_of self.now.field18)) result.now }
     {
         &self.estimates

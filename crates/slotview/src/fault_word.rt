@@ -1,6 +1,6 @@
 //! Finds the word or the item at which a filing was refused.
 use flow_traffic::MAX_REGULATIONS;
-use fpl_items::{Item, Items, Other18};
+use fpl_items::{Effects, Item, Items};
 use fpl_message::Refusal;
 use fpl_text::{
     Departure, Destination, Fields, Heading, Ident, Squeezed, Text, Title, Words, begins_amendment,
@@ -318,7 +318,7 @@ fn field18(alloc: Global, fields: &Fields<Global>) -> &[u8] {
     if !is_chg {
         return own;
     }
-    if !own.is_empty() && !begins_amendment(own) && is_bad_item(alloc, own) {
+    if !own.is_empty() && !begins_amendment(own) && is_bad_item(own) {
         return own;
     }
     if amendment(fields, 18).is_some() {
@@ -344,8 +344,8 @@ fn item_text(alloc: Global, item: &Item<'_>) -> Result<Vec<u8>, AllocError> {
 }
 
 /// Whether an item by itself is refused.
-fn is_bad_item(alloc: Global, text: &[u8]) -> bool {
-    Other18::read(alloc, text).is_err()
+fn is_bad_item(text: &[u8]) -> bool {
+    Effects::read(text).is_err()
 }
 
 /// The item of field 18 that is refused, or the word that begins none.
@@ -360,7 +360,7 @@ fn item_at_fault(alloc: Global, field: &[u8], refusal: Refusal) -> Result<Vec<u8
         let is_day = item.name() == b"DOF".as_slice();
         let is_it = match refusal {
             Refusal::DuplicateItem => is_day && dated,
-            _ => is_bad_item(alloc, text.as_slice()),
+            _ => is_bad_item(text.as_slice()),
         };
         if is_it {
             return Ok(text);
