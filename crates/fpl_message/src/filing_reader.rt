@@ -22,7 +22,7 @@ use crate::short_message::{Cnl, Dep, Dla, read_short};
 use fpl_text::{Heading, Squeezed, Title};
 use std::alloc::{AllocError, Allocator, Global};
 use std::marker::Model;
-use std::mem::replace;
+use std::mem::{replace, swap};
 
 /// Reads the texts of filings, each in the memory of the one before. It doesn't store them.
 /// Contracts see what the last one says.
@@ -69,19 +69,16 @@ impl<A: Allocator + Copy> FilingReader<A> {
             reader ≡ reading_of (record { edition = edition; bytes = bytes.now })) }
     {
         let mut reader = FilingReader::new(alloc);
-        read(
-            alloc,
-            last,
-            &mut reader.spares,
-            &mut reader.reading,
-            edition,
-            bytes,
-        )?;
+        swap(&mut reader.squeezed, last);
+        let read = reader.read(alloc, edition, bytes);
+        swap(&mut reader.squeezed, last);
+        read?;
         Ok(reader)
     }
 
     /// Reads at most 2,000 bytes by the rules of `edition`, in the memory of former readings.
     /// Returns `Err` if an allocation fails; the reader has read no bytes then.
+    #[tactic(auto, unfolding(crate::specs::Reads::reading_of))]
     pub fn read(&mut self, alloc: A, edition: Edition, bytes: &[u8]) -> Result<(), AllocError>
         requires { length bytes.now ≤ MAX_BYTES }
         ensures ok { OnOk result (self.new
@@ -89,18 +86,24 @@ impl<A: Allocator + Copy> FilingReader<A> {
         ensures err { OnErr result (self.new ≡ bad Refusal.Empty) }
     {
         self.clear();
-        let Ok(()) = read(
+        match read_filed(
             alloc,
             &mut self.squeezed,
             &mut self.spares,
             &mut self.reading,
             edition,
             bytes,
-        ) else {
-            self.clear();
-            return Err(AllocError);
-        };
-        Ok(())
+        ) {
+            Ok(()) => Ok(()),
+            Err(Fault::Refused(refusal)) => {
+                self.reading = Reading::Bad(refusal);
+                Ok(())
+            }
+            Err(Fault::OutOfMemory) => {
+                self.clear();
+                Err(AllocError)
+            }
+        }
     }
 
     /// Drops what the last bytes said, and keeps its box. A reading without one isn't moved.
@@ -166,34 +169,8 @@ impl<A: Allocator + Copy> Spares<A> {
     }
 }
 
-/// Reads at most 2,000 bytes by the rules of an edition, and replaces another reading. They are
-/// squeezed over `last`; a message is stored in the spare box of its kind, if there is one. Returns
-/// `Err` if an allocation fails.
-#[inline(always)]
-#[tactic(auto, unfolding(crate::specs::Reads::reading_of))]
-pub(crate) fn read<A: Allocator + Copy>(
-    alloc: A,
-    last: &mut Squeezed<A>,
-    spares: &mut Spares<A>,
-    reading: &mut Reading<A>,
-    edition: Edition,
-    bytes: &[u8],
-) -> Result<(), AllocError>
-    requires { length bytes.now ≤ MAX_BYTES }
-    ensures { OnOk result (said reading.new
-        ≡ reading_of (record { edition = edition; bytes = bytes.now })) }
-{
-    match read_filed(alloc, last, spares, reading, edition, bytes) {
-        Ok(()) => Ok(()),
-        Err(Fault::Refused(refusal)) => {
-            *reading = Reading::Bad(refusal);
-            Ok(())
-        }
-        Err(Fault::OutOfMemory) => Err(AllocError),
-    }
-}
-
-/// Returns what the bytes say, or why they are refused.
+/// Reads what the bytes say, and replaces another reading; returns why they are refused, if so. They
+/// are squeezed over `last`; a message is stored in the spare box of its kind, if there is one.
 fn read_filed<A: Allocator + Copy>(
     alloc: A,
     last: &mut Squeezed<A>,
