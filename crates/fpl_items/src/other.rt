@@ -132,8 +132,8 @@ fn has_word(mut words: ItemWords<'_>, word: &[u8]) -> bool
     words.any(|other| other == word)
 }
 
-/// What the items of field 18 say of a flight, and how many estimates they have. Contracts relate it
-/// to the items of the text.
+/// What the items of field 18 say of a flight, and how many estimates they have. Contracts relate
+/// it to the items of the text.
 #[derive(Clone, Copy)]
 pub struct Effects {
     /// The day of the first DOF item.
@@ -152,7 +152,8 @@ impl Effects {
             (λ next. SaysAfter self.day self.exempt item.now next.day next.exempt) }
         ensures count { IfOk result
             (λ next. next.estimates ≡ self.estimates + estimates_in item.now) }
-        ensures fault { IfErr result (λ fault. item_fault (is_some self.day) item.now ≡ Some fault) }
+        ensures fault { IfErr result
+            (λ fault. item_fault (is_some self.day) item.now ≡ Some fault) }
         ensures memory { IfErr result (λ fault. fault ≢ ItemFault.OutOfMemory) }
     {
         let name = item.name();
@@ -244,7 +245,8 @@ impl Effects {
     /// Users Manual).
     pub fn exempt(&self) -> bool
         ensures value { result ≡ self.now.exempt }
-        ensures items { (items : List ItemView) → TellsOf items self.now → result ≡ is_exempt items }
+        ensures items { (items : List ItemView) → TellsOf items self.now
+            → result ≡ is_exempt items }
     {
         self.exempt
     }

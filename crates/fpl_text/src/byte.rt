@@ -1,7 +1,8 @@
 //! The kinds of bytes of a message (ICAO Doc 4444, appendix 3, and the characters that Annex 10
 //! allows in it), of one byte and of 16 in a vector. Only this file speaks of bits of a vector.
 
-ghost use Rattle.std.specs.Prelude.{◌≡◌, ◌≤◌, length, ◌<◌, ◌+◌, ◌-◌, ◌%◌, ◌++◌, ◌↔◌, ◌==◌, ◌&&◌, ◌||◌};
+ghost use Rattle.std.specs.Prelude.{◌≡◌, ◌≤◌, length, ◌<◌, ◌+◌, ◌-◌, ◌%◌, ◌++◌, ◌↔◌};
+ghost use Rattle.std.specs.Prelude.{◌==◌, ◌&&◌, ◌||◌};
 ghost use Rattle.std.specs.Prelude.{if◌then◌else◌, nat_le, not, ℕ, Bool, true, false};
 ghost use Rattle.std.specs.Prelude.{slice_index, take, drop, count_by};
 ghost use Rattle.std.specs.List.{list_all, prefix_len};
