@@ -27,12 +27,6 @@ abbrev pub AddsWords : List Estimate → List Estimate → List (List ℕ) → T
 AddsWords before after words =
     (place : List ℕ) → first_for place after ≡ option_or (first_for place before) (estimate_for place words)
 
--- what an item says, whatever the items after it are
-abbrev pub AddsItem : List Estimate → List Estimate → ItemView → Type 0
-AddsItem before after item =
-    (place : List ℕ) (items : List ItemView)
-    → option_or (first_for place after) (elapsed_to place items) ≡ option_or (first_for place before) (elapsed_to place (item ∷ items))
-
 -- estimates that say of every point what the items say
 abbrev pub AreEstimatesOf : List ItemView → List Estimate → Type 0
 AreEstimatesOf items notes = (place : List ℕ) → first_for place notes ≡ elapsed_to place items

@@ -153,11 +153,11 @@ fn message_word(alloc: Global, text: &[u8], refusal: Refusal) -> Result<Vec<u8>,
     };
     match refusal {
         Refusal::BadField(18) | Refusal::BadDate => {
-            item_at_fault(alloc, field18(alloc, &fields), refusal)
+            item_at_fault(alloc, field18(&fields), refusal)
         }
         Refusal::DuplicateItem => match second_amendment(&fields) {
             Some(field) => Vec::from_slice(alloc, field),
-            None => item_at_fault(alloc, field18(alloc, &fields), refusal),
+            None => item_at_fault(alloc, field18(&fields), refusal),
         },
         Refusal::BadField(22) => Vec::from_slice(alloc, no_amendment(&fields)),
         Refusal::BadField(number) => Vec::from_slice(alloc, bad_field(&fields, number)),
@@ -309,7 +309,7 @@ fn field13(fields: &Fields<Global>) -> &[u8] {
 }
 
 /// Field 18: that of the message if it is at fault, or an amended one.
-fn field18(alloc: Global, fields: &Fields<Global>) -> &[u8] {
+fn field18(fields: &Fields<Global>) -> &[u8] {
     let own = match place_of(fields.title(), 18) {
         Some(place) => field_at(fields, place),
         None => b"",
