@@ -212,7 +212,11 @@ impl Changes {
 
     /// Adds what the field 22 at index `place` amends.
     #[tactic(auto, unfolding(crate::specs::Modifications::amend, crate::specs::Modifications::amend_numbered))]
-    fn amend<A: Allocator + Copy>(&mut self, fields: &FieldsRef<'_, A>, place: usize) -> Result<(), Fault>
+    fn amend<A: Allocator + Copy>(
+        &mut self,
+        fields: &FieldsRef<'_, A>,
+        place: usize,
+    ) -> Result<(), Fault>
         requires { place < length fields.now }
         ensures change { ReturnsAs (λ _. kept fields.now self.new) result
             (amend (field fields.now place) (kept fields.now self.old)) }
@@ -272,7 +276,10 @@ impl Changes {
 
     /// Reads the fields of a CHG, from the left, and replaces all changes.
     #[tactic(auto, unfolding(crate::specs::Modifications::chg_of))]
-    pub(crate) fn read<A: Allocator + Copy>(&mut self, fields: &FieldsRef<'_, A>) -> Result<(), Fault>
+    pub(crate) fn read<A: Allocator + Copy>(
+        &mut self,
+        fields: &FieldsRef<'_, A>,
+    ) -> Result<(), Fault>
         requires { 5 ≤ length fields.now }
         ensures change { ReturnsAs (λ _. kept fields.now self.new) result (chg_of fields.now) }
         ensures memory { result ≢ Err Fault.OutOfMemory }

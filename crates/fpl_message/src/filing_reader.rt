@@ -169,8 +169,8 @@ impl<A: Allocator + Copy> Spares<A> {
     }
 }
 
-/// Reads what the bytes say, and replaces another reading; returns why they are refused, if so. They
-/// are squeezed over `last`; a message is stored in the spare box of its kind, if there is one.
+/// Reads what the bytes say, and replaces another reading; returns why they are refused, if so.
+/// They are squeezed over `last`; a message is stored in the spare box of its kind, if any.
 fn read_filed<A: Allocator + Copy>(
     alloc: A,
     last: &mut Squeezed<A>,

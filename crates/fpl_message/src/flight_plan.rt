@@ -109,8 +109,8 @@ impl Flight {
 
 impl<A: Allocator + Copy> Fpl<A> {
     /// Reads the fields of an FPL, from the left. The text stays in the plan; that of the spare box
-    /// is left in its place, or the empty one. Allocates only for a flight plan that is accepted, if
-    /// there is no spare box.
+    /// is left in its place, or the empty one. Allocates only for a plan that is accepted, if there
+    /// is no spare box.
     pub(crate) fn read(
         alloc: A,
         text: &mut Squeezed<A>,

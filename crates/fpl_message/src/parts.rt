@@ -72,7 +72,10 @@ pub(crate) fn read_opening<A: Allocator + Copy>(
 
 /// Reads the day of field 18, the fifth field, if there is one.
 #[inline(always)]
-fn read_day<A: Allocator + Copy>(has_other: bool, fields: &FieldsRef<'_, A>) -> Result<Option<Day>, Fault>
+fn read_day<A: Allocator + Copy>(
+    has_other: bool,
+    fields: &FieldsRef<'_, A>,
+) -> Result<Option<Day>, Fault>
     requires { IsTrue has_other → 4 < length fields.now }
     ensures value { ReturnsAs (λ day. day) result (other_day has_other fields.now) }
     ensures memory { result ≢ Err Fault.OutOfMemory }
