@@ -231,7 +231,7 @@ positive : (n : ℕ) → (n ≡ 0 → ⊥) → 0 < n
 positive zero f = absurd (f refl)
 positive (suc n) f = omega arith
 
-pub left-next : (text : List ℕ) (made bits count after later : ℕ) → count ≤ 31 → later < 2 ^ 64 → AreLeft text made bits count after later → (later ≡ 0 → ⊥) → IsNext text made bits count after (trailing_zeros w64 later) later
+pub left-next : (text : List ℕ) (made bits count after later : ℕ) → count ≤ 63 → later < 2 ^ 64 → AreLeft text made bits count after later → (later ≡ 0 → ⊥) → IsNext text made bits count after (trailing_zeros w64 later) later
 left-next text made bits count after later few small left some =
     let t = bit_at-trailing_zeros w64 later (positive later some) small in
     let index = trailing_zeros w64 later in

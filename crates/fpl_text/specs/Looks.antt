@@ -1,4 +1,4 @@
--- What a look at 32 bytes shows, and which of them a pass keeps.
+-- What a look at 32 or 64 bytes shows, and which of them a pass keeps.
 use Rattle.std.specs.Prelude.{◌≡◌, ◌<◌, ◌≤◌, ◌+◌, ◌==◌, ◌&&◌, ◌||◌, not, if◌then◌else◌, nat_le, nat_lt, ℕ, zero, suc, Bool, List, length, slice_index}
 use Rattle.std.specs.Int.{bit_at}
 use Rattle.fpl_text.specs.Bytes.{is_blank, is_border, is_plain, is_accepted}
@@ -30,17 +30,21 @@ pub record HasSpaces (v : List ℕ) (f : ℕ → ℕ) : Type 0 where
   pub long : length v ≡ 32
   pub each : (k : ℕ) → k < 32 → slice_index v k ≡ as_space (f k)
 
--- bit k says what p says of k, for 32 bits, and no other bit is set
-pub record IsBits (bits : ℕ) (p : ℕ → Bool) : Type 0 where
-  pub each : (k : ℕ) → k < 32 → (bit_at bits k == 1) ≡ p k
-  pub small : bits < 4294967296
+-- the bytes of `out` from `made` on hold f k, or a space for a lower byte
+abbrev pub AreSpaced : List ℕ → ℕ → ℕ → (ℕ → ℕ) → Type 0
+AreSpaced out made len f = (k : ℕ) → k < len → slice_index out (made + k) ≡ as_space (f k)
+
+-- bit k says what p says of k, for this many bits
+abbrev pub IsBits : ℕ → ℕ → (ℕ → Bool) → Type 0
+IsBits len bits p = (k : ℕ) → k < len → (bit_at bits k == 1) ≡ p k
 
 -- a look at the bytes f k
 pub record IsLook (look : Look) (f : ℕ → ℕ) : Type 0 where
-  pub spaced : HasSpaces look.spaced f
-  pub borders : IsBits look.borders (λ k. is_border (f k))
-  pub solid : IsBits look.solid (λ k. is_solid (f k))
-  pub accepted : IsBits look.accepted (λ k. is_accepted (f k))
+  pub some : 1 < look.len
+  pub few : look.len ≤ 64
+  pub borders : IsBits look.len look.borders (λ k. is_border (f k))
+  pub solid : IsBits look.len look.solid (λ k. is_solid (f k))
+  pub accepted : IsBits look.len look.accepted (λ k. is_accepted (f k))
 
 -- what p says of the index before k; `first` for index 0
 abbrev pub behind : Bool → (ℕ → Bool) → ℕ → Bool

@@ -25,4 +25,4 @@ pub record IsPass (text out : List ℕ) (place made : ℕ) (border : Bool) : Typ
   pub accepted : position_from is_bad place (drop place text) ≡ position_from is_bad 0 text
   pub room : made ≤ place
   pub within : place ≤ length text
-  pub long : length text + 32 ≤ length out
+  pub long : length text + 64 ≤ length out

@@ -9,8 +9,9 @@
 //!
 //! - *One pass* (`squeezed`): the pass looks at 32 bytes at a time, whose kinds it reads from two
 //!   tables, one for each half of a byte. Mostly it keeps all but the last, which shows what
-//!   follows the others. Else it looks again after the first that it drops. Each look shows the
-//!   hyphens and brackets, too, so the pass records where they are in the squeezed text.
+//!   follows the others, and looks at 64 bytes next. Else it looks again after the first that it
+//!   drops. Each look shows the hyphens and brackets, too, so the pass records where they are in
+//!   the squeezed text.
 //! - *Fields* (`fields`, `words`): a field is a slice of the squeezed text between two borders, and
 //!   isn't copied.
 //! - *Bytes* (`byte`): their kinds, also of 16 bytes in a vector. Its clauses say what each lane

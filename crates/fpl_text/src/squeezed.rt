@@ -1,14 +1,15 @@
-//! Texts with their blanks squeezed, in one pass over 32 bytes at a time, which also records where
-//! the fields of a message begin and end.
+//! Texts with their blanks squeezed, in one pass over 32 or 64 bytes at a time, which also records
+//! where the fields of a message begin and end.
 
 ghost use Rattle.std.specs.Prelude.{◌≡◌, ◌++◌, [], List, ℕ, IfOk, ◌<◌, ◌≤◌, ◌+◌, ◌-◌, take, length};
-ghost use Rattle.std.specs.Prelude.{slice_index, IfErr, Ok, Err, ◌/◌, ◌%◌, ◌==◌, nat_le};
+ghost use Rattle.std.specs.Prelude.{slice_index, IfErr, IfSome, Ok, Err, ◌/◌, ◌%◌, ◌==◌, nat_le};
 ghost use Rattle.std.specs.Prelude.{if◌then◌else◌, true, false, ◌∷◌, slice_get, Some};
 ghost use Rattle.std.specs.Prelude.{option_copied, nat_lt, OnOk, OnErr};
 ghost use Rattle.fpl_text.specs.Squeezing.{squeezed_or_fault, Gives, GivesAs};
 ghost use Rattle.fpl_text.specs.Borders.{IsNoted, parts, AreBorders};
 ghost use Rattle.fpl_text.specs.Passes.{IsPass};
-ghost use Rattle.fpl_text.specs.Looks.{IsLook, HasClasses, HasSpaces, IsBits, behind, is_kept};
+ghost use Rattle.fpl_text.specs.Looks.{IsLook, HasClasses, HasSpaces, AreSpaced, IsBits};
+ghost use Rattle.fpl_text.specs.Looks.{behind, is_kept};
 ghost use Rattle.fpl_text.specs.declared.fault.TextFault.TheVariants.{Empty, BadByte};
 ghost use Rattle.std.specs.Int.{bit_at};
 ghost use Rattle.fpl_text.specs.Bytes.{is_border};
@@ -71,8 +72,8 @@ fn squeeze_over<A: Allocator + Copy>(
     ensures borders { IfOk result (λ len.
         IsNoted (take len bytes.new.items) (length borders.new.places.items) borders.new) }
 {
-    // A squeezed text is no longer than the text. Each look writes 32 bytes.
-    let Ok(()) = grow(bytes, text.len() + TAKEN + 1) else {
+    // A squeezed text is no longer than the text. A look writes up to 64 bytes.
+    let Ok(()) = grow(bytes, text.len() + 64) else {
         return Err(TextFault::OutOfMemory);
     };
     *borders = Borders::new();
@@ -213,60 +214,100 @@ struct Pass {
     made: usize,
     /// Whether the last of these is a border, or there is none.
     border: bool,
+    /// Whether a blank was dropped after them.
+    dropped: bool,
 }
 
 impl Pass {
-    /// Goes on by what a look at the next 32 bytes shows: keeps the first of them, notes their
-    /// borders, and drops a blank after them. Returns `Err` with the offset of a byte that isn't
-    /// accepted.
+    /// Goes on by what a look at the next bytes shows, which stand after the kept ones in `out`,
+    /// with spaces for other blanks: keeps the first of them, notes their borders, and drops a
+    /// blank after them. Returns `Err` with the offset of a byte that isn't accepted.
     #[inline(always)]
     fn take(
         self,
         look: Look,
+        text: &[u8],
+        out: &[u8],
+        borders: &mut Borders,
+        most: usize,
+    ) -> Result<Pass, usize>
+        requires pass { IsPass text.now out.now self.place self.made self.border }
+        requires more { self.place < length text.now }
+        requires look { IsLook look (λ k. slice_index text.now (self.place + k)) }
+        requires spaced { AreSpaced out.now self.made look.len (λ k.
+            slice_index text.now (self.place + k)) }
+        requires noted { IsNoted (take self.made out.now) most borders.old }
+        requires most { most ≤ 13 }
+        requires fits { 0 < most → length text.now ≤ 65536 }
+        ensures pass { IfOk result (λ next.
+            IsPass text.now out.now next.place next.made next.border) }
+        ensures further { IfOk result (λ next. self.place < next.place) }
+        ensures noted { IfOk result (λ next. IsNoted (take next.made out.now) most borders.new) }
+        ensures bad { IfErr result (λ place. squeezed_or_fault text.now ≡ Err (BadByte place)) }
+    {
+        let (count, border) = look.kept(self.border);
+        borders.note(out, self.made, look.borders, count, most);
+        let made = self.made + count;
+        let mut place = self.place + count;
+        let mut dropped = false;
+        if count + 1 < look.len && place < text.len() {
+            if !is_blank(text[place]) {
+                return Err(place);
+            }
+            // No space is kept for this blank.
+            place += 1;
+            dropped = true;
+        }
+        Ok(Pass {
+            place,
+            made,
+            border,
+            dropped,
+        })
+    }
+
+    /// Goes on by looks at 64 bytes, until one drops a blank or shows a byte that isn't accepted.
+    #[inline(always)]
+    fn take_long(
+        self,
         text: &[u8],
         out: &mut [u8],
         borders: &mut Borders,
         most: usize,
     ) -> Result<Pass, usize>
         requires pass { IsPass text.now out.old self.place self.made self.border }
-        requires more { self.place < length text.now }
-        requires look { IsLook look (λ k. slice_index text.now (self.place + k)) }
         requires noted { IsNoted (take self.made out.old) most borders.old }
         requires most { most ≤ 13 }
         requires fits { 0 < most → length text.now ≤ 65536 }
         ensures long { length out.new ≡ length out.old }
         ensures pass { IfOk result (λ next.
             IsPass text.now out.new next.place next.made next.border) }
-        ensures further { IfOk result (λ next. self.place < next.place) }
+        ensures further { IfOk result (λ next. self.place ≤ next.place) }
         ensures noted { IfOk result (λ next. IsNoted (take next.made out.new) most borders.new) }
         ensures bad { IfErr result (λ place. squeezed_or_fault text.now ≡ Err (BadByte place)) }
     {
-        let (count, border) = look.kept(self.border);
-        // What is written after the kept bytes is overwritten later.
-        look.spaced.copy_to_slice(&mut out[self.made..]);
-        borders.note(out, self.made, look.borders, count, most);
-        let made = self.made + count;
-        let mut place = self.place + count;
-        if count < TAKEN && place < text.len() {
-            if !is_blank(text[place]) {
-                return Err(place);
+        let mut pass = self;
+        'longs: while pass.place + 64 <= text.len() {
+            let first = put_spaced(text, pass.place, out, pass.made);
+            let second = put_spaced(text, pass.place + 32, out, pass.made + 32);
+            let Some(look) = Look::of_two(first, second) else {
+                return Ok(pass);
+            };
+            let next = pass.take(look, text, out, borders, most)?;
+            if next.dropped {
+                return Ok(next);
             }
-            // No space is kept for this blank.
-            place += 1;
+            pass = next;
         }
-        Ok(Pass {
-            place,
-            made,
-            border,
-        })
+        Ok(pass)
     }
 }
 
-/// Squeezes a text to the beginning of `out`, which is longer by at least 32 bytes, and records its
+/// Squeezes a text to the beginning of `out`, which is longer by at least 64 bytes, and records its
 /// borders. Returns the length of the squeezed text, or the offset of the first byte that isn't
 /// accepted.
 fn squeeze(text: &[u8], out: &mut [u8], borders: &mut Borders) -> Result<usize, usize>
-    requires fits { length text.now + 32 ≤ length out.old }
+    requires fits { length text.now + 64 ≤ length out.old }
     requires none { (most : ℕ) → IsNoted [] most borders.old }
     ensures long { length out.new ≡ length out.old }
     ensures within { IfOk result (λ kept. kept ≤ length text.now) }
@@ -282,21 +323,25 @@ fn squeeze(text: &[u8], out: &mut [u8], borders: &mut Borders) -> Result<usize, 
         place: 0,
         made: 0,
         border: true,
+        dropped: false,
     };
-    'wholes: while text.len() - pass.place >= 32 {
-        let look = Look::new(text, pass.place);
-        pass = pass.take(look, text, out, borders, most)?;
+    'wholes: while pass.place + 32 <= text.len() {
+        let look = Look::of(put_spaced(text, pass.place, out, pass.made));
+        let next = pass.take(look, text, out, borders, most)?;
+        // A longer look saves work only if it drops no blank: mostly after one that drops none.
+        pass = if next.dropped {
+            next
+        } else {
+            next.take_long(text, out, borders, most)?
+        };
     }
     let last = last_bytes(text);
     'rests: while pass.place < text.len() {
-        let look = Look::new(&last, pass.place + 32 - text.len());
+        let look = Look::of(put_spaced(&last, pass.place + 32 - text.len(), out, pass.made));
         pass = pass.take(look, text, out, borders, most)?;
     }
     Ok(pass.made)
 }
-
-/// The bytes of a look, of which a pass takes all but the last: that shows what follows the others.
-pub(crate) const TAKEN: usize = 31;
 
 /// The classes that a byte may have by its low half, in either half of a vector. A border has class
 /// 128, a plain byte one of 8 to 64, a blank 2 or 4, and any other byte none.
@@ -311,13 +356,14 @@ const BY_HIGH_HALF: [u8; 32] = [
     0, 0, 0, 0,
 ];
 
-/// What a look at 32 bytes shows. Bit k is for byte k.
+/// What a look at bytes shows. Bit k is for byte k. A pass takes at most all but the last: that
+/// shows what follows the others.
 #[derive(Clone, Copy)]
-pub(crate) struct Look {
-    /// The bytes, with spaces for other blanks.
-    pub(crate) spaced: u8x32,
+struct Look {
+    /// The number of bytes, 32 or 64.
+    len: usize,
     /// The hyphens and brackets.
-    pub(crate) borders: u64,
+    borders: u64,
     /// These and the plain bytes.
     solid: u64,
     /// These and the blanks.
@@ -366,46 +412,106 @@ fn bits_from(classes: u8x32, low: u8) -> u64
     requires classes { (k : ℕ) → k < 32 → slice_index classes k ≤ 128 }
     requires some { 1 ≤ low }
     requires low { low ≤ 128 }
-    ensures { IsBits result (λ k. nat_le low (slice_index classes k)) }
+    ensures bits { IsBits 32 result (λ k. nat_le low (slice_index classes k)) }
+    ensures small { result < 4294967296 }
 {
     let raised = classes + u8x32::splat(128 - low);
     raised.simd_ge(u8x32::splat(128)).to_bitmask()
 }
 
+/// Copies 32 bytes of a text into a buffer, with spaces for other blanks. Returns their classes.
+#[inline(always)]
+fn put_spaced(text: &[u8], place: usize, out: &mut [u8], made: usize) -> u8x32
+    requires text { place + 32 ≤ length text.now }
+    requires room { made + 32 ≤ length out.old }
+    ensures long { length out.new ≡ length out.old }
+    ensures front { take made out.new ≡ take made out.old }
+    ensures spaced { AreSpaced out.new made 32 (λ k. slice_index text.now (place + k)) }
+    ensures classes { HasClasses result (λ k. slice_index text.now (place + k)) }
+{
+    let lanes = u8x32::from_slice(&text[place..]);
+    spaced(lanes).copy_to_slice(&mut out[made..]);
+    classes(lanes)
+}
+
+/// The bits of 32 lanes and of 32 more.
+#[inline(always)]
+fn joined(first: u64, second: u64) -> u64
+    requires first { first < 4294967296 }
+    requires second { second < 4294967296 }
+    ensures first { (k : ℕ) → k < 32 → bit_at result k ≡ bit_at first k }
+    ensures second { (k : ℕ) → bit_at result (32 + k) ≡ bit_at second k }
+{
+    first | (second << 32)
+}
+
+/// Whether all bytes of two vectors of classes are accepted.
+#[inline(always)]
+fn are_accepted(first: u8x32, second: u8x32) -> bool
+    requires first { (k : ℕ) → k < 32 → slice_index first k ≤ 128 }
+    requires second { (k : ℕ) → k < 32 → slice_index second k ≤ 128 }
+    ensures first { result ≡ true → (k : ℕ) → k < 32 → 2 ≤ slice_index first k }
+    ensures second { result ≡ true → (k : ℕ) → k < 32 → 2 ≤ slice_index second k }
+{
+    bits_from(first.simd_min(second), 2) == 0xffff_ffff
+}
+
 impl Look {
-    /// Looks at the 32 bytes at `at`.
+    /// Looks at 32 bytes of these classes.
     #[inline(always)]
-    pub(crate) fn new(bytes: &[u8], at: usize) -> Self
-        requires { at + 32 ≤ length bytes.now }
-        ensures { IsLook result (λ k. slice_index bytes.now (at + k)) }
+    fn of(classes: u8x32) -> Self
+        requires classes { (k : ℕ) → k < 32 → slice_index classes k ≤ 128 }
+        ensures len { result.len ≡ 32 }
+        ensures look { (f : ℕ → ℕ) → HasClasses classes f → IsLook result f }
     {
-        let lanes = u8x32::from_slice(&bytes[at..]);
-        let classes = classes(lanes);
         Look {
-            spaced: spaced(lanes),
+            len: 32,
             borders: bits_from(classes, 128),
             solid: bits_from(classes, 8),
             accepted: bits_from(classes, 2),
         }
     }
 
-    /// Counts the first bytes, at most 31, that a pass keeps: borders, plain bytes, and a blank
-    /// before a plain byte and not after a border. `border` says whether the byte before all is a
-    /// border; the second result says so of the last that is kept, or repeats `border` if none is.
+    /// Looks at 64 bytes of these classes, if all are accepted.
     #[inline(always)]
-    pub(crate) fn kept(self, border: bool) -> (usize, bool)
-        requires { self.borders < 4294967296 }
-        ensures bound { result.0 ≤ 31 }
+    fn of_two(first: u8x32, second: u8x32) -> Option<Self>
+        requires first { (k : ℕ) → k < 32 → slice_index first k ≤ 128 }
+        requires second { (k : ℕ) → k < 32 → slice_index second k ≤ 128 }
+        ensures len { IfSome result (λ look. look.len ≡ 64) }
+        ensures look { IfSome result (λ look. (f : ℕ → ℕ) → HasClasses first f
+            → HasClasses second (λ k. f (32 + k)) → IsLook look f) }
+    {
+        if !are_accepted(first, second) {
+            return None;
+        }
+        Some(Look {
+            len: 64,
+            borders: joined(bits_from(first, 128), bits_from(second, 128)),
+            solid: joined(bits_from(first, 8), bits_from(second, 8)),
+            accepted: u64::MAX,
+        })
+    }
+
+    /// Counts the first bytes, but not the last of the look, that a pass keeps: borders, plain
+    /// bytes, and a blank before a plain byte and not after a border. `border` says whether the
+    /// byte before all is a border; the second result says so of the last that is kept, or repeats
+    /// `border` if none is.
+    #[inline(always)]
+    fn kept(self, border: bool) -> (usize, bool)
+        requires some { 0 < self.len }
+        requires few { self.len ≤ 64 }
+        ensures bound { result.0 < self.len }
         ensures each { (f : ℕ → ℕ) → IsLook self f → (k : ℕ) → k < result.0
             → is_kept border f k ≡ true }
-        ensures stops { (f : ℕ → ℕ) → IsLook self f → result.0 < 31
+        ensures stops { (f : ℕ → ℕ) → IsLook self f → result.0 + 1 < self.len
             → is_kept border f result.0 ≡ false }
         ensures last { (f : ℕ → ℕ) → IsLook self f
             → result.1 ≡ behind border (λ k. is_border (f k)) result.0 }
     {
         let behind = bits_behind(border, self.borders);
         let spaces = self.accepted & (self.solid >> 1) & !((self.borders >> 1) | behind);
-        let count = ((self.solid | spaces) & 0x7fff_ffff).trailing_ones() as usize;
+        let most = (1 << (self.len - 1)) - 1;
+        let count = ((self.solid | spaces) & most).trailing_ones() as usize;
         (count, bit_is_set(behind, count))
     }
 }
@@ -413,11 +519,10 @@ impl Look {
 /// Shifts bits up by one, with `first` as the lowest bit.
 #[inline(always)]
 fn bits_behind(first: bool, bits: u64) -> u64
-    requires { bits < 4294967296 }
     ensures first { bit_at result 0 ≡ (if first then 1 else 0) }
-    ensures others { (k : ℕ) → bit_at result (k + 1) ≡ bit_at bits k }
+    ensures others { (k : ℕ) → k < 63 → bit_at result (k + 1) ≡ bit_at bits k }
 {
-    2 * bits + u64::from(first)
+    (bits << 1) | u64::from(first)
 }
 
 /// Whether bit `place` is set.
@@ -487,7 +592,7 @@ impl Borders {
     #[inline(always)]
     pub(crate) fn note(&mut self, text: &[u8], made: usize, bits: u64, count: usize, most: usize)
         requires inside { made + count ≤ length text.now }
-        requires few { count ≤ 31 }
+        requires few { count ≤ 63 }
         requires bits { (k : ℕ) → k < count
             → (bit_at bits k == 1) ≡ is_border (slice_index text.now (made + k)) }
         requires noted { IsNoted (take made text.now) most self.old }

@@ -15,7 +15,7 @@ returns-then-later-eq0 c =
 
 pub borders-init : goal.borders-init
 borders-init c = record { left = init c.requires.few; noted = c.requires.noted } where
-  init : c.args.count ≤ 31 → AreLeft c.args.text.now c.args.made c.args.bits c.args.count c.args.made (bit_and c.args.bits (1 * 2 ^ c.args.count % 18446744073709551616 - 1))
+  init : c.args.count ≤ 63 → AreLeft c.args.text.now c.args.made c.args.bits c.args.count c.args.made (bit_and c.args.bits (1 * 2 ^ c.args.count % 18446744073709551616 - 1))
   init few =
       let one = one_shl c.args.count 64 (omega (arith, few)) in
       rw one (left-all c.args.text.now c.args.made c.args.bits c.args.count c.requires.bits)
