@@ -18,7 +18,7 @@ ghost use Rattle.flow_slots.specs.declared.cell.Planned.{Planned};
 use crate::cell::{Cell, Planned};
 use crate::displacement::{displace, first_later, vacate};
 use crate::row::{Counting, HeldSlot, PackedCell, are_unfixed};
-use crate::shape::FirstSlots;
+use crate::shape::{FirstSlots, FirstSlotsRef};
 use std::alloc::{AllocError, Allocator, Global};
 use std::marker::Model;
 
@@ -127,27 +127,26 @@ fn displace_in(
 
 /// Removes `flight` from slot `k`, and returns the number of cells written.
 #[inline]
-fn vacate_in<A: Allocator + Copy>(
+fn vacate_in(
     cells: &mut [PackedCell],
     places: &mut [HeldSlot],
-    shape: &FirstSlots<A>,
-    start: u32,
+    shape: &FirstSlotsRef<'_>,
     flight: u32,
     k: usize,
 ) -> u64
     requires few { length cells.old < 2 ^ 16 }
-    requires start { start < 2 ^ 31 }
     requires tied { IsTied places.old cells.old }
     requires stands { flight_at cells.old k ≡ Some flight }
-    requires entries { EntriesWithin shape.now (map (from_start start) cells.old) }
+    requires entries { EntriesWithin shape.now (map (from_start shape.now.start) cells.old) }
     ensures tied { IsTied places.new cells.new }
-    ensures cells { map (from_start start) cells.new
-        ≡ take k (map (from_start start) cells.old)
-        ++ close (λ e. first_slot shape.now e) k (drop (k + 1) (map (from_start start) cells.old)) }
+    ensures cells { map (from_start shape.now.start) cells.new
+        ≡ take k (map (from_start shape.now.start) cells.old)
+        ++ close (λ e. first_slot shape.now e) k
+        (drop (k + 1) (map (from_start shape.now.start) cells.old)) }
     ensures written { result ≡ gained cells.old cells.new + 1 }
 {
     let mut row = Counting::new(cells);
-    vacate(&mut row, places, shape, start, flight, k);
+    vacate(&mut row, places, shape, flight, k);
     row.end()
 }
 
@@ -267,6 +266,7 @@ impl<A: Allocator + Copy> Cells<A> {
         requires tied { IsTied places.old.items self.old.row }
         requires stands { flight_at self.old.row k ≡ Some flight }
         requires entries { EntriesWithin shape.now self.old.row }
+        requires start { self.old.start ≡ shape.now.start }
         ensures tied { IsTied places.new.items self.new.row }
         ensures start { self.new.start ≡ self.old.start }
         ensures row { self.new.row
@@ -276,7 +276,7 @@ impl<A: Allocator + Copy> Cells<A> {
         ensures writes { self.new.writes ≤ self.old.writes + gained self.old.row self.new.row + 1 }
         ensures more { self.old.writes ≤ self.new.writes }
     {
-        let moved = vacate_in(&mut self.row, places, shape, self.start, flight, k as usize);
+        let moved = vacate_in(&mut self.row, places, &shape.by_ref(), flight, k as usize);
         self.writes = self.writes.saturating_add(moved);
     }
 

@@ -11,8 +11,7 @@ ghost use Rattle.flow_slots.specs.Walk.{displace, has_empty, next_up, close};
 ghost use Rattle.flow_slots.specs.Walk.{waits, Follows, AllFollow, ComesIn};
 
 use crate::row::{Counting, HeldSlot, PackedCell};
-use crate::shape::FirstSlots;
-use std::alloc::Allocator;
+use crate::shape::FirstSlotsRef;
 
 /// The index of the first cell from `from` on that is empty or has a provisional flight that
 /// doesn't precede `flight`.
@@ -83,30 +82,25 @@ struct NextUp {
 /// The flight that may move up into the empty slot `hole`, with its slot. The row begins with these
 /// cells, whose entries are counted from the start of the period; empty cells follow.
 #[inline]
-fn next_up<A: Allocator + Copy>(
-    row: &Counting<'_>,
-    shape: &FirstSlots<A>,
-    start: u32,
-    hole: usize,
-) -> Option<NextUp>
+fn next_up(row: &Counting<'_>, shape: &FirstSlotsRef<'_>, hole: usize) -> Option<NextUp>
     requires few { length row.now.cells.now < 2 ^ 16 }
-    requires start { start < 2 ^ 31 }
     requires hole { hole < length row.now.cells.now }
-    requires entries { EntriesWithin shape.now (map (from_start start) row.now.cells.now) }
+    requires entries { EntriesWithin shape.now
+        (map (from_start shape.now.start) row.now.cells.now) }
     ensures found { IfSome result
-        (λ r. MovesUp shape.now (map (from_start start) row.now.cells.now) hole r.slot
-        (flight_from start (planned_in r.held))) }
+        (λ r. MovesUp shape.now (map (from_start shape.now.start) row.now.cells.now) hole r.slot
+        (flight_from shape.now.start (planned_in r.held))) }
     ensures within { IfSome result (λ r. r.slot < length row.now.cells.now) }
     ensures waits { IfSome result (λ r. waits r.held ≡ true) }
     ensures none { IfNone result
         (next_up (λ e. first_slot shape.now e) hole
-        (drop (hole + 1) (map (from_start start) row.now.cells.now))
+        (drop (hole + 1) (map (from_start shape.now.start) row.now.cells.now))
         ≡ None) }
 {
     for next in hole + 1..row.len() {
         let cell = row.get(next);
         if cell.is_waiting() {
-            if hole < shape.at(cell.entry(start)) as usize {
+            if hole < shape.at(cell.minutes()) as usize {
                 return None;
             }
             return Some(NextUp {
@@ -121,37 +115,65 @@ fn next_up<A: Allocator + Copy>(
     None
 }
 
+/// The flight of the cell after the empty slot `hole`, if it is provisional and may move up.
+#[inline]
+fn follower(row: &Counting<'_>, shape: &FirstSlotsRef<'_>, hole: usize) -> Option<PackedCell>
+    requires few { length row.now.cells.now < 2 ^ 16 }
+    requires hole { hole < length row.now.cells.now }
+    requires entries { EntriesWithin shape.now
+        (map (from_start shape.now.start) row.now.cells.now) }
+    ensures found { IfSome result
+        (λ held. MovesUp shape.now (map (from_start shape.now.start) row.now.cells.now) hole
+        (hole + 1) (flight_from shape.now.start (planned_in held))) }
+    ensures within { IfSome result (λ _. hole + 1 < length row.now.cells.now) }
+    ensures waits { IfSome result (λ held. waits held ≡ true) }
+{
+    if hole + 1 < row.len() {
+        let cell = row.get(hole + 1);
+        if cell.is_waiting() && shape.at(cell.minutes()) as usize <= hole {
+            return Some(cell);
+        }
+    }
+    None
+}
+
 /// Removes `flight` from slot `k`: flights move up into the hole that it leaves. The row begins
 /// with these cells, whose entries are counted from the start of the period; empty cells follow.
 #[inline]
-pub(crate) fn vacate<A: Allocator + Copy>(
+pub(crate) fn vacate(
     row: &mut Counting<'_>,
     places: &mut [HeldSlot],
-    shape: &FirstSlots<A>,
-    start: u32,
+    shape: &FirstSlotsRef<'_>,
     flight: u32,
     k: usize,
 )
     requires fresh { row.old.written ≡ 0 }
     requires few { length row.old.cells.now < 2 ^ 16 }
-    requires start { start < 2 ^ 31 }
     requires tied { IsTied places.old row.old.cells.now }
     requires stands { flight_at row.old.cells.now k ≡ Some flight }
-    requires entries { EntriesWithin shape.now (map (from_start start) row.old.cells.now) }
+    requires entries { EntriesWithin shape.now
+        (map (from_start shape.now.start) row.old.cells.now) }
     ensures same_reference { row.new.cells.ghost_name ≡ row.old.cells.ghost_name }
     ensures tied { IsTied places.new row.new.cells.now }
-    ensures cells { map (from_start start) row.new.cells.now
-        ≡ take k (map (from_start start) row.old.cells.now)
+    ensures cells { map (from_start shape.now.start) row.new.cells.now
+        ≡ take k (map (from_start shape.now.start) row.old.cells.now)
         ++ close (λ e. first_slot shape.now e) k
-        (drop (k + 1) (map (from_start start) row.old.cells.now)) }
+        (drop (k + 1) (map (from_start shape.now.start) row.old.cells.now)) }
     ensures written { row.new.written ≡ gained row.old.cells.now row.new.cells.now + 1 }
 {
     let mut hole = k;
     places[flight as usize] = HeldSlot::none();
-    while let Some(next) = next_up(row, shape, start, hole) {
+    while let Some(next) = next_up(row, shape, hole) {
         row.put(hole, next.held);
         places[next.held.flight() as usize] = HeldSlot::of(hole as u32);
         hole = next.slot;
+        // Mostly no cell is frozen, and each flight moves up by one slot, which takes fewer
+        // instructions than to look for it.
+        while let Some(held) = follower(row, shape, hole) {
+            row.put(hole, held);
+            places[held.flight() as usize] = HeldSlot::of(hole as u32);
+            hole += 1;
+        }
     }
     row.put(hole, PackedCell::empty());
 }

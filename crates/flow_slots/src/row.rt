@@ -139,13 +139,12 @@ impl PackedCell {
         entry_in(self.word) != NO_ENTRY
     }
 
-    /// The entry of the provisional flight.
+    /// The entry of the provisional flight, in minutes from the start.
     #[inline]
-    pub(crate) fn entry(self, start: u32) -> u32
-        requires { start < 2 ^ 31 }
-        ensures { result ≡ start + entry_number self }
+    pub(crate) fn minutes(self) -> u32
+        ensures { result ≡ entry_number self }
     {
-        start + entry_in(self.word)
+        entry_in(self.word)
     }
 
     /// The number of the flight, 0 if there is none.

@@ -353,6 +353,16 @@ impl<A: Allocator + Copy> FirstSlots<A> {
         &self.shape
     }
 
+    #[inline]
+    pub(crate) fn by_ref(&self) -> FirstSlotsRef<'_>
+        ensures { result ≡ self.now }
+    {
+        FirstSlotsRef {
+            shape: &self.shape,
+            by_minute: &self.by_minute,
+        }
+    }
+
     /// The number of the first slot not before an entry in minutes.
     #[inline]
     pub(crate) fn at(&self, entry: u32) -> u32
@@ -360,5 +370,33 @@ impl<A: Allocator + Copy> FirstSlots<A> {
         ensures { result ≡ first_slot self.now entry }
     {
         u32::from(self.by_minute[(entry - self.shape.start_minutes()) as usize])
+    }
+}
+
+/// The first slots by reference: a loop that writes cells keeps the table's place in a register.
+#[derive(Drop)]
+pub(crate) struct FirstSlotsRef<'a> {
+    shape: &'a Shape,
+    by_minute: &'a [u16],
+}
+
+impl<'a> Model for FirstSlotsRef<'a> {
+    ghost use Rattle.flow_slots.specs.Period.{Period, AreFirstSlots};
+
+    ghost Value = { Period };
+
+    ghost view = { λ f. f.shape.now };
+
+    ghost invariant = { λ f. AreFirstSlots f.shape.now f.by_minute.now };
+}
+
+impl<'a> FirstSlotsRef<'a> {
+    /// The number of the first slot not before an entry, which is given in minutes from the start.
+    #[inline]
+    pub(crate) fn at(&self, minutes: u32) -> u32
+        requires { minutes < self.now.end - self.now.start }
+        ensures { result ≡ first_slot self.now (self.now.start + minutes) }
+    {
+        u32::from(self.by_minute[minutes as usize])
     }
 }

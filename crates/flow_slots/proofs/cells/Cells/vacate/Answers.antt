@@ -1,7 +1,8 @@
-use Rattle.std.proofs.Common.{◌≡◌, ◌+◌, ◌++◌, length, take, drop, sym, ap, subst, ◌∙◌, arith}
+use Rattle.std.proofs.Common.{◌≡◌, ◌+◌, ◌++◌, length, map, take, drop, sym, ap, subst, ◌∙◌, arith}
 use Rattle.std.proofs.lemmas.List.{with_items_is}
 use Rattle.std.specs.Vec.{with_items}
 use Rattle.flow_slots.specs.Changed.{gained}
+use Rattle.flow_slots.specs.PackedCell.{from_start}
 use Rattle.flow_slots.specs.Period.{first_slot}
 use Rattle.flow_slots.specs.Row.{flight_at, IsTied, EntriesWithin}
 use Rattle.flow_slots.specs.Walk.{close}
@@ -24,7 +25,8 @@ vacate_in-moved-requires-clause-stands g c =
 pub vacate_in-moved-requires-clause-entries : goal.vacate_in-moved-requires-clause-entries
 vacate_in-moved-requires-clause-entries g c =
     let s = c.self.inside in
-    rw c.deref_mut.ensures.value (EntriesWithin-made c.args.shape.now s.start s.row.items s.len (subst (λ v. EntriesWithin c.args.shape.now v.row) (sym c.self.view_is) c.requires.entries))
+    let from : s.start ≡ c.args.shape.now.start = ap (λ v. v.start) c.self.view_is ∙ c.requires.start in
+    rw (c.deref_mut.ensures.value, c.by_ref.ensures) (subst (λ i. EntriesWithin c.args.shape.now (map (from_start i) s.row.items)) from (EntriesWithin-made c.args.shape.now s.start s.row.items s.len (subst (λ v. EntriesWithin c.args.shape.now v.row) (sym c.self.view_is) c.requires.entries)))
 
 pub returns-clause-tied : goal.returns-clause-tied
 returns-clause-tied g c =
@@ -45,7 +47,8 @@ returns-clause-row g c =
     let same : length new ≡ length cells = c.vacate_in-moved.auto.cells ∙ ap length c.deref_mut.ensures.value in
     let is = with_items_is s.row new (omega (arith, same, s.row.ok.0)) in
     let stands = sym (flight_at-lifted s.start cells s.len k) ∙ (ap (λ v. flight_at v.row k) c.self.view_is ∙ c.requires.stands) in
-    let closed = rw c.deref_mut.ensures.value at c.vacate_in-moved.ensures.cells in
+    let from : s.start ≡ c.args.shape.now.start = ap (λ v. v.start) c.self.view_is ∙ c.requires.start in
+    let closed = subst (λ i. map (from_start i) new ≡ take k (map (from_start i) cells) ++ close (λ e. first_slot c.args.shape.now e) k (drop (k + 1) (map (from_start i) cells))) (sym from) (rw (c.deref_mut.ensures.value, c.by_ref.ensures) at c.vacate_in-moved.ensures.cells) in
     let lifted = closed-lifted (λ e. first_slot c.args.shape.now e) s.start cells new s.len k (flight_at-within cells k c.args.flight stands) same closed in
     ap (λ v. started s.start v s.len) is ∙ (lifted ∙ ap (λ v. take k v.row ++ close (λ e. first_slot c.args.shape.now e) k (drop (k + 1) v.row)) c.self.view_is)
 
