@@ -50,7 +50,7 @@ Displacing-start row writes places from x t some n none room follows =
       target = refl;
     }
 
-pub Displacing-fixed : (start : List Cell) (flights first_writes from : ℕ) (x : Planned) (row : List Cell) (writes : ℕ) (places : List (Option ℕ)) (coming : Planned) (k f : ℕ) → Displacing start flights first_writes from x row writes places coming k → k < length row → Fixed f ≡ get_or row k Empty → Displacing start flights first_writes from x row writes places coming (k + 1)
+pub Displacing-fixed : (start : List Cell) (flights first_writes from : ℕ) (x : Planned) (row : List Cell) (writes : ℕ) (places : List (Option ℕ)) (coming : Planned) (k f : ℕ) → Displacing start flights first_writes from x row writes places coming k → k < length row → Fixed f ≡ get_or row k Empty → Displacing start flights (first_writes + 1) from x row (writes + 1) places coming (k + 1)
 Displacing-fixed start flights first_writes from x row writes places coming k f d h e =
     record {
       len = d.len;
@@ -61,12 +61,12 @@ Displacing-fixed start flights first_writes from x row writes places coming k f 
       room = sym (has_empty-fixed row k f h e) ∙ d.room;
       follows = Follows-fixed row k f coming h e d.follows;
       ahead = drop_more_same row start k d.ahead;
-      count = d.count;
+      count = omega (arith, d.count);
       target = sym (displace-fixed row k f coming h e) ∙ d.target;
     }
 
 -- so is a cell that is neither empty nor provisional
-pub Displacing-passed : (start : List Cell) (flights first_writes from : ℕ) (x : Planned) (row : List Cell) (writes : ℕ) (places : List (Option ℕ)) (coming : Planned) (k : ℕ) (cell : Cell) → Displacing start flights first_writes from x row writes places coming k → k < length row → cell ≡ get_or row k Empty → waits cell ≡ false → (cell ≡ Empty → ⊥) → Displacing start flights first_writes from x row writes places coming (k + 1)
+pub Displacing-passed : (start : List Cell) (flights first_writes from : ℕ) (x : Planned) (row : List Cell) (writes : ℕ) (places : List (Option ℕ)) (coming : Planned) (k : ℕ) (cell : Cell) → Displacing start flights first_writes from x row writes places coming k → k < length row → cell ≡ get_or row k Empty → waits cell ≡ false → (cell ≡ Empty → ⊥) → Displacing start flights (first_writes + 1) from x row (writes + 1) places coming (k + 1)
 Displacing-passed start flights first_writes from x row writes places coming k Empty d h e w n = absurd (n refl)
 Displacing-passed start flights first_writes from x row writes places coming k (Waiting v) d h e w n = cc
 Displacing-passed start flights first_writes from x row writes places coming k (Fixed f) d h e w n = Displacing-fixed start flights first_writes from x row writes places coming k f d h e

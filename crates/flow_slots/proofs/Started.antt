@@ -7,9 +7,10 @@ use Rattle.std.proofs.lemmas.List.{length-append, length-map, length-replicate, 
 use Rattle.flow_slots.specs.declared.cell.Cell.{Cell}
 use Rattle.flow_slots.specs.declared.cell.Cell.TheVariants.{Empty, Waiting, Fixed}
 use Rattle.flow_slots.specs.declared.cell.Planned.{Planned}
+use Rattle.flow_slots.specs.declared.row.TheConstants.{NO_ENTRY}
 use Rattle.flow_slots.specs.Cells.{CellsView}
 use Rattle.flow_slots.specs.MadeRow.{filled}
-use Rattle.flow_slots.specs.PackedCell.{from_start, flight_from, planned_in}
+use Rattle.flow_slots.specs.PackedCell.{entry_number, from_start, flight_from, planned_in}
 use Rattle.flow_slots.specs.Row.{cell_at, IsFixedCell}
 use Rattle.flow_slots.specs.Walk.{waits, waits_before}
 use Rattle.flow_slots.proofs.Filled.{length-filled, filled-more, filled-set}
@@ -74,3 +75,9 @@ pub fixed-started : (start : ℕ) (c : Cell) → waits c ≡ false → (c ≡ Em
 fixed-started start Empty w n = n refl
 fixed-started start (Waiting v) w n = absurd (false≢true (sym w))
 fixed-started start (Fixed f) w n = tt
+
+-- a cell whose entry isn't the greatest one has a provisional flight
+pub early-waits : (c : Cell) → entry_number c < NO_ENTRY → waits c ≡ true
+early-waits Empty h = absurd (omega arith)
+early-waits (Waiting w) h = refl
+early-waits (Fixed f) h = absurd (omega arith)

@@ -8,7 +8,7 @@ ghost use Rattle.flow_slots.specs.Changed.{gained};
 ghost use Rattle.flow_slots.specs.Lineup.{IsKept, MayFill};
 ghost use Rattle.flow_slots.specs.MadeRow.{EndsEmpty, filled};
 ghost use Rattle.flow_slots.specs.PackedCell.{IsStored, flight_number, from_start, planned_in};
-ghost use Rattle.flow_slots.specs.Period.{first_slot};
+ghost use Rattle.flow_slots.specs.Period.{first_slot, IsRegular};
 ghost use Rattle.flow_slots.specs.Row.{cell_at, fixed_of, flight_at, place_at};
 ghost use Rattle.flow_slots.specs.Row.{waiting_of, EntriesWithin, IsTied};
 ghost use Rattle.flow_slots.specs.Walk.{close, displace, has_empty, push, waits, AllFollow};
@@ -119,9 +119,10 @@ fn displace_in(
         ++ displace (planned_in flight) (drop from cells.old) }
     ensures written { result ≡ gained cells.old cells.new }
 {
-    let mut row = Counting::new(cells);
+    let mut row = Counting::new(cells, from);
     let k = first_later(&row, from, flight);
-    displace(&mut row, places, k, flight);
+    row.pass(k - from);
+    displace(&mut row, places, flight);
     row.end()
 }
 
@@ -137,6 +138,7 @@ fn vacate_in(
     requires few { length cells.old < 2 ^ 16 }
     requires tied { IsTied places.old cells.old }
     requires stands { flight_at cells.old k ≡ Some flight }
+    requires regular { IsRegular shape.now }
     requires entries { EntriesWithin shape.now (map (from_start shape.now.start) cells.old) }
     ensures tied { IsTied places.new cells.new }
     ensures cells { map (from_start shape.now.start) cells.new
@@ -145,8 +147,8 @@ fn vacate_in(
         (drop (k + 1) (map (from_start shape.now.start) cells.old)) }
     ensures written { result ≡ gained cells.old cells.new + 1 }
 {
-    let mut row = Counting::new(cells);
-    vacate(&mut row, places, shape, flight, k);
+    let mut row = Counting::new(cells, k);
+    vacate(&mut row, places, shape, flight);
     row.end()
 }
 
@@ -265,6 +267,7 @@ impl<A: Allocator + Copy> Cells<A> {
     )
         requires tied { IsTied places.old.items self.old.row }
         requires stands { flight_at self.old.row k ≡ Some flight }
+        requires regular { IsRegular shape.now }
         requires entries { EntriesWithin shape.now self.old.row }
         requires start { self.old.start ≡ shape.now.start }
         ensures tied { IsTied places.new.items self.new.row }

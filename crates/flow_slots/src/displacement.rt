@@ -1,11 +1,11 @@
 //! The chains: an inserted flight displaces later ones up to an empty slot, and later ones move up
 //! into a hole.
-ghost use Rattle.std.specs.Prelude.{◌≡◌, ◌+◌, ◌-◌, ◌^◌, ◌<◌, ◌++◌, true};
+ghost use Rattle.std.specs.Prelude.{◌≡◌, ◌+◌, ◌-◌, ◌^◌, ◌<◌, ◌≤◌, ◌++◌, true};
 ghost use Rattle.std.specs.Prelude.{length, map, take, drop, IfSome, IfNone};
 ghost use Rattle.std.specs.Prelude.{None, Some};
 ghost use Rattle.flow_slots.specs.Changed.{gained};
 ghost use Rattle.flow_slots.specs.PackedCell.{flight_from, flight_number, from_start, planned_in};
-ghost use Rattle.flow_slots.specs.Period.{first_slot};
+ghost use Rattle.flow_slots.specs.Period.{first_slot, IsRegular};
 ghost use Rattle.flow_slots.specs.Row.{flight_at, place_at, IsTied, EntriesWithin, MovesUp};
 ghost use Rattle.flow_slots.specs.Walk.{displace, has_empty, next_up, close};
 ghost use Rattle.flow_slots.specs.Walk.{waits, Follows, AllFollow, ComesIn};
@@ -21,7 +21,8 @@ pub(crate) fn first_later(row: &Counting<'_>, from: usize, flight: PackedCell) -
     requires order { AllFollow (drop from row.now.cells.now) }
     requires room { has_empty (drop from row.now.cells.now) ≡ true }
     requires waits { waits flight ≡ true }
-    ensures { ComesIn row.now.cells.now from (planned_in flight) result }
+    ensures comes { ComesIn row.now.cells.now from (planned_in flight) result }
+    ensures from { from ≤ result }
 {
     let mut place = from;
     while row.get(place).waits_before(flight) || row.get(place).is_fixed() {
@@ -30,45 +31,42 @@ pub(crate) fn first_later(row: &Counting<'_>, from: usize, flight: PackedCell) -
     place
 }
 
-/// Inserts `flight` at cell `from`, if no provisional flight up to the next empty cell precedes it:
-/// each flight takes the cell of the next provisional one, the last one the empty cell.
+/// Inserts `flight` at the cell come to, if no provisional flight up to the next empty cell precedes
+/// it: each flight takes the cell of the next provisional one, the last one the empty cell.
 #[inline]
-pub(crate) fn displace(
-    row: &mut Counting<'_>,
-    places: &mut [HeldSlot],
-    from: usize,
-    flight: PackedCell,
-)
-    requires fresh { row.old.written ≡ 0 }
+pub(crate) fn displace(row: &mut Counting<'_>, places: &mut [HeldSlot], flight: PackedCell)
+    requires fresh { row.old.passed ≡ row.old.at }
     requires few { length row.old.cells.now < 2 ^ 16 }
     requires tied { IsTied places.old row.old.cells.now }
     requires some { 0 < flight_number flight }
     requires number { flight_number flight < length places.old }
     requires absent { place_at places.old (flight_number flight) ≡ None }
-    requires follows { Follows (planned_in flight) (drop from row.old.cells.now) }
-    requires room { has_empty (drop from row.old.cells.now) ≡ true }
+    requires follows { Follows (planned_in flight) (drop row.old.at row.old.cells.now) }
+    requires room { has_empty (drop row.old.at row.old.cells.now) ≡ true }
     requires waits { waits flight ≡ true }
     ensures same_reference { row.new.cells.ghost_name ≡ row.old.cells.ghost_name }
     ensures tied { IsTied places.new row.new.cells.now }
     ensures cells { row.new.cells.now
-        ≡ take from row.old.cells.now
-        ++ displace (planned_in flight) (drop from row.old.cells.now) }
-    ensures written { row.new.written ≡ gained row.old.cells.now row.new.cells.now }
+        ≡ take row.old.at row.old.cells.now
+        ++ displace (planned_in flight) (drop row.old.at row.old.cells.now) }
+    ensures written { row.new.at ≡ row.new.passed + gained row.old.cells.now row.new.cells.now }
 {
     let mut coming = flight;
-    let mut k = from;
     loop {
+        let k = row.at();
         let cell = row.get(k);
         if cell.is_waiting() {
-            row.put(k, coming);
+            row.put(coming);
             places[coming.flight() as usize] = HeldSlot::of(k as u32);
             coming = cell;
         } else if cell.is_empty() {
             break;
+        } else {
+            row.pass(1);
         }
-        k += 1;
     }
-    row.put(k, coming);
+    let k = row.at();
+    row.put(coming);
     places[coming.flight() as usize] = HeldSlot::of(k as u32);
 }
 
@@ -79,24 +77,25 @@ struct NextUp {
     held: PackedCell,
 }
 
-/// The flight that may move up into the empty slot `hole`, with its slot. The row begins with these
-/// cells, whose entries are counted from the start of the period; empty cells follow.
+/// The flight that may move up into the cell come to, which is empty, with its slot. The row begins
+/// with these cells, whose entries are counted from the start of the period; empty cells follow.
 #[inline]
-fn next_up(row: &Counting<'_>, shape: &FirstSlotsRef<'_>, hole: usize) -> Option<NextUp>
+fn next_up(row: &Counting<'_>, shape: &FirstSlotsRef<'_>) -> Option<NextUp>
     requires few { length row.now.cells.now < 2 ^ 16 }
-    requires hole { hole < length row.now.cells.now }
+    requires hole { row.now.at < length row.now.cells.now }
     requires entries { EntriesWithin shape.now
         (map (from_start shape.now.start) row.now.cells.now) }
     ensures found { IfSome result
-        (λ r. MovesUp shape.now (map (from_start shape.now.start) row.now.cells.now) hole r.slot
-        (flight_from shape.now.start (planned_in r.held))) }
+        (λ r. MovesUp shape.now (map (from_start shape.now.start) row.now.cells.now) row.now.at
+        r.slot (flight_from shape.now.start (planned_in r.held))) }
     ensures within { IfSome result (λ r. r.slot < length row.now.cells.now) }
     ensures waits { IfSome result (λ r. waits r.held ≡ true) }
     ensures none { IfNone result
-        (next_up (λ e. first_slot shape.now e) hole
-        (drop (hole + 1) (map (from_start shape.now.start) row.now.cells.now))
+        (next_up (λ e. first_slot shape.now e) row.now.at
+        (drop (row.now.at + 1) (map (from_start shape.now.start) row.now.cells.now))
         ≡ None) }
 {
+    let hole = row.at();
     for next in hole + 1..row.len() {
         let cell = row.get(next);
         if cell.is_waiting() {
@@ -115,65 +114,68 @@ fn next_up(row: &Counting<'_>, shape: &FirstSlotsRef<'_>, hole: usize) -> Option
     None
 }
 
-/// The flight of the cell after the empty slot `hole`, if it is provisional and may move up.
+/// The flight of the next cell, if it is provisional and may move up into the cell come to. An
+/// empty or a frozen cell has the greatest entry, which isn't before the end.
 #[inline]
-fn follower(row: &Counting<'_>, shape: &FirstSlotsRef<'_>, hole: usize) -> Option<PackedCell>
+fn follower(row: &Counting<'_>, shape: &FirstSlotsRef<'_>) -> Option<PackedCell>
     requires few { length row.now.cells.now < 2 ^ 16 }
-    requires hole { hole < length row.now.cells.now }
-    requires entries { EntriesWithin shape.now
-        (map (from_start shape.now.start) row.now.cells.now) }
+    requires hole { row.now.at < length row.now.cells.now }
+    requires regular { IsRegular shape.now }
     ensures found { IfSome result
-        (λ held. MovesUp shape.now (map (from_start shape.now.start) row.now.cells.now) hole
-        (hole + 1) (flight_from shape.now.start (planned_in held))) }
-    ensures within { IfSome result (λ _. hole + 1 < length row.now.cells.now) }
+        (λ held. MovesUp shape.now (map (from_start shape.now.start) row.now.cells.now) row.now.at
+        (row.now.at + 1) (flight_from shape.now.start (planned_in held))) }
+    ensures within { IfSome result (λ _. row.now.at + 1 < length row.now.cells.now) }
     ensures waits { IfSome result (λ held. waits held ≡ true) }
 {
-    if hole + 1 < row.len() {
-        let cell = row.get(hole + 1);
-        if cell.is_waiting() && shape.at(cell.minutes()) as usize <= hole {
+    let next = row.at() + 1;
+    if next < row.len() {
+        let cell = row.get(next);
+        if shape.is_before(cell.minutes(), next) {
             return Some(cell);
         }
     }
     None
 }
 
-/// Removes `flight` from slot `k`: flights move up into the hole that it leaves. The row begins
-/// with these cells, whose entries are counted from the start of the period; empty cells follow.
+/// Removes `flight` from the cell come to: flights move up into the hole that it leaves. The row
+/// begins with these cells, whose entries are counted from the start of the period; empty cells
+/// follow.
 #[inline]
 pub(crate) fn vacate(
     row: &mut Counting<'_>,
     places: &mut [HeldSlot],
     shape: &FirstSlotsRef<'_>,
     flight: u32,
-    k: usize,
 )
-    requires fresh { row.old.written ≡ 0 }
+    requires fresh { row.old.passed ≡ row.old.at }
     requires few { length row.old.cells.now < 2 ^ 16 }
     requires tied { IsTied places.old row.old.cells.now }
-    requires stands { flight_at row.old.cells.now k ≡ Some flight }
+    requires stands { flight_at row.old.cells.now row.old.at ≡ Some flight }
+    requires regular { IsRegular shape.now }
     requires entries { EntriesWithin shape.now
         (map (from_start shape.now.start) row.old.cells.now) }
     ensures same_reference { row.new.cells.ghost_name ≡ row.old.cells.ghost_name }
     ensures tied { IsTied places.new row.new.cells.now }
     ensures cells { map (from_start shape.now.start) row.new.cells.now
-        ≡ take k (map (from_start shape.now.start) row.old.cells.now)
-        ++ close (λ e. first_slot shape.now e) k
-        (drop (k + 1) (map (from_start shape.now.start) row.old.cells.now)) }
-    ensures written { row.new.written ≡ gained row.old.cells.now row.new.cells.now + 1 }
+        ≡ take row.old.at (map (from_start shape.now.start) row.old.cells.now)
+        ++ close (λ e. first_slot shape.now e) row.old.at
+        (drop (row.old.at + 1) (map (from_start shape.now.start) row.old.cells.now)) }
+    ensures written { row.new.at
+        ≡ row.new.passed + gained row.old.cells.now row.new.cells.now + 1 }
 {
-    let mut hole = k;
     places[flight as usize] = HeldSlot::none();
-    while let Some(next) = next_up(row, shape, hole) {
-        row.put(hole, next.held);
+    while let Some(next) = next_up(row, shape) {
+        let hole = row.at();
+        row.put(next.held);
+        row.pass(next.slot - hole - 1);
         places[next.held.flight() as usize] = HeldSlot::of(hole as u32);
-        hole = next.slot;
         // Mostly no cell is frozen, and each flight moves up by one slot, which takes fewer
         // instructions than to look for it.
-        while let Some(held) = follower(row, shape, hole) {
-            row.put(hole, held);
+        while let Some(held) = follower(row, shape) {
+            let hole = row.at();
+            row.put(held);
             places[held.flight() as usize] = HeldSlot::of(hole as u32);
-            hole += 1;
         }
     }
-    row.put(hole, PackedCell::empty());
+    row.put(PackedCell::empty());
 }

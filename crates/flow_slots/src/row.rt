@@ -195,21 +195,30 @@ pub(crate) fn are_unfixed(cells: &[PackedCell]) -> bool
     !kept
 }
 
-/// Cells that are written one at a time, with each write counted. It borrows them, so no other
-/// write is possible.
+/// Cells that are gone through in their order, each written once or passed by, so that those gone
+/// through count the writes. It borrows them, so no other write is possible.
 pub(crate) struct Counting<'a> {
     cells: &'a mut [PackedCell],
-    written: u64,
+    /// The cell come to.
+    at: usize,
+    /// The number of cells before it that weren't written.
+    passed: usize,
 }
 
 impl<'a> Counting<'a> {
+    /// Begins at cell `from`.
     #[inline]
-    pub(crate) fn new(cells: &'a mut [PackedCell]) -> Counting<'a>
+    pub(crate) fn new(cells: &'a mut [PackedCell], from: usize) -> Counting<'a>
         ensures same_reference { result.cells.ghost_name ≡ cells.entry.ghost_name }
         ensures cells { result.cells.now ≡ cells.old }
-        ensures none { result.written ≡ 0 }
+        ensures at { result.at ≡ from }
+        ensures none { result.passed ≡ from }
     {
-        Counting { cells, written: 0 }
+        Counting {
+            cells,
+            at: from,
+            passed: from,
+        }
     }
 
     #[inline]
@@ -217,6 +226,14 @@ impl<'a> Counting<'a> {
         ensures { result ≡ length self.now.cells.now }
     {
         self.cells.len()
+    }
+
+    /// The index of the cell come to.
+    #[inline]
+    pub(crate) fn at(&self) -> usize
+        ensures { result ≡ self.now.at }
+    {
+        self.at
     }
 
     /// The content of cell `k`.
@@ -228,27 +245,46 @@ impl<'a> Counting<'a> {
         self.cells[k]
     }
 
-    /// Writes cell `k`, and counts it.
+    /// Writes the cell come to, counts it, and goes on to the next.
     #[inline]
-    pub(crate) fn put(&mut self, k: usize, cell: PackedCell)
-        requires bound { k < length self.old.cells.now }
-        requires few { self.old.written < 2 ^ 64 - 1 }
+    pub(crate) fn put(&mut self, cell: PackedCell)
+        requires { self.old.at < length self.old.cells.now }
         ensures same_reference { self.new.cells.ghost_name ≡ self.old.cells.ghost_name }
-        ensures cells { self.new.cells.now ≡ slice_set self.old.cells.now k cell }
-        ensures written { self.new.written ≡ self.old.written + 1 }
+        ensures cells { self.new.cells.now ≡ slice_set self.old.cells.now self.old.at cell }
+        ensures at { self.new.at ≡ self.old.at + 1 }
+        ensures passed { self.new.passed ≡ self.old.passed }
     {
-        self.cells[k] = cell;
-        self.written += 1;
+        self.cells[self.at] = cell;
+        self.at += 1;
+    }
+
+    /// Passes by `count` cells.
+    #[inline]
+    pub(crate) fn pass(&mut self, count: usize)
+        requires bound { self.old.at + count ≤ length self.old.cells.now }
+        requires passed { self.old.passed ≤ self.old.at }
+        ensures same_reference { self.new.cells.ghost_name ≡ self.old.cells.ghost_name }
+        ensures cells { self.new.cells.now ≡ self.old.cells.now }
+        ensures at { self.new.at ≡ self.old.at + count }
+        ensures passed { self.new.passed ≡ self.old.passed + count }
+    {
+        self.at += count;
+        self.passed += count;
     }
 
     /// Returns the number of writes, and ends the borrow.
     #[inline]
     pub(crate) fn end(self) -> u64
+        requires { self.passed ≤ self.at }
         ensures cells { self.exit.0.now ≡ self.entry.cells.now }
-        ensures written { result ≡ self.entry.written }
+        ensures written { self.entry.passed + result ≡ self.entry.at }
     {
-        let Counting { cells: _, written } = self;
-        written
+        let Counting {
+            cells: _,
+            at,
+            passed,
+        } = self;
+        (at - passed) as u64
     }
 }
 

@@ -399,4 +399,15 @@ impl<'a> FirstSlotsRef<'a> {
     {
         u32::from(self.by_minute[minutes as usize])
     }
+
+    /// Whether so many minutes from the start are before the end, and their first slot is before
+    /// slot `k`.
+    #[inline]
+    pub(crate) fn is_before(&self, minutes: u32, k: usize) -> bool
+        ensures { IsTrue result ↔ (minutes < self.now.end - self.now.start)
+            × (first_slot self.now (self.now.start + minutes) < k) }
+    {
+        (minutes as usize) < self.by_minute.len()
+            && usize::from(self.by_minute[minutes as usize]) < k
+    }
 }

@@ -7,10 +7,9 @@ use Rattle.flow_slots.proofs.displacement.displace.Given as goal
 abbrev pub invariant-loop-row : goal.invariant-loop-row
 invariant-loop-row l = record {
   same_reference : l.row.cells.ghost_name ≡ l.fn.row.cells.ghost_name;
-  walk : Displacing l.fn.row.cells.now (length l.fn.places) 0 l.from (planned_in l.fn.flight) l.row.cells.now l.row.written l.places (planned_in l.coming) l.k;
+  walk : Displacing l.fn.row.cells.now (length l.fn.places) l.row.passed l.fn.row.at (planned_in l.fn.flight) l.row.cells.now l.row.at l.places (planned_in l.coming) l.row.at;
   waits : waits l.coming ≡ true;
-  few : l.row.written ≤ l.k;
 }
 
 abbrev pub decreases-loop-row : goal.decreases-loop-row
-decreases-loop-row l = length l.fn.row.cells.now - l.k
+decreases-loop-row l = length l.fn.row.cells.now - l.row.at

@@ -1,15 +1,30 @@
-use Rattle.std.proofs.Common.{◌≡◌, ◌+◌, true, sym, ◌∙◌, arith}
-use Rattle.flow_slots.specs.PackedCell.{flight_from, planned_in}
+use Rattle.std.proofs.Common.{◌≡◌, ◌+◌, map, true, sym, ap, ◌∙◌, arith}
+use Rattle.std.proofs.lemmas.List.{length-map}
+use Rattle.flow_slots.specs.PackedCell.{from_start}
+use Rattle.flow_slots.specs.Period.{first_slot}
+use Rattle.flow_slots.specs.Row.{cell_at}
 use Rattle.flow_slots.specs.Walk.{waits}
-use Rattle.flow_slots.proofs.Started.{stands-started, waits-started}
+use Rattle.flow_slots.proofs.Started.{stands-started, waits-started, early-waits}
 use Rattle.flow_slots.proofs.displacement.follower.Goals as goal
 
-pub at-requires : goal.at-requires
-at-requires c =
+pub returns-then-is_before-clause-waits : goal.returns-then-is_before-clause-waits
+returns-then-is_before-clause-waits c =
+    let before = c.is_before.ensures.0 c.if-is_before.true in
+    early-waits c.get-cell.result (omega (arith, before.0, c.minutes.ensures, c.requires.regular.at_most_a_day))
+
+pub returns-then-is_before-clause-found : goal.returns-then-is_before-clause-found
+returns-then-is_before-clause-found c =
     let start = c.args.shape.now.start in
     let cells = c.args.row.now.cells.now in
+    let hole = c.args.row.now.at in
     let cell = c.get-cell.result in
-    let next = c.args.hole + 1 in
-    let yes : waits cell ≡ true = sym c.is_waiting.ensures ∙ c.if-is_waiting.true in
-    let stands = stands-started start cells next cell c.get-cell.ensures in
-    omega (arith, c.minutes.ensures, c.requires.entries next (flight_from start (planned_in cell)) (sym stands ∙ waits-started start cell yes))
+    let before = c.is_before.ensures.0 c.if-is_before.true in
+    let here : cell ≡ cell_at cells (hole + 1) = c.get-cell.ensures ∙ ap (λ i. cell_at cells (i + 1)) c.at-next.ensures in
+    let slot = ap (λ e. first_slot c.args.shape.now (start + e)) c.minutes.ensures in
+    record {
+      after = omega arith;
+      within = omega (arith, c.if-next-len.true, c.len.ensures, c.at-next.ensures, length-map cells (from_start start));
+      stands = sym (stands-started start cells (hole + 1) cell here) ∙ waits-started start cell (returns-then-is_before-clause-waits c);
+      early = omega (arith, before.1, slot, c.at-next.ensures);
+      between = λ j l m. absurd (omega arith);
+    }

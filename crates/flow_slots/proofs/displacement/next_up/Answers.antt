@@ -29,7 +29,7 @@ returns-then-hole-at-clause-none c =
     let stands = stands-started start cells next cell c.get-cell.ensures in
     let slot = ap (λ e. first_slot c.args.shape.now (start + e)) c.minutes.ensures in
     c.loop-next.invariant.same
-    ∙ next_up-late (λ e. first_slot c.args.shape.now e) c.args.hole next (flight_from start (planned_in cell)) (map (from_start start) cells) (omega (arith, length-map cells (from_start start))) (sym (waits-started start cell yes) ∙ stands) (omega (arith, slot))
+    ∙ next_up-late (λ e. first_slot c.args.shape.now e) c.args.row.now.at next (flight_from start (planned_in cell)) (map (from_start start) cells) (omega (arith, length-map cells (from_start start))) (sym (waits-started start cell yes) ∙ stands) (omega (arith, slot))
 
 pub returns-then-is_empty-clause-none : goal.returns-then-is_empty-clause-none
 returns-then-is_empty-clause-none c =
@@ -38,7 +38,7 @@ returns-then-is_empty-clause-none c =
     let next = c.loop-next.next in
     let stands : Empty ≡ cell_at (map (from_start start) cells) next = stands-started start cells next Empty (sym (c.is_empty.ensures.0 c.if-is_empty.true) ∙ c.get-cell.ensures) in
     c.loop-next.invariant.same
-    ∙ next_up-empty (λ e. first_slot c.args.shape.now e) c.args.hole next (map (from_start start) cells) (omega (arith, length-map cells (from_start start))) stands
+    ∙ next_up-empty (λ e. first_slot c.args.shape.now e) c.args.row.now.at next (map (from_start start) cells) (omega (arith, length-map cells (from_start start))) stands
 
 pub loop-next-preserved : goal.loop-next-preserved
 loop-next-preserved c =
@@ -51,6 +51,6 @@ loop-next-preserved c =
     let taken : cell ≡ Empty → ⊥ = (λ q. let yes = c.is_empty.ensures.1 q in let no = c.if-is_empty.false in cc) in
     let fixed : IsFixedCell (from_start start cell) = fixed-started start cell (sym c.is_waiting.ensures ∙ c.if-is_waiting.false) taken in
     record {
-      between = fixed-more row c.args.hole next c.loop-next.invariant.between (subst IsFixedCell stands fixed);
-      same = c.loop-next.invariant.same ∙ next_up-fixed (λ e. first_slot c.args.shape.now e) c.args.hole next (from_start start cell) row (omega (arith, length-map cells (from_start start))) stands fixed;
+      between = fixed-more row c.args.row.now.at next c.loop-next.invariant.between (subst IsFixedCell stands fixed);
+      same = c.loop-next.invariant.same ∙ next_up-fixed (λ e. first_slot c.args.shape.now e) c.args.row.now.at next (from_start start cell) row (omega (arith, length-map cells (from_start start))) stands fixed;
     }
