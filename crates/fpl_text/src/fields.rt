@@ -136,11 +136,13 @@ impl<A: Allocator + Copy> Fields<A> {
         Fields { text, title }
     }
 
-    /// Exchanges the text of these fields for another, which is a message of this title. Doesn't
-    /// allocate.
+    /// Exchanges the text of these fields for another, which is a message of this title. Their own
+    /// is left in its place. Doesn't allocate.
     pub fn exchange(&mut self, text: &mut Squeezed<A>, title: Title)
         requires { IsMessage text.old title }
-        ensures { self.new ≡ fields_of text.old }
+        ensures fields { self.new ≡ fields_of text.old }
+        ensures left { fields_of text.new ≡ self.old }
+        ensures bracketed { is_bracketed text.new ≡ true }
     {
         swap(&mut self.text, text);
         self.title = title;
