@@ -1,5 +1,5 @@
 -- What is recorded of EET items (ICAO Doc 4444, appendix 3, field type 18).
-use Rattle.std.specs.Prelude.{◌≡◌, ℕ, ◌+◌, Bool, true, false, ◌&&◌, nat_le, if◌then◌else◌, List, [], ◌∷◌, length, Option, Some, None, codes}
+use Rattle.std.specs.Prelude.{◌≡◌, ◌<◌, ℕ, ◌+◌, Bool, true, false, ◌&&◌, nat_le, if◌then◌else◌, List, [], ◌∷◌, length, Option, Some, None, codes}
 use Rattle.std.specs.List.{list_all}
 use Rattle.std.specs.Option.{option_or}
 use Rattle.fpl_items.specs.declared.estimate.Estimate.{Estimate}
@@ -39,6 +39,10 @@ estimates_in item = if is_text (codes "EET") item.name then length item.words el
 abbrev pub estimate_count : List ItemView → ℕ
 estimate_count [] = 0
 estimate_count (item ∷ items) = estimates_in item + estimate_count items
+
+-- some EET item has an estimate
+abbrev pub HasEstimate : List ItemView → Type 0
+HasEstimate items = 0 < estimate_count items
 
 -- every word of an EET item is an estimate
 abbrev pub has_estimates : ItemView → Bool

@@ -4,7 +4,7 @@ use Rattle.std.specs.Prelude.{◌≡◌, List, Option, Some, None}
 use Rattle.fpl_items.specs.declared.estimate.Estimate.{Estimate}
 use Rattle.fpl_items.specs.declared.other.Effects.{Effects}
 use Rattle.fpl_items.specs.Items.{ItemView, Say}
-use Rattle.fpl_items.specs.Estimates.{AreEstimatesOf, estimate_count}
+use Rattle.fpl_items.specs.Estimates.{AreEstimatesOf, estimate_count, HasEstimate}
 
 -- this is what these items say, with the number of their estimates
 pub record TellsOf (items : List ItemView) (effects : Effects) : Type 0 where
@@ -24,6 +24,11 @@ AreEstimatesOfAny None None = Unit {0}
 AreEstimatesOfAny (Some items) (Some notes) = AreEstimatesOf items notes
 AreEstimatesOfAny None (Some notes) = ⊥
 AreEstimatesOfAny (Some items) None = ⊥
+
+-- if there are items, they have an estimate, and else there is none
+abbrev pub HasEstimateOfAny : Option (List ItemView) → Type 0
+HasEstimateOfAny None = ⊥
+HasEstimateOfAny (Some items) = HasEstimate items
 
 -- what field 18 says, with its estimates
 pub record Other18View : Type 0 where

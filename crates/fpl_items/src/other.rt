@@ -2,13 +2,13 @@
 
 ghost use Rattle.std.specs.Prelude.{◌≡◌, ◌≢◌, ◌≤◌, ◌<◌, ◌+◌, ◌-◌, true, is_some};
 ghost use Rattle.std.specs.Prelude.{slice_index_or, length, drop, false};
-ghost use Rattle.std.specs.Prelude.{[], None, Some, IfSome, IfOk, IfErr, List, MatchOption, pos};
+ghost use Rattle.std.specs.Prelude.{[], None, Some, IfSome, IfOk, IfErr, OnErr, List, MatchOption, pos};
 ghost use Rattle.jiff_core.specs.Date.{epoch_day};
 ghost use Rattle.std.specs.List.{list_all, list_any, prefix_len};
 ghost use Rattle.fpl_text.specs.Bytes.{is_letter_or_digit};
 ghost use Rattle.fpl_text.specs.Times.{elapsed_time};
 ghost use Rattle.fpl_items.specs.Estimates.{estimates_in, estimate_count};
-ghost use Rattle.fpl_items.specs.Estimates.{AreEstimatesOf, first_for};
+ghost use Rattle.fpl_items.specs.Estimates.{AreEstimatesOf, first_for, HasEstimate};
 ghost use Rattle.fpl_items.specs.Kinds.{is_text};
 ghost use Rattle.fpl_text.specs.Words.{words_of};
 ghost use Rattle.fpl_items.specs.Items.{begins_item, words_before, is_estimate};
@@ -252,7 +252,8 @@ impl Effects {
     }
 
     /// Reads the estimates of the EET items. `field` must be the text from which this was read,
-    /// which isn't kept here. Returns `Err` if allocation fails.
+    /// which isn't kept here. Returns `Err` if allocation fails, which it doesn't for a field
+    /// without estimates.
     pub fn estimates<A: Allocator + Copy>(
         &self,
         alloc: A,
@@ -260,7 +261,8 @@ impl Effects {
     ) -> Result<Estimates<A>, AllocError>
         requires faultless { field_fault field.now ≡ None }
         requires tells { TellsOf (items_of (words_of field.now)) self.now }
-        ensures { IfOk result (AreEstimatesOf (items_of (words_of field.now))) }
+        ensures items { IfOk result (AreEstimatesOf (items_of (words_of field.now))) }
+        ensures memory { OnErr result (HasEstimate (items_of (words_of field.now))) }
     {
         Estimates::read(alloc, field, self.estimates)
     }
@@ -313,13 +315,15 @@ impl<A: Allocator + Copy> Model for Other18<A> {
 
 impl<A: Allocator + Copy> Other18<A> {
     /// Reads field 18, as [`Effects::read`] does, with its estimates. `OutOfMemory` comes only for
-    /// a field that isn't refused.
+    /// a field that isn't refused and has estimates.
     pub fn read(alloc: A, field: &[u8]) -> Result<Self, ItemFault>
         ensures value { ReadsAs (λ other. items_of (words_of field.now)) result
             (items_or_fault field.now) }
         ensures tells { IfOk result (TellsAllOf (items_of (words_of field.now))) }
         ensures memory { IfErr result
             (λ fault. fault ≡ ItemFault.OutOfMemory → field_fault field.now ≡ None) }
+        ensures estimates { IfErr result (λ fault. fault ≡ ItemFault.OutOfMemory
+            → HasEstimate (items_of (words_of field.now))) }
     {
         let effects = Effects::read(field)?;
         let Ok(estimates) = effects.estimates(alloc, field) else {

@@ -1,5 +1,6 @@
 //! The filed flight plan message, FPL.
 ghost use Rattle.std.specs.Prelude.{◌≡◌, ◌≢◌, ◌<◌, true, length, Ok, Err, IfOk, IfErr, IsOk};
+ghost use Rattle.std.specs.Prelude.{OnErr, MatchResult};
 ghost use Rattle.fpl_message.specs.Refusals.{ReturnsAs, RunsOutOnlyIf};
 ghost use Rattle.fpl_items.specs.Routes.{is_route, path_or_fault};
 ghost use Rattle.fpl_text.specs.Fields.{fields_of};
@@ -7,7 +8,7 @@ ghost use Rattle.fpl_text.specs.Borders.{IsMessage};
 ghost use Rattle.fpl_text.specs.Words.{words_of};
 ghost use Rattle.fpl_items.specs.Items.{items_of};
 ghost use Rattle.fpl_items.specs.Other18.{TellsOf};
-ghost use Rattle.fpl_items.specs.Estimates.{AreEstimatesOf};
+ghost use Rattle.fpl_items.specs.Estimates.{AreEstimatesOf, HasEstimate};
 ghost use Rattle.fpl_message.specs.FlightPlans.{fpl_of, flight_of};
 ghost use Rattle.fpl_message.specs.Messages.{field};
 ghost use Rattle.fpl_text.specs.declared.time.TheConstants.{ELAPSED_LIMIT};
@@ -155,12 +156,14 @@ impl<A: Allocator + Copy> Fpl<A> {
         )
     }
 
-    /// Reads another text into this plan, and leaves its own in place of it.
+    /// Reads another text into this plan, and leaves its own in place of it, or both as they were.
     #[tactic(auto, unfolding(crate::specs::FlightPlans::fpl_of))]
     fn renew(&mut self, text: &mut Squeezed<A>) -> Result<(), Fault>
         requires { IsMessage text.old Title.Fpl }
         ensures value { ReturnsAs (λ _. self.new) result (fpl_of (fields_of text.old)) }
         ensures memory { result ≢ Err Fault.OutOfMemory }
+        ensures left { MatchResult result (λ _. fields_of text.new ≡ self.old.fields)
+            (λ _. (text.new ≡ text.old) × (self.new ≡ self.old)) }
     {
         let fields = text.fields();
         let flight = Flight::read(&fields)?;
@@ -231,9 +234,11 @@ impl<A: Allocator + Copy> Fpl<A> {
         &self.effects
     }
 
-    /// Reads the estimates of the EET items of field 18. Returns `Err` if allocation fails.
+    /// Reads the estimates of the EET items of field 18. Returns `Err` if allocation fails, which
+    /// it doesn't for a field without estimates.
     pub fn estimates<B: Allocator + Copy>(&self, alloc: B) -> Result<Estimates<B>, AllocError>
         ensures value { IfOk result (AreEstimatesOf self.now.items) }
+        ensures memory { OnErr result (HasEstimate self.now.items) }
         ensures items { self.now.items ≡ items_of (words_of (field self.now.fields 8)) }
     {
         self.effects.estimates(alloc, self.fields.field(8))

@@ -1,8 +1,8 @@
 //! The modification message, CHG.
 ghost use Rattle.std.specs.Prelude.{◌≡◌, ◌≢◌, ◌≤◌, ◌<◌, length, option_copied, IfSome};
-ghost use Rattle.std.specs.Prelude.{Err, IfOk, IsOk};
+ghost use Rattle.std.specs.Prelude.{Err, IfOk, OnErr, IsOk};
 ghost use Rattle.std.specs.Option.{ForSome};
-ghost use Rattle.fpl_items.specs.Other18.{TellsOfAny, AreEstimatesOfAny};
+ghost use Rattle.fpl_items.specs.Other18.{TellsOfAny, AreEstimatesOfAny, HasEstimateOfAny};
 ghost use Rattle.fpl_message.specs.Refusals.{ReturnsAs, RunsOutOnlyIf};
 ghost use Rattle.fpl_message.specs.Modifications.{chg_of};
 ghost use Rattle.fpl_text.specs.Fields.{fields_of};
@@ -128,12 +128,13 @@ impl<A: Allocator + Copy> Chg<A> {
     }
 
     /// Reads the estimates of the EET items of an amended field 18. Returns `Err` if allocation
-    /// fails.
+    /// fails, which it doesn't without estimates.
     pub fn estimates<B: Allocator + Copy>(
         &self,
         alloc: B,
     ) -> Result<Option<Estimates<B>>, AllocError>
         ensures value { IfOk result (AreEstimatesOfAny self.now.items) }
+        ensures memory { OnErr result (HasEstimateOfAny self.now.items) }
         ensures items { self.now.items ≡ items_at self.now.field18 }
     {
         let Some(effects) = &self.changes.other else {
