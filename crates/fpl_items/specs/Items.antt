@@ -2,7 +2,7 @@
 -- (estimated elapsed times) and STS (reason for special handling) have an effect (ICAO Doc 4444,
 -- appendix 3, field type 18). A flight with STS/ATFMX is exempt from slot allocation (EUROCONTROL
 -- ATFCM Users Manual).
-use Rattle.std.specs.Prelude.{◌≡◌, ℕ, ◌+◌, ◌-◌, Bool, false, not, ◌==◌, ◌&&◌, ◌||◌, nat_le, nat_lt, if◌then◌else◌, List, [], ◌∷◌, ◌++◌, length, take, drop, slice_index, slice_index_or, Option, Some, None, is_some, Result, Ok, Err, codes}
+use Rattle.std.specs.Prelude.{◌≡◌, ℕ, ◌+◌, ◌-◌, Bool, true, false, not, ◌==◌, ◌&&◌, ◌||◌, nat_le, nat_lt, if◌then◌else◌, List, [], ◌∷◌, ◌++◌, length, take, drop, slice_index, slice_index_or, Option, Some, None, is_some, Result, Ok, Err, codes}
 use Rattle.std.specs.Borrow.{Bor}
 use Rattle.std.specs.Option.{option_or}
 use Rattle.std.specs.List.{list_all, list_any}
@@ -12,6 +12,7 @@ use Rattle.fpl_text.specs.Bytes.{is_letter, is_letter_or_digit}
 use Rattle.fpl_text.specs.Times.{elapsed_time}
 use Rattle.fpl_text.specs.Moments.{day_of}
 use Rattle.fpl_text.specs.Words.{words_of}
+use Rattle.fpl_text.specs.declared.words.Measured.{Measured}
 use Rattle.fpl_items.specs.Kinds.{before_stroke, is_text}
 
 -- an item by its bytes
@@ -41,13 +42,24 @@ abbrev pub words_before : List (List ℕ) → List (List ℕ)
 words_before [] = []
 words_before (word ∷ words) = if begins_item word then [] else word ∷ words_before words
 
+-- an item by its first word and the words after it
+abbrev pub item_at : List ℕ → List (List ℕ) → ItemView
+item_at word words = record { name = take (before_stroke word) word; words = own_words word ++ words_before words }
+
 -- the items of words, each up to the next
 abbrev pub items_of : List (List ℕ) → List ItemView
 items_of [] = []
-items_of (word ∷ words) =
-    if begins_item word
-    then record { name = take (before_stroke word) word; words = own_words word ++ words_before words } ∷ items_of words
-    else items_of words
+items_of (word ∷ words) = if begins_item word then item_at word words ∷ items_of words else items_of words
+
+-- a measured word begins an item: its letters and digits are the name
+pub record BeginsItem (measured : Measured) : Type 0 where
+  pub begins : begins_item measured.word.now ≡ true
+  pub stroke : measured.letters_or_digits ≡ before_stroke measured.word.now
+
+-- the items that a first word, if there is one, and the words after it have
+abbrev pub items_with : Option Measured → List (List ℕ) → List ItemView
+items_with None words = []
+items_with (Some measured) words = item_at measured.word.now words ∷ items_of words
 
 -- a point of 1 to 11 letters or digits, and an elapsed time
 unfoldable pub is_estimate : List ℕ → Bool

@@ -2,7 +2,7 @@
 
 ghost use Rattle.std.specs.Prelude.{◌≡◌, ◌≤◌, ◌==◌, ◌&&◌, ◌∷◌, ◌++◌, []};
 ghost use Rattle.std.specs.Prelude.{nat_le, nat_lt, List, ℕ, true, IsTrue, length};
-ghost use Rattle.std.specs.Prelude.{take, slice_index, MatchOption, IfSome, false};
+ghost use Rattle.std.specs.Prelude.{take, slice_index, MatchOption, IfSome, IfNone, false};
 ghost use Rattle.std.specs.Iterator.{YieldsFirst, YieldsFirstRef, item_count};
 ghost use Rattle.std.specs.List.{prefix_len};
 ghost use Rattle.std.specs.Str.{bytes_eq};
@@ -10,7 +10,7 @@ ghost use Rattle.fpl_text.specs.Bytes.{is_letter, is_letter_or_digit};
 ghost use Rattle.fpl_text.specs.Words.{words_of};
 ghost use Rattle.fpl_items.specs.Kinds.{before_stroke};
 ghost use Rattle.fpl_items.specs.Items.{begins_item, own_words, own_list, words_before, items_of};
-ghost use Rattle.fpl_items.specs.Items.{is_estimate};
+ghost use Rattle.fpl_items.specs.Items.{is_estimate, item_at, items_with, BeginsItem};
 
 use fpl_text::{Measured, Words, is_letter};
 use std::marker::Model;
@@ -101,50 +101,74 @@ impl<'a> Iterator for ItemWords<'a> {
 /// An item, by its first word and the words after it.
 #[derive(Drop)]
 pub struct Item<'a> {
-    first: &'a [u8],
-    stroke: usize,
+    first: Measured<'a>,
     following: Words<'a>,
 }
 
 impl<'a> Model for Item<'a> {
-    ghost use Rattle.std.specs.Prelude.{◌≡◌, ◌++◌, take, IsTrue};
-    ghost use Rattle.fpl_items.specs.Kinds.{before_stroke};
-    ghost use Rattle.fpl_items.specs.Items.{ItemView, begins_item, own_words, words_before};
+    ghost use Rattle.fpl_items.specs.Items.{ItemView, item_at, BeginsItem};
 
     ghost Value = { ItemView };
 
-    ghost view = { λ i. record {
-      name = take (before_stroke i.first.now) i.first.now;
-      words = own_words i.first.now ++ words_before i.following;
-    } };
+    ghost view = { λ i. item_at i.first.word.now i.following };
 
-    ghost invariant = { λ i. IsTrue (begins_item i.first.now)
-        × (i.stroke ≡ before_stroke i.first.now) };
+    ghost invariant = { λ i. BeginsItem i.first };
+}
+
+/// The first word of an item after the stroke, unless it is empty.
+#[inline(always)]
+#[tactic(auto, unfolding(crate::specs::Items::begins_item))]
+pub(crate) fn own_word<'a>(first: &Measured<'a>) -> Option<&'a [u8]>
+    requires { BeginsItem first.now }
+    ensures { own_list result ≡ own_words first.now.word.now }
+{
+    let own = &first.word[first.letters_or_digits + 1..];
+    if own.is_empty() { None } else { Some(own) }
+}
+
+/// The name of an item, by its first word.
+#[inline(always)]
+#[tactic(auto, unfolding(crate::specs::Items::begins_item))]
+pub(crate) fn name_of<'a>(first: &Measured<'a>) -> &'a [u8]
+    requires { BeginsItem first.now }
+    ensures { result.now ≡ take (before_stroke first.now.word.now) first.now.word.now }
+{
+    &first.word[..first.letters_or_digits]
 }
 
 impl<'a> Item<'a> {
+    /// The item with this first word.
+    #[inline(always)]
+    pub(crate) fn new(first: &Measured<'a>, following: &Words<'a>) -> Item<'a>
+        requires { BeginsItem first.now }
+        ensures { result ≡ item_at first.now.word.now following.now }
+    {
+        Item {
+            first: *first,
+            following: following.duplicate(),
+        }
+    }
+
     /// The name, which precedes the stroke.
     pub fn name(&self) -> &'a [u8]
         ensures { result.now ≡ self.now.name }
     {
-        &self.first[..self.stroke]
+        name_of(&self.first)
     }
 
     /// The words up to the next item.
-    #[tactic(auto, unfolding(crate::specs::Items::begins_item))]
     pub fn words(&self) -> ItemWords<'a>
         ensures { result ≡ self.now.words }
     {
-        let own = &self.first[self.stroke + 1..];
         ItemWords {
-            own: if own.is_empty() { None } else { Some(own) },
+            own: own_word(&self.first),
             following: self.following.duplicate(),
         }
     }
 }
 
 /// Skips the words before the next that has a stroke, since they begin no item.
-#[inline]
+#[inline(always)]
 fn skip_to_stroke(words: &mut Words<'_>)
     ensures items { items_of words.old ≡ items_of words.new }
     ensures fewer { length words.new ≤ length words.old }
@@ -152,24 +176,21 @@ fn skip_to_stroke(words: &mut Words<'_>)
     words.skip_to(b'/');
 }
 
-/// Takes the next item, after skipping the words before it. Most items follow directly on the item
-/// before, so a stroke is searched for only if the next word begins no item.
-#[inline]
-fn next_item<'a>(words: &mut Words<'a>) -> Option<Item<'a>>
-    ensures { MatchOption result ((items_of words.old ≡ []) × (words.new ≡ []))
-        (λ item. items_of words.old ≡ item ∷ items_of words.new) }
+/// Takes the first word of the next item, after skipping the words before it. Most items follow
+/// directly on the item before, so a stroke is searched for only if the next word begins no item.
+#[inline(always)]
+pub(crate) fn next_first<'a>(words: &mut Words<'a>) -> Option<Measured<'a>>
+    ensures items { items_of words.old ≡ items_with result words.new }
+    ensures begins { IfSome result (λ first. BeginsItem first) }
+    ensures none { IfNone result (words.new ≡ []) }
 {
     // The copy of the iterator stays in registers: an item that read it back from memory just
     // written would wait for that.
     let mut left = words.duplicate();
     'words: while let Some(measured) = left.next_measured() {
         if begins_item(&measured) {
-            *words = left.duplicate();
-            return Some(Item {
-                first: measured.word,
-                stroke: measured.letters_or_digits,
-                following: left,
-            });
+            *words = left;
+            return Some(measured);
         }
         skip_to_stroke(&mut left);
     }
@@ -210,8 +231,9 @@ impl<'a> Iterator for Items<'a> {
 
     ghost remaining = { item_count (λ i. i) };
 
-    #[inline]
+    #[inline(always)]
     fn next(&mut self) -> Option<Item<'a>> {
-        next_item(&mut self.words)
+        let first = next_first(&mut self.words)?;
+        Some(Item::new(&first, &self.words))
     }
 }

@@ -1,7 +1,7 @@
 //! Field 18: other information.
 
 ghost use Rattle.std.specs.Prelude.{◌≡◌, ◌≢◌, ◌≤◌, ◌<◌, ◌+◌, ◌-◌, true, is_some};
-ghost use Rattle.std.specs.Prelude.{slice_index_or, length, drop, false};
+ghost use Rattle.std.specs.Prelude.{◌++◌, slice_index_or, length, drop, false, codes};
 ghost use Rattle.std.specs.Prelude.{[], None, Some, IfSome, IfOk, IfErr, OnErr, List, MatchOption, pos};
 ghost use Rattle.jiff_core.specs.Date.{epoch_day};
 ghost use Rattle.std.specs.List.{list_all, list_any, prefix_len};
@@ -11,7 +11,8 @@ ghost use Rattle.fpl_items.specs.Estimates.{estimates_in, estimate_count};
 ghost use Rattle.fpl_items.specs.Estimates.{AreEstimatesOf, first_for, HasEstimate};
 ghost use Rattle.fpl_items.specs.Kinds.{is_text};
 ghost use Rattle.fpl_text.specs.Words.{words_of};
-ghost use Rattle.fpl_items.specs.Items.{begins_item, words_before, is_estimate};
+ghost use Rattle.fpl_items.specs.Items.{begins_item, words_before, is_estimate, own_list};
+ghost use Rattle.fpl_items.specs.Items.{item_at, items_with, BeginsItem};
 ghost use Rattle.fpl_items.specs.Items.{is_day, item_fault, first_fault};
 ghost use Rattle.fpl_items.specs.Items.{items_of, field_fault, items_or_fault};
 ghost use Rattle.fpl_items.specs.Items.{elapsed_to, is_exempt, day_of_words};
@@ -22,7 +23,9 @@ ghost use Rattle.fpl_text.specs.declared.time.TheConstants.{ELAPSED_LIMIT};
 
 use crate::estimates::Estimates;
 use crate::fault::ItemFault;
-use crate::item::{Item, ItemWords, Items, begins_item, is_name, next_estimate};
+use crate::item::{
+    Item, ItemWords, Items, begins_item, is_name, name_of, next_estimate, next_first, own_word,
+};
 use fpl_text::{Day, Measured, Words, all_letters_or_digits, read_elapsed};
 use jiff::civil::Date;
 use std::alloc::{AllocError, Allocator, Global};
@@ -71,23 +74,38 @@ fn is_measured_estimate(measured: &Measured<'_>) -> bool
     ends_with_time(word)
 }
 
-/// The number of the words before the next item, if all are estimates.
-fn estimates_before_item(mut words: Words<'_>) -> Option<usize>
-    requires { length (words_before words) ≤ usize.MAX }
-    ensures all { is_some result ≡ list_all is_estimate (words_before words.entry) }
-    ensures count { IfSome result (λ count. count ≡ length (words_before words.entry)) }
+/// The number of estimates of an EET item, with the first word of the item after it.
+#[derive(Drop)]
+struct Counted<'a> {
+    count: usize,
+    next: Option<Measured<'a>>,
+}
+
+/// The number of the words before the next item, if all are estimates. Takes them, and the first
+/// word of that item.
+fn estimates_before_item<'a>(words: &mut Words<'a>) -> Option<Counted<'a>>
+    requires { length (words_before words.old) ≤ usize.MAX }
+    ensures all { is_some result ≡ list_all is_estimate (words_before words.old) }
+    ensures count { IfSome result (λ counted. counted.count ≡ length (words_before words.old)) }
+    ensures items { IfSome result
+        (λ counted. items_of words.old ≡ items_with counted.next words.new) }
+    ensures begins { IfSome result
+        (λ counted. IfSome counted.next (λ first. BeginsItem first)) }
 {
     let mut count = 0;
     'words: loop {
-        if next_estimate(&mut words).is_some() {
+        if next_estimate(words).is_some() {
             count += 1;
             continue;
         }
         let Some(measured) = words.next_measured() else {
-            return Some(count);
+            return Some(Counted { count, next: None });
         };
         if begins_item(&measured) {
-            return Some(count);
+            return Some(Counted {
+                count,
+                next: Some(measured),
+            });
         }
         if !is_measured_estimate(&measured) {
             return None;
@@ -96,21 +114,29 @@ fn estimates_before_item(mut words: Words<'_>) -> Option<usize>
     }
 }
 
-/// The number of the words of an EET item, if all are estimates.
-fn count_estimates(words: ItemWords<'_>) -> Option<usize>
-    requires { length words ≤ usize.MAX }
-    ensures all { is_some result ≡ list_all is_estimate words.entry }
-    ensures count { IfSome result (λ count. count ≡ length words.entry) }
+/// The number of the words of an EET item, if all are estimates. `own` is that after the stroke.
+fn count_estimates<'a>(own: Option<&[u8]>, words: &mut Words<'a>) -> Option<Counted<'a>>
+    requires { length (own_list own ++ words_before words.old) ≤ usize.MAX }
+    ensures all { is_some result
+        ≡ list_all is_estimate (own_list own.entry ++ words_before words.old) }
+    ensures count { IfSome result (λ counted. counted.count
+        ≡ length (own_list own.entry ++ words_before words.old)) }
+    ensures items { IfSome result
+        (λ counted. items_of words.old ≡ items_with counted.next words.new) }
+    ensures begins { IfSome result
+        (λ counted. IfSome counted.next (λ first. BeginsItem first)) }
 {
-    let ItemWords { own, following } = words;
     let Some(word) = own else {
-        return estimates_before_item(following);
+        return estimates_before_item(words);
     };
     if !is_estimate(word) {
         return None;
     }
-    let count = estimates_before_item(following)?;
-    Some(1 + count)
+    let Counted { count, next } = estimates_before_item(words)?;
+    Some(Counted {
+        count: 1 + count,
+        next,
+    })
 }
 
 /// The day of exactly one word, which is a date.
@@ -143,15 +169,21 @@ pub struct Effects {
     estimates: usize,
 }
 
+/// What the items of field 18 say so far, with the first word of the next item.
+#[derive(Drop)]
+struct Step<'a> {
+    effects: Effects,
+    next: Option<Measured<'a>>,
+}
+
 impl Effects {
-    /// The effects with one more item, or the fault of that item.
+    /// The effects with one more item that is no EET, or the fault of that item.
     #[tactic(auto, unfolding(crate::specs::Items::item_fault))]
     fn with(self, item: &Item<'_>) -> Result<Effects, ItemFault>
-        requires { self.estimates + estimates_in item.now ≤ usize.MAX }
+        requires { is_text (codes "EET") item.now.name ≡ false }
         ensures says { IfOk result
             (λ next. SaysAfter self.day self.exempt item.now next.day next.exempt) }
-        ensures count { IfOk result
-            (λ next. next.estimates ≡ self.estimates + estimates_in item.now) }
+        ensures count { IfOk result (λ next. next.estimates ≡ self.estimates) }
         ensures fault { IfErr result
             (λ fault. item_fault (is_some self.day) item.now ≡ Some fault) }
         ensures memory { IfErr result (λ fault. fault ≢ ItemFault.OutOfMemory) }
@@ -170,22 +202,71 @@ impl Effects {
                 estimates: self.estimates,
             });
         }
-        if is_name(name, b"EET") {
-            let Some(count) = count_estimates(item.words()) else {
-                return Err(ItemFault::BadField(18));
-            };
-            return Ok(Effects {
-                day: self.day,
-                exempt: self.exempt,
-                estimates: self.estimates + count,
-            });
-        }
         let exempts = is_name(name, b"STS") && has_word(item.words(), b"ATFMX");
         Ok(Effects {
             day: self.day,
             exempt: self.exempt || exempts,
             estimates: self.estimates,
         })
+    }
+
+    /// The effects with one more item, an EET, or the fault of that item. Takes its words.
+    #[tactic(auto, unfolding(crate::specs::Items::item_fault))]
+    fn with_estimates<'a>(
+        self,
+        first: &Measured<'a>,
+        words: &mut Words<'a>,
+    ) -> Result<Step<'a>, ItemFault>
+        requires begins { BeginsItem first.now }
+        requires eet { is_text (codes "EET") (item_at first.now.word.now words.old).name ≡ true }
+        requires count { self.estimates + estimates_in (item_at first.now.word.now words.old)
+            ≤ usize.MAX }
+        ensures says { IfOk result (λ step. SaysAfter self.day self.exempt
+            (item_at first.now.word.now words.old) step.effects.day step.effects.exempt) }
+        ensures count { IfOk result (λ step. step.effects.estimates
+            ≡ self.estimates + estimates_in (item_at first.now.word.now words.old)) }
+        ensures fault { IfErr result (λ fault. item_fault (is_some self.day)
+            (item_at first.now.word.now words.old) ≡ Some fault) }
+        ensures memory { IfErr result (λ fault. fault ≢ ItemFault.OutOfMemory) }
+        ensures items { IfOk result
+            (λ step. items_of words.old ≡ items_with step.next words.new) }
+        ensures begins { IfOk result (λ step. IfSome step.next (λ next. BeginsItem next)) }
+    {
+        let Some(Counted { count, next }) = count_estimates(own_word(first), words) else {
+            return Err(ItemFault::BadField(18));
+        };
+        let effects = Effects {
+            day: self.day,
+            exempt: self.exempt,
+            estimates: self.estimates + count,
+        };
+        Ok(Step { effects, next })
+    }
+
+    /// The effects with the item of this first word and some of the words after it, or the fault of
+    /// that item. Goes on to the next item, without a second look at the words of an EET item.
+    #[inline(always)]
+    fn step<'a>(self, first: &Measured<'a>, words: &mut Words<'a>) -> Result<Step<'a>, ItemFault>
+        requires begins { BeginsItem first.now }
+        requires count { self.estimates + estimates_in (item_at first.now.word.now words.old)
+            ≤ usize.MAX }
+        ensures says { IfOk result (λ step. SaysAfter self.day self.exempt
+            (item_at first.now.word.now words.old) step.effects.day step.effects.exempt) }
+        ensures count { IfOk result (λ step. step.effects.estimates
+            ≡ self.estimates + estimates_in (item_at first.now.word.now words.old)) }
+        ensures fault { IfErr result (λ fault. item_fault (is_some self.day)
+            (item_at first.now.word.now words.old) ≡ Some fault) }
+        ensures memory { IfErr result (λ fault. fault ≢ ItemFault.OutOfMemory) }
+        ensures items { IfOk result
+            (λ step. items_of words.old ≡ items_with step.next words.new) }
+        ensures begins { IfOk result (λ step. IfSome step.next (λ next. BeginsItem next)) }
+    {
+        if is_name(name_of(first), b"EET") {
+            return self.with_estimates(first, words);
+        }
+        let effects = self.with(&Item::new(first, words))?;
+        let next = next_first(words);
+        Ok(Step { effects, next })
     }
 
     /// What no items say.
@@ -214,10 +295,11 @@ impl Effects {
         if field == b"0".as_slice() {
             return Ok(Effects::none());
         }
-        if !begins_with_item(field) {
+        let mut words = Words::new(field);
+        let Some(first) = first_of(&mut words) else {
             return Err(ItemFault::BadField(18));
-        }
-        read_items(Items::new(field))
+        };
+        read_items(first, words)
     }
 
     /// The day of flight of the first DOF item.
@@ -268,28 +350,43 @@ impl Effects {
     }
 }
 
-/// Whether the first word of a field begins an item.
+/// Takes the first of all words, if it begins an item.
+#[inline(always)]
 #[tactic(auto, unfolding(crate::specs::Items::begins_item))]
-fn begins_with_item(field: &[u8]) -> bool
-    ensures { result ≡ begins_item (slice_index_or (words_of field.now) 0 []) }
+fn first_of<'a>(words: &mut Words<'a>) -> Option<Measured<'a>>
+    ensures is { is_some result ≡ begins_item (slice_index_or words.old 0 []) }
+    ensures items { IfSome result (λ first. items_of words.old ≡ items_with (Some first) words.new) }
+    ensures begins { IfSome result (λ first. BeginsItem first) }
 {
-    match Words::new(field).next_measured() {
-        Some(measured) => begins_item(&measured),
-        None => false,
+    let measured = words.next_measured()?;
+    if begins_item(&measured) {
+        Some(measured)
+    } else {
+        None
     }
 }
 
-/// Reads items. Stops at the first fault from the left.
-fn read_items(items: Items<'_>) -> Result<Effects, ItemFault>
-    requires { estimate_count items ≤ usize.MAX }
-    ensures faultless { IfOk result (λ _. first_fault false items.entry ≡ None) }
-    ensures tells { IfOk result (TellsOf items.entry) }
-    ensures fault { IfErr result (λ fault. first_fault false items.entry ≡ Some fault) }
+/// Reads the items of a first word and the words after it. Stops at the first fault from the left.
+fn read_items<'a>(first: Measured<'a>, mut words: Words<'a>) -> Result<Effects, ItemFault>
+    requires begins { BeginsItem first }
+    requires count { estimate_count (items_with (Some first) words) ≤ usize.MAX }
+    ensures faultless { IfOk result
+        (λ _. first_fault false (items_with (Some first.entry) words.entry) ≡ None) }
+    ensures tells { IfOk result (TellsOf (items_with (Some first.entry) words.entry)) }
+    ensures fault { IfErr result
+        (λ fault. first_fault false (items_with (Some first.entry) words.entry) ≡ Some fault) }
     ensures memory { IfErr result (λ fault. fault ≢ ItemFault.OutOfMemory) }
 {
     let mut effects = Effects::none();
-    for item in items {
-        effects = effects.with(&item)?;
+    let mut next = Some(first);
+    'items: while let Some(first) = next {
+        match effects.step(&first, &mut words) {
+            Ok(step) => {
+                effects = step.effects;
+                next = step.next;
+            }
+            Err(fault) => return Err(fault),
+        }
     }
     Ok(effects)
 }

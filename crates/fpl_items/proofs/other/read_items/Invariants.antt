@@ -1,10 +1,16 @@
-use Rattle.std.proofs.Common.{◌≡◌, ◌+◌}
+use Rattle.std.proofs.Common.{◌≡◌, ◌+◌, Some, length}
+use Rattle.std.specs.Option.{ForSome}
+use Rattle.fpl_items.specs.Items.{items_with, BeginsItem}
 use Rattle.fpl_items.specs.Estimates.{estimate_count}
 use Rattle.fpl_items.proofs.OtherLemmas.{SaySoFar}
 use Rattle.fpl_items.proofs.other.read_items.Given as goal
 
-abbrev pub invariant-loop-item : goal.invariant-loop-item
-invariant-loop-item l = record {
-  say : SaySoFar l.effects.day l.effects.exempt l.item-iterator l.fn.items;
-  counted : l.effects.estimates + estimate_count l.item-iterator ≡ estimate_count l.fn.items;
+abbrev pub invariant-items : goal.invariant-items
+invariant-items l = record {
+  begins : ForSome l.next BeginsItem;
+  say : SaySoFar l.effects.day l.effects.exempt (items_with l.next l.words) (items_with (Some l.fn.first) l.fn.words);
+  counted : l.effects.estimates + estimate_count (items_with l.next l.words) ≡ estimate_count (items_with (Some l.fn.first) l.fn.words);
 }
+
+abbrev pub decreases-items : goal.decreases-items
+decreases-items l = length (items_with l.next l.words)

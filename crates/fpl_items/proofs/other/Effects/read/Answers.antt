@@ -1,9 +1,13 @@
-use Rattle.std.proofs.Common.{arith, sym, ◌∙◌}
+use Rattle.std.proofs.Common.{arith, ap, sym, ◌∙◌}
+use Rattle.fpl_items.specs.Items.{items_of}
+use Rattle.fpl_items.specs.Estimates.{estimate_count}
 use Rattle.fpl_items.proofs.OtherLemmas.{zero-tells, count-fits}
 use Rattle.fpl_items.proofs.other.Effects.read.Goals as goal
 
 pub returns-then-eq-clause-tells : goal.returns-then-eq-clause-tells
 returns-then-eq-clause-tells c = zero-tells c.args.field.now c.none.result (rw c.as_slice.ensures at (sym c.eq.ensures ∙ c.if-eq.true)) c.none.ensures
 
-pub read_items-requires : goal.read_items-requires
-read_items-requires c = rw c.new.ensures (omega (arith, count-fits c.args.field.now))
+pub read_items-requires-clause-count : goal.read_items-requires-clause-count
+read_items-requires-clause-count c =
+    let same = ap items_of (sym c.new-words.ensures) ∙ c.in-Some.ensures.items in
+    omega (arith, ap estimate_count same, count-fits c.args.field.now)
