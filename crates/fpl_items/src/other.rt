@@ -93,15 +93,19 @@ fn estimates_before_item<'a>(words: &mut Words<'a>) -> Option<Counted<'a>>
         (λ counted. IfSome counted.next (λ first. BeginsItem first)) }
 {
     let mut count = 0;
+    // The copy of the iterator stays in registers, as in `next_first`.
+    let mut left = words.duplicate();
     'words: loop {
-        if next_estimate(words).is_some() {
+        if next_estimate(&mut left).is_some() {
             count += 1;
             continue;
         }
-        let Some(measured) = words.next_measured() else {
+        let Some(measured) = left.next_measured() else {
+            *words = left;
             return Some(Counted { count, next: None });
         };
         if begins_item(&measured) {
+            *words = left;
             return Some(Counted {
                 count,
                 next: Some(measured),
