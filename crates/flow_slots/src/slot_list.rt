@@ -227,7 +227,6 @@ impl<A: Allocator + Copy> SlotList<A> {
     pub fn fill(&mut self, flights: &[Planned])
         requires { MayFill flights.now self.old.lineup }
         ensures lineup { self.new.lineup ≡ with_all_waiting flights.now self.old.lineup }
-        ensures writes { self.new.writes ≤ self.old.writes + length flights.now }
         ensures counted { self.new.writes ≡ more_by (length flights.now) self.old.writes }
         ensures more { self.old.writes ≤ self.new.writes }
     {
