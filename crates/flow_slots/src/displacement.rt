@@ -31,8 +31,9 @@ pub(crate) fn first_later(row: &Counting<'_>, from: usize, flight: PackedCell) -
     place
 }
 
-/// Inserts `flight` at the cell come to, if no provisional flight up to the next empty cell precedes
-/// it: each flight takes the cell of the next provisional one, the last one the empty cell.
+/// Inserts `flight` at the cell come to, if no provisional flight up to the next empty cell
+/// precedes it: each flight takes the cell of the next provisional one, the last one the empty
+/// cell.
 #[inline]
 pub(crate) fn displace(row: &mut Counting<'_>, places: &mut [HeldSlot], flight: PackedCell)
     requires fresh { row.old.passed ≡ row.old.at }

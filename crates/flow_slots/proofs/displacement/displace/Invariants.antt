@@ -1,4 +1,4 @@
-use Rattle.std.proofs.Common.{◌≡◌, ◌≤◌, ◌-◌, true, length}
+use Rattle.std.proofs.Common.{◌≡◌, ◌-◌, true, length}
 use Rattle.flow_slots.specs.PackedCell.{planned_in}
 use Rattle.flow_slots.specs.Walk.{waits}
 use Rattle.flow_slots.proofs.Displacing.{Displacing}

@@ -1,9 +1,8 @@
-use Rattle.std.proofs.Common.{◌≡◌, ◌+◌, map, true, sym, ap, ◌∙◌, arith}
+use Rattle.std.proofs.Common.{◌≡◌, ◌+◌, sym, ap, ◌∙◌, arith}
 use Rattle.std.proofs.lemmas.List.{length-map}
 use Rattle.flow_slots.specs.PackedCell.{from_start}
 use Rattle.flow_slots.specs.Period.{first_slot}
 use Rattle.flow_slots.specs.Row.{cell_at}
-use Rattle.flow_slots.specs.Walk.{waits}
 use Rattle.flow_slots.proofs.Started.{stands-started, waits-started, early-waits}
 use Rattle.flow_slots.proofs.displacement.follower.Goals as goal
 
