@@ -184,17 +184,12 @@ pub(crate) fn next_first<'a>(words: &mut Words<'a>) -> Option<Measured<'a>>
     ensures begins { IfSome result (λ first. BeginsItem first) }
     ensures none { IfNone result (words.new ≡ []) }
 {
-    // The copy of the iterator stays in registers: an item that read it back from memory just
-    // written would wait for that.
-    let mut left = words.duplicate();
-    'words: while let Some(measured) = left.next_measured() {
+    'words: while let Some(measured) = words.next_measured() {
         if begins_item(&measured) {
-            *words = left;
             return Some(measured);
         }
-        skip_to_stroke(&mut left);
+        skip_to_stroke(words);
     }
-    *words = left;
     None
 }
 

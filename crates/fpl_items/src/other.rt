@@ -2,7 +2,8 @@
 
 ghost use Rattle.std.specs.Prelude.{◌≡◌, ◌≢◌, ◌≤◌, ◌<◌, ◌+◌, ◌-◌, true, is_some};
 ghost use Rattle.std.specs.Prelude.{◌++◌, slice_index_or, length, drop, false, codes};
-ghost use Rattle.std.specs.Prelude.{[], None, Some, IfSome, IfOk, IfErr, OnErr, List, MatchOption, pos};
+ghost use Rattle.std.specs.Prelude.{[], None, Some, IfSome, IfOk, IfErr, OnErr, List};
+ghost use Rattle.std.specs.Prelude.{MatchOption, pos};
 ghost use Rattle.jiff_core.specs.Date.{epoch_day};
 ghost use Rattle.std.specs.List.{list_all, list_any, prefix_len};
 ghost use Rattle.fpl_text.specs.Bytes.{is_letter_or_digit};
@@ -83,6 +84,7 @@ struct Counted<'a> {
 
 /// The number of the words before the next item, if all are estimates. Takes them, and the first
 /// word of that item.
+#[inline(always)]
 fn estimates_before_item<'a>(words: &mut Words<'a>) -> Option<Counted<'a>>
     requires { length (words_before words.old) ≤ usize.MAX }
     ensures all { is_some result ≡ list_all is_estimate (words_before words.old) }
@@ -93,19 +95,15 @@ fn estimates_before_item<'a>(words: &mut Words<'a>) -> Option<Counted<'a>>
         (λ counted. IfSome counted.next (λ first. BeginsItem first)) }
 {
     let mut count = 0;
-    // The copy of the iterator stays in registers, as in `next_first`.
-    let mut left = words.duplicate();
     'words: loop {
-        if next_estimate(&mut left).is_some() {
+        if next_estimate(words).is_some() {
             count += 1;
             continue;
         }
-        let Some(measured) = left.next_measured() else {
-            *words = left;
+        let Some(measured) = words.next_measured() else {
             return Some(Counted { count, next: None });
         };
         if begins_item(&measured) {
-            *words = left;
             return Some(Counted {
                 count,
                 next: Some(measured),
@@ -359,7 +357,8 @@ impl Effects {
 #[tactic(auto, unfolding(crate::specs::Items::begins_item))]
 fn first_of<'a>(words: &mut Words<'a>) -> Option<Measured<'a>>
     ensures is { is_some result ≡ begins_item (slice_index_or words.old 0 []) }
-    ensures items { IfSome result (λ first. items_of words.old ≡ items_with (Some first) words.new) }
+    ensures items { IfSome result
+        (λ first. items_of words.old ≡ items_with (Some first) words.new) }
     ensures begins { IfSome result (λ first. BeginsItem first) }
 {
     let measured = words.next_measured()?;

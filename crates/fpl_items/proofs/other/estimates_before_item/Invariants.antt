@@ -5,10 +5,10 @@ use Rattle.fpl_items.proofs.other.estimates_before_item.Given as goal
 
 abbrev pub invariant-words : goal.invariant-words
 invariant-words l = record {
-  rest : list_all is_estimate (words_before l.left) ≡ list_all is_estimate (words_before l.fn.words);
-  counted : l.count + length (words_before l.left) ≡ length (words_before l.fn.words);
-  items : items_of l.left ≡ items_of l.fn.words;
+  rest : list_all is_estimate (words_before l.words) ≡ list_all is_estimate (words_before l.fn.words);
+  counted : l.count + length (words_before l.words) ≡ length (words_before l.fn.words);
+  items : items_of l.words ≡ items_of l.fn.words;
 }
 
 abbrev pub decreases-words : goal.decreases-words
-decreases-words l = length l.left
+decreases-words l = length l.words
