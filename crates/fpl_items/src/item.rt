@@ -1,7 +1,7 @@
 //! The items of field 18.
 
 ghost use Rattle.std.specs.Prelude.{◌≡◌, ◌≤◌, ◌==◌, ◌&&◌, ◌∷◌, ◌++◌, []};
-ghost use Rattle.std.specs.Prelude.{nat_le, nat_lt, List, ℕ, true, IsTrue, length};
+ghost use Rattle.std.specs.Prelude.{nat_le, nat_lt, List, ℕ, true, length};
 ghost use Rattle.std.specs.Prelude.{take, slice_index, MatchOption, IfSome, IfNone, false};
 ghost use Rattle.std.specs.Iterator.{YieldsFirst, YieldsFirstRef, item_count};
 ghost use Rattle.std.specs.List.{prefix_len};
