@@ -17,6 +17,7 @@ pub mod JournalBounds
 pub mod Backs
 pub mod Entering
 pub mod Undoables
+pub mod Replays
 pub mod FrozenPairs
 pub mod SlotRuns
 pub mod FrozenRuns

@@ -1,4 +1,4 @@
-use Rattle.std.proofs.Common.{◌≡◌, ◌+◌, ◌++◌, ◌/◌, ◌%◌, ◌∷◌, [], ℕ, List}
+use Rattle.std.proofs.Common.{◌+◌, ◌/◌, ◌%◌, ◌∷◌, [], ℕ, List}
 use Rattle.std.proofs.lemmas.List.{append_assoc}
 use Rattle.flow_core.proofs.Pairs.{tens_of, units_of}
 use Rattle.flow_core.proofs.answer.put_pair.Goals as goal
