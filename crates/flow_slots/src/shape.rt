@@ -400,8 +400,8 @@ impl<'a> FirstSlotsRef<'a> {
         u32::from(self.by_minute[minutes as usize])
     }
 
-    /// Whether so many minutes from the start are before the end, and their first slot is before
-    /// slot `k`.
+    /// Whether a time, in minutes from the start, is before the end, and its first slot before slot
+    /// `k`.
     #[inline]
     pub(crate) fn is_before(&self, minutes: u32, k: usize) -> bool
         ensures { IsTrue result ↔ (minutes < self.now.end - self.now.start)
