@@ -10,7 +10,7 @@ use Rattle.flow_slots.specs.declared.cell.Cell.TheVariants.{Empty, Waiting, Fixe
 use Rattle.flow_slots.specs.Order.{stands_before, insert}
 use Rattle.flow_slots.specs.Period.{Period, IsWithin, first_slot}
 use Rattle.flow_slots.specs.Row.{waiting_of, fixed_of, flight_of, cell_at, flight_at, place_at, IsTied}
-use Rattle.flow_slots.specs.Walk.{displace, waits_before}
+use Rattle.flow_slots.specs.Walk.{displace, passes}
 use Rattle.flow_slots.specs.Lineup.{Lineup, IsKept, InOrder, NoneIs, WaitingApart, MayFill}
 use Rattle.flow_slots.proofs.Following.{Passed, passed-earlier}
 use Rattle.flow_slots.proofs.Kept.{insert-takes_in, IsKept-insert}
@@ -58,7 +58,7 @@ pub record Filling (p : Period) (capacity : ℕ) (ws : List Planned) (i next : �
   pub waiting : waiting_of row ≡ take i ws
   pub fixed : fixed_of 0 row ≡ []
   pub empty : (j : ℕ) → next ≤ j → cell_at row j ≡ Empty
-  pub packed : (x : Planned) (j : ℕ) → AllByRecursion (λ v. stands_before v x ≡ true) (take i ws) → first_slot p x.entry ≤ j → j < next → waits_before x (cell_at row j) ≡ true
+  pub packed : (x : Planned) (j : ℕ) → AllByRecursion (λ v. stands_before v x ≡ true) (take i ws) → first_slot p x.entry ≤ j → j < next → passes x (cell_at row j) ≡ true
   pub absent : (f : ℕ) → NoneIs f (take i ws) → place_at places f ≡ None
 
 all_empty : (o j : ℕ) (cs : List Cell) → waiting_of cs ≡ [] → fixed_of o cs ≡ [] → cell_at cs j ≡ Empty
@@ -140,15 +140,15 @@ Filling-step p capacity ws i next k row places x walk comes is =
       absent = λ f none. away f (all-last (λ w. w.flight ≡ f → ⊥) (take i ws) x (subst (NoneIs f) comes.more none));
     }
   where
-    behind : (y : Planned) (j : ℕ) → AllByRecursion (λ v. stands_before v y ≡ true) (take i ws ++ x ∷ []) → first_slot p y.entry ≤ j → j < k + 1 → (j ≡ k) ⊎ (j ≡ k → ⊥) → waits_before y (cell_at (set row k (Waiting x)) j) ≡ true
+    behind : (y : Planned) (j : ℕ) → AllByRecursion (λ v. stands_before v y ≡ true) (take i ws ++ x ∷ []) → first_slot p y.entry ≤ j → j < k + 1 → (j ≡ k) ⊎ (j ≡ k → ⊥) → passes y (cell_at (set row k (Waiting x)) j) ≡ true
     behind y j before late h (inl q) =
         let all = all-last (λ v. stands_before v y ≡ true) (take i ws) x before in
         let within : k < length row = Filling-within p capacity ws i next k row places x walk comes is in
-        ap (λ m. waits_before y (cell_at (set row k (Waiting x)) m)) q ∙ (ap (waits_before y) (get_or-set_same row k (Waiting x) Empty within) ∙ all.1)
+        ap (λ m. passes y (cell_at (set row k (Waiting x)) m)) q ∙ (ap (passes y) (get_or-set_same row k (Waiting x) Empty within) ∙ all.1)
     behind y j before late h (inr q) =
         let all = all-last (λ v. stands_before v y ≡ true) (take i ws) x before in
         let later : first_slot p x.entry ≤ first_slot p y.entry = first_slot-monotone p x.entry y.entry (later-entry x y all.1) in
-        ap (waits_before y) (get_or-set_other row k j (Waiting x) Empty q) ∙ walk.packed y j all.0 late (below (omega (arith, later, late)) (cases_eq j k))
+        ap (passes y) (get_or-set_other row k j (Waiting x) Empty q) ∙ walk.packed y j all.0 late (below (omega (arith, later, late)) (cases_eq j k))
       where
         below : first_slot p x.entry ≤ j → (j ≡ k) ⊎ (j ≡ k → ⊥) → j < next
         below l (inl e) = absurd (q e)

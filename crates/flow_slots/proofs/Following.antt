@@ -6,9 +6,9 @@ use Rattle.flow_slots.specs.declared.cell.Planned.{Planned}
 use Rattle.flow_slots.specs.declared.cell.Cell.{Cell}
 use Rattle.flow_slots.specs.declared.cell.Cell.TheVariants.{Empty, Waiting, Fixed}
 use Rattle.flow_slots.specs.Order.{stands_before}
-use Rattle.flow_slots.specs.Row.{NoneBefore, IsSettledRow, IsFixedCell, waiting_of}
-use Rattle.flow_slots.specs.Walk.{displace, has_empty, waits_before, Follows, AllFollow, ComesIn}
-use Rattle.flow_slots.proofs.Steps.{drop_at, has_empty-within, has_empty-waiting, displace-earlier}
+use Rattle.flow_slots.specs.Row.{NoneBefore, IsSettledRow, waiting_of}
+use Rattle.flow_slots.specs.Walk.{displace, has_empty, passes, Follows, AllFollow, ComesIn}
+use Rattle.flow_slots.proofs.Steps.{drop_at, has_empty-within, has_empty-waiting, has_empty-fixed, displace-earlier, displace-fixed}
 
 pub Follows-fixed : (row : List Cell) (k f : ℕ) (x : Planned) → k < length row → Fixed f ≡ get_or row k Empty → Follows x (drop k row) → Follows x (drop (k + 1) row)
 Follows-fixed row k f x h e a = rw (drop_at row k (Fixed f) h e) at a
@@ -70,34 +70,34 @@ pub record Passed (row : List Cell) (from : ℕ) (x : Planned) (k : ℕ) : Type 
   pub room : has_empty (drop k row) ≡ true
   pub reached : from ≤ k
 
--- a flight that precedes `x` is passed by
-pub passed-one : (row : List Cell) (from k : ℕ) (x : Planned) → Passed row from x k → waits_before x (get_or row k Empty) ≡ true → Passed row from x (k + 1)
+-- a cell is passed by
+pub passed-one : (row : List Cell) (from k : ℕ) (x : Planned) → Passed row from x k → passes x (get_or row k Empty) ≡ true → Passed row from x (k + 1)
 passed-one row from k x p h = by (get_or row k Empty) refl h where
   l : k < length row
   l = has_empty-within row k p.room
 
-  by : (c : Cell) → c ≡ get_or row k Empty → waits_before x c ≡ true → Passed row from x (k + 1)
+  by : (c : Cell) → c ≡ get_or row k Empty → passes x c ≡ true → Passed row from x (k + 1)
   by Empty e h = absurd (false≢true h)
-  by (Fixed f) e h = absurd (false≢true h)
+  by (Fixed f) e h = record { same = sym (displace-fixed row k f x l e) ∙ p.same; room = sym (has_empty-fixed row k f l e) ∙ p.room; reached = omega (arith, p.reached) }
   by (Waiting w) e h = record { same = sym (displace-earlier row k w x l e h) ∙ p.same; room = sym (has_empty-waiting row k w l e) ∙ p.room; reached = omega (arith, p.reached) }
 
-passed-count : (row : List Cell) (from k n next : ℕ) (x : Planned) → next ≡ k + n → ((i : ℕ) → k ≤ i → i < next → waits_before x (get_or row i Empty) ≡ true) → Passed row from x k → Passed row from x next
+passed-count : (row : List Cell) (from k n next : ℕ) (x : Planned) → next ≡ k + n → ((i : ℕ) → k ≤ i → i < next → passes x (get_or row i Empty) ≡ true) → Passed row from x k → Passed row from x next
 passed-count row from k zero next x e h p = subst (Passed row from x) (let q : k ≡ next = omega arith in q) p
 passed-count row from k (suc n) next x e h p =
     let before = passed-count row from k n (k + n) x refl (λ i l m. h i l (omega arith)) p in
     subst (Passed row from x) (let q : k + n + 1 ≡ next = omega arith in q) (passed-one row from (k + n) x before (h (k + n) (omega arith) (omega arith)))
 
 -- so are several
-pub passed-earlier : (row : List Cell) (from k next : ℕ) (x : Planned) → k ≤ next → ((i : ℕ) → k ≤ i → i < next → waits_before x (get_or row i Empty) ≡ true) → Passed row from x k → Passed row from x next
+pub passed-earlier : (row : List Cell) (from k next : ℕ) (x : Planned) → k ≤ next → ((i : ℕ) → k ≤ i → i < next → passes x (get_or row i Empty) ≡ true) → Passed row from x k → Passed row from x next
 passed-earlier row from k next x l h p = passed-count row from k (next - k) next x (omega arith) h p
 
--- it comes to a cell that is neither
-pub comes-in : (row : List Cell) (from k : ℕ) (x : Planned) → Passed row from x k → waits_before x (get_or row k Empty) ≡ false → (IsFixedCell (get_or row k Empty) → ⊥) → AllFollow (drop from row) → ComesIn row from x k
-comes-in row from k x p b n a = by (get_or row k Empty) refl b n where
+-- it comes to a cell that isn't
+pub comes-in : (row : List Cell) (from k : ℕ) (x : Planned) → Passed row from x k → passes x (get_or row k Empty) ≡ false → AllFollow (drop from row) → ComesIn row from x k
+comes-in row from k x p b a = by (get_or row k Empty) refl b where
   l : k < length row
   l = has_empty-within row k p.room
 
-  by : (c : Cell) → c ≡ get_or row k Empty → waits_before x c ≡ false → (IsFixedCell c → ⊥) → ComesIn row from x k
-  by Empty e b n = ComesIn-empty row from k x p.same p.room l e
-  by (Waiting w) e b n = ComesIn-later row from k x w p.same p.room l e b p.reached a
-  by (Fixed f) e b n = absurd (n tt)
+  by : (c : Cell) → c ≡ get_or row k Empty → passes x c ≡ false → ComesIn row from x k
+  by Empty e b = ComesIn-empty row from k x p.same p.room l e
+  by (Waiting w) e b = ComesIn-later row from k x w p.same p.room l e b p.reached a
+  by (Fixed f) e b = absurd (false≢true (sym b))

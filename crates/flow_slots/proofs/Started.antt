@@ -12,7 +12,7 @@ use Rattle.flow_slots.specs.Cells.{CellsView}
 use Rattle.flow_slots.specs.MadeRow.{filled}
 use Rattle.flow_slots.specs.PackedCell.{entry_number, from_start, flight_from, planned_in}
 use Rattle.flow_slots.specs.Row.{cell_at, IsFixedCell}
-use Rattle.flow_slots.specs.Walk.{waits, waits_before}
+use Rattle.flow_slots.specs.Walk.{waits, passes}
 use Rattle.flow_slots.proofs.Filled.{length-filled, filled-more, filled-set}
 
 -- the row that cells with such entries represent
@@ -30,7 +30,7 @@ pub stands-started : (start : ℕ) (cells : List Cell) (k : ℕ) (c : Cell) → 
 stands-started start cells k c e = ap (from_start start) e ∙ sym (cell_at-started start cells k)
 
 -- the order of two flights is that of their entries from any start
-pub before-started : (start : ℕ) (x : Planned) (c : Cell) → waits_before (flight_from start x) (from_start start c) ≡ waits_before x c
+pub before-started : (start : ℕ) (x : Planned) (c : Cell) → passes (flight_from start x) (from_start start c) ≡ passes x c
 before-started start x Empty = refl
 before-started start x (Waiting w) = grind (arith, nat_tests)
 before-started start x (Fixed f) = refl

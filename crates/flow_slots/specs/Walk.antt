@@ -15,11 +15,11 @@ displace x (Waiting w ∷ cs) =
     cond (stands_before w x) (Waiting w ∷ displace x cs) (Waiting x ∷ displace w cs)
 displace x (Fixed f ∷ cs) = Fixed f ∷ displace x cs
 
--- a cell has a provisional flight that precedes `x`
-abbrev pub waits_before : Planned → Cell → Bool
-waits_before x Empty = false
-waits_before x (Waiting w) = stands_before w x
-waits_before x (Fixed f) = false
+-- `x`, coming to a cell, passes it by: it is frozen, or has a provisional flight that precedes `x`
+abbrev pub passes : Planned → Cell → Bool
+passes x Empty = false
+passes x (Waiting w) = stands_before w x
+passes x (Fixed f) = true
 
 -- a cell has a provisional flight
 abbrev pub waits : Cell → Bool

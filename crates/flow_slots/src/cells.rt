@@ -119,9 +119,8 @@ fn displace_in(
         ++ displace (planned_in flight) (drop from cells.old) }
     ensures written { result ≡ gained cells.old cells.new }
 {
-    let mut row = Counting::new(cells, from);
-    let k = first_later(&row, from, flight);
-    row.pass(k - from);
+    let k = first_later(cells, from, flight);
+    let mut row = Counting::new(cells, k);
     displace(&mut row, places, flight);
     row.end()
 }

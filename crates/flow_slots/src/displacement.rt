@@ -10,22 +10,25 @@ ghost use Rattle.flow_slots.specs.Row.{flight_at, place_at, IsTied, EntriesWithi
 ghost use Rattle.flow_slots.specs.Walk.{displace, has_empty, next_up, close};
 ghost use Rattle.flow_slots.specs.Walk.{waits, Follows, AllFollow, ComesIn};
 
-use crate::row::{Counting, HeldSlot, PackedCell};
+use crate::row::{CHUNK, Counting, HeldSlot, PackedCell, are_passed};
 use crate::shape::FirstSlotsRef;
 
 /// The index of the first cell from `from` on that is empty or has a provisional flight that
 /// doesn't precede `flight`.
 #[inline]
-pub(crate) fn first_later(row: &Counting<'_>, from: usize, flight: PackedCell) -> usize
-    requires few { length row.now.cells.now < 2 ^ 16 }
-    requires order { AllFollow (drop from row.now.cells.now) }
-    requires room { has_empty (drop from row.now.cells.now) ≡ true }
+pub(crate) fn first_later(cells: &[PackedCell], from: usize, flight: PackedCell) -> usize
+    requires few { length cells.now < 2 ^ 16 }
+    requires order { AllFollow (drop from cells.now) }
+    requires room { has_empty (drop from cells.now) ≡ true }
     requires waits { waits flight ≡ true }
-    ensures comes { ComesIn row.now.cells.now from (planned_in flight) result }
-    ensures from { from ≤ result }
+    ensures comes { ComesIn cells.now from (planned_in flight) result }
 {
-    let mut place = from;
-    while row.get(place).waits_before(flight) || row.get(place).is_fixed() {
+    let mut chunk = from;
+    while chunk + CHUNK <= cells.len() && are_passed(&cells[chunk..chunk + CHUNK], flight) {
+        chunk += CHUNK;
+    }
+    let mut place = chunk;
+    while cells[place].is_passed(flight) {
         place += 1;
     }
     place

@@ -7,12 +7,12 @@
 
 ghost use Rattle.std.specs.Prelude.{◌≡◌, ◌+◌, ◌*◌, ◌/◌, ◌%◌, ◌^◌, ◌<◌, ◌≤◌, ◌↔◌, true, IsTrue};
 ghost use Rattle.std.specs.Prelude.{◌-◌, length, slice_set, ℕ, None, Some, IsSome};
-ghost use Rattle.std.specs.Prelude.{slice_index_or, vec_len};
+ghost use Rattle.std.specs.Prelude.{slice_index_or, vec_len, nat_lt, ◌||◌};
 ghost use Rattle.std.specs.List.{All};
 ghost use Rattle.flow_slots.specs.PackedCell.{IsStored, entry_number, flight_from};
 ghost use Rattle.flow_slots.specs.PackedCell.{flight_number, from_start, planned_in};
 ghost use Rattle.flow_slots.specs.Row.{IsFixedCell, cell_at, place_at};
-ghost use Rattle.flow_slots.specs.Walk.{waits, waits_before};
+ghost use Rattle.flow_slots.specs.Walk.{passes, waits};
 ghost use Rattle.flow_slots.specs.declared.cell.Cell.TheVariants.{Waiting};
 
 use crate::cell::{Cell, Planned};
@@ -71,6 +71,15 @@ fn flight_in(word: u32) -> u32
     ensures { result ≡ word % FLIGHTS }
 {
     word % FLIGHTS
+}
+
+/// Whether a number is less than `low` or greater than `high`, by one comparison.
+#[inline]
+fn is_outside(number: u32, low: u32, high: u32) -> bool
+    requires { low ≤ high }
+    ensures { result ≡ (nat_lt number low || nat_lt high number) }
+{
+    number.wrapping_sub(low) > high - low
 }
 
 impl PackedCell {
@@ -172,15 +181,30 @@ impl PackedCell {
         word_of(NO_ENTRY, 0) < self.word
     }
 
-    /// Whether the slot is provisional and its flight precedes this one. Empty and frozen cells
-    /// have the greatest entry, so one comparison of the words decides.
+    /// Whether a flight that comes to this slot passes it by: the slot is frozen, or provisional
+    /// and its flight precedes that one. The word is then greater than that of an empty cell, or
+    /// less than that of the flight.
     #[inline]
-    pub(crate) fn waits_before(&self, flight: PackedCell) -> bool
+    pub(crate) fn is_passed(self, flight: PackedCell) -> bool
         requires { waits flight ≡ true }
-        ensures { result ≡ waits_before (planned_in flight) self.now }
+        ensures { result ≡ passes (planned_in flight) self }
     {
-        self.word < flight.word
+        is_outside(self.word, flight.word, word_of(NO_ENTRY, 0))
     }
+}
+
+/// Whether a flight passes all of these slots by. It reads all of them without a branch, so the
+/// compiler compares several at once.
+#[inline]
+pub(crate) fn are_passed(cells: &[PackedCell], flight: PackedCell) -> bool
+    requires { waits flight ≡ true }
+    ensures { IsTrue result ↔ All (λ cell. passes (planned_in flight) cell ≡ true) cells.now }
+{
+    let mut open = false;
+    for cell in cells {
+        open |= !cell.is_passed(flight);
+    }
+    !open
 }
 
 /// Whether none of these slots is frozen. It reads all of them without a branch, so the compiler
@@ -289,7 +313,7 @@ impl<'a> Counting<'a> {
 }
 
 /// The number of slots that a search compares at once.
-const CHUNK: usize = 16;
+pub(crate) const CHUNK: usize = 16;
 
 /// The slot of a flight, or none. It takes two bytes, since a row has fewer than 65,536 slots: half
 /// of what a `u32` would take.
