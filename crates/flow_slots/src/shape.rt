@@ -369,7 +369,7 @@ impl<A: Allocator + Copy> FirstSlots<A> {
         requires { IsWithin self.now entry }
         ensures { result ≡ first_slot self.now entry }
     {
-        u32::from(self.by_minute[(entry - self.shape.start_minutes()) as usize])
+        self.by_ref().at(entry - self.shape.start_minutes())
     }
 }
 
