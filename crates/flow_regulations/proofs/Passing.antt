@@ -1,21 +1,22 @@
 -- Regulations that a walk passes: a flight isn't held in them.
-use Rattle.std.proofs.Common.{◌≡◌, ℕ, zero, suc, ◌+◌, ◌-◌, ◌<◌, ◌≤◌, Bool, true, false, List, [], ◌∷◌, ◌++◌, length, map, take, drop, get_or, Option, None, Some, ltb, refl, sym, ap, subst, ◌∙◌, arith}
-use Rattle.std.specs.Prelude.{bit_or, replicate}
-use Rattle.std.proofs.lemmas.List.{drop_all, drop_more, length-append, length-replicate, append-nil, append_assoc}
-use Rattle.std.proofs.lemmas.Bool.{ltb-true, ltb-false}
+use Rattle.std.proofs.Common.{◌≡◌, ℕ, zero, suc, ◌+◌, ◌-◌, ◌<◌, ◌≤◌, ◌⊎◌, inl, inr, Bool, true, false, cond, eqb, List, [], ◌∷◌, ◌++◌, length, map, take, drop, get_or, Option, None, Some, ltb, refl, sym, ap, subst, ◌∙◌, arith}
+use Rattle.std.specs.Prelude.{bit_or}
+use Rattle.std.specs.List.{AllByRecursion}
+use Rattle.std.proofs.lemmas.List.{drop_all, drop_more, get_or_default, append-nil}
+use Rattle.std.proofs.lemmas.Bool.{ltb-true, ltb-false, cases_eq, cases_lt, eq-eqb, ne_eqb}
 use Rattle.flow_plans.specs.Plans.{PlanView, plan_at}
 use Rattle.flow_regulations.specs.declared.telling.Delay.{Delay}
+use Rattle.flow_regulations.specs.declared.slot_state.NotedPlace.{NotedPlace}
 use Rattle.flow_regulations.specs.declared.slot_state.Place.{Place}
 use Rattle.flow_regulations.specs.declared.slot_state.Place.TheVariants as place
 use Rattle.flow_regulations.specs.Advice.{worse, worst}
 use Rattle.flow_regulations.specs.Listing.{RegulationView, Walked, regulation_of, IsFixedWaiting, IsLookedAgain}
 use Rattle.flow_regulations.specs.Marks.{may_stand, IsOut, IsMarked, MarksNear}
-use Rattle.flow_regulations.specs.SlotStates.{IsPlaceOf, ArePlaces}
+use Rattle.flow_regulations.specs.SlotStates.{place_at, IsPlaceOf}
 use Rattle.flow_regulations.proofs.Advised.{IsWorstSoFar}
 use Rattle.flow_regulations.proofs.MarkBits.{or-first, or-second}
 use Rattle.flow_regulations.proofs.Marking.{covers-at, falls}
 use Rattle.flow_regulations.proofs.Outs.{out-delay, out-fixes, out-looks, out-place}
-use Rattle.flow_regulations.proofs.PutBack.{places-more}
 use Rattle.flow_regulations.proofs.Walks.{walked-past}
 
 -- the bits from i to before j aren't set
@@ -66,44 +67,56 @@ looks-past n taxi now w near i j plans os ns some within c m h u walked =
     out-looks n taxi now plans (get_or os k d) None some within (covers-at w n k os d l c (falls w (bit_or w near) k (or-first w near k) out))
     (λ p at. sym (m p at k d l (falls near (bit_or w near) k (or-second w near k) out))) refl)) h walked
 
--- one more regulation is recorded not to hold it, and none
-pub absent-more : (ps : List Place) (j : ℕ) → length ps < j → (ps ++ place.Absent ∷ []) ++ replicate (j - length (ps ++ place.Absent ∷ [])) place.Absent ≡ ps ++ replicate (j - length ps) place.Absent
-absent-more ps j h =
-    let m : ℕ = j - length (ps ++ place.Absent ∷ []) in
-    let less : suc m ≡ j - length ps = omega (arith, h, length-append ps (place.Absent ∷ [])) in
-    append_assoc ps (place.Absent ∷ []) (replicate m place.Absent) ∙ ap (λ k. ps ++ replicate k place.Absent) less
+-- the recorded states are those of a flight in the first regulations
+pub record AreNoted (n j : ℕ) (ps : List NotedPlace) (ls : List RegulationView) : Type 0 where
+  pub below : AllByRecursion (λ p. p.index < j) ps
+  pub places : (i : ℕ) (d : RegulationView) → i < j → i < length ls → IsPlaceOf n (place_at ps i) (get_or ls i d)
 
-pub absent-all : (ps : List Place) (j : ℕ) → j ≤ length ps → ps ++ replicate (j - length ps) place.Absent ≡ ps
-absent-all ps j h =
-    let none : j - length ps ≡ 0 = omega (arith, h) in
-    ap (λ k. ps ++ replicate k place.Absent) none ∙ append-nil ps
+-- one more is recorded
+below-more : (i j : ℕ) (ps qs : List NotedPlace) → i ≤ j → AllByRecursion (λ p. p.index < i) ps → AllByRecursion (λ p. p.index < j) qs → AllByRecursion (λ p. p.index < j) (ps ++ qs)
+below-more i j [] qs h a b = b
+below-more i j (p ∷ ps) qs h a b = (omega (arith, h, a.0), below-more i j ps qs h a.1 b)
 
-pub absent-length : (i j : ℕ) (qs ps : List Place) → qs ≡ ps ++ replicate (j - i) place.Absent → length ps ≤ j → i ≡ length ps → length qs ≡ j
-absent-length i j qs ps e h k = ap length e ∙ (length-append ps (replicate (j - i) place.Absent) ∙ (let m = length-replicate (j - i) place.Absent in omega (arith, m, h, k)))
+place-none : (i : ℕ) (ps : List NotedPlace) → AllByRecursion (λ p. p.index < i) ps → place_at ps i ≡ place.Absent
+place-none i [] a = refl
+place-none i (p ∷ ps) a = ap (λ b. cond b p.place (place_at ps i)) (ne_eqb p.index i (λ e. omega (arith, a.0, e))) ∙ place-none i ps a.1
 
-pub unmarked-from : (word i j k : ℕ) → j ≡ i → AreUnmarked word i k → AreUnmarked word j k
-unmarked-from word i j k e u = (let U : ℕ → Type 0 = λ m. AreUnmarked word m k in subst U (sym e) u)
+place-last : (i : ℕ) (ps : List NotedPlace) (q : NotedPlace) → AllByRecursion (λ p. p.index < i) ps → q.index ≡ i → place_at (ps ++ q ∷ []) i ≡ q.place
+place-last i [] q a e = ap (λ b. cond b q.place place.Absent) (eq-eqb q.index i e)
+place-last i (p ∷ ps) q a e = ap (λ b. cond b p.place (place_at (ps ++ q ∷ []) i)) (ne_eqb p.index i (λ k. omega (arith, a.0, k))) ∙ place-last i ps q a.1 e
 
--- none of them holds it
-absent-run : (n m j : ℕ) (ps : List Place) (ls : List RegulationView) → ((k : ℕ) (d : RegulationView) → j ≤ k → k < j + m → k < length ls → IsPlaceOf n place.Absent (get_or ls k d)) → j + m ≤ length ls → ArePlaces n ps (take j ls) → ArePlaces n (ps ++ replicate m place.Absent) (take (j + m) ls)
-absent-run n zero j ps ls f h a =
-    let same : j ≡ j + 0 = omega arith in
-    let P : List Place → Type 0 = λ qs. ArePlaces n qs (take (j + 0) ls) in
-    let T : ℕ → Type 0 = λ k. ArePlaces n ps (take k ls) in
-    subst P (sym (append-nil ps)) (subst T same a)
-absent-run n (suc m) j ps [] f h a = absurd (omega (arith, h))
-absent-run n (suc m) j ps (l ∷ rest) f h a =
-    let ls : List RegulationView = l ∷ rest in
-    let below : j < length ls = omega (arith, h) in
-    let next : j + 1 + m ≡ j + suc m = omega arith in
-    let one = places-more n j ps ls l place.Absent below (f j l (omega arith) (omega arith) below) a in
-    let all = absent-run n m (j + 1) (ps ++ place.Absent ∷ []) ls (λ k d b c. f k d (omega (arith, b)) (omega (arith, c))) (omega (arith, h)) one in
-    let P : List Place → Type 0 = λ qs. ArePlaces n qs (take (j + suc m) ls) in
-    let T : ℕ → Type 0 = λ k. ArePlaces n ((ps ++ place.Absent ∷ []) ++ replicate m place.Absent) (take k ls) in
-    subst P (append_assoc ps (place.Absent ∷ []) (replicate m place.Absent)) (subst T next all)
+place-other : (i : ℕ) (ps : List NotedPlace) (q : NotedPlace) → (q.index ≡ i → ⊥) → place_at (ps ++ q ∷ []) i ≡ place_at ps i
+place-other i [] q ne = ap (λ b. cond b q.place place.Absent) (ne_eqb q.index i ne)
+place-other i (p ∷ ps) q ne = ap (λ v. cond (eqb p.index i) p.place v) (place-other i ps q ne)
 
-pub absent-past : (n w i j : ℕ) (ps : List Place) (ls : List RegulationView) → IsMarked w n 0 ls → i ≤ j → j ≤ length ls → AreUnmarked w i j → ArePlaces n ps (take i ls) → ArePlaces n (ps ++ replicate (j - i) place.Absent) (take j ls)
-absent-past n w i j ps ls c h l u a =
-    let next : i + (j - i) ≡ j = omega (arith, h) in
-    let T : ℕ → Type 0 = λ k. ArePlaces n (ps ++ replicate (j - i) place.Absent) (take k ls) in
-    subst T next (absent-run n (j - i) i ps ls (λ k d a b e. out-place n (get_or ls k d) (covers-at w n k ls d e c (u k a (omega (arith, b, next))))) (omega (arith, l, next)) a)
+pub noted-more : (n j : ℕ) (ps : List NotedPlace) (ls : List RegulationView) (d : RegulationView) (p : Place) → j < length ls → IsPlaceOf n p (get_or ls j d) → AreNoted n j ps ls → AreNoted n (j + 1) (ps ++ record { index = j; place = p } ∷ []) ls
+noted-more n j ps ls d p h is a =
+    record { below = below-more j (j + 1) ps (q ∷ []) (omega arith) a.below (omega arith, tt); places = λ i e b l. cases i e b l (cases_eq i j) }
+  where
+    q : NotedPlace
+    q = record { index = j; place = p }
+
+    cases : (i : ℕ) (e : RegulationView) → i < j + 1 → i < length ls → (i ≡ j) ⊎ (i ≡ j → ⊥) → IsPlaceOf n (place_at (ps ++ q ∷ []) i) (get_or ls i e)
+    cases i e b l (inl same) =
+        let P : RegulationView → Type 0 = λ v. IsPlaceOf n p v in
+        let Q : Place → Type 0 = λ v. IsPlaceOf n v (get_or ls j e) in
+        let R : ℕ → Type 0 = λ k. IsPlaceOf n (place_at (ps ++ q ∷ []) k) (get_or ls k e) in
+        subst R (sym same) (subst Q (sym (place-last j ps q a.below refl)) (subst P (get_or_default ls j d e h) is))
+    cases i e b l (inr ne) =
+        let Q : Place → Type 0 = λ v. IsPlaceOf n v (get_or ls i e) in
+        let less : i < j = omega (arith, b, ne) in
+        subst Q (sym (place-other i ps q (λ k. ne (sym k)))) (a.places i e less l)
+
+-- none is recorded for those that don't hold the flight
+pub noted-past : (n w i j : ℕ) (ps : List NotedPlace) (ls : List RegulationView) → IsMarked w n 0 ls → i ≤ j → AreUnmarked w i j → AreNoted n i ps ls → AreNoted n j ps ls
+noted-past n w i j ps ls c h u a = record {
+  below = (let B : List NotedPlace → Type 0 = λ qs. AllByRecursion (λ p. p.index < j) qs in subst B (append-nil ps) (below-more i j ps [] h a.below tt));
+  places = λ k d b l. cases k d b l (cases_lt k i);
+}
+  where
+    cases : (k : ℕ) (d : RegulationView) → k < j → k < length ls → (k < i) ⊎ (i ≤ k) → IsPlaceOf n (place_at ps k) (get_or ls k d)
+    cases k d b l (inl less) = a.places k d less l
+    cases k d b l (inr past) =
+        let Q : Place → Type 0 = λ v. IsPlaceOf n v (get_or ls k d) in
+        let B : List NotedPlace → Type 0 = λ qs. AllByRecursion (λ p. p.index < k) qs in
+        subst Q (sym (place-none k ps (subst B (append-nil ps) (below-more i k ps [] past a.below tt)))) (out-place n (get_or ls k d) (covers-at w n k ls d l c (u k past b)))

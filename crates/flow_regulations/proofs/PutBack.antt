@@ -1,6 +1,7 @@
 -- The state of a flight in a slot list is restored.
-use Rattle.std.proofs.Common.{◌≡◌, ℕ, zero, suc, ◌+◌, ◌<◌, ◌++◌, Bool, true, false, not, cond, eqb, List, [], ◌∷◌, length, map, take, get_or, Option, Some, None, refl, sym, ap, subst, ◌∙◌, arith}
-use Rattle.std.proofs.lemmas.List.{take_more, length-map}
+use Rattle.std.proofs.Common.{◌≡◌, ℕ, zero, suc, ◌+◌, ◌<◌, ◌≤◌, ◌++◌, Bool, true, false, not, cond, eqb, List, [], ◌∷◌, length, map, take, drop, get_or, Option, Some, None, refl, sym, ap, subst, ◌∙◌, arith}
+use Rattle.std.proofs.lemmas.List.{take_all, take_more, take_more_set, drop-set-lt, get_or-drop, length-map}
+use Rattle.std.proofs.lemmas.Grind.{drop_more_same}
 use Rattle.std.specs.Prelude.{IsSome, IfSome, slice_set}
 use Rattle.std.specs.List.{AllByRecursion}
 use Rattle.std.specs.Option.{option_map_or}
@@ -11,10 +12,11 @@ use Rattle.flow_slots.specs.Order.{without}
 use Rattle.flow_slots.specs.Assignment.{Placed, first_free, greedy, slots}
 use Rattle.flow_slots.specs.Lineup.{Lineup, IsLineup, len_of, NoneIs, NoneFixed, BySlot, WaitingApart, slot_in, flight_in, held_flight, fixed_slot, entry_in, waiting_entry, without_fixed, without_flight}
 use Rattle.flow_slots.proofs.TakenBack.{removed-inserted, removed-put_fixed}
+use Rattle.flow_regulations.specs.declared.slot_state.NotedPlace.{NotedPlace}
 use Rattle.flow_regulations.specs.declared.slot_state.Place.{Place}
 use Rattle.flow_regulations.specs.declared.slot_state.Place.TheVariants as place
 use Rattle.flow_regulations.specs.Listing.{RegulationView, with_lineup, without_in, HaveCapacity}
-use Rattle.flow_regulations.specs.SlotStates.{stood, IsPlaceOf, ArePlaces}
+use Rattle.flow_regulations.specs.SlotStates.{stood, place_at, IsPlaceOf, ArePlaces}
 use Rattle.flow_regulations.proofs.FixedOnes.{slot_in-none, without_fixed-none}
 use Rattle.flow_regulations.proofs.Looks.{slot_in-before}
 use Rattle.flow_regulations.proofs.Standing.{none-slot}
@@ -134,63 +136,9 @@ stands-nowhere f l a e = record {
   back = out-already f l.lineup a e;
 }
 
--- its state in one more regulation
-pub places-more : (f j : ℕ) (ps : List Place) (ls : List RegulationView) (d : RegulationView) (p : Place) → j < length ls → IsPlaceOf f p (get_or ls j d) → ArePlaces f ps (take j ls) → ArePlaces f (ps ++ p ∷ []) (take (j + 1) ls)
-places-more f j ps ls d p h i a =
-    let A : List RegulationView → Type 0 = λ xs. ArePlaces f (ps ++ p ∷ []) xs in
-    subst A (sym (take_more ls j d h)) (last ps (take j ls) a)
-  where
-    last : (ps : List Place) (xs : List RegulationView) → ArePlaces f ps xs → ArePlaces f (ps ++ p ∷ []) (xs ++ get_or ls j d ∷ [])
-    last [] [] a = (i, tt)
-    last [] (x ∷ xs) a = absurd a
-    last (q ∷ qs) [] a = absurd a
-    last (q ∷ qs) (x ∷ xs) a = (a.0, last qs xs a.1)
-
--- a walk over a list beside another, that replaces its elements in turn
-abbrev pub WalkedBy : {X Y : Type 0} → (Y → X → X → Type 0) → ℕ → List Y → List X → List X → Type 0
-WalkedBy R zero ys xs zs = zs ≡ xs
-WalkedBy R (suc i) [] xs zs = ⊥
-WalkedBy R (suc i) (y ∷ ys) [] zs = ⊥
-WalkedBy R (suc i) (y ∷ ys) (x ∷ xs) [] = ⊥
-WalkedBy R (suc i) (y ∷ ys) (x ∷ xs) (z ∷ zs) = R y x z × WalkedBy R i ys xs zs
-
 -- what the flight's regulation is after it was put back
 abbrev pub IsBack : ℕ → Place → RegulationView → RegulationView → Type 0
 IsBack f p o n = (before : RegulationView) → IsPlaceOf f p before → without_in f o ≡ without_in f before → n ≡ before
-
-walk-suc : {X Y : Type 0} (R : Y → X → X → Type 0) (i : ℕ) (ys : List Y) (xs zs : List X) (dy : Y) (d z : X) → i < length ys → i < length zs → R (get_or ys i dy) (get_or zs i d) z → WalkedBy R i ys xs zs → WalkedBy R (suc i) ys xs (slice_set zs i z)
-walk-suc R i [] xs zs dy d z h k r w = absurd (omega arith)
-walk-suc R i (y ∷ ys) xs [] dy d z h k r w = absurd (omega arith)
-walk-suc R zero (y ∷ ys) xs (v ∷ zs) dy d z h k r w = (let W : List _ → Type 0 = λ us. WalkedBy R (suc zero) (y ∷ ys) us (z ∷ zs) in subst W w (r, refl))
-walk-suc R (suc i) (y ∷ ys) [] (v ∷ zs) dy d z h k r w = absurd w
-walk-suc R (suc i) (y ∷ ys) (x ∷ xs) (v ∷ zs) dy d z h k r w = (w.0, walk-suc R i ys xs zs dy d z (omega (arith, h)) (omega (arith, k)) r w.1)
-
-pub walk-by : {X Y : Type 0} (R : Y → X → X → Type 0) (i : ℕ) (ys : List Y) (xs zs : List X) (dy : Y) (d z : X) → i < length ys → i < length zs → R (get_or ys i dy) (get_or zs i d) z → WalkedBy R i ys xs zs → WalkedBy R (i + 1) ys xs (slice_set zs i z)
-walk-by R i ys xs zs dy d z h k r w =
-    let W : ℕ → Type 0 = λ j. WalkedBy R j ys xs (slice_set zs i z) in
-    let same : suc i ≡ i + 1 = omega arith in
-    subst W same (walk-suc R i ys xs zs dy d z h k r w)
-
--- those that it hasn't reached are unchanged
-pub walk-rest : {X Y : Type 0} (R : Y → X → X → Type 0) (i : ℕ) (ys : List Y) (xs zs : List X) (d : X) → WalkedBy R i ys xs zs → get_or zs i d ≡ get_or xs i d
-walk-rest R zero ys xs zs d w = ap (λ vs. get_or vs zero d) w
-walk-rest R (suc i) [] xs zs d w = absurd w
-walk-rest R (suc i) (y ∷ ys) [] zs d w = absurd w
-walk-rest R (suc i) (y ∷ ys) (x ∷ xs) [] d w = absurd w
-walk-rest R (suc i) (y ∷ ys) (x ∷ xs) (z ∷ zs) d w = walk-rest R i ys xs zs d w.1
-
--- there are as many recorded states as regulations
-pub places-length : (f : ℕ) (ps : List Place) (bs : List RegulationView) → ArePlaces f ps bs → length bs ≡ length ps
-places-length f [] [] a = refl
-places-length f [] (b ∷ bs) a = absurd a
-places-length f (p ∷ ps) [] a = absurd a
-places-length f (p ∷ ps) (b ∷ bs) a = (let again = places-length f ps bs a.1 in omega arith)
-
-pub place-at : (f i : ℕ) (ps : List Place) (bs : List RegulationView) (dp : Place) (db : RegulationView) → i < length ps → ArePlaces f ps bs → IsPlaceOf f (get_or ps i dp) (get_or bs i db)
-place-at f i [] bs dp db h a = absurd (omega arith)
-place-at f i (p ∷ ps) [] dp db h a = absurd a
-place-at f zero (p ∷ ps) (b ∷ bs) dp db h a = a.0
-place-at f (suc i) (p ∷ ps) (b ∷ bs) dp db h a = place-at f i ps bs dp db (omega (arith, h)) a.1
 
 pub map-at : (f i : ℕ) (os bs : List RegulationView) (d e : RegulationView) → i < length os → map (without_in f) os ≡ map (without_in f) bs → without_in f (get_or os i d) ≡ without_in f (get_or bs i e)
 map-at f i [] bs d e h q = absurd (omega arith)
@@ -198,22 +146,36 @@ map-at f i (o ∷ os) [] d e h q = absurd cc
 map-at f zero (o ∷ os) (b ∷ bs) d e h q = cc
 map-at f (suc i) (o ∷ os) (b ∷ bs) d e h q = (let rest : map (without_in f) os ≡ map (without_in f) bs = cc in map-at f i os bs d e (omega (arith, h)) rest)
 
-pub all-back : (f n : ℕ) (ps : List Place) (os ns bs : List RegulationView) → n ≡ length ps → WalkedBy (IsBack f) n ps os ns → ArePlaces f ps bs → map (without_in f) os ≡ map (without_in f) bs → ns ≡ bs
-all-back f zero [] [] ns [] e w a q = w
-all-back f zero [] (o ∷ os) ns [] e w a q = absurd cc
-all-back f zero [] os ns (b ∷ bs) e w a q = absurd a
-all-back f zero (p ∷ ps) os ns bs e w a q = absurd (omega arith)
-all-back f (suc n) [] os ns bs e w a q = absurd w
-all-back f (suc n) (p ∷ ps) [] ns bs e w a q = absurd w
-all-back f (suc n) (p ∷ ps) (o ∷ os) [] bs e w a q = absurd w
-all-back f (suc n) (p ∷ ps) (o ∷ os) (v ∷ ns) [] e w a q = absurd a
-all-back f (suc n) (p ∷ ps) (o ∷ os) (v ∷ ns) (b ∷ bs) e w a q =
-    let here : without_in f o ≡ without_in f b = cc in
-    let rest : map (without_in f) os ≡ map (without_in f) bs = cc in
-    ap (λ u. u ∷ ns) (w.0 b a.0 here) ∙ ap (λ us. b ∷ us) (all-back f n ps os ns bs (omega (arith, e)) w.1 a.1 rest)
-
 pub same-count : (f : ℕ) (os bs : List RegulationView) → map (without_in f) os ≡ map (without_in f) bs → length os ≡ length bs
 same-count f os bs q = sym (length-map os (without_in f)) ∙ (ap length q ∙ length-map bs (without_in f))
+
+-- in the first regulations the flight was put back, and the others are unchanged
+pub record AreBack (f i : ℕ) (ps : List NotedPlace) (os ns : List RegulationView) : Type 0 where
+  pub first : (before : List RegulationView) → ArePlaces f ps before → map (without_in f) os ≡ map (without_in f) before → take i ns ≡ take i before
+  pub rest : drop i ns ≡ drop i os
+
+pub rest-at : (i : ℕ) (os ns : List RegulationView) (d : RegulationView) → drop i ns ≡ drop i os → get_or ns i d ≡ get_or os i d
+rest-at i os ns d e =
+    let at : (ls : List RegulationView) → get_or (drop i ls) 0 d ≡ get_or ls i d = λ ls. (let same : i + 0 ≡ i = omega arith in get_or-drop i ls 0 d ∙ ap (λ k. get_or ls k d) same) in
+    sym (at ns) ∙ ap (λ ls. get_or ls 0 d) e ∙ at os
+
+pub back-more : (f i : ℕ) (ps : List NotedPlace) (os ns : List RegulationView) (d z : RegulationView) → i < length ns → length ns ≡ length os → IsBack f (place_at ps i) (get_or ns i d) z → AreBack f i ps os ns → AreBack f (i + 1) ps os (slice_set ns i z)
+back-more f i ps os ns d z h n back b = record {
+  first = λ before are same.
+      (let count = same-count f os before same in
+      let inside : i < length before = omega (arith, h, n, count) in
+      let alone = ap (without_in f) (rest-at i os ns d b.rest) ∙ map-at f i os before d d (omega (arith, h, n)) same in
+      take_more_set ns i z h
+      ∙ ap (λ ls. ls ++ z ∷ []) (b.first before are same)
+      ∙ ap (λ v. take i before ++ v ∷ []) (back (get_or before i d) (are i d inside) alone)
+      ∙ sym (take_more before i d inside));
+  rest = drop-set-lt (i + 1) ns i z (omega arith) ∙ drop_more_same ns os i b.rest;
+}
+
+pub all-back : (f i : ℕ) (ps : List NotedPlace) (os ns before : List RegulationView) → length ns ≤ i → length ns ≡ length os → AreBack f i ps os ns → ArePlaces f ps before → map (without_in f) os ≡ map (without_in f) before → ns ≡ before
+all-back f i ps os ns before h n b are same =
+    let count = same-count f os before same in
+    sym (take_all i ns h) ∙ b.first before are same ∙ take_all i before (omega (arith, h, n, count))
 
 pub capacity-back : (f max : ℕ) (os bs : List RegulationView) → map (without_in f) os ≡ map (without_in f) bs → HaveCapacity max os → HaveCapacity max bs
 capacity-back f max os [] q h = tt

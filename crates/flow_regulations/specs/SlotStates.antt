@@ -1,8 +1,9 @@
 -- The state of a flight in slot lists, by which it is restored there.
-use Rattle.std.specs.Prelude.{◌≡◌, ℕ, ◌<◌, List, [], ◌∷◌, None, IfSome}
+use Rattle.std.specs.Prelude.{◌≡◌, ℕ, ◌<◌, ◌==◌, if◌then◌else◌, List, [], ◌∷◌, length, None, IfSome, slice_index_or as get_or}
 use Rattle.std.specs.Option.{option_map_or}
 use Rattle.flow_slots.specs.Period.{IsWithin}
 use Rattle.flow_slots.specs.Lineup.{Lineup, len_of, held_flight, fixed_slot, waiting_entry, with_waiting, with_fixed, without_flight}
+use Rattle.flow_regulations.specs.declared.slot_state.NotedPlace.{NotedPlace}
 use Rattle.flow_regulations.specs.declared.slot_state.Place.{Place}
 use Rattle.flow_regulations.specs.declared.slot_state.Place.TheVariants as place
 use Rattle.flow_regulations.specs.Listing.{RegulationView}
@@ -32,9 +33,11 @@ pub record IsPlaceOf (flight : ℕ) (place : Place) (l : RegulationView) : Type 
   pub may : MayStand place (without_flight flight l.lineup)
   pub back : stood place flight (without_flight flight l.lineup) ≡ l.lineup
 
--- and in each of them
-abbrev pub ArePlaces : ℕ → List Place → List RegulationView → Type 0
-ArePlaces flight [] [] = Unit {0}
-ArePlaces flight [] (l ∷ ls) = ⊥
-ArePlaces flight (p ∷ ps) [] = ⊥
-ArePlaces flight (p ∷ ps) (l ∷ ls) = IsPlaceOf flight p l × ArePlaces flight ps ls
+-- the state recorded for the regulation at an index: absent, if none is
+abbrev pub place_at : List NotedPlace → ℕ → Place
+place_at [] index = place.Absent
+place_at (n ∷ ns) index = if n.index == index then n.place else place_at ns index
+
+-- the states of the flight in all open regulations
+abbrev pub ArePlaces : ℕ → List NotedPlace → List RegulationView → Type 0
+ArePlaces flight places lists = (index : ℕ) (l : RegulationView) → index < length lists → IsPlaceOf flight (place_at places index) (get_or lists index l)

@@ -54,5 +54,5 @@ pub use due_queue::{DueQueue, ISSUE_LEAD, PendingFlight, is_due_by};
 pub use notice::{Notice, Said, Told, Window};
 pub use regulation::Regulation;
 pub use regulations::Regulations;
-pub use slot_state::Place;
+pub use slot_state::{NotedPlace, Place};
 pub use window::window_of;

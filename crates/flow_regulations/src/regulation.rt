@@ -414,12 +414,15 @@ impl<A: Allocator + Copy> Regulation<A> {
     }
 }
 
-/// Whether the flight of plan `number` has departed.
-fn has_departed<A: Allocator + Copy>(plans: &PlanStore<A>, number: u32) -> bool
+/// Whether the flight of plan `number` has departed. Doesn't read a plan that is filed.
+pub(crate) fn has_departed<A: Allocator + Copy>(plans: &PlanStore<A>, number: u32) -> bool
     requires { 0 < number }
     ensures { (p : PlanView) → plan_at plans.now.plans number ≡ Some p → result
         ≡ is_departed p.state }
 {
+    if plans.filed_off_block(number).is_some() {
+        return false;
+    }
     match plans.plan(number) {
         Some(plan) => matches!(plan.state(), PlanState::Departed),
         None => false,

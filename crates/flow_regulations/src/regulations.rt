@@ -2,7 +2,7 @@
 ghost use Rattle.std.specs.Prelude.{◌≡◌, ◌<◌, ◌≤◌, ◌+◌, ◌-◌, ◌++◌, ℕ, List};
 ghost use Rattle.std.specs.Prelude.{[], false, true, ◌∷◌, None, Some, IfSome};
 ghost use Rattle.std.specs.Prelude.{IfNone, IfOk, IsTrue, ◌↔◌, MatchOption};
-ghost use Rattle.std.specs.Prelude.{OnOk, OnErr, length, map, replicate};
+ghost use Rattle.std.specs.Prelude.{OnOk, OnErr, length, map};
 ghost use Rattle.std.specs.Prelude.{vec_capacity};
 ghost use Rattle.std.specs.List.{All, AllByRecursion, insert, list_any};
 ghost use Rattle.std.specs.List.Sorted.{IsNonDecreasing, IsStrictlyIncreasing};
@@ -25,7 +25,7 @@ ghost use Rattle.flow_regulations.specs.Listing.{MayReopen, pairs_in, regulation
 ghost use Rattle.flow_regulations.specs.Marks.{IsMarked, AreMarked, AreInRows, MarksNear};
 ghost use Rattle.flow_regulations.specs.Settling.{pairs_of};
 ghost use Rattle.flow_regulations.specs.Notices.{notices_from, told_from};
-ghost use Rattle.flow_regulations.specs.SlotStates.{ArePlaces};
+ghost use Rattle.flow_regulations.specs.SlotStates.{ArePlaces, place_at};
 ghost use Rattle.flow_regulations.specs.Quiet.{AreQuietBut, AllQuiet};
 ghost use Rattle.flow_plans.specs.declared.setup.TheConstants.{MAX_PLANS};
 
@@ -37,7 +37,7 @@ use crate::in_order::put_in_order;
 use crate::notice::{Notice, Told};
 use crate::place_table::PlaceTable;
 use crate::regulation::Regulation;
-use crate::slot_state::Place;
+use crate::slot_state::{NotedPlace, Place};
 use crate::telling::{advice_of, tell};
 use flow_plans::PlanStore;
 use flow_slots::{Planned, Shape, SlotList};
@@ -310,9 +310,9 @@ impl<A: Allocator + Copy> Regulations<A> {
         fix_waiting_in(&mut self.regulations, number, word);
     }
 
-    /// Appends the state of a flight in each regulation, in the order of opening, for `put_back`.
-    /// The caller has reserved capacity for one state a regulation.
-    pub fn note_places(&self, number: u32, places: &mut Vec<Place, A>)
+    /// Records the state of a flight in each regulation that may hold it, for `put_back`, in place
+    /// of those recorded before. The caller has reserved capacity for one state a regulation.
+    pub fn note_places(&self, number: u32, places: &mut Vec<NotedPlace, A>)
         requires { length self.now.lists ≤ vec_capacity places.old }
         ensures places { ArePlaces number places.new.items self.now.lists }
         ensures capacity { vec_capacity places.new ≡ vec_capacity places.old }
@@ -324,7 +324,7 @@ impl<A: Allocator + Copy> Regulations<A> {
     /// Undoes `reallocate` and `freeze_departing` for a flight: restores its state in each
     /// regulation, as it was recorded then. The regulations are those of that time. Allocates
     /// nothing.
-    pub fn put_back(&mut self, number: u32, places: &[Place])
+    pub fn put_back(&mut self, number: u32, places: &[NotedPlace])
         requires some { 0 < number }
         requires room { number ≤ self.old.max_plans }
         requires before { (before : List RegulationView) × ArePlaces number places.now before
@@ -436,12 +436,12 @@ fn reallocate_in<A: Allocator + Copy>(
     marked
 }
 
-/// Appends the state of a flight in each regulation. `word` is the mask of those that may hold it.
+/// Records the state of a flight in each regulation of the mask `word`. No other one holds it.
 fn note_places_in<A: Allocator + Copy>(
     regulations: &[Regulation<A>],
     number: u32,
     word: u64,
-    places: &mut Vec<Place, A>,
+    places: &mut Vec<NotedPlace, A>,
 )
     requires room { length regulations.now ≤ vec_capacity places.old }
     requires covers { IsMarked word number 0 regulations.now }
@@ -451,31 +451,29 @@ fn note_places_in<A: Allocator + Copy>(
     places.clear();
     let mut index = next_marked(word, 0);
     while index < regulations.len() {
-        note_absent(places, index);
-        places.push_reserved(regulations[index].place_of(number));
+        let place = regulations[index].place_of(number);
+        places.push_reserved(NotedPlace { index, place });
         index = next_marked(word, index + 1);
     }
-    note_absent(places, regulations.len());
 }
 
-/// Appends, up to this index, that the regulations for which nothing is recorded don't hold the
-/// flight.
-fn note_absent<A: Allocator + Copy>(places: &mut Vec<Place, A>, index: usize)
-    requires room { index ≤ vec_capacity places.old }
-    ensures places { places.new.items
-        ≡ places.old.items ++ replicate (index - length places.old.items) Place.Absent }
-    ensures capacity { vec_capacity places.new ≡ vec_capacity places.old }
+/// The state recorded for the regulation at an index: absent, if none is.
+fn place_at(places: &[NotedPlace], index: usize) -> Place
+    ensures { result ≡ place_at places.now index }
 {
-    while places.len() < index {
-        places.push_reserved(Place::Absent);
+    for noted in places {
+        if noted.index == index {
+            return noted.place;
+        }
     }
+    Place::Absent
 }
 
 /// Each regulation restores the state of one flight.
 fn put_back_in<A: Allocator + Copy>(
     regulations: &mut [Regulation<A>],
     number: u32,
-    places: &[Place],
+    places: &[NotedPlace],
 )
     requires some { 0 < number }
     requires room { AllByRecursion (λ l. number ≤ l.lineup.capacity) regulations.old }
@@ -486,7 +484,7 @@ fn put_back_in<A: Allocator + Copy>(
         → regulations.new ≡ before }
 {
     for (index, regulation) in regulations.iter_mut().enumerate() {
-        regulation.put_back(number, places[index]);
+        regulation.put_back(number, place_at(places, index));
     }
 }
 

@@ -19,3 +19,11 @@ impl Place {
         self == other
     }
 }
+
+/// The state of a flight in the slot list of the open regulation at an index, in the order of
+/// opening.
+#[derive(Clone, Copy, Debug, Drop, PartialEq, Eq)]
+pub struct NotedPlace {
+    pub index: usize,
+    pub place: Place,
+}

@@ -8,8 +8,8 @@ ghost use Rattle.flow_plans.specs.Plans.{plan_at};
 ghost use Rattle.flow_regulations.specs.Advice.{advice, delay_in, caused_by, worse};
 ghost use Rattle.flow_regulations.specs.Listing.{regulation_of};
 ghost use Rattle.flow_regulations.specs.Marks.{AreMarked, IsMarked};
-ghost use Rattle.flow_regulations.specs.Notices.{says, notices_to, told_to_plan, notices_from};
-ghost use Rattle.flow_regulations.specs.Notices.{told_from};
+ghost use Rattle.flow_regulations.specs.Notices.{says, notice_of, notices_to, notices_from};
+ghost use Rattle.flow_regulations.specs.Notices.{told_then, told_to_plan, told_from};
 ghost use Rattle.flow_regulations.specs.Quiet.{AreQuietBut, AllQuiet};
 ghost use Rattle.std.specs.Option.{option_map};
 ghost use Rattle.flow_plans.specs.Entries.{take_off};
@@ -19,8 +19,8 @@ ghost use Rattle.fpl_text.specs.declared.minute.TheConstants.{GREATEST_MINUTE};
 
 use crate::held_marks::{HeldMarks, next_marked};
 use crate::notice::{Notice, Said, Told};
-use crate::regulation::Regulation;
-use flow_plans::{Plan, PlanState, PlanStore};
+use crate::regulation::{Regulation, has_departed};
+use flow_plans::{Plan, PlanStore};
 use flow_slots::SlotList;
 use fpl_text::{Minute, Text};
 use std::alloc::Allocator;
@@ -63,8 +63,8 @@ fn notice_to<A: Allocator + Copy>(plan: &Plan<A>, says: Said) -> Notice
     }
 }
 
-/// Issues a plan its advice, with a notice if that has another CTOT than was last issued to the
-/// plan. A departed plan is issued nothing more.
+/// Issues a plan that hasn't departed its advice, with a notice if that has another CTOT than was
+/// last issued to the plan.
 fn tell_plan<A: Allocator + Copy>(
     plan: &Plan<A>,
     advice: Option<Told>,
@@ -72,8 +72,9 @@ fn tell_plan<A: Allocator + Copy>(
     notices: &mut Vec<Notice, A>,
 )
     requires { length notices.old.items < vec_capacity notices.old }
-    ensures told { told.new ≡ told_to_plan plan.now told.old advice }
-    ensures notices { notices.new.items ≡ notices.old.items ++ notices_to plan.now told.old advice }
+    ensures told { told.new ≡ told_then told.old advice }
+    ensures notices { notices.new.items
+        ≡ notices.old.items ++ notice_of plan.now (says told.old advice) }
     ensures few { length notices.new.items ≤ length notices.old.items + 1 }
     ensures capacity { vec_capacity notices.new ≡ vec_capacity notices.old }
 {
@@ -81,14 +82,11 @@ fn tell_plan<A: Allocator + Copy>(
     let Some(said) = says(told, &advice) else {
         return;
     };
-    if plan.state() == PlanState::Departed {
-        return;
-    }
     notices.push_reserved(notice_to(plan, said));
     *told = advice;
 }
 
-/// Issues plan `number` its advice.
+/// Issues plan `number` its advice. A departed plan is issued nothing more.
 fn tell_number<A: Allocator + Copy>(
     regulations: &[Regulation<A>],
     marks: &HeldMarks<A>,
@@ -110,6 +108,9 @@ fn tell_number<A: Allocator + Copy>(
     ensures few { length notices.new.items ≤ length notices.old.items + 1 }
     ensures capacity { vec_capacity notices.new ≡ vec_capacity notices.old }
 {
+    if has_departed(plans, number) {
+        return;
+    }
     if let Some(plan) = plans.plan(number) {
         let advice = advice_of(regulations, plans, number, marks.of(number));
         tell_plan(plan, advice, told, notices);

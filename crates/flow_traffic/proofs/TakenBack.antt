@@ -12,11 +12,11 @@ use Rattle.flow_plans.specs.Stores.{PlanStoreView}
 use Rattle.flow_slots.specs.Lineup.{Lineup, fixed_slot, with_waiting, without_flight}
 use Rattle.flow_regulations.specs.declared.notice.Told.{Told}
 use Rattle.flow_regulations.specs.declared.notice.Notice.{Notice}
-use Rattle.flow_regulations.specs.declared.slot_state.Place.{Place}
+use Rattle.flow_regulations.specs.declared.slot_state.NotedPlace.{NotedPlace}
 use Rattle.flow_regulations.specs.Regulations.{Regulation, subject_to}
 use Rattle.flow_regulations.specs.Awaiting.{Covers, HaveBecomeDue}
 use Rattle.flow_regulations.specs.Listing.{ClosedView, IsOpened, is_named, RegulationView, RegulationsView, regulation_of, with_lineup, without_in, with_fixed_waiting, released, released_in, IsReleased, Walked, HoldNewlyDue}
-use Rattle.flow_regulations.specs.SlotStates.{stood, ArePlaces}
+use Rattle.flow_regulations.specs.SlotStates.{stood, place_at, IsPlaceOf, ArePlaces}
 use Rattle.flow_regulations.proofs.PutBack.{stood-there}
 use Rattle.flow_regulations.proofs.Queues.{due-there, became-within}
 use Rattle.flow_regulations.proofs.Released.{release-step}
@@ -37,17 +37,24 @@ head-of d [] = d
 head-of d (l ∷ ls) = l
 
 -- a flight has its former slots again
-pub stands-again : (n : ℕ) (ps : List Place) (ls bs : List RegulationView) → ArePlaces n ps bs → map (without_in n) ls ≡ map (without_in n) bs → stood_again n ps ls ≡ bs
-stands-again n [] [] [] h e = refl
-stands-again n [] (l ∷ ls) [] h e = absurd cc
-stands-again n [] ls (b ∷ bs) h e = absurd h
-stands-again n (p ∷ ps) ls [] h e = absurd h
-stands-again n (p ∷ ps) [] (b ∷ bs) h e = absurd cc
-stands-again n (p ∷ ps) (l ∷ ls) (b ∷ bs) h e =
+stands-from : (n i : ℕ) (ps : List NotedPlace) (ls bs : List RegulationView) → ((k : ℕ) (d : RegulationView) → k < length bs → IsPlaceOf n (place_at ps (i + k)) (get_or bs k d)) → map (without_in n) ls ≡ map (without_in n) bs → stood_again n i ps ls ≡ bs
+stands-from n i ps [] [] h e = refl
+stands-from n i ps [] (b ∷ bs) h e = absurd cc
+stands-from n i ps (l ∷ ls) [] h e = absurd cc
+stands-from n i ps (l ∷ ls) (b ∷ bs) h e =
     let here : without_in n l ≡ without_in n b = ap (λ xs. head-of l xs) e in
     let rest : map (without_in n) ls ≡ map (without_in n) bs = ap (λ (xs : List RegulationView). drop 1 xs) e in
-    ap (λ x. x ∷ stood_again n ps ls) (stood-there n p l (without_in n l) (with_lineup (stood p n (without_flight n l.lineup)) l) b h.0 here refl refl)
-    ∙ ap (λ xs. b ∷ xs) (stands-again n ps ls bs h.1 rest)
+    let P : ℕ → Type 0 = λ k. IsPlaceOf n (place_at ps k) b in
+    let start : i + 0 ≡ i = omega arith in
+    let first : IsPlaceOf n (place_at ps i) b = subst P start (h 0 b (omega arith)) in
+    let later : (k : ℕ) (d : RegulationView) → k < length bs → IsPlaceOf n (place_at ps (suc i + k)) (get_or bs k d) =
+    λ k d less. (let Q : ℕ → Type 0 = λ m. IsPlaceOf n (place_at ps m) (get_or bs k d) in let next : i + suc k ≡ suc i + k = omega arith in subst Q next (h (suc k) d (omega (arith, less)))) in
+    ap (λ x. x ∷ stood_again n (suc i) ps ls) (stood-there n (place_at ps i) l (without_in n l) (with_lineup (stood (place_at ps i) n (without_flight n l.lineup)) l) b first here refl refl)
+    ∙ ap (λ xs. b ∷ xs) (stands-from n (suc i) ps ls bs later rest)
+
+pub stands-again : (n : ℕ) (ps : List NotedPlace) (ls bs : List RegulationView) → ArePlaces n ps bs → map (without_in n) ls ≡ map (without_in n) bs → stood_again n 0 ps ls ≡ bs
+stands-again n ps ls bs h e =
+    stands-from n 0 ps ls bs (λ k d less. (let P : ℕ → Type 0 = λ m. IsPlaceOf n (place_at ps m) (get_or bs k d) in let same : k ≡ 0 + k = omega arith in subst P same (h k d less))) e
 
 -- ---- flights that became due have provisional slots again
 

@@ -1,5 +1,5 @@
 -- What undoes the last reading.
-use Rattle.std.specs.Prelude.{◌≡◌, ◌≤◌, ◌<◌, ◌+◌, ◌-◌, ◌++◌, ℕ, Bool, true, false, List, [], ◌∷◌, length, map, take, Option, None, Some, IfSome}
+use Rattle.std.specs.Prelude.{◌≡◌, ◌≤◌, ◌<◌, ◌+◌, ◌-◌, ◌++◌, ℕ, suc, Bool, true, false, List, [], ◌∷◌, length, map, take, Option, None, Some, IfSome}
 use Rattle.std.specs.List.{All}
 use Rattle.std.specs.List.Sorted.{IsStrictlyIncreasing}
 use Rattle.std.specs.Option.{option_map_or}
@@ -8,10 +8,10 @@ use Rattle.flow_slots.specs.Assignment.{is_in}
 use Rattle.flow_slots.specs.Lineup.{without_flight}
 use Rattle.flow_regulations.specs.declared.notice.Told.{Told}
 use Rattle.flow_regulations.specs.declared.notice.Notice.{Notice}
-use Rattle.flow_regulations.specs.declared.slot_state.Place.{Place}
+use Rattle.flow_regulations.specs.declared.slot_state.NotedPlace.{NotedPlace}
 use Rattle.flow_regulations.specs.Awaiting.{DueQueueView, Covers, HaveBecomeDue}
 use Rattle.flow_regulations.specs.Listing.{RegulationView, ClosedView, MayReopen, with_lineup, without_in, with_fixed_waiting, released_in, HoldNewlyDue}
-use Rattle.flow_regulations.specs.SlotStates.{stood, ArePlaces}
+use Rattle.flow_regulations.specs.SlotStates.{stood, place_at, ArePlaces}
 use Rattle.flow_traffic.specs.declared.undo.Last.{Last}
 use Rattle.flow_traffic.specs.declared.undo.Last.TheVariants as reading
 use Rattle.flow_traffic.specs.Traffic.{Traffic, told_of}
@@ -20,11 +20,11 @@ use Rattle.flow_traffic.specs.Telling.{told_again}
 use Rattle.flow_traffic.specs.Reopening.{open_again}
 use Rattle.flow_traffic.specs.Kept.{IsKeptState}
 
--- a flight has its former slots again
-abbrev pub stood_again : ℕ → List Place → List RegulationView → List RegulationView
-stood_again number [] lists = lists
-stood_again number (p ∷ ps) [] = []
-stood_again number (p ∷ ps) (l ∷ ls) = with_lineup (stood p number (without_flight number l.lineup)) l ∷ stood_again number ps ls
+-- a flight has its former slots again, from the regulation at this index on
+abbrev pub stood_again : ℕ → ℕ → List NotedPlace → List RegulationView → List RegulationView
+stood_again number index places [] = []
+stood_again number index places (l ∷ ls) =
+    with_lineup (stood (place_at places index) number (without_flight number l.lineup)) l ∷ stood_again number (suc index) places ls
 
 -- a flight has a provisional slot again
 abbrev pub waiting_again : ℕ → List PlanView → ℕ → List RegulationView → List RegulationView
@@ -49,8 +49,8 @@ pub record Room : Type 0 where
 pub record UndoingView : Type 0 where
   -- which reading it was
   pub which : Last
-  -- the slots that the flight of a message had before, in each regulation
-  pub places : List Place
+  -- the slots that the flight of a message had before
+  pub places : List NotedPlace
   -- the numbers of the plans whose slots it may have changed
   pub changed : List ℕ
   -- the CTOTs issued to those before
@@ -72,7 +72,7 @@ abbrev pub state_past : Last → UndoingView → TrafficState → TrafficState
 state_past reading.Nothing r s = s
 state_past reading.Refused r s = s
 state_past (reading.Message number) r s =
-    with_plans (option_map_or (λ plans. plans) s.store.before []) (with_lists (stood_again number r.places s.listing.lists) s)
+    with_plans (option_map_or (λ plans. plans) s.store.before []) (with_lists (stood_again number 0 r.places s.listing.lists) s)
 state_past (reading.Time earlier) r s = record (with_lists (all_waiting_again s.store.taxi s.store.plans r.changed s.listing.lists) s) { time = earlier }
 state_past reading.Open r s = with_lists (before_last s.listing.lists) s
 state_past reading.Shut r s = with_lists (open_again r.closed s.listing.lists) s

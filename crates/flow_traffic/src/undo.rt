@@ -16,7 +16,7 @@ ghost use Rattle.flow_traffic.specs.Undoing.{has_changed, state_past, CanUndo, I
 
 use crate::notified::Notified;
 use flow_plans::PlanStore;
-use flow_regulations::{Closed, DueQueue, Notice, Place, Regulations, Told};
+use flow_regulations::{Closed, DueQueue, NotedPlace, Notice, Regulations, Told};
 use fpl_text::{Minute, Text};
 use std::alloc::{AllocError, Allocator, Global};
 use std::marker::Model;
@@ -44,9 +44,8 @@ pub(crate) enum Last {
 pub(crate) struct Undoing<A: Allocator + Copy = Global> {
     /// Which reading it was.
     which: Last,
-    /// The slots that the flight of a message had before, in each regulation, in the order of
-    /// opening.
-    places: Vec<Place, A>,
+    /// The slots that the flight of a message had before.
+    places: Vec<NotedPlace, A>,
     /// The numbers of the plans whose slots it may have changed, rising.
     changed: Vec<u32, A>,
     /// The CTOT issued to each of those before, in the same order.

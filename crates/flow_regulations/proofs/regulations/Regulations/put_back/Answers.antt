@@ -47,3 +47,9 @@ put_back_in-requires-clause-room g c =
     let R : List RegulationView → Type 0 = λ ls. AllByRecursion (λ l. c.args.number ≤ l.lineup.capacity) ls in
     let most : c.args.number ≤ c.self.inside.max_plans = omega (arith, c.requires.room, ap (λ v. v.max_plans) c.self.view_is) in
     subst R (sym c.deref_mut.ensures.value) (room-at c.args.number c.self.inside.max_plans c.self.inside.regulations.items most c.self.invariant.2)
+
+pub put_back_in-requires-clause-before : goal.put_back_in-requires-clause-before
+put_back_in-requires-clause-before g c =
+    let b = c.requires.before in
+    let M : List RegulationView → Type 0 = λ ls. map (without_in c.args.number) ls ≡ map (without_in c.args.number) b.0 in
+    (b.0, b.1, subst M (sym (c.deref_mut.ensures.value ∙ ap (λ v. v.lists) c.self.view_is)) b.2)
