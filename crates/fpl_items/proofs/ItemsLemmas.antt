@@ -7,7 +7,7 @@ use Rattle.std.proofs.lemmas.List.Folds.{list_all_at}
 use Rattle.std.proofs.lemmas.List.Sums.{prefix_len_is, prefix_len_passes, position_or_len_is, passes_at_first}
 use Rattle.fpl_text.specs.Bytes.{is_letter, is_digit, is_letter_or_digit}
 use Rattle.fpl_items.specs.Kinds.{before_stroke}
-use Rattle.fpl_text.specs.Words.{lacks, words_from_byte}
+use Rattle.fpl_text.specs.Words.{lacks}
 use Rattle.fpl_items.specs.Items.{begins_item, items_of}
 
 pub list_all-prefix : (p : ℕ → Bool) (xs : List ℕ) (n : ℕ) → n ≤ prefix_len p xs → list_all p (take n xs) ≡ true
@@ -71,20 +71,3 @@ no-item word none =
     (λ k l. false_from_ne_true _ (λ is. absurd (false≢true (sym (list_all_at (λ b. not (eqb b 47)) word k 0 l (ap not is)) ∙ none))))
     (λ l. absurd (omega arith)) in
     rw (whole, le-ltb (length word) (length word) (omega arith)) refl
-
--- words without a stroke are skipped
-pub items-from : (words : List (List ℕ)) → items_of words ≡ items_of (words_from_byte 47 words)
-items-from [] = refl
-items-from (word ∷ words) =
-    ⊎_elim
-    (λ none. cond-false _ _ _ (no-item word none) ∙ items-from words ∙ sym (ap items_of (cond-true _ _ _ none)))
-    (λ some. ap items_of (sym (cond-false _ _ _ some)))
-    (cases_Bool (lacks 47 word))
-
-pub length-from : (byte : ℕ) (words : List (List ℕ)) → length (words_from_byte byte words) ≤ length words
-length-from byte [] = omega arith
-length-from byte (word ∷ words) =
-    ⊎_elim
-    (λ none. rw none (omega (arith, length-from byte words)))
-    (λ some. rw some (omega arith))
-    (cases_Bool (lacks byte word))

@@ -1,4 +1,5 @@
 pub mod OtherLemmas
+pub mod EffectLemmas
 pub mod RoutesLemmas
 pub mod RouteBytesLemmas
 pub mod PathWords

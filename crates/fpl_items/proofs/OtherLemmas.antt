@@ -103,6 +103,11 @@ pub or-none : (a : Option ℕ) → option_or a None ≡ a
 or-none None = refl
 or-none (Some x) = refl
 
+-- no words say nothing
+pub none-left : (place : List ℕ) (words : List (List ℕ)) (so_far : Option ℕ) → length words ≡ 0 → option_or so_far (estimate_for place words) ≡ so_far
+none-left place [] so_far none = or-none so_far
+none-left place (word ∷ words) so_far none = absurd (omega (arith, none))
+
 -- items without estimates say nothing of any point
 pub none-elapsed : (place : List ℕ) (items : List ItemView) → estimate_count items ≡ 0 → elapsed_to place items ≡ None
 none-elapsed place [] none = refl

@@ -147,3 +147,12 @@ pub record SaysAfter (day : Option ℕ) (exempt : Bool) (item : ItemView) (new_d
   pub dof : is_some new_day ≡ (is_some day || is_dof item)
   pub day_then : (items : List ItemView) → option_or new_day (day_of_items items) ≡ option_or day (day_of_items (item ∷ items))
   pub exempt_then : new_exempt ≡ (exempt || exempts item)
+
+-- an item that has an effect
+abbrev pub has_effect : ItemView → Bool
+has_effect item = is_dof item || is_text (codes "EET") item.name || is_text (codes "STS") item.name
+
+-- the items from the first that has an effect on
+abbrev pub from_effect : List ItemView → List ItemView
+from_effect [] = []
+from_effect (item ∷ items) = if has_effect item then item ∷ items else from_effect items

@@ -11,7 +11,7 @@ ghost use Rattle.fpl_text.specs.Words.{words_of};
 ghost use Rattle.fpl_text.specs.declared.time.TheConstants.{ELAPSED_LIMIT};
 
 use crate::estimate::{Estimate, may_have, name_of, with_place};
-use crate::item::{ItemWords, Items, begins_item, is_name, next_estimate};
+use crate::item::{Item, ItemWords, begins_item, is_name, next_estimate, next_with_effect};
 use fpl_text::{Words, minutes_of_elapsed};
 use std::alloc::{AllocError, Allocator, Global};
 use std::marker::Model;
@@ -47,7 +47,7 @@ impl<A: Allocator + Copy> Estimates<A> {
         ensures memory { OnErr result (0 < count) }
     {
         let mut notes = Vec::with_capacity(alloc, count)?;
-        let places = note_items(&mut notes, Items::new(field), count);
+        let places = note_items(&mut notes, Words::new(field), count);
         Ok(Estimates { places, notes })
     }
 
@@ -133,7 +133,8 @@ fn note_before_item<A: Allocator + Copy>(
     ensures places { HasPlacesOf result notes.new.items }
 {
     let mut places = places;
-    'words: loop {
+    // With no room left, the next word begins an item.
+    'words: while notes.len() < notes.capacity() {
         if let Some(word) = next_estimate(&mut words) {
             places = note(notes, places, word);
             continue;
@@ -146,6 +147,7 @@ fn note_before_item<A: Allocator + Copy>(
         }
         places = note(notes, places, measured.word);
     }
+    places
 }
 
 /// Appends the estimates that the words of an EET item are.
@@ -172,25 +174,26 @@ fn note_words<A: Allocator + Copy>(
     }
 }
 
-/// Appends the estimates of items, which are `count`, to a list that is empty. Stops at the last,
-/// whatever follows it.
+/// Appends the estimates of the items of words, which are `count`, to a list that is empty. Stops at
+/// the last, whatever follows it.
 fn note_items<A: Allocator + Copy>(
     notes: &mut Vec<Estimate, A>,
-    mut items: Items<'_>,
+    mut words: Words<'_>,
     count: usize,
 ) -> u64
     requires empty { vec_len notes.old ≡ 0 }
     requires room { count ≤ vec_capacity notes.old }
-    requires count { count ≡ estimate_count items }
-    requires are { list_all has_estimates items ≡ true }
-    ensures noted { AreEstimatesOf items.entry notes.new.items }
+    requires count { count ≡ estimate_count (items_of words) }
+    requires are { list_all has_estimates (items_of words) ≡ true }
+    ensures noted { AreEstimatesOf (items_of words.entry) notes.new.items }
     ensures places { HasPlacesOf result notes.new.items }
 {
     let mut places = 0;
     'items: while notes.len() < count {
-        let Some(item) = items.next() else {
+        let Some(first) = next_with_effect(&mut words) else {
             return places;
         };
+        let item = Item::new(&first, &words);
         if is_name(item.name(), b"EET") {
             places = note_words(notes, places, item.words());
         }

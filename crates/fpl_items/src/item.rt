@@ -11,8 +11,10 @@ ghost use Rattle.fpl_text.specs.Words.{words_of};
 ghost use Rattle.fpl_items.specs.Kinds.{before_stroke};
 ghost use Rattle.fpl_items.specs.Items.{begins_item, own_words, own_list, words_before, items_of};
 ghost use Rattle.fpl_items.specs.Items.{is_estimate, item_at, items_with, BeginsItem};
+ghost use Rattle.fpl_items.specs.Items.{from_effect};
+ghost use Rattle.std.specs.Prelude.{slice_index_or};
 
-use fpl_text::{Measured, Words, is_letter};
+use fpl_text::{Measured, Words, is_letter, leading_letters_or_digits};
 use std::marker::Model;
 
 /// Whether a stroke is at this offset of a word, after a name of 2 to 9 bytes that begins with a
@@ -36,6 +38,14 @@ pub(crate) fn begins_item(measured: &Measured<'_>) -> bool
         → measured.now.letters_or_digits ≡ before_stroke measured.now.word.now }
 {
     has_name(measured.letters_or_digits, measured.word)
+}
+
+/// Whether the first word of a field begins an item.
+#[inline(always)]
+pub(crate) fn field_begins(field: &[u8]) -> bool
+    ensures { result ≡ begins_item (slice_index_or (words_of field.now) 0 []) }
+{
+    has_name(leading_letters_or_digits(field), field)
 }
 
 /// Whether an item has this name.
@@ -167,18 +177,17 @@ impl<'a> Item<'a> {
     }
 }
 
-/// Skips the words before the next that has a stroke, since they begin no item.
+/// Takes the first word of the next item that has an effect, and skips all before it.
 #[inline(always)]
-fn skip_to_stroke(words: &mut Words<'_>)
-    ensures items { items_of words.old ≡ items_of words.new }
-    ensures fewer { length words.new ≤ length words.old }
+pub(crate) fn next_with_effect<'a>(words: &mut Words<'a>) -> Option<Measured<'a>>
+    ensures items { from_effect (items_of words.old) ≡ items_with result words.new }
+    ensures begins { IfSome result (λ first. BeginsItem first) }
 {
-    words.skip_to(b'/');
+    words.skip_to_named(b"DOF", b"EET", b"STS");
+    words.next_measured()
 }
 
-/// Takes the first word of the next item, after skipping the words before it. Most items follow
-/// directly on the item before, so a stroke is searched for only if the next word begins no item.
-#[inline(always)]
+/// Takes the first word of the next item, after skipping the words before it.
 pub(crate) fn next_first<'a>(words: &mut Words<'a>) -> Option<Measured<'a>>
     ensures items { items_of words.old ≡ items_with result words.new }
     ensures begins { IfSome result (λ first. BeginsItem first) }
@@ -188,7 +197,6 @@ pub(crate) fn next_first<'a>(words: &mut Words<'a>) -> Option<Measured<'a>>
         if begins_item(&measured) {
             return Some(measured);
         }
-        skip_to_stroke(words);
     }
     None
 }

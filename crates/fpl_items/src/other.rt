@@ -19,13 +19,14 @@ ghost use Rattle.fpl_items.specs.Items.{items_of, field_fault, items_or_fault};
 ghost use Rattle.fpl_items.specs.Items.{elapsed_to, is_exempt, day_of_words};
 ghost use Rattle.fpl_items.specs.Items.{ItemView, day_of_items, SaysAfter};
 ghost use Rattle.fpl_items.specs.Routes.{ReadsAs};
-ghost use Rattle.fpl_items.specs.Other18.{TellsOf, TellsAllOf};
+ghost use Rattle.fpl_items.specs.Other18.{TellsOf, TellsAllOf, SayNoMore};
 ghost use Rattle.fpl_text.specs.declared.time.TheConstants.{ELAPSED_LIMIT};
 
 use crate::estimates::Estimates;
 use crate::fault::ItemFault;
 use crate::item::{
-    Item, ItemWords, Items, begins_item, is_name, name_of, next_estimate, next_first, own_word,
+    Item, ItemWords, Items, begins_item, field_begins, is_name, name_of, next_estimate,
+    next_with_effect, own_word,
 };
 use fpl_text::{Day, Measured, Words, all_letters_or_digits, read_elapsed};
 use jiff::civil::Date;
@@ -246,7 +247,8 @@ impl Effects {
     }
 
     /// The effects with the item of this first word and some of the words after it, or the fault of
-    /// that item. Goes on to the next item, without a second look at the words of an EET item.
+    /// that item. Goes on to the next item, without a second look at the words of an EET item. Items
+    /// after another item that have no effect are skipped.
     #[inline(always)]
     fn step<'a>(self, first: &Measured<'a>, words: &mut Words<'a>) -> Result<Step<'a>, ItemFault>
         requires begins { BeginsItem first.now }
@@ -259,15 +261,15 @@ impl Effects {
         ensures fault { IfErr result (λ fault. item_fault (is_some self.day)
             (item_at first.now.word.now words.old) ≡ Some fault) }
         ensures memory { IfErr result (λ fault. fault ≢ ItemFault.OutOfMemory) }
-        ensures items { IfOk result
-            (λ step. items_of words.old ≡ items_with step.next words.new) }
+        ensures same { IfOk result
+            (λ step. SayNoMore (items_of words.old) (items_with step.next words.new)) }
         ensures begins { IfOk result (λ step. IfSome step.next (λ next. BeginsItem next)) }
     {
         if is_name(name_of(first), b"EET") {
             return self.with_estimates(first, words);
         }
         let effects = self.with(&Item::new(first, words))?;
-        let next = next_first(words);
+        let next = next_with_effect(words);
         Ok(Step { effects, next })
     }
 
@@ -297,11 +299,10 @@ impl Effects {
         if field == b"0".as_slice() {
             return Ok(Effects::none());
         }
-        let mut words = Words::new(field);
-        let Some(first) = first_of(&mut words) else {
+        if !field_begins(field) {
             return Err(ItemFault::BadField(18));
-        };
-        read_items(first, words)
+        }
+        read_items(Words::new(field))
     }
 
     /// The day of flight of the first DOF item.
@@ -352,36 +353,18 @@ impl Effects {
     }
 }
 
-/// Takes the first of all words, if it begins an item.
-#[inline(always)]
-#[tactic(auto, unfolding(crate::specs::Items::begins_item))]
-fn first_of<'a>(words: &mut Words<'a>) -> Option<Measured<'a>>
-    ensures is { is_some result ≡ begins_item (slice_index_or words.old 0 []) }
-    ensures items { IfSome result
-        (λ first. items_of words.old ≡ items_with (Some first) words.new) }
-    ensures begins { IfSome result (λ first. BeginsItem first) }
-{
-    let measured = words.next_measured()?;
-    if begins_item(&measured) {
-        Some(measured)
-    } else {
-        None
-    }
-}
-
-/// Reads the items of a first word and the words after it. Stops at the first fault from the left.
-fn read_items<'a>(first: Measured<'a>, mut words: Words<'a>) -> Result<Effects, ItemFault>
-    requires begins { BeginsItem first }
-    requires count { estimate_count (items_with (Some first) words) ≤ usize.MAX }
-    ensures faultless { IfOk result
-        (λ _. first_fault false (items_with (Some first.entry) words.entry) ≡ None) }
-    ensures tells { IfOk result (TellsOf (items_with (Some first.entry) words.entry)) }
+/// Reads the items of words, of which those without an effect are skipped. Stops at the first fault
+/// from the left.
+fn read_items(mut words: Words<'_>) -> Result<Effects, ItemFault>
+    requires { estimate_count (items_of words) ≤ usize.MAX }
+    ensures faultless { IfOk result (λ _. first_fault false (items_of words.entry) ≡ None) }
+    ensures tells { IfOk result (TellsOf (items_of words.entry)) }
     ensures fault { IfErr result
-        (λ fault. first_fault false (items_with (Some first.entry) words.entry) ≡ Some fault) }
+        (λ fault. first_fault false (items_of words.entry) ≡ Some fault) }
     ensures memory { IfErr result (λ fault. fault ≢ ItemFault.OutOfMemory) }
 {
     let mut effects = Effects::none();
-    let mut next = Some(first);
+    let mut next = next_with_effect(&mut words);
     'items: while let Some(first) = next {
         match effects.step(&first, &mut words) {
             Ok(step) => {

@@ -11,6 +11,7 @@ pub mod SqueezingLemmas
 pub mod ByteLemmas
 pub mod SqueezingLawsProofs
 pub mod WordsLemmas
+pub mod NamedLemmas
 pub mod MomentsLemmas
 pub mod ReadBackLemmas
 pub mod MomentYears

@@ -10,6 +10,7 @@ ghost use Rattle.fpl_text.specs.Bytes.{is_letter, is_digit, is_letter_or_digit, 
 ghost use Rattle.fpl_text.specs.Bytes.{is_border, is_other_mark, is_plain, is_path_byte};
 ghost use Rattle.std.specs.Int.{bit_at};
 ghost use Rattle.fpl_text.specs.Lanes.{HasLanes, HasFlags};
+ghost use Rattle.fpl_text.specs.Words.{may_begin};
 
 use std::simd::prelude::*;
 
@@ -99,10 +100,15 @@ pub fn all_digits(text: &[u8]) -> bool
     text.iter().all(|byte| is_digit(*byte))
 }
 
-/// Whether all bytes are letters or digits.
+/// Whether all bytes are letters or digits. Of 4 to 8 bytes two looks show it.
 pub fn all_letters_or_digits(text: &[u8]) -> bool
     ensures { result ≡ list_all is_letter_or_digit text.now }
 {
+    if text.len() >= 4 {
+        if text.len() <= 8 {
+            return are_letters_or_digits(text);
+        }
+    }
     text.iter().all(|byte| is_letter_or_digit(*byte))
 }
 
@@ -133,7 +139,7 @@ fn few_letters_or_digits(text: &[u8]) -> usize
 }
 
 /// The number of letters and digits with which a text begins. Looks at 16 bytes at a time.
-pub(crate) fn leading_letters_or_digits(text: &[u8]) -> usize
+pub fn leading_letters_or_digits(text: &[u8]) -> usize
     ensures value { result ≡ prefix_len is_letter_or_digit text.now }
     ensures bound { result ≤ length text.now }
 {
@@ -277,6 +283,24 @@ pub(crate) fn before_space(text: &[u8], at: usize) -> usize
     let here = u8x8::from_slice(&text[at..]);
     let spaces = here.simd_eq(u8x8::splat(b' ')).to_bitmask();
     (spaces | 256).trailing_zeros() as usize
+}
+
+/// The number of offsets from `from` on, of the 16 from `at` on, before one at which a name may
+/// begin: one of three bytes, and a stroke as the third byte after it.
+#[inline(always)]
+pub(crate) fn before_name(text: &[u8], at: usize, from: usize, a: u8, b: u8, c: u8) -> usize
+    requires before { at ≤ from }
+    requires behind { from ≤ at + 16 }
+    requires inside { at + 19 ≤ length text.now }
+    ensures bound { from + result ≤ at + 16 }
+    ensures none { (k : ℕ) → k < result → may_begin a b c text.now (from + k) ≡ false }
+    ensures found { from + result < at + 16 → may_begin a b c text.now (from + result) ≡ true }
+{
+    let first = load(text, at);
+    let two = or_equal_to(equal_to(first, a), first, b);
+    let three = or_equal_to(two, first, c);
+    let names = both(equal_to(load(text, at + 3), b'/'), three);
+    set_lanes_from(other_lanes(names, 255), from - at)
 }
 
 /// The number of letters and digits with which the 16 bytes at `at` begin.

@@ -39,7 +39,7 @@ mod words;
 
 pub use byte::{
     all_digits, all_letters, all_letters_or_digits, is_letter, is_letter_or_digit, is_path,
-    leading_letters,
+    leading_letters, leading_letters_or_digits,
 };
 pub use craft::{Craft, Equipment, FlightKind, FlightRules, Rules, Wake, is_equipment};
 pub use day::Day;
