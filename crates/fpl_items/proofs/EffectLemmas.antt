@@ -1,23 +1,26 @@
 -- The items that have an effect, by the words that begin them.
-use Rattle.std.proofs.Common.{◌≡◌, ◌≢◌, ℕ, zero, suc, ◌+◌, ◌<◌, ◌≤◌, ◌⊎◌, inl, inr, Bool, true, false, ◌&&◌, ◌||◌, not, eqb, ltb, leb, if◌then◌else◌, List, [], ◌∷◌, ◌++◌, length, take, drop, get_or, refl, sym, ap, subst, ◌∙◌, arith, ⊎_elim, Option, None, Some, MatchOption, IfSome}
+use Rattle.std.proofs.Common.{◌≡◌, ◌≢◌, ℕ, zero, suc, ◌+◌, ◌-◌, ◌<◌, ◌≤◌, ◌⊎◌, inl, inr, Bool, true, false, ◌&&◌, ◌||◌, not, eqb, ltb, leb, if◌then◌else◌, List, [], ◌∷◌, ◌++◌, length, take, drop, get_or, refl, sym, ap, subst, ◌∙◌, arith, ⊎_elim, Option, None, Some, MatchOption, IfSome}
 use Rattle.std.specs.Prelude.{codes, slice_index_or, is_some}
+use Rattle.std.specs.Borrow.{Bor}
 use Rattle.std.specs.Cmp.{both_ways}
 use Rattle.std.specs.Option.{option_or}
 use Rattle.std.specs.List.{list_all, prefix_len, slice_split, onto_first}
-use Rattle.std.proofs.lemmas.Bool.{cases_Bool, cases_lt, cond-true, cond-false, eq-eqb, eqb-true, and_parts, or_parts, false_from_ne_true, false≢true, le-ltb, lt-ltb, ltb-true, not-false}
-use Rattle.std.proofs.lemmas.List.{length-take, get_or-take}
+use Rattle.std.proofs.lemmas.Bool.{cases_Bool, cases_lt, cond-true, cond-false, eq-eqb, eqb-true, and_parts, or_parts, false_from_ne_true, false≢true, le-ltb, lt-ltb, ltb-true, leb-true, not-false}
+use Rattle.std.proofs.lemmas.List.{length-take, length-drop, get_or-take}
 use Rattle.std.proofs.lemmas.List.Sums.{prefix_len_is, prefix_len_passes, prefix_len_stops, prefix_len-le-length, position_or_len_is, passes_at_first}
 use Rattle.std.proofs.lemmas.List.Splits.{slice_split-cons_yes, slice_split-cons_no, length-slice_split}
 use lib.Pointwise.{bytes_decides}
 use Rattle.fpl_text.specs.Bytes.{is_letter, is_digit, is_letter_or_digit}
-use Rattle.fpl_text.specs.Words.{words_of, is_named, is_one_of, words_from_named}
+use Rattle.fpl_text.specs.Words.{words_of, is_named, is_one_of, words_from_named, without_first}
 use Rattle.fpl_text.specs.declared.words.Measured.{Measured}
 use Rattle.fpl_items.specs.Kinds.{is_text, before_stroke}
-use Rattle.fpl_items.specs.Items.{ItemView, begins_item, item_at, items_of, items_with, BeginsItem, is_dof, first_fault, item_fault, day_of_items, is_exempt, elapsed_to, estimate_for, has_effect, from_effect}
+use Rattle.fpl_items.specs.Items.{ItemView, begins_item, item_at, items_of, items_with, BeginsItem, is_dof, first_fault, item_fault, day_of_items, is_exempt, elapsed_to, estimate_for, has_effect, from_effect, exempts, is_estimate, own_of, own_words, words_after, words_before, eet_of, BeginAtItem, BeginWithOther, SaysAfter}
 use Rattle.fpl_items.specs.Estimates.{estimate_count, estimates_in, has_estimates}
 use Rattle.fpl_items.specs.Other18.{SayNoMore, TellsOf}
 use Rattle.fpl_items.specs.declared.other.Effects.{Effects}
-use Rattle.fpl_items.proofs.OtherLemmas.{SaySoFar}
+use Rattle.fpl_items.specs.declared.fault.ItemFault.{ItemFault}
+use Rattle.fpl_items.specs.declared.fault.ItemFault.TheVariants.{BadField}
+use Rattle.fpl_items.proofs.OtherLemmas.{SaySoFar, or-none}
 use Rattle.fpl_items.proofs.ItemsLemmas.{begins_item-is}
 
 -- ---- words that begin with a name
@@ -127,7 +130,7 @@ effect-item word words begins =
     let inside = stroke-inside word begins in
     rw (named-text 68 79 70 word dof-letters inside, named-text 69 69 84 word eet-letters inside, named-text 83 84 83 word sts-letters inside) refl
 
-items-effect : (words : List (List ℕ)) → from_effect (items_of words) ≡ items_of (words_from_effect words)
+pub items-effect : (words : List (List ℕ)) → from_effect (items_of words) ≡ items_of (words_from_effect words)
 items-effect [] = refl
 items-effect (word ∷ words) =
     ⊎_elim
@@ -150,27 +153,64 @@ head-effect (first ∷ words) word rest same =
     (λ no. head-effect words word rest (sym (cond-false _ _ _ no) ∙ same))
     (cases_Bool (with_effect first))
 
--- the first word of the first item that has an effect, and the words after it
-pub effect-found : (old there new : List (List ℕ)) (found : Option Measured) → there ≡ words_from_effect old
-    → MatchOption found ((there ≡ []) × (new ≡ [])) (λ m. there ≡ m.word.now ∷ new) → from_effect (items_of old) ≡ items_with found new
-effect-found old there new None from next = items-effect old ∙ ap items_of (sym from ∙ next.0)
-effect-found old there new (Some m) from next =
-    let begins = effect-begins m.word.now (head-effect old m.word.now new (sym from ∙ next)) in
-    items-effect old ∙ ap items_of (sym from ∙ next) ∙ cond-true _ _ _ begins.begins
-
-pub effect-measured : (old there new : List (List ℕ)) (found : Option Measured) → there ≡ words_from_effect old
-    → MatchOption found ((there ≡ []) × (new ≡ [])) (λ m. there ≡ m.word.now ∷ new) → IfSome found (λ m. m.letters_or_digits ≡ prefix_len is_letter_or_digit m.word.now)
-    → IfSome found BeginsItem
-effect-measured old there new None from next measured = measured
-effect-measured old there new (Some m) from next measured =
-    let begins = effect-begins m.word.now (head-effect old m.word.now new (sym from ∙ next)) in
-    record { begins = begins.begins; stroke = measured ∙ begins.measure ∙ sym begins.stroke }
-
--- ---- items without an effect
-
 or-false : (b : Bool) → b || false ≡ b
 or-false true = refl
 or-false false = refl
+
+-- after all before it is skipped, the next word begins an item
+pub begin-at : (old new : List (List ℕ)) → new ≡ words_from_effect old → BeginAtItem new
+begin-at old new same = subst BeginAtItem (sym same) (by (words_from_effect old) (λ word rest is. (effect-begins word (head-effect old word rest is)).begins)) where
+  by : (words : List (List ℕ)) → ((word : List ℕ) (rest : List (List ℕ)) → words ≡ word ∷ rest → begins_item word ≡ true) → BeginAtItem words
+  by [] begins = tt
+  by (word ∷ rest) begins = begins word rest refl
+
+-- an EET item by its words
+own-same : (word : List ℕ) → before_stroke word ≡ 3 → 4 ≤ length word → (if eqb (length word) (before_stroke word + 1) then [] else drop (before_stroke word + 1) word ∷ []) ≡ own_of (drop 4 word ∷ [])
+own-same word three long =
+    let four : before_stroke word + 1 ≡ 4 = omega arith in
+    let left : length (drop 4 word) ≡ length word - 4 = length-drop 4 word in
+    rw (four, same_test (cases_lt 4 (length word))) refl
+  where
+    same_test : (4 < length word) ⊎ (length word ≤ 4) → eqb (length word) 4 ≡ eqb (length (drop 4 word)) 0
+    same_test (inl more) = false_from_ne_true _ (λ is. let e = eqb-true (length word) 4 is in absurd (omega arith)) ∙ sym (false_from_ne_true _ (λ is. let e = eqb-true (length (drop 4 word)) 0 is in absurd (omega (arith, e, length-drop 4 word))))
+    same_test (inr end) = eq-eqb (length word) 4 (omega arith) ∙ sym (eq-eqb (length (drop 4 word)) 0 (omega (arith, length-drop 4 word)))
+
+pub eet-first : (words : List (List ℕ)) → is_named (codes "EET") (get_or words 0 []) ≡ true
+    → items_of words ≡ eet_of (without_first 4 words) ∷ items_of (drop 1 (without_first 4 words))
+eet-first [] is = let same = ap length (named-is 69 69 84 [] is) in absurd (omega (arith, same))
+eet-first (word ∷ words) is =
+    let named = named-begins 69 69 84 word eet-letters is in
+    let inside = stroke-inside word named.begins in
+    let name : take (before_stroke word) word ≡ codes "EET" = (bytes_decides (take (before_stroke word) word) (codes "EET")).0 (named-text 69 69 84 word eet-letters inside ∙ is) in
+    let own = own-same word named.stroke (omega (arith, inside, named.stroke)) in
+    cond-true _ _ _ named.begins
+    ∙ ap (λ n. record { name = n; words = own_words word ++ words_before words } ∷ items_of words) name
+    ∙ ap (λ own. record { name = codes "EET"; words = own ++ words_before words } ∷ items_of words) own
+
+-- the first item is no other EET
+pub other-first : (words : List (List ℕ)) → BeginAtItem words → is_named (codes "EET") (get_or words 0 []) ≡ false → BeginWithOther (items_of words)
+other-first [] begin is = tt
+other-first (word ∷ words) begin is =
+    subst BeginWithOther (sym (cond-true _ _ _ begin)) (named-text 69 69 84 word eet-letters (stroke-inside word begin) ∙ is)
+
+pub other-item : (items rest : List ItemView) (item : ItemView) → BeginWithOther items → items ≡ item ∷ rest → is_text (codes "EET") item.name ≡ false
+other-item items rest item begin same = subst BeginWithOther same begin
+
+-- what an EET item says
+pub eet-says : (day : Option ℕ) (exempt : Bool) (words : List (List ℕ)) → list_all is_estimate (words_after words) ≡ true → SaysAfter day exempt (eet_of words) day exempt
+unfolding item_fault
+eet-says day exempt words all = record {
+  faultless = rw all refl;
+  dof = sym (or-false (is_some day));
+  day_then = λ items. refl;
+  exempt_then = sym (or-false exempt);
+}
+
+pub eet-fault : (dof : Bool) (words : List (List ℕ)) → list_all is_estimate (words_after words) ≡ false → item_fault dof (eet_of words) ≡ Some (BadField 18)
+unfolding item_fault
+eet-fault dof words none = rw none refl
+
+-- ---- items without an effect
 
 -- no name of an effect
 record NoEffect (item : ItemView) : Type 0 where
@@ -204,6 +244,72 @@ say-no-more (item ∷ items) =
       fewer = omega (arith, rest.fewer);
     }))
     (cases_Bool (has_effect item))
+
+-- what is said with one more item
+pub next-said : (day new_day : Option ℕ) (exempt new_exempt : Bool) (item : ItemView) (rest left all : List ItemView) → SaySoFar day exempt left all → from_effect left ≡ item ∷ rest
+    → SaysAfter day exempt item new_day new_exempt → SaySoFar new_day new_exempt rest all
+next-said day new_day exempt new_exempt item rest left all so_far same says =
+    let more = say-no-more left in
+    record {
+      fault_left =
+          ap (λ b. first_fault b rest) says.dof
+          ∙ sym (ap (λ f. option_or f (first_fault (is_some day || is_dof item) rest)) says.faultless)
+          ∙ sym (more.fault (is_some day) ∙ ap (first_fault (is_some day)) same) ∙ so_far.fault_left;
+      day_left = says.day_then rest ∙ sym (ap (option_or day) (more.day ∙ ap day_of_items same)) ∙ so_far.day_left;
+      exempt_left =
+          ap (λ b. b || is_exempt rest) says.exempt_then ∙ or-or exempt (exempts item) (is_exempt rest)
+          ∙ sym (ap (λ b. exempt || b) (more.exempt ∙ ap is_exempt same)) ∙ so_far.exempt_left;
+    }
+  where
+    or-or : (a b c : Bool) → ((a || b) || c) ≡ (a || (b || c))
+    or-or true b c = refl
+    or-or false b c = refl
+
+-- what an EET item leaves to be said
+pub said-eet : (effects next : Effects) (words : List (List ℕ)) (later left all : List ItemView) → SaySoFar effects.day effects.exempt left all
+    → from_effect left ≡ eet_of words ∷ items_of (drop 1 words) → list_all is_estimate (words_after words) ≡ true
+    → (next.day ≡ effects.day) × (next.exempt ≡ effects.exempt) × (next.estimates ≡ effects.estimates + length (words_after words))
+    → items_of (drop 1 words) ≡ later → SaySoFar next.day next.exempt later all
+said-eet effects next words later left all so_far same estimates is rest =
+    rw (is.0, is.1) (subst (λ items. SaySoFar effects.day effects.exempt items all) rest
+    (next-said effects.day effects.day effects.exempt effects.exempt (eet_of words) (items_of (drop 1 words)) left all so_far same (eet-says effects.day effects.exempt words estimates)))
+
+-- an item with a fault
+pub fault-found : (effects : Effects) (fault : ItemFault) (item : ItemView) (rest left all : List ItemView) → SaySoFar effects.day effects.exempt left all → from_effect left ≡ item ∷ rest
+    → item_fault (is_some effects.day) item ≡ Some fault → first_fault false all ≡ Some fault
+fault-found effects fault item rest left all so_far same is =
+    sym so_far.fault_left ∙ (say-no-more left).fault (is_some effects.day) ∙ ap (first_fault (is_some effects.day)) same
+    ∙ ap (λ f. option_or f (first_fault (is_some effects.day || is_dof item) rest)) is
+
+-- no item with an effect is left
+pub all-faultless : (effects : Effects) (left all : List ItemView) → SaySoFar effects.day effects.exempt left all → from_effect left ≡ [] → first_fault false all ≡ None
+all-faultless effects left all so_far same =
+    sym so_far.fault_left ∙ (say-no-more left).fault (is_some effects.day) ∙ ap (first_fault (is_some effects.day)) same
+
+pub all-told : (effects : Effects) (left all : List ItemView) → SaySoFar effects.day effects.exempt left all → from_effect left ≡ []
+    → effects.estimates + estimate_count left ≡ estimate_count all → TellsOf all effects
+all-told effects left all so_far same counted =
+    let none = say-no-more left in
+    record {
+      says = record {
+        day_is = sym (or-none effects.day) ∙ sym (ap (option_or effects.day) (none.day ∙ ap day_of_items same)) ∙ so_far.day_left;
+        exempt_is = sym (or-false effects.exempt) ∙ sym (ap (λ b. effects.exempt || b) (none.exempt ∙ ap is_exempt same)) ∙ so_far.exempt_left;
+      };
+      count = omega (arith, counted, none.count, ap estimate_count same);
+    }
+
+-- the text after a stroke that is an estimate
+pub own-is : (old new : List (List ℕ)) (word : List ℕ) → old ≡ word ∷ new → is_estimate word ≡ true → own_of old ≡ word ∷ []
+unfolding is_estimate
+own-is old new word next is =
+    let long : 5 ≤ length word = leb-true 5 (length word) (and_parts _ _ (and_parts _ _ (and_parts _ _ is).0).0).0 in
+    let more : eqb (length word) 0 ≡ false = false_from_ne_true _ (λ none. let e = eqb-true (length word) 0 none in absurd (omega arith)) in
+    ap own_of next ∙ cond-false _ _ _ more
+
+pub own-one : (old new : List (List ℕ)) (found : Option (Bor (List ℕ))) → MatchOption found (new ≡ old) (λ word. old ≡ word.now ∷ new) → IfSome found (λ word. is_estimate word.now ≡ true)
+    → is_some found ≡ true → 1 ≡ length (own_of old)
+own-one old new None next is some = absurd (false≢true some)
+own-one old new (Some word) next is some = sym (ap length (own-is old new word.now next is))
 
 pub elapsed-later : (place : List ℕ) (items : List ItemView) → elapsed_to place items ≡ elapsed_to place (from_effect items)
 elapsed-later place [] = refl

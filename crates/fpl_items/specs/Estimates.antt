@@ -1,5 +1,5 @@
 -- What is recorded of EET items (ICAO Doc 4444, appendix 3, field type 18).
-use Rattle.std.specs.Prelude.{◌≡◌, ◌<◌, ℕ, ◌+◌, Bool, true, false, ◌&&◌, nat_le, if◌then◌else◌, List, [], ◌∷◌, length, Option, Some, None, codes}
+use Rattle.std.specs.Prelude.{◌≡◌, ◌<◌, ℕ, ◌+◌, Bool, true, false, ◌&&◌, nat_le, if◌then◌else◌, List, [], ◌∷◌, ◌++◌, length, Option, Some, None, codes}
 use Rattle.std.specs.List.{list_all}
 use Rattle.std.specs.Option.{option_or}
 use Rattle.fpl_items.specs.declared.estimate.Estimate.{Estimate}
@@ -21,6 +21,12 @@ abbrev pub AddsWord : List Estimate → List Estimate → List ℕ → Type 0
 AddsWord before after word =
     (place : List ℕ) (words : List (List ℕ))
     → option_or (first_for place after) (estimate_for place words) ≡ option_or (first_for place before) (estimate_for place (word ∷ words))
+
+-- what these words say, whatever the words after them are
+abbrev pub AddsFirst : List Estimate → List Estimate → List (List ℕ) → Type 0
+AddsFirst before after first =
+    (place : List ℕ) (words : List (List ℕ))
+    → option_or (first_for place after) (estimate_for place words) ≡ option_or (first_for place before) (estimate_for place (first ++ words))
 
 -- what these words of an item say
 abbrev pub AddsWords : List Estimate → List Estimate → List (List ℕ) → Type 0

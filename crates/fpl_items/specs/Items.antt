@@ -46,6 +46,18 @@ words_before (word ∷ words) = if begins_item word then [] else word ∷ words_
 abbrev pub item_at : List ℕ → List (List ℕ) → ItemView
 item_at word words = record { name = take (before_stroke word) word; words = own_words word ++ words_before words }
 
+-- the words of an item, by what follows the stroke and the words after that
+abbrev pub own_of : List (List ℕ) → List (List ℕ)
+own_of [] = []
+own_of (own ∷ words) = if length own == 0 then [] else own ∷ []
+
+abbrev pub words_after : List (List ℕ) → List (List ℕ)
+words_after words = own_of words ++ words_before (drop 1 words)
+
+-- the EET item with these words
+abbrev pub eet_of : List (List ℕ) → ItemView
+eet_of words = record { name = codes "EET"; words = words_after words }
+
 -- the items of words, each up to the next
 abbrev pub items_of : List (List ℕ) → List ItemView
 items_of [] = []
@@ -156,3 +168,13 @@ has_effect item = is_dof item || is_text (codes "EET") item.name || is_text (cod
 abbrev pub from_effect : List ItemView → List ItemView
 from_effect [] = []
 from_effect (item ∷ items) = if has_effect item then item ∷ items else from_effect items
+
+-- the first of these words, if there is one, begins an item
+abbrev pub BeginAtItem : List (List ℕ) → Type 0
+BeginAtItem [] = Unit {0}
+BeginAtItem (word ∷ words) = begins_item word ≡ true
+
+-- the first of these items, if there is one, is no EET
+abbrev pub BeginWithOther : List ItemView → Type 0
+BeginWithOther [] = Unit {0}
+BeginWithOther (item ∷ items) = is_text (codes "EET") item.name ≡ false

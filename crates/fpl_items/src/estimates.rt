@@ -6,12 +6,15 @@ ghost use Rattle.std.specs.List.{list_all};
 ghost use Rattle.fpl_items.specs.Points.{may_have};
 ghost use Rattle.fpl_items.specs.Items.{words_before, is_estimate, items_of, field_fault};
 ghost use Rattle.fpl_items.specs.Estimates.{first_for, HasPlacesOf, AreEstimatesOf};
-ghost use Rattle.fpl_items.specs.Estimates.{AddsWord, AddsWords, estimate_count, has_estimates};
+ghost use Rattle.fpl_items.specs.Estimates.{AddsWord, AddsWords, AddsFirst, estimate_count};
+ghost use Rattle.fpl_items.specs.Estimates.{has_estimates};
+ghost use Rattle.fpl_items.specs.Items.{own_of, words_after};
+ghost use Rattle.std.specs.Prelude.{drop};
 ghost use Rattle.fpl_text.specs.Words.{words_of};
 ghost use Rattle.fpl_text.specs.declared.time.TheConstants.{ELAPSED_LIMIT};
 
 use crate::estimate::{Estimate, may_have, name_of, with_place};
-use crate::item::{Item, ItemWords, begins_item, is_name, next_estimate, next_with_effect};
+use crate::item::{begins_item, next_estimate, next_first, skip_to_effect, take_eet};
 use fpl_text::{Words, minutes_of_elapsed};
 use std::alloc::{AllocError, Allocator, Global};
 use std::marker::Model;
@@ -117,61 +120,89 @@ fn note<A: Allocator + Copy>(notes: &mut Vec<Estimate, A>, places: u64, word: &[
     with_place(places, place)
 }
 
-/// Appends the estimates that the words before the next item are.
+/// Appends the estimates that the words before the next item are, and takes them.
 fn note_before_item<A: Allocator + Copy>(
     notes: &mut Vec<Estimate, A>,
     places: u64,
-    mut words: Words<'_>,
+    words: &mut Words<'_>,
 ) -> u64
-    requires are { list_all is_estimate (words_before words) ≡ true }
-    requires room { vec_len notes.old + length (words_before words)
+    requires are { list_all is_estimate (words_before words.old) ≡ true }
+    requires room { vec_len notes.old + length (words_before words.old)
         ≤ vec_capacity notes.old }
     requires places { HasPlacesOf places notes.old.items }
-    ensures noted { AddsWords notes.old.items notes.new.items (words_before words.entry) }
-    ensures count { vec_len notes.new ≡ vec_len notes.old + length (words_before words.entry) }
+    ensures noted { AddsWords notes.old.items notes.new.items (words_before words.old) }
+    ensures count { vec_len notes.new ≡ vec_len notes.old + length (words_before words.old) }
     ensures room { vec_capacity notes.new ≡ vec_capacity notes.old }
     ensures places { HasPlacesOf result notes.new.items }
+    ensures items { items_of words.new ≡ items_of words.old }
 {
     let mut places = places;
     // With no room left, the next word begins an item.
     'words: while notes.len() < notes.capacity() {
-        if let Some(word) = next_estimate(&mut words) {
+        if let Some(word) = next_estimate(words) {
             places = note(notes, places, word);
             continue;
         }
-        let Some(measured) = words.next_measured() else {
+        let mut after = words.duplicate();
+        let Some(measured) = after.next_measured() else {
             return places;
         };
         if begins_item(&measured) {
             return places;
         }
         places = note(notes, places, measured.word);
+        *words = after;
     }
     places
 }
 
-/// Appends the estimates that the words of an EET item are.
+/// Appends the estimate that the text after the stroke of an EET item is, unless it is empty, and
+/// takes it.
+#[inline(always)]
+fn note_own<A: Allocator + Copy>(
+    notes: &mut Vec<Estimate, A>,
+    places: u64,
+    words: &mut Words<'_>,
+) -> u64
+    requires are { list_all is_estimate (own_of words.old) ≡ true }
+    requires room { vec_len notes.old + length (own_of words.old) ≤ vec_capacity notes.old }
+    requires places { HasPlacesOf places notes.old.items }
+    ensures noted { AddsFirst notes.old.items notes.new.items (own_of words.old) }
+    ensures count { vec_len notes.new ≡ vec_len notes.old + length (own_of words.old) }
+    ensures room { vec_capacity notes.new ≡ vec_capacity notes.old }
+    ensures places { HasPlacesOf result notes.new.items }
+    ensures rest { words.new ≡ drop 1 words.old }
+{
+    if let Some(word) = next_estimate(words) {
+        return note(notes, places, word);
+    }
+    let Some(own) = words.next_measured() else {
+        return places;
+    };
+    if own.word.is_empty() {
+        return places;
+    }
+    note(notes, places, own.word)
+}
+
+/// Appends the estimates that the words of an EET item are, and takes them. The first is what
+/// follows the stroke.
 fn note_words<A: Allocator + Copy>(
     notes: &mut Vec<Estimate, A>,
     places: u64,
-    words: ItemWords<'_>,
+    words: &mut Words<'_>,
 ) -> u64
-    requires are { list_all is_estimate words ≡ true }
-    requires room { vec_len notes.old + length words ≤ vec_capacity notes.old }
+    requires are { list_all is_estimate (words_after words.old) ≡ true }
+    requires room { vec_len notes.old + length (words_after words.old) ≤ vec_capacity notes.old }
     requires places { HasPlacesOf places notes.old.items }
-    ensures noted { AddsWords notes.old.items notes.new.items words.entry }
-    ensures count { vec_len notes.new ≡ vec_len notes.old + length words.entry }
+    ensures noted { AddsWords notes.old.items notes.new.items (words_after words.old) }
+    ensures count { vec_len notes.new ≡ vec_len notes.old + length (words_after words.old) }
     ensures room { vec_capacity notes.new ≡ vec_capacity notes.old }
     ensures places { HasPlacesOf result notes.new.items }
+    ensures items { items_of words.new ≡ items_of (drop 1 words.old) }
 {
-    let ItemWords { own, following } = words;
-    match own {
-        Some(word) => {
-            let more = note(notes, places, word);
-            note_before_item(notes, more, following)
-        }
-        None => note_before_item(notes, places, following),
-    }
+    let more = note_own(notes, places, words);
+    note_before_item(notes, more, words)
 }
 
 /// Appends the estimates of the items of words, which are `count`, to a list that is empty. Stops at
@@ -190,13 +221,14 @@ fn note_items<A: Allocator + Copy>(
 {
     let mut places = 0;
     'items: while notes.len() < count {
-        let Some(first) = next_with_effect(&mut words) else {
+        skip_to_effect(&mut words);
+        if take_eet(&mut words) {
+            places = note_words(notes, places, &mut words);
+            continue;
+        }
+        let Some(_first) = next_first(&mut words) else {
             return places;
         };
-        let item = Item::new(&first, &words);
-        if is_name(item.name(), b"EET") {
-            places = note_words(notes, places, item.words());
-        }
     }
     places
 }

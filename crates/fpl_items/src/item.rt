@@ -11,8 +11,8 @@ ghost use Rattle.fpl_text.specs.Words.{words_of};
 ghost use Rattle.fpl_items.specs.Kinds.{before_stroke};
 ghost use Rattle.fpl_items.specs.Items.{begins_item, own_words, own_list, words_before, items_of};
 ghost use Rattle.fpl_items.specs.Items.{is_estimate, item_at, items_with, BeginsItem};
-ghost use Rattle.fpl_items.specs.Items.{from_effect};
-ghost use Rattle.std.specs.Prelude.{slice_index_or};
+ghost use Rattle.fpl_items.specs.Items.{from_effect, eet_of, BeginAtItem, BeginWithOther};
+ghost use Rattle.std.specs.Prelude.{slice_index_or, drop};
 
 use fpl_text::{Measured, Words, is_letter, leading_letters_or_digits};
 use std::marker::Model;
@@ -177,14 +177,28 @@ impl<'a> Item<'a> {
     }
 }
 
-/// Takes the first word of the next item that has an effect, and skips all before it.
+/// Skips all before the next item that has an effect.
 #[inline(always)]
-pub(crate) fn next_with_effect<'a>(words: &mut Words<'a>) -> Option<Measured<'a>>
-    ensures items { from_effect (items_of words.old) ≡ items_with result words.new }
-    ensures begins { IfSome result (λ first. BeginsItem first) }
+pub(crate) fn skip_to_effect(words: &mut Words<'_>)
+    ensures items { items_of words.new ≡ from_effect (items_of words.old) }
+    ensures begin { BeginAtItem words.new }
 {
     words.skip_to_named(b"DOF", b"EET", b"STS");
-    words.next_measured()
+}
+
+/// Takes the name and the stroke of the next item, if that is an EET, and nothing else.
+#[inline(always)]
+pub(crate) fn take_eet(words: &mut Words<'_>) -> bool
+    requires { BeginAtItem words.old }
+    ensures yes { result ≡ true
+        → items_of words.old ≡ eet_of words.new ∷ items_of (drop 1 words.new) }
+    ensures no { result ≡ false → (words.new ≡ words.old) × BeginWithOther (items_of words.old) }
+{
+    if words.is_named(b"EET") {
+        words.skip_bytes(4);
+        return true;
+    }
+    false
 }
 
 /// Takes the first word of the next item, after skipping the words before it.

@@ -12,23 +12,23 @@ ghost use Rattle.fpl_items.specs.Estimates.{estimates_in, estimate_count};
 ghost use Rattle.fpl_items.specs.Estimates.{AreEstimatesOf, first_for, HasEstimate};
 ghost use Rattle.fpl_items.specs.Kinds.{is_text};
 ghost use Rattle.fpl_text.specs.Words.{words_of};
-ghost use Rattle.fpl_items.specs.Items.{begins_item, words_before, is_estimate, own_list};
+ghost use Rattle.fpl_items.specs.Items.{begins_item, words_before, is_estimate, own_of, words_after};
 ghost use Rattle.fpl_items.specs.Items.{item_at, items_with, BeginsItem};
 ghost use Rattle.fpl_items.specs.Items.{is_day, item_fault, first_fault};
 ghost use Rattle.fpl_items.specs.Items.{items_of, field_fault, items_or_fault};
 ghost use Rattle.fpl_items.specs.Items.{elapsed_to, is_exempt, day_of_words};
 ghost use Rattle.fpl_items.specs.Items.{ItemView, day_of_items, SaysAfter};
 ghost use Rattle.fpl_items.specs.Routes.{ReadsAs};
-ghost use Rattle.fpl_items.specs.Other18.{TellsOf, TellsAllOf, SayNoMore};
+ghost use Rattle.fpl_items.specs.Other18.{TellsOf, TellsAllOf};
 ghost use Rattle.fpl_text.specs.declared.time.TheConstants.{ELAPSED_LIMIT};
 
 use crate::estimates::Estimates;
 use crate::fault::ItemFault;
 use crate::item::{
-    Item, ItemWords, Items, begins_item, field_begins, is_name, name_of, next_estimate,
-    next_with_effect, own_word,
+    Item, ItemWords, Items, begins_item, field_begins, is_name, next_estimate, next_first,
+    skip_to_effect, take_eet,
 };
-use fpl_text::{Day, Measured, Words, all_letters_or_digits, read_elapsed};
+use fpl_text::{Day, Measured, Words, read_elapsed};
 use jiff::civil::Date;
 use std::alloc::{AllocError, Allocator, Global};
 use std::marker::Model;
@@ -40,20 +40,6 @@ fn ends_with_time(word: &[u8]) -> bool
     ensures { result ≡ is_some (elapsed_time (drop (length word.now - 4) word.now)) }
 {
     read_elapsed(&word[word.len() - 4..]).is_some()
-}
-
-/// Whether a word is an estimate: a point and an elapsed time.
-#[tactic(auto, unfolding(crate::specs::Items::is_estimate))]
-fn is_estimate(word: &[u8]) -> bool
-    ensures { result ≡ is_estimate word.now }
-{
-    if word.len() < 5 || word.len() > 15 {
-        return false;
-    }
-    if !all_letters_or_digits(&word[..word.len() - 4]) {
-        return false;
-    }
-    ends_with_time(word)
 }
 
 /// Whether a measured word is an estimate.
@@ -76,24 +62,13 @@ fn is_measured_estimate(measured: &Measured<'_>) -> bool
     ends_with_time(word)
 }
 
-/// The number of estimates of an EET item, with the first word of the item after it.
-#[derive(Drop)]
-struct Counted<'a> {
-    count: usize,
-    next: Option<Measured<'a>>,
-}
-
-/// The number of the words before the next item, if all are estimates. Takes them, and the first
-/// word of that item.
+/// The number of the words before the next item, if all are estimates. Takes them.
 #[inline(always)]
-fn estimates_before_item<'a>(words: &mut Words<'a>) -> Option<Counted<'a>>
+fn estimates_before_item(words: &mut Words<'_>) -> Option<usize>
     requires { length (words_before words.old) ≤ usize.MAX }
     ensures all { is_some result ≡ list_all is_estimate (words_before words.old) }
-    ensures count { IfSome result (λ counted. counted.count ≡ length (words_before words.old)) }
-    ensures items { IfSome result
-        (λ counted. items_of words.old ≡ items_with counted.next words.new) }
-    ensures begins { IfSome result
-        (λ counted. IfSome counted.next (λ first. BeginsItem first)) }
+    ensures count { IfSome result (λ count. count ≡ length (words_before words.old)) }
+    ensures items { IfSome result (λ _. items_of words.old ≡ items_of words.new) }
 {
     let mut count = 0;
     'words: loop {
@@ -101,45 +76,57 @@ fn estimates_before_item<'a>(words: &mut Words<'a>) -> Option<Counted<'a>>
             count += 1;
             continue;
         }
-        let Some(measured) = words.next_measured() else {
-            return Some(Counted { count, next: None });
+        let mut after = words.duplicate();
+        let Some(measured) = after.next_measured() else {
+            return Some(count);
         };
         if begins_item(&measured) {
-            return Some(Counted {
-                count,
-                next: Some(measured),
-            });
+            return Some(count);
         }
         if !is_measured_estimate(&measured) {
             return None;
         }
+        *words = after;
         count += 1;
     }
 }
 
-/// The number of the words of an EET item, if all are estimates. `own` is that after the stroke.
-fn count_estimates<'a>(own: Option<&[u8]>, words: &mut Words<'a>) -> Option<Counted<'a>>
-    requires { length (own_list own ++ words_before words.old) ≤ usize.MAX }
-    ensures all { is_some result
-        ≡ list_all is_estimate (own_list own.entry ++ words_before words.old) }
-    ensures count { IfSome result (λ counted. counted.count
-        ≡ length (own_list own.entry ++ words_before words.old)) }
-    ensures items { IfSome result
-        (λ counted. items_of words.old ≡ items_with counted.next words.new) }
-    ensures begins { IfSome result
-        (λ counted. IfSome counted.next (λ first. BeginsItem first)) }
+/// The number of estimates that the text after the stroke of an EET item is: 1, or 0 if it is
+/// empty; `None` if it is no estimate. Takes it.
+#[inline(always)]
+fn own_estimates(words: &mut Words<'_>) -> Option<usize>
+    ensures all { is_some result ≡ list_all is_estimate (own_of words.old) }
+    ensures count { IfSome result (λ count. count ≡ length (own_of words.old)) }
+    ensures rest { IfSome result (λ _. words.new ≡ drop 1 words.old) }
 {
-    let Some(word) = own else {
-        return estimates_before_item(words);
-    };
-    if !is_estimate(word) {
-        return None;
+    if next_estimate(words).is_some() {
+        return Some(1);
     }
-    let Counted { count, next } = estimates_before_item(words)?;
-    Some(Counted {
-        count: 1 + count,
-        next,
-    })
+    let Some(own) = words.next_measured() else {
+        return Some(0);
+    };
+    if own.word.is_empty() {
+        return Some(0);
+    }
+    if is_measured_estimate(&own) {
+        Some(1)
+    } else {
+        None
+    }
+}
+
+/// The number of the words of an EET item, if all are estimates. Takes them; the first is what
+/// follows the stroke.
+#[inline(always)]
+fn count_estimates(words: &mut Words<'_>) -> Option<usize>
+    requires { length (words_after words.old) ≤ usize.MAX }
+    ensures all { is_some result ≡ list_all is_estimate (words_after words.old) }
+    ensures count { IfSome result (λ count. count ≡ length (words_after words.old)) }
+    ensures items { IfSome result (λ _. items_of (drop 1 words.old) ≡ items_of words.new) }
+{
+    let own = own_estimates(words)?;
+    let count = estimates_before_item(words)?;
+    Some(own + count)
 }
 
 /// The day of exactly one word, which is a date.
@@ -170,13 +157,6 @@ pub struct Effects {
     exempt: bool,
     /// The number of estimates of the EET items.
     estimates: usize,
-}
-
-/// What the items of field 18 say so far, with the first word of the next item.
-#[derive(Drop)]
-struct Step<'a> {
-    effects: Effects,
-    next: Option<Measured<'a>>,
 }
 
 impl Effects {
@@ -213,64 +193,17 @@ impl Effects {
         })
     }
 
-    /// The effects with one more item, an EET, or the fault of that item. Takes its words.
-    #[tactic(auto, unfolding(crate::specs::Items::item_fault))]
-    fn with_estimates<'a>(
-        self,
-        first: &Measured<'a>,
-        words: &mut Words<'a>,
-    ) -> Result<Step<'a>, ItemFault>
-        requires begins { BeginsItem first.now }
-        requires eet { is_text (codes "EET") (item_at first.now.word.now words.old).name ≡ true }
-        requires count { self.estimates + estimates_in (item_at first.now.word.now words.old)
-            ≤ usize.MAX }
-        ensures says { IfOk result (λ step. SaysAfter self.day self.exempt
-            (item_at first.now.word.now words.old) step.effects.day step.effects.exempt) }
-        ensures count { IfOk result (λ step. step.effects.estimates
-            ≡ self.estimates + estimates_in (item_at first.now.word.now words.old)) }
-        ensures fault { IfErr result (λ fault. item_fault (is_some self.day)
-            (item_at first.now.word.now words.old) ≡ Some fault) }
-        ensures memory { IfErr result (λ fault. fault ≢ ItemFault.OutOfMemory) }
-        ensures items { IfOk result
-            (λ step. items_of words.old ≡ items_with step.next words.new) }
-        ensures begins { IfOk result (λ step. IfSome step.next (λ next. BeginsItem next)) }
+    /// The effects with one more item, an EET of this many estimates.
+    fn with_estimates(self, count: usize) -> Effects
+        requires { self.estimates + count ≤ usize.MAX }
+        ensures { (result.day ≡ self.day) × (result.exempt ≡ self.exempt)
+            × (result.estimates ≡ self.estimates + count) }
     {
-        let Some(Counted { count, next }) = count_estimates(own_word(first), words) else {
-            return Err(ItemFault::BadField(18));
-        };
-        let effects = Effects {
+        Effects {
             day: self.day,
             exempt: self.exempt,
             estimates: self.estimates + count,
-        };
-        Ok(Step { effects, next })
-    }
-
-    /// The effects with the item of this first word and some of the words after it, or the fault of
-    /// that item. Goes on to the next item, without a second look at the words of an EET item. Items
-    /// after another item that have no effect are skipped.
-    #[inline(always)]
-    fn step<'a>(self, first: &Measured<'a>, words: &mut Words<'a>) -> Result<Step<'a>, ItemFault>
-        requires begins { BeginsItem first.now }
-        requires count { self.estimates + estimates_in (item_at first.now.word.now words.old)
-            ≤ usize.MAX }
-        ensures says { IfOk result (λ step. SaysAfter self.day self.exempt
-            (item_at first.now.word.now words.old) step.effects.day step.effects.exempt) }
-        ensures count { IfOk result (λ step. step.effects.estimates
-            ≡ self.estimates + estimates_in (item_at first.now.word.now words.old)) }
-        ensures fault { IfErr result (λ fault. item_fault (is_some self.day)
-            (item_at first.now.word.now words.old) ≡ Some fault) }
-        ensures memory { IfErr result (λ fault. fault ≢ ItemFault.OutOfMemory) }
-        ensures same { IfOk result
-            (λ step. SayNoMore (items_of words.old) (items_with step.next words.new)) }
-        ensures begins { IfOk result (λ step. IfSome step.next (λ next. BeginsItem next)) }
-    {
-        if is_name(name_of(first), b"EET") {
-            return self.with_estimates(first, words);
         }
-        let effects = self.with(&Item::new(first, words))?;
-        let next = next_with_effect(words);
-        Ok(Step { effects, next })
     }
 
     /// What no items say.
@@ -364,17 +297,23 @@ fn read_items(mut words: Words<'_>) -> Result<Effects, ItemFault>
     ensures memory { IfErr result (λ fault. fault ≢ ItemFault.OutOfMemory) }
 {
     let mut effects = Effects::none();
-    let mut next = next_with_effect(&mut words);
-    'items: while let Some(first) = next {
-        match effects.step(&first, &mut words) {
-            Ok(step) => {
-                effects = step.effects;
-                next = step.next;
-            }
+    'items: loop {
+        skip_to_effect(&mut words);
+        if take_eet(&mut words) {
+            let Some(count) = count_estimates(&mut words) else {
+                return Err(ItemFault::BadField(18));
+            };
+            effects = effects.with_estimates(count);
+            continue;
+        }
+        let Some(first) = next_first(&mut words) else {
+            return Ok(effects);
+        };
+        match effects.with(&Item::new(&first, &words)) {
+            Ok(next) => effects = next,
             Err(fault) => return Err(fault),
         }
     }
-    Ok(effects)
 }
 
 /// What field 18 says (ICAO Doc 4444, appendix 3, field type 18), with its estimates, kept without

@@ -1,13 +1,13 @@
 -- The words of a text from the first that begins with one of three names on.
 use Rattle.std.proofs.Common.{◌≡◌, ℕ, suc, zero, ◌+◌, ◌-◌, ◌<◌, ◌≤◌, ◌⊎◌, inl, inr, Bool, true, false, ◌&&◌, ◌||◌, not, eqb, List, [], ◌∷◌, length, take, drop, get_or, sym, refl, ap, ◌∙◌, arith, ⊎_elim}
-use Rattle.std.specs.List.{slice_split, position_or_len, list_all}
+use Rattle.std.specs.List.{slice_split, onto_first, position_or_len, list_all}
 use Rattle.std.proofs.lemmas.Bool.{cases_Bool, cases_lt, eqb-true, eq-eqb, cond-true, cond-false, false≢true, and_parts, false_from_ne_true}
 use Rattle.std.proofs.lemmas.List.{drop-drop, length-drop, length-take, get_or-take, get_or-drop, get_or_past}
 use Rattle.std.proofs.lemmas.List.Folds.{list_all_at}
 use Rattle.std.proofs.lemmas.List.Sums.{passes_at_first, fails_before_first}
-use Rattle.std.proofs.lemmas.List.Splits.{slice_split_first}
+use Rattle.std.proofs.lemmas.List.Splits.{slice_split_first, slice_split-cons_yes, slice_split-cons_no, length-slice_split}
 use Rattle.fpl_text.specs.Lanes.{HasLanes, HasFlags, flag}
-use Rattle.fpl_text.specs.Words.{lacks, words_from, begins_word, may_begin, is_named, is_one_of, words_from_named}
+use Rattle.fpl_text.specs.Words.{lacks, words_from, begins_word, may_begin, is_named, is_one_of, words_from_named, without_first}
 use Rattle.fpl_text.proofs.WordsLemmas.{split_nowhere, words-at, words-past}
 
 and-false : (b : Bool) → b && false ≡ false
@@ -367,3 +367,95 @@ flag-unset false h = refl
 pub flag-set : (p : Bool) → not (eqb (flag p) 255) ≡ false → p ≡ true
 flag-set true h = refl
 flag-set false h = absurd cc
+
+-- ---- the next word
+
+-- whether it has a name is seen in the text
+pub head-named : (name text : List ℕ) (from : ℕ) → lacks 32 name ≡ true → is_named name (get_or (words_from text from) 0 []) ≡ is_named name (drop from text)
+head-named name text from none =
+    ⊎_elim
+    (λ within.
+    let rest = drop from text in
+    ap (λ ws. is_named name (get_or ws 0 [])) (words-at text from (omega arith))
+    ∙ ⊎_elim
+    (λ inside.
+    ap (λ ws. is_named name (get_or ws 0 [])) (slice_split_first is_space rest 0 inside)
+    ∙ named-front name rest (first_space rest) none (omega arith) (λ l. passes_at_first is_space rest 0 l))
+    (λ whole. ap (λ ws. is_named name (get_or ws 0 [])) (split_nowhere is_space rest whole))
+    (cases_lt (first_space rest) (length rest)))
+    (λ past.
+    let zero : get_or (drop from text) 3 0 ≡ 0 = get_or-drop from text 3 0 ∙ get_or_past text (from + 3) 0 (omega arith) in
+    ap (λ ws. is_named name (get_or ws 0 [])) (words-past text from (omega arith)) ∙ and-false _ ∙ sym (rw zero (and-false _)))
+    (cases_lt from (length text + 1))
+
+pub named-short : (name text : List ℕ) (from : ℕ) → lacks 32 name ≡ true → eqb (get_or text (from + 3) 0) 47 ≡ false → false ≡ is_named name (get_or (words_from text from) 0 [])
+named-short name text from none other =
+    sym (head-named name text from none ∙ rw (get_or-drop from text 3 0, other) (and-false _))
+
+pub named-past : (name text : List ℕ) (from : ℕ) → lacks 32 name ≡ true → length text ≤ from + 3 → false ≡ is_named name (get_or (words_from text from) 0 [])
+named-past name text from none past =
+    let zero : get_or text (from + 3) 0 ≡ 0 = get_or_past text (from + 3) 0 past in
+    named-short name text from none (rw zero refl)
+
+pub named-whole : (name text : List ℕ) (from : ℕ) → lacks 32 name ≡ true → eqb (get_or text (from + 3) 0) 47 ≡ true
+    → at_place text from name ≡ is_named name (get_or (words_from text from) 0 [])
+named-whole name text from none stroke =
+    let zero : from + 0 ≡ from = omega arith in
+    let shift : (j : ℕ) → get_or (drop from text) j 0 ≡ get_or text (from + j) 0 = λ j. get_or-drop from text j 0 in
+    sym (head-named name text from none ∙ rw (shift 0, zero, shift 1, shift 2, shift 3, stroke) (and-true _))
+
+split-without : (text : List ℕ) (n : ℕ) → n ≤ length (get_or (slice_split is_space text) 0 []) → slice_split is_space (drop n text) ≡ without_first n (slice_split is_space text)
+split-without [] zero few = refl
+split-without [] (suc n) few = absurd (omega arith)
+split-without (b ∷ text) zero few = by (slice_split is_space (b ∷ text)) where
+  by : (words : List (List ℕ)) → words ≡ without_first 0 words
+  by [] = refl
+  by (word ∷ words) = refl
+split-without (b ∷ text) (suc n) few =
+    ⊎_elim
+    (λ yes. absurd (let none : length (get_or (slice_split is_space (b ∷ text)) 0 []) ≡ 0 = ap (λ ws. length (get_or ws 0 [])) (slice_split-cons_yes is_space b text yes) in omega arith))
+    (λ no.
+    let cut = slice_split-cons_no is_space b text no in
+    let long = ap (λ ws. length (get_or ws 0 [])) cut in
+    onto (slice_split is_space text) (slice_split is_space (drop n text)) (omega (arith, length-slice_split is_space text)) (omega (arith, few, long)) (split-without text n)
+    ∙ sym (ap (without_first (suc n)) cut))
+    (cases_Bool (eqb b 32))
+  where
+    onto : (words later : List (List ℕ)) → 0 < length words → suc n ≤ length (get_or (onto_first b words) 0 []) → (n ≤ length (get_or words 0 []) → later ≡ without_first n words)
+        → later ≡ without_first (suc n) (onto_first b words)
+    onto [] later some few rest = absurd (omega arith)
+    onto (word ∷ words) later some few rest = rest (omega arith)
+
+-- how much of a text is left for the next word
+pub head-fits : (text : List ℕ) (from n : ℕ) → n ≤ length (get_or (words_from text from) 0 []) → (n ≡ 0) ⊎ (from + n ≤ length text)
+head-fits text from n few =
+    ⊎_elim
+    (λ within.
+    let rest = drop from text in
+    let head = ap (λ ws. length (get_or ws 0 [])) (words-at text from (omega arith)) in
+    inr (⊎_elim
+    (λ inside.
+    let cut = ap (λ ws. length (get_or ws 0 [])) (slice_split_first is_space rest 0 inside) in
+    omega (arith, few, head, cut, length-take (first_space rest) rest, length-drop from text, within))
+    (λ whole.
+    let one = ap (λ ws. length (get_or ws 0 [])) (split_nowhere is_space rest whole) in
+    omega (arith, few, head, one, length-drop from text, within))
+    (cases_lt (first_space rest) (length rest))))
+    (λ past. let none = ap (λ ws. length (get_or ws 0 [])) (words-past text from (omega arith)) in inl (omega (arith, few, none)))
+    (cases_lt from (length text + 1))
+
+pub words-without : (text : List ℕ) (from n : ℕ) → n ≤ length (get_or (words_from text from) 0 []) → words_from text (from + n) ≡ without_first n (words_from text from)
+words-without text from n few =
+    ⊎_elim
+    (λ none. let same : from + n ≡ from = omega arith in ap (words_from text) same ∙ whole (words_from text from) n none)
+    (λ within.
+    let cut = words-at text from (omega arith) in
+    words-at text (from + n) within
+    ∙ ap (slice_split is_space) (sym (drop-drop n from text))
+    ∙ split-without (drop from text) n (omega (arith, few, ap (λ ws. length (get_or ws 0 [])) cut))
+    ∙ sym (ap (without_first n) cut))
+    (head-fits text from n few)
+  where
+    whole : (words : List (List ℕ)) (n : ℕ) → n ≡ 0 → words ≡ without_first n words
+    whole [] n none = refl
+    whole (word ∷ words) n none = rw none refl

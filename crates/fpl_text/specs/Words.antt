@@ -59,3 +59,8 @@ is_one_of a b c text = is_named a text || is_named b text || is_named c text
 abbrev pub words_from_named : List ℕ → List ℕ → List ℕ → List (List ℕ) → List (List ℕ)
 words_from_named a b c [] = []
 words_from_named a b c (word ∷ words) = if is_one_of a b c word then word ∷ words else words_from_named a b c words
+
+-- the same words, with the first bytes of the first one left out
+abbrev pub without_first : ℕ → List (List ℕ) → List (List ℕ)
+without_first count [] = []
+without_first count (word ∷ words) = drop count word ∷ words
