@@ -21,7 +21,7 @@ use Rattle.fpl_items.specs.declared.other.Effects.{Effects}
 use Rattle.fpl_items.specs.declared.fault.ItemFault.{ItemFault}
 use Rattle.fpl_items.specs.declared.fault.ItemFault.TheVariants.{BadField}
 use Rattle.fpl_items.proofs.OtherLemmas.{SaySoFar, or-none}
-use Rattle.fpl_items.proofs.ItemsLemmas.{begins_item-is}
+use Rattle.fpl_items.proofs.ItemsLemmas.{begins_item-is, name-long}
 
 -- ---- words that begin with a name
 
@@ -53,15 +53,10 @@ stroke-no-letter = refl
 letter-no-stroke : (b : ℕ) → is_letter b ≡ true → eqb b 47 ≡ false
 letter-no-stroke b is = false_from_ne_true _ (λ same. false≢true (sym stroke-no-letter ∙ ap is_letter (sym (eqb-true b 47 same)) ∙ is))
 
-stroke-no-digit : is_digit 47 ≡ false
-unfolding is_digit
-stroke-no-digit = refl
-
 -- what a word with a name begins with
 pub record BeginsWithName (word : List ℕ) : Type 0 where
   pub begins : begins_item word ≡ true
   pub stroke : before_stroke word ≡ 3
-  pub measure : prefix_len is_letter_or_digit word ≡ 3
 
 name-begins : (a b c : ℕ) (rest : List ℕ) → AreLetters a b c → BeginsWithName (a ∷ b ∷ c ∷ 47 ∷ rest)
 unfolding begins_item
@@ -71,7 +66,6 @@ name-begins a b c rest are =
     record {
       begins = rw (stroke, lt-ltb 3 (length word) (omega arith), are.0, are.1, are.2) refl;
       stroke = stroke;
-      measure = rw (are.0, are.1, are.2, stroke-no-letter, stroke-no-digit) refl;
     }
 
 named-begins : (a b c : ℕ) (word : List ℕ) → AreLetters a b c → is_named (a ∷ b ∷ c ∷ []) word ≡ true → BeginsWithName word
@@ -163,6 +157,23 @@ begin-at old new same = subst BeginAtItem (sym same) (by (words_from_effect old)
   by : (words : List (List ℕ)) → ((word : List ℕ) (rest : List (List ℕ)) → words ≡ word ∷ rest → begins_item word ≡ true) → BeginAtItem words
   by [] begins = tt
   by (word ∷ rest) begins = begins word rest refl
+
+-- a first word that begins an item, measured
+pub first-found : (old new : List (List ℕ)) (found : Option Measured) → BeginAtItem old → MatchOption found ((old ≡ []) × (new ≡ [])) (λ m. old ≡ m.word.now ∷ new)
+    → items_of old ≡ items_with found new
+first-found old new None begin next = ap items_of next.0
+first-found old new (Some m) begin next = ap items_of next ∙ cond-true _ _ _ (subst BeginAtItem next begin)
+
+begins-measure : (word : List ℕ) → begins_item word ≡ true → prefix_len is_letter_or_digit word ≡ before_stroke word
+unfolding begins_item
+begins-measure word begins = name-long word (stroke-inside word begins) (and_parts _ _ begins).1
+
+pub first-measured : (old new : List (List ℕ)) (found : Option Measured) → BeginAtItem old → MatchOption found ((old ≡ []) × (new ≡ [])) (λ m. old ≡ m.word.now ∷ new)
+    → IfSome found (λ m. m.letters_or_digits ≡ prefix_len is_letter_or_digit m.word.now) → IfSome found BeginsItem
+first-measured old new None begin next measured = measured
+first-measured old new (Some m) begin next measured =
+    let begins : begins_item m.word.now ≡ true = subst BeginAtItem next begin in
+    record { begins = begins; stroke = measured ∙ begins-measure m.word.now begins }
 
 -- an EET item by its words
 own-same : (word : List ℕ) → before_stroke word ≡ 3 → 4 ≤ length word → (if eqb (length word) (before_stroke word + 1) then [] else drop (before_stroke word + 1) word ∷ []) ≡ own_of (drop 4 word ∷ [])

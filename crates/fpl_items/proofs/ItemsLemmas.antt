@@ -31,6 +31,15 @@ stroke-behind word n same h at_stroke =
     (λ k l. false_from_ne_true _ (λ is. absurd (false≢true (sym stroke-other ∙ ap is_letter_or_digit (sym (eqb-true _ 47 is)) ∙ prefix_len_passes is_letter_or_digit word k 0 (omega arith)))))
     (λ _. eq-eqb _ 47 at_stroke)
 
+-- a name has as many letters and digits as precede the stroke
+pub name-long : (word : List ℕ) → before_stroke word < length word → list_all is_letter_or_digit (take (before_stroke word) word) ≡ true
+    → prefix_len is_letter_or_digit word ≡ before_stroke word
+name-long word short all =
+    let stroke : eqb (get_or word (before_stroke word) 0) 47 ≡ true = passes_at_first (λ b. eqb b 47) word 0 short in
+    prefix_len_is is_letter_or_digit word (before_stroke word) 0 (omega arith)
+    (λ k l. ⊎_elim (λ y. y) (λ no. absurd (false≢true (sym (list_all_at is_letter_or_digit (take (before_stroke word) word) k 0 (omega (arith, length-take (before_stroke word) word)) (ap is_letter_or_digit (get_or-take (before_stroke word) word k 0 l) ∙ no)) ∙ all))) (cases_Bool (is_letter_or_digit (get_or word k 0))))
+    (λ _. ap is_letter_or_digit (eqb-true _ 47 stroke) ∙ stroke-other)
+
 pub begins_item-is : (word : List ℕ) (n : ℕ) → n ≡ prefix_len is_letter_or_digit word
     → (ltb n (length word) && eqb (get_or word n 0) 47 && leb 2 n && leb n 9 && is_letter (get_or word 0 0)) ≡ begins_item word
 unfolding begins_item
@@ -56,11 +65,7 @@ begins_item-is word n same =
         let front = and_parts _ _ (and_parts _ _ (and_parts _ _ all.0).0).0 in
         let short : before_stroke word < length word = ltb-true _ _ front.0 in
         let stroke : eqb (get_or word (before_stroke word) 0) 47 ≡ true = passes_at_first (λ b. eqb b 47) word 0 short in
-        let here : prefix_len is_letter_or_digit word ≡ before_stroke word =
-        prefix_len_is is_letter_or_digit word (before_stroke word) 0 (omega arith)
-        (λ k l. ⊎_elim (λ y. y) (λ no. absurd (false≢true (sym (list_all_at is_letter_or_digit (take (before_stroke word) word) k 0 (omega (arith, length-take (before_stroke word) word)) (ap is_letter_or_digit (get_or-take (before_stroke word) word k 0 l) ∙ no)) ∙ all.1))) (cases_Bool (is_letter_or_digit (get_or word k 0))))
-        (λ _. ap is_letter_or_digit (eqb-true _ 47 stroke) ∙ stroke-other) in
-        rw (same, here, stroke, front.0) refl
+        rw (same, name-long word short all.1, stroke, front.0) refl
 
 -- a word without a stroke begins no item
 pub no-item : (word : List ℕ) → lacks 47 word ≡ true → begins_item word ≡ false

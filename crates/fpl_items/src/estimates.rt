@@ -14,7 +14,7 @@ ghost use Rattle.fpl_text.specs.Words.{words_of};
 ghost use Rattle.fpl_text.specs.declared.time.TheConstants.{ELAPSED_LIMIT};
 
 use crate::estimate::{Estimate, may_have, name_of, with_place};
-use crate::item::{begins_item, next_estimate, next_first, skip_to_effect, take_eet};
+use crate::item::{begins_item, next_estimate, skip_to_effect, take_eet, take_first};
 use fpl_text::{Words, minutes_of_elapsed};
 use std::alloc::{AllocError, Allocator, Global};
 use std::marker::Model;
@@ -226,7 +226,7 @@ fn note_items<A: Allocator + Copy>(
             places = note_words(notes, places, &mut words);
             continue;
         }
-        let Some(_first) = next_first(&mut words) else {
+        let Some(_first) = take_first(&mut words) else {
             return places;
         };
     }

@@ -201,8 +201,18 @@ pub(crate) fn take_eet(words: &mut Words<'_>) -> bool
     false
 }
 
+/// Takes the next word, which begins an item.
+#[inline(always)]
+pub(crate) fn take_first<'a>(words: &mut Words<'a>) -> Option<Measured<'a>>
+    requires { BeginAtItem words.old }
+    ensures items { items_of words.old ≡ items_with result words.new }
+    ensures begins { IfSome result (λ first. BeginsItem first) }
+{
+    words.next_measured()
+}
+
 /// Takes the first word of the next item, after skipping the words before it.
-pub(crate) fn next_first<'a>(words: &mut Words<'a>) -> Option<Measured<'a>>
+fn next_first<'a>(words: &mut Words<'a>) -> Option<Measured<'a>>
     ensures items { items_of words.old ≡ items_with result words.new }
     ensures begins { IfSome result (λ first. BeginsItem first) }
     ensures none { IfNone result (words.new ≡ []) }

@@ -25,8 +25,8 @@ ghost use Rattle.fpl_text.specs.declared.time.TheConstants.{ELAPSED_LIMIT};
 use crate::estimates::Estimates;
 use crate::fault::ItemFault;
 use crate::item::{
-    Item, ItemWords, Items, begins_item, field_begins, is_name, next_estimate, next_first,
-    skip_to_effect, take_eet,
+    Item, ItemWords, Items, begins_item, field_begins, is_name, next_estimate, skip_to_effect,
+    take_eet, take_first,
 };
 use fpl_text::{Day, Measured, Words, read_elapsed};
 use jiff::civil::Date;
@@ -306,7 +306,7 @@ fn read_items(mut words: Words<'_>) -> Result<Effects, ItemFault>
             effects = effects.with_estimates(count);
             continue;
         }
-        let Some(first) = next_first(&mut words) else {
+        let Some(first) = take_first(&mut words) else {
             return Ok(effects);
         };
         match effects.with(&Item::new(&first, &words)) {

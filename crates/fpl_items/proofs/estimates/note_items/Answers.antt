@@ -65,8 +65,8 @@ returns-in_default-clause-noted g c = λ place.
 pub items-smaller : goal.items-smaller
 items-smaller g c =
     let left = items_of c.items.words in
-    let item : ItemView = item_at c.in-Some._first.word.now c.next_first.new.words in
-    let rest = items_of c.next_first.new.words in
+    let item : ItemView = item_at c.in-Some._first.word.now c.take_first.new.words in
+    let rest = items_of c.take_first.new.words in
     let no = c.take_eet.ensures.no c.if-take_eet.false in
     let mid : items_of c.skip_to_effect.new.words ≡ item ∷ rest = ap items_of (sym no.0) ∙ c.in-Some.ensures.items in
     let next : NextItem item rest left = next-item item rest left (sym c.skip_to_effect.ensures.items ∙ mid) in
@@ -75,8 +75,8 @@ items-smaller g c =
 pub items-preserved : goal.items-preserved
 items-preserved g c =
     let left = items_of c.items.words in
-    let item : ItemView = item_at c.in-Some._first.word.now c.next_first.new.words in
-    let rest = items_of c.next_first.new.words in
+    let item : ItemView = item_at c.in-Some._first.word.now c.take_first.new.words in
+    let rest = items_of c.take_first.new.words in
     let no = c.take_eet.ensures.no c.if-take_eet.false in
     let mid : items_of c.skip_to_effect.new.words ≡ item ∷ rest = ap items_of (sym no.0) ∙ c.in-Some.ensures.items in
     let next : NextItem item rest left = next-item item rest left (sym c.skip_to_effect.ensures.items ∙ mid) in

@@ -47,48 +47,48 @@ items-preserved-then-take_eet c =
       counted = omega (arith, c.items.invariant.counted, (next-item (eet_of words) (items_of (drop 1 words)) left same).count, c.in-Some.ensures.count, is.2, ap estimate_count c.in-Some.ensures.items);
     }
 
-pub returns-in_default-next_first-clause-faultless : goal.returns-in_default-next_first-clause-faultless
-returns-in_default-next_first-clause-faultless c =
+pub returns-in_default-take_first-clause-faultless : goal.returns-in_default-take_first-clause-faultless
+returns-in_default-take_first-clause-faultless c =
     let left = items_of c.items.words in
     let no = c.take_eet.ensures.no c.if-take_eet.false in
-    let same : from_effect left ≡ [] = sym c.skip_to_effect.ensures.items ∙ ap items_of (sym no.0) ∙ c.in_default-next_first.ensures.items in
+    let same : from_effect left ≡ [] = sym c.skip_to_effect.ensures.items ∙ ap items_of (sym no.0) ∙ c.in_default-take_first.ensures.items in
     all-faultless c.items.effects left (items_of c.args.words) c.items.invariant.say same
 
-pub returns-in_default-next_first-clause-tells : goal.returns-in_default-next_first-clause-tells
-returns-in_default-next_first-clause-tells c =
+pub returns-in_default-take_first-clause-tells : goal.returns-in_default-take_first-clause-tells
+returns-in_default-take_first-clause-tells c =
     let left = items_of c.items.words in
     let no = c.take_eet.ensures.no c.if-take_eet.false in
-    let same : from_effect left ≡ [] = sym c.skip_to_effect.ensures.items ∙ ap items_of (sym no.0) ∙ c.in_default-next_first.ensures.items in
+    let same : from_effect left ≡ [] = sym c.skip_to_effect.ensures.items ∙ ap items_of (sym no.0) ∙ c.in_default-take_first.ensures.items in
     all-told c.items.effects left (items_of c.args.words) c.items.invariant.say same c.items.invariant.counted
 
 pub items-smaller : goal.items-smaller
 items-smaller c =
     let left = items_of c.items.words in
-    let item : ItemView = item_at c.in-Some-next_first.first.word.now c.next_first.new.words in
+    let item : ItemView = item_at c.in-Some-take_first.first.word.now c.take_first.new.words in
     let no = c.take_eet.ensures.no c.if-take_eet.false in
-    let same : from_effect left ≡ item ∷ items_of c.next_first.new.words = sym c.skip_to_effect.ensures.items ∙ ap items_of (sym no.0) ∙ c.in-Some-next_first.ensures.items in
-    omega (arith, (next-item item (items_of c.next_first.new.words) left same).fewer)
+    let same : from_effect left ≡ item ∷ items_of c.take_first.new.words = sym c.skip_to_effect.ensures.items ∙ ap items_of (sym no.0) ∙ c.in-Some-take_first.ensures.items in
+    omega (arith, (next-item item (items_of c.take_first.new.words) left same).fewer)
 
 pub items-preserved : goal.items-preserved
 items-preserved c =
     let left = items_of c.items.words in
-    let item : ItemView = item_at c.in-Some-next_first.first.word.now c.next_first.new.words in
+    let item : ItemView = item_at c.in-Some-take_first.first.word.now c.take_first.new.words in
     let no = c.take_eet.ensures.no c.if-take_eet.false in
-    let same : from_effect left ≡ item ∷ items_of c.next_first.new.words = sym c.skip_to_effect.ensures.items ∙ ap items_of (sym no.0) ∙ c.in-Some-next_first.ensures.items in
-    let other = other-item (items_of c.skip_to_effect.new.words) (items_of c.next_first.new.words) item no.1 (ap items_of (sym no.0) ∙ c.in-Some-next_first.ensures.items) in
+    let same : from_effect left ≡ item ∷ items_of c.take_first.new.words = sym c.skip_to_effect.ensures.items ∙ ap items_of (sym no.0) ∙ c.in-Some-take_first.ensures.items in
+    let other = other-item (items_of c.skip_to_effect.new.words) (items_of c.take_first.new.words) item no.1 (ap items_of (sym no.0) ∙ c.in-Some-take_first.ensures.items) in
     let none : estimates_in item ≡ 0 = rw other refl in
     let says : SaysAfter c.items.effects.day c.items.effects.exempt item c.in-Ok.next.day c.in-Ok.next.exempt =
     subst (λ i. SaysAfter c.items.effects.day c.items.effects.exempt i c.in-Ok.next.day c.in-Ok.next.exempt) c.new.ensures c.in-Ok.ensures.says in
     record {
-      say = next-said c.items.effects.day c.in-Ok.next.day c.items.effects.exempt c.in-Ok.next.exempt item (items_of c.next_first.new.words) left (items_of c.args.words) c.items.invariant.say same says;
-      counted = omega (arith, c.items.invariant.counted, (next-item item (items_of c.next_first.new.words) left same).count, none, c.in-Ok.ensures.count);
+      say = next-said c.items.effects.day c.in-Ok.next.day c.items.effects.exempt c.in-Ok.next.exempt item (items_of c.take_first.new.words) left (items_of c.args.words) c.items.invariant.say same says;
+      counted = omega (arith, c.items.invariant.counted, (next-item item (items_of c.take_first.new.words) left same).count, none, c.in-Ok.ensures.count);
     }
 
 pub returns-in-Err-clause-fault : goal.returns-in-Err-clause-fault
 returns-in-Err-clause-fault c =
     let left = items_of c.items.words in
-    let item : ItemView = item_at c.in-Some-next_first.first.word.now c.next_first.new.words in
+    let item : ItemView = item_at c.in-Some-take_first.first.word.now c.take_first.new.words in
     let no = c.take_eet.ensures.no c.if-take_eet.false in
-    let same : from_effect left ≡ item ∷ items_of c.next_first.new.words = sym c.skip_to_effect.ensures.items ∙ ap items_of (sym no.0) ∙ c.in-Some-next_first.ensures.items in
-    fault-found c.items.effects c.in-Err.fault item (items_of c.next_first.new.words) left (items_of c.args.words) c.items.invariant.say same
+    let same : from_effect left ≡ item ∷ items_of c.take_first.new.words = sym c.skip_to_effect.ensures.items ∙ ap items_of (sym no.0) ∙ c.in-Some-take_first.ensures.items in
+    fault-found c.items.effects c.in-Err.fault item (items_of c.take_first.new.words) left (items_of c.args.words) c.items.invariant.say same
     (ap (item_fault (is_some c.items.effects.day)) (sym c.new.ensures) ∙ c.in-Err.ensures.fault)
