@@ -1,5 +1,5 @@
 -- The items that have an effect, by the words that begin them.
-use Rattle.std.proofs.Common.{◌≡◌, ◌≢◌, ℕ, zero, suc, ◌+◌, ◌-◌, ◌<◌, ◌≤◌, ◌⊎◌, inl, inr, Bool, true, false, ◌&&◌, ◌||◌, not, eqb, ltb, leb, if◌then◌else◌, List, [], ◌∷◌, ◌++◌, length, take, drop, get_or, refl, sym, ap, subst, ◌∙◌, arith, ⊎_elim, Option, None, Some, MatchOption, IfSome}
+use Rattle.std.proofs.Common.{◌≡◌, ℕ, suc, ◌+◌, ◌-◌, ◌<◌, ◌≤◌, ◌⊎◌, inl, inr, Bool, true, false, ◌&&◌, ◌||◌, not, eqb, ltb, if◌then◌else◌, List, [], ◌∷◌, ◌++◌, length, take, drop, get_or, refl, sym, ap, subst, ◌∙◌, arith, ⊎_elim, Option, None, Some, MatchOption, IfSome}
 use Rattle.std.specs.Prelude.{codes, slice_index_or, is_some}
 use Rattle.std.specs.Borrow.{Bor}
 use Rattle.std.specs.Cmp.{both_ways}
@@ -7,7 +7,7 @@ use Rattle.std.specs.Option.{option_or}
 use Rattle.std.specs.List.{list_all, prefix_len, slice_split, onto_first}
 use Rattle.std.proofs.lemmas.Bool.{cases_Bool, cases_lt, cond-true, cond-false, eq-eqb, eqb-true, and_parts, or_parts, false_from_ne_true, false≢true, le-ltb, lt-ltb, ltb-true, leb-true, not-false}
 use Rattle.std.proofs.lemmas.List.{length-take, length-drop, get_or-take}
-use Rattle.std.proofs.lemmas.List.Sums.{prefix_len_is, prefix_len_passes, prefix_len_stops, prefix_len-le-length, position_or_len_is, passes_at_first}
+use Rattle.std.proofs.lemmas.List.Sums.{prefix_len_is, prefix_len_passes, prefix_len_stops, prefix_len-le-length, passes_at_first}
 use Rattle.std.proofs.lemmas.List.Splits.{slice_split-cons_yes, slice_split-cons_no, length-slice_split}
 use lib.Pointwise.{bytes_decides}
 use Rattle.fpl_text.specs.Bytes.{is_letter, is_digit, is_letter_or_digit}
@@ -16,7 +16,7 @@ use Rattle.fpl_text.specs.declared.words.Measured.{Measured}
 use Rattle.fpl_items.specs.Kinds.{is_text, before_stroke}
 use Rattle.fpl_items.specs.Items.{ItemView, begins_item, item_at, items_of, items_with, BeginsItem, is_dof, first_fault, item_fault, day_of_items, is_exempt, elapsed_to, estimate_for, has_effect, from_effect, exempts, is_estimate, own_of, own_words, words_after, words_before, eet_of, BeginAtItem, BeginWithOther, SaysAfter}
 use Rattle.fpl_items.specs.Estimates.{estimate_count, estimates_in, has_estimates}
-use Rattle.fpl_items.specs.Other18.{SayNoMore, TellsOf}
+use Rattle.fpl_items.specs.Other18.{TellsOf}
 use Rattle.fpl_items.specs.declared.other.Effects.{Effects}
 use Rattle.fpl_items.specs.declared.fault.ItemFault.{ItemFault}
 use Rattle.fpl_items.specs.declared.fault.ItemFault.TheVariants.{BadField}
@@ -238,6 +238,14 @@ no-effect item none =
 no-fault : (dof : Bool) (item : ItemView) → NoEffect item → item_fault dof item ≡ None
 unfolding item_fault
 no-fault dof item none = rw (none.dof, none.eet) refl
+
+-- others, no more of them, say the same, with the same fault
+pub record SayNoMore (items others : List ItemView) : Type 0 where
+  pub fault : (dof : Bool) → first_fault dof items ≡ first_fault dof others
+  pub day : day_of_items items ≡ day_of_items others
+  pub exempt : is_exempt items ≡ is_exempt others
+  pub count : estimate_count items ≡ estimate_count others
+  pub fewer : length others ≤ length items
 
 pub say-no-more : (items : List ItemView) → SayNoMore items (from_effect items)
 say-no-more [] = record { fault = λ dof. refl; day = refl; exempt = refl; count = refl; fewer = omega arith }

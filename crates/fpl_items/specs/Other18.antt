@@ -1,23 +1,15 @@
 -- What field 18 says of a flight, kept without the field's text (ICAO Doc 4444, appendix 3, field
 -- type 18).
-use Rattle.std.specs.Prelude.{◌≡◌, ◌≤◌, Bool, List, length, Option, Some, None}
+use Rattle.std.specs.Prelude.{◌≡◌, List, Option, Some, None}
 use Rattle.fpl_items.specs.declared.estimate.Estimate.{Estimate}
 use Rattle.fpl_items.specs.declared.other.Effects.{Effects}
-use Rattle.fpl_items.specs.Items.{ItemView, Say, first_fault, day_of_items, is_exempt}
+use Rattle.fpl_items.specs.Items.{ItemView, Say}
 use Rattle.fpl_items.specs.Estimates.{AreEstimatesOf, estimate_count, HasEstimate}
 
 -- this is what these items say, with the number of their estimates
 pub record TellsOf (items : List ItemView) (effects : Effects) : Type 0 where
   pub says : Say items effects.day effects.exempt
   pub count : effects.estimates ≡ estimate_count items
-
--- others, no more of them, say the same, with the same fault
-pub record SayNoMore (items others : List ItemView) : Type 0 where
-  pub fault : (dof : Bool) → first_fault dof items ≡ first_fault dof others
-  pub day : day_of_items items ≡ day_of_items others
-  pub exempt : is_exempt items ≡ is_exempt others
-  pub count : estimate_count items ≡ estimate_count others
-  pub fewer : length others ≤ length items
 
 -- if there are items, this is what they say, and else there is nothing
 abbrev pub TellsOfAny : Option (List ItemView) → Option Effects → Type 0

@@ -1,6 +1,6 @@
 -- The words of a text from the first that begins with one of three names on.
 use Rattle.std.proofs.Common.{◌≡◌, ℕ, suc, zero, ◌+◌, ◌-◌, ◌<◌, ◌≤◌, ◌⊎◌, inl, inr, Bool, true, false, ◌&&◌, ◌||◌, not, eqb, List, [], ◌∷◌, length, take, drop, get_or, sym, refl, ap, ◌∙◌, arith, ⊎_elim}
-use Rattle.std.specs.List.{slice_split, onto_first, position_or_len, list_all}
+use Rattle.std.specs.List.{slice_split, onto_first, position_or_len}
 use Rattle.std.proofs.lemmas.Bool.{cases_Bool, cases_lt, eqb-true, eq-eqb, cond-true, cond-false, false≢true, and_parts, false_from_ne_true}
 use Rattle.std.proofs.lemmas.List.{drop-drop, length-drop, length-take, get_or-take, get_or-drop, get_or_past}
 use Rattle.std.proofs.lemmas.List.Folds.{list_all_at}

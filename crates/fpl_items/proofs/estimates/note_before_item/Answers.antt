@@ -1,4 +1,4 @@
-use Rattle.std.proofs.Common.{◌≡◌, ◌+◌, ◌≤◌, ◌∙◌, sym, arith, length}
+use Rattle.std.proofs.Common.{◌≡◌, ◌∙◌, sym, arith, length}
 use Rattle.fpl_items.specs.Items.{words_before}
 use Rattle.fpl_items.specs.Estimates.{first_for}
 use Rattle.fpl_items.proofs.OtherLemmas.{none-left}

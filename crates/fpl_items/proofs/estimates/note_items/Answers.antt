@@ -1,7 +1,7 @@
-use Rattle.std.proofs.Common.{◌≡◌, ◌+◌, ◌≤◌, ◌∷◌, [], ◌∙◌, ap, arith, sym, refl, subst, true, false, List, length, drop}
+use Rattle.std.proofs.Common.{◌≡◌, ◌∷◌, [], ◌∙◌, ap, arith, sym, refl, length, drop}
 use Rattle.std.specs.Option.{option_or}
 use Rattle.std.specs.List.{list_all}
-use Rattle.fpl_items.specs.Items.{ItemView, item_at, items_of, from_effect, eet_of, words_after, elapsed_to, estimate_for}
+use Rattle.fpl_items.specs.Items.{ItemView, item_at, items_of, from_effect, eet_of, elapsed_to}
 use Rattle.fpl_items.specs.Estimates.{first_for, estimate_count, estimates_in, has_estimates}
 use Rattle.fpl_items.proofs.OtherLemmas.{none-elapsed, or-none}
 use Rattle.fpl_items.proofs.EffectLemmas.{NextItem, next-item, noted-item, passed-item, other-item, all-of, elapsed-later}

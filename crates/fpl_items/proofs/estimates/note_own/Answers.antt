@@ -1,6 +1,6 @@
-use Rattle.std.proofs.Common.{◌≡◌, ◌∷◌, [], ◌++◌, ap, arith, sym, ◌∙◌, length}
+use Rattle.std.proofs.Common.{◌++◌, ap, arith, sym, ◌∙◌, length}
 use Rattle.std.specs.Option.{option_or}
-use Rattle.fpl_items.specs.Items.{own_of, estimate_for}
+use Rattle.fpl_items.specs.Items.{estimate_for}
 use Rattle.fpl_items.specs.Estimates.{first_for}
 use Rattle.fpl_items.proofs.EffectLemmas.{own-is}
 use Rattle.fpl_items.proofs.estimates.note_own.Goals as goal

@@ -1,5 +1,5 @@
 use Rattle.std.proofs.Common.{refl, sym, ◌∙◌}
-use Rattle.fpl_items.proofs.EffectLemmas.{eet-first, other-first}
+use Rattle.fpl_items.proofs.EffectLemmas.{other-first}
 use Rattle.fpl_items.proofs.item.take_eet.Goals as goal
 
 pub returns-clause-no : goal.returns-clause-no

@@ -1,9 +1,8 @@
-use Rattle.std.proofs.Common.{◌≡◌, ◌+◌, ◌≤◌, ◌∷◌, [], ℕ, List, length, drop, Some, arith, ap, sym, subst, refl, ◌∙◌}
+use Rattle.std.proofs.Common.{◌≡◌, ◌+◌, ◌∷◌, [], length, drop, arith, ap, sym, subst, refl, ◌∙◌}
 use Rattle.std.specs.Prelude.{is_some}
-use Rattle.fpl_items.specs.Kinds.{is_text}
-use Rattle.fpl_items.specs.Items.{ItemView, item_at, items_of, from_effect, eet_of, words_after, item_fault, SaysAfter}
+use Rattle.fpl_items.specs.Items.{ItemView, item_at, items_of, from_effect, eet_of, item_fault, SaysAfter}
 use Rattle.fpl_items.specs.Estimates.{estimate_count, estimates_in}
-use Rattle.fpl_items.proofs.EffectLemmas.{say-no-more, NextItem, next-item, next-said, said-eet, eet-fault, fault-found, all-faultless, all-told, other-item}
+use Rattle.fpl_items.proofs.EffectLemmas.{next-item, next-said, said-eet, eet-fault, fault-found, all-faultless, all-told, other-item}
 use Rattle.fpl_items.proofs.other.read_items.Goals as goal
 
 pub count_estimates-requires : goal.count_estimates-requires

@@ -1,5 +1,4 @@
 use Rattle.std.proofs.Common.{◌≡◌, ◌+◌, ◌-◌, ◌<◌, ◌||◌, not, eqb, get_or, arith, sym, ap, ◌∙◌}
-use Rattle.fpl_text.specs.Lanes.{flag}
 use Rattle.fpl_text.specs.Words.{may_begin}
 use Rattle.fpl_text.proofs.NamedLemmas.{lanes-may, flag-unset, flag-set}
 use Rattle.fpl_text.proofs.byte.before_name.Goals as goal

@@ -1,4 +1,4 @@
-use Rattle.std.proofs.Common.{◌≡◌, ◌+◌, eqb, get_or, false, arith, ap, sym, ◌∙◌}
+use Rattle.std.proofs.Common.{arith, ◌∙◌}
 use Rattle.std.proofs.lemmas.Bool.{eq-eqb, false_from_ne_true, eqb-true}
 use Rattle.fpl_text.proofs.NamedLemmas.{named-past, named-short, named-whole}
 use Rattle.fpl_text.proofs.words.is_named_at.Goals as goal

@@ -1,4 +1,4 @@
-use Rattle.std.proofs.Common.{◌≡◌, ◌+◌, ◌<◌, ◌≤◌, arith, sym, ◌∙◌, length}
+use Rattle.std.proofs.Common.{◌+◌, arith, sym, ◌∙◌, length}
 use Rattle.std.proofs.lemmas.Bool.{false≢true}
 use Rattle.fpl_text.proofs.NamedLemmas.{none-longer, none-past, named-here, named-nowhere}
 use Rattle.fpl_text.proofs.words.named_word.Goals as goal
