@@ -1,15 +1,14 @@
 //! The estimates of field 18, as a plan keeps them.
 
 ghost use Rattle.std.specs.Prelude.{◌≡◌, ◌≤◌, ◌<◌, ◌+◌, length, IfOk, IfSome, OnErr, None};
-ghost use Rattle.std.specs.Prelude.{true, List, ℕ, IsSome, vec_len, vec_capacity};
+ghost use Rattle.std.specs.Prelude.{true, List, ℕ, IsSome, vec_len, vec_capacity, drop};
 ghost use Rattle.std.specs.List.{list_all};
 ghost use Rattle.fpl_items.specs.Points.{may_have};
 ghost use Rattle.fpl_items.specs.Items.{words_before, is_estimate, items_of, field_fault};
+ghost use Rattle.fpl_items.specs.Items.{own_of, words_after};
 ghost use Rattle.fpl_items.specs.Estimates.{first_for, HasPlacesOf, AreEstimatesOf};
 ghost use Rattle.fpl_items.specs.Estimates.{AddsWord, AddsWords, AddsFirst, estimate_count};
 ghost use Rattle.fpl_items.specs.Estimates.{has_estimates};
-ghost use Rattle.fpl_items.specs.Items.{own_of, words_after};
-ghost use Rattle.std.specs.Prelude.{drop};
 ghost use Rattle.fpl_text.specs.Words.{words_of};
 ghost use Rattle.fpl_text.specs.declared.time.TheConstants.{ELAPSED_LIMIT};
 
@@ -137,7 +136,7 @@ fn note_before_item<A: Allocator + Copy>(
     ensures items { items_of words.new ≡ items_of words.old }
 {
     let mut places = places;
-    // With no room left, the next word begins an item.
+    // When the list is full, the next word begins an item.
     'words: while notes.len() < notes.capacity() {
         if let Some(word) = next_estimate(words) {
             places = note(notes, places, word);
@@ -205,8 +204,8 @@ fn note_words<A: Allocator + Copy>(
     note_before_item(notes, more, words)
 }
 
-/// Appends the estimates of the items of words, which are `count`, to a list that is empty. Stops at
-/// the last, whatever follows it.
+/// Appends the estimates of the items of words, which are `count`, to a list that is empty. Stops
+/// at the last, whatever follows it.
 fn note_items<A: Allocator + Copy>(
     notes: &mut Vec<Estimate, A>,
     mut words: Words<'_>,
