@@ -285,13 +285,12 @@ next-said day new_day exempt new_exempt item rest left all so_far same says =
     or-or false b c = refl
 
 -- what an EET item leaves to be said
-pub said-eet : (effects next : Effects) (words : List (List ℕ)) (later left all : List ItemView) → SaySoFar effects.day effects.exempt left all
+pub said-eet : (effects : Effects) (words : List (List ℕ)) (later left all : List ItemView) → SaySoFar effects.day effects.exempt left all
     → from_effect left ≡ eet_of words ∷ items_of (drop 1 words) → list_all is_estimate (words_after words) ≡ true
-    → (next.day ≡ effects.day) × (next.exempt ≡ effects.exempt) × (next.estimates ≡ effects.estimates + length (words_after words))
-    → items_of (drop 1 words) ≡ later → SaySoFar next.day next.exempt later all
-said-eet effects next words later left all so_far same estimates is rest =
-    rw (is.0, is.1) (subst (λ items. SaySoFar effects.day effects.exempt items all) rest
-    (next-said effects.day effects.day effects.exempt effects.exempt (eet_of words) (items_of (drop 1 words)) left all so_far same (eet-says effects.day effects.exempt words estimates)))
+    → items_of (drop 1 words) ≡ later → SaySoFar effects.day effects.exempt later all
+said-eet effects words later left all so_far same estimates rest =
+    subst (λ items. SaySoFar effects.day effects.exempt items all) rest
+    (next-said effects.day effects.day effects.exempt effects.exempt (eet_of words) (items_of (drop 1 words)) left all so_far same (eet-says effects.day effects.exempt words estimates))
 
 -- an item with a fault
 pub fault-found : (effects : Effects) (fault : ItemFault) (item : ItemView) (rest left all : List ItemView) → SaySoFar effects.day effects.exempt left all → from_effect left ≡ item ∷ rest

@@ -194,19 +194,6 @@ impl Effects {
         })
     }
 
-    /// The effects with one more item, an EET of this many estimates.
-    fn with_estimates(self, count: usize) -> Effects
-        requires { self.estimates + count ≤ usize.MAX }
-        ensures { (result.day ≡ self.day) × (result.exempt ≡ self.exempt)
-            × (result.estimates ≡ self.estimates + count) }
-    {
-        Effects {
-            day: self.day,
-            exempt: self.exempt,
-            estimates: self.estimates + count,
-        }
-    }
-
     /// What no items say.
     fn none() -> Effects
         ensures { TellsOf [] result }
@@ -304,7 +291,7 @@ fn read_items(mut words: Words<'_>) -> Result<Effects, ItemFault>
             let Some(count) = count_estimates(&mut words) else {
                 return Err(ItemFault::BadField(18));
             };
-            effects = effects.with_estimates(count);
+            effects.estimates += count;
             continue;
         }
         let Some(first) = take_first(&mut words) else {

@@ -20,12 +20,12 @@ returns-in_default-clause-fault c =
     fault-found c.items.effects _ (eet_of words) (items_of (drop 1 words)) left (items_of c.args.words) c.items.invariant.say same
     (eet-fault (is_some c.items.effects.day) words (sym c.in_default.ensures.all))
 
-pub with_estimates-effects-requires : goal.with_estimates-effects-requires
-with_estimates-effects-requires c =
+pub overflow_add-effects : goal.overflow_add-effects
+overflow_add-effects c =
     let left = items_of c.items.words in
     let words = c.take_eet.new.words in
     let same : from_effect left ≡ eet_of words ∷ items_of (drop 1 words) = sym c.skip_to_effect.ensures.items ∙ c.take_eet.ensures.yes c.if-take_eet.true in
-    omega (arith, c.requires, c.items.invariant.counted, (next-item (eet_of words) (items_of (drop 1 words)) left same).count, c.in-Some.ensures.count)
+    record { fits = omega (arith, c.requires, c.items.invariant.counted, (next-item (eet_of words) (items_of (drop 1 words)) left same).count, c.in-Some.ensures.count) }
 
 pub items-smaller-then-take_eet : goal.items-smaller-then-take_eet
 items-smaller-then-take_eet c =
@@ -39,11 +39,9 @@ items-preserved-then-take_eet c =
     let left = items_of c.items.words in
     let words = c.take_eet.new.words in
     let same : from_effect left ≡ eet_of words ∷ items_of (drop 1 words) = sym c.skip_to_effect.ensures.items ∙ c.take_eet.ensures.yes c.if-take_eet.true in
-    let is = c.with_estimates-effects.ensures in
     record {
-      say = said-eet c.items.effects c.with_estimates-effects.result words (items_of c.count_estimates.new.words) left (items_of c.args.words) c.items.invariant.say same
-          (sym c.in-Some.ensures.all) (is.0, is.1, is.2 ∙ ap (λ n. c.items.effects.estimates + n) c.in-Some.ensures.count) c.in-Some.ensures.items;
-      counted = omega (arith, c.items.invariant.counted, (next-item (eet_of words) (items_of (drop 1 words)) left same).count, c.in-Some.ensures.count, is.2, ap estimate_count c.in-Some.ensures.items);
+      say = said-eet c.items.effects words (items_of c.count_estimates.new.words) left (items_of c.args.words) c.items.invariant.say same (sym c.in-Some.ensures.all) c.in-Some.ensures.items;
+      counted = omega (arith, c.items.invariant.counted, (next-item (eet_of words) (items_of (drop 1 words)) left same).count, c.in-Some.ensures.count, ap estimate_count c.in-Some.ensures.items);
     }
 
 pub returns-in_default-take_first-clause-faultless : goal.returns-in_default-take_first-clause-faultless
