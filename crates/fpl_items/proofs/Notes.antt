@@ -12,7 +12,7 @@ use Rattle.fpl_text.specs.Times.{elapsed_time}
 use Rattle.fpl_items.specs.Kinds.{is_text}
 use Rattle.fpl_items.specs.declared.estimate.Estimate.{Estimate}
 use Rattle.fpl_items.specs.Points.{may_have, stored_name}
-use Rattle.fpl_items.specs.Estimates.{is_for, first_for, AddsWord, HasPlacesOf}
+use Rattle.fpl_items.specs.Estimates.{is_for, first_for, AddsFirst, HasPlacesOf}
 
 -- two tests that follow from one another
 same-test : (b c : Bool) → (b ≡ true → c ≡ true) → (c ≡ true → b ≡ true) → b ≡ c
@@ -99,7 +99,7 @@ if-or true minutes x y v w e = refl
 if-or false minutes x y v w e = e
 
 -- one estimate more says what one word more says
-pub one-more : (notes : List Estimate) (note : Estimate) (word : List ℕ) → length (take (length word - 4) word) ≤ 11 → note.name ≡ stored_name (take (length word - 4) word) → elapsed_time (drop (length word - 4) word) ≡ Some note.minutes → AddsWord notes (notes ++ note ∷ []) word
+pub one-more : (notes : List Estimate) (note : Estimate) (word : List ℕ) → length (take (length word - 4) word) ≤ 11 → note.name ≡ stored_name (take (length word - 4) word) → elapsed_time (drop (length word - 4) word) ≡ Some note.minutes → AddsFirst notes (notes ++ note ∷ []) (word ∷ [])
 one-more [] note word short kept time = λ place words. note-is-word _ _ _ _ _ (for-place place (take (length word - 4) word) note short kept) time
 one-more (n ∷ ns) note word short kept time = λ place words. if-or (is_for place n) n.minutes _ _ _ _ (one-more ns note word short kept time place words)
 

@@ -16,13 +16,7 @@ abbrev pub first_for : List ℕ → List Estimate → Option ℕ
 first_for place [] = None
 first_for place (e ∷ es) = if is_for place e then Some e.minutes else first_for place es
 
--- `after` says, beyond `before`, what a word says, whatever the words after it are
-abbrev pub AddsWord : List Estimate → List Estimate → List ℕ → Type 0
-AddsWord before after word =
-    (place : List ℕ) (words : List (List ℕ))
-    → option_or (first_for place after) (estimate_for place words) ≡ option_or (first_for place before) (estimate_for place (word ∷ words))
-
--- what these words say, whatever the words after them are
+-- `after` says, beyond `before`, what these words say, whatever the words after them are
 abbrev pub AddsFirst : List Estimate → List Estimate → List (List ℕ) → Type 0
 AddsFirst before after first =
     (place : List ℕ) (words : List (List ℕ))

@@ -1,13 +1,13 @@
 //! The estimates of field 18, as a plan keeps them.
 
 ghost use Rattle.std.specs.Prelude.{◌≡◌, ◌≤◌, ◌<◌, ◌+◌, length, IfOk, IfSome, OnErr, None};
-ghost use Rattle.std.specs.Prelude.{true, List, ℕ, IsSome, vec_len, vec_capacity, drop};
+ghost use Rattle.std.specs.Prelude.{true, List, ℕ, IsSome, vec_len, vec_capacity, drop, ◌∷◌, []};
 ghost use Rattle.std.specs.List.{list_all};
 ghost use Rattle.fpl_items.specs.Points.{may_have};
 ghost use Rattle.fpl_items.specs.Items.{words_before, is_estimate, items_of, field_fault};
 ghost use Rattle.fpl_items.specs.Items.{own_of, words_after};
 ghost use Rattle.fpl_items.specs.Estimates.{first_for, HasPlacesOf, AreEstimatesOf};
-ghost use Rattle.fpl_items.specs.Estimates.{AddsWord, AddsWords, AddsFirst, estimate_count};
+ghost use Rattle.fpl_items.specs.Estimates.{AddsWords, AddsFirst, estimate_count};
 ghost use Rattle.fpl_items.specs.Estimates.{has_estimates};
 ghost use Rattle.fpl_text.specs.Words.{words_of};
 ghost use Rattle.fpl_text.specs.declared.time.TheConstants.{ELAPSED_LIMIT};
@@ -109,7 +109,7 @@ fn note<A: Allocator + Copy>(notes: &mut Vec<Estimate, A>, places: u64, word: &[
     requires is { is_estimate word.now ≡ true }
     requires room { vec_len notes.old < vec_capacity notes.old }
     requires places { HasPlacesOf places notes.old.items }
-    ensures noted { AddsWord notes.old.items notes.new.items word.now }
+    ensures noted { AddsFirst notes.old.items notes.new.items (word.now ∷ []) }
     ensures count { vec_len notes.new ≡ vec_len notes.old + 1 }
     ensures room { vec_capacity notes.new ≡ vec_capacity notes.old }
     ensures places { HasPlacesOf result notes.new.items }

@@ -1,4 +1,4 @@
-use Rattle.std.proofs.Common.{◌≡◌, ◌+◌, ◌∷◌, [], length, drop, arith, ap, sym, subst, refl, ◌∙◌}
+use Rattle.std.proofs.Common.{◌≡◌, ◌∷◌, [], length, drop, arith, ap, sym, subst, refl, ◌∙◌}
 use Rattle.std.specs.Prelude.{is_some}
 use Rattle.fpl_items.specs.Items.{ItemView, item_at, items_of, from_effect, eet_of, item_fault, SaysAfter}
 use Rattle.fpl_items.specs.Estimates.{estimate_count, estimates_in}
