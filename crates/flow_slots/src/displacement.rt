@@ -23,6 +23,7 @@ pub(crate) fn first_later(cells: &[PackedCell], from: usize, flight: PackedCell)
     requires waits { waits flight ≡ true }
     ensures comes { ComesIn cells.now from (planned_in flight) result }
 {
+    // A day takes 2 % more instructions without chunks: a flight passes some 200 slots by.
     let mut chunk = from;
     while chunk + CHUNK <= cells.len() && are_passed(&cells[chunk..chunk + CHUNK], flight) {
         chunk += CHUNK;

@@ -177,7 +177,8 @@ impl<'a> Item<'a> {
     }
 }
 
-/// Skips all before the next item that has an effect.
+/// Skips all before the next item that has an effect. With the first word of each item measured
+/// instead, a day takes 3 % more instructions.
 #[inline(always)]
 pub(crate) fn skip_to_effect(words: &mut Words<'_>)
     ensures items { items_of words.new ≡ from_effect (items_of words.old) }
