@@ -1,5 +1,5 @@
 -- The filings among frames.
-use Rattle.std.proofs.Common.{◌≡◌, ℕ, Bool, true, false, cond, leb, List, [], ◌∷◌, ◌++◌, length, Option, Some, None, refl, ap}
+use Rattle.std.proofs.Common.{◌≡◌, ℕ, Bool, true, false, cond, leb, List, [], ◌∷◌, ◌++◌, length, Some, None, refl, ap}
 use Rattle.fpl_message.specs.Filings.{FilingView}
 use Rattle.flow_input.specs.NextFrame.{second, filing_of}
 use Rattle.flow_input.specs.Filings.{filings}

@@ -1,10 +1,10 @@
 -- The first frame of bytes that show its end.
 use Rattle.std.proofs.Common.{◌≡◌, ℕ, ◌+◌, ◌-◌, ◌<◌, ◌≤◌, zero, suc, Bool, true, false, not, cond, ltb, None, List, [], ◌∷◌, ◌++◌, length, refl, sym, ap, subst, ◌∙◌, arith, take, drop, get_or, Option, Some, unwrap_or, position}
 use Rattle.std.proofs.lemmas.Bool.{ne_eqb, ltb-false}
-use Rattle.std.proofs.lemmas.List.{take-append-drop, take_rest, drop-drop, length-drop, length-take}
+use Rattle.std.proofs.lemmas.List.{take-append-drop, take_rest, drop-drop, length-drop}
 use Rattle.std.specs.List.{position_or_len}
 use Rattle.std.specs.Prelude.{IfSome}
-use Rattle.flow_input.specs.Frames.{Cut, until, since, closed, order_cut, cut, first_cut, is_not_blank, is_parenthesis, ends_order}
+use Rattle.flow_input.specs.Frames.{until, since, closed, order_cut, cut, first_cut, is_not_blank, is_parenthesis, ends_order}
 use Rattle.flow_input.specs.FirstFrame.{EndsAt, Shows}
 use Rattle.flow_input.proofs.Runs.{since-run, until-run, none-before-found, stop-behind-found, text-at, position-within, drop-at}
 

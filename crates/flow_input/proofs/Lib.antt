@@ -13,3 +13,4 @@ pub mod Runs
 pub mod Ranges
 pub mod Written
 pub mod FirstBytes
+pub mod Queues

@@ -8,3 +8,4 @@ pub mod NextFrame
 pub mod Source
 pub mod Cutting
 pub mod Writes
+pub mod Queues

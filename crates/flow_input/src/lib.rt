@@ -13,6 +13,7 @@
 
 mod counted;
 mod fault;
+mod frame_queue;
 mod input;
 mod intake;
 pub mod laws;
@@ -20,6 +21,7 @@ mod next_frame;
 
 pub use counted::{Counted, ReadFailure, WriteFault, write_bytes};
 pub use fault::IntakeFault;
+pub use frame_queue::FrameQueue;
 pub use input::{Input, MAX_INPUT};
 pub use intake::{Frame, Intake};
 pub use next_frame::take_frame;

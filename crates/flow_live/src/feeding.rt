@@ -81,14 +81,14 @@ fn answer_piece<
     pass: &mut Pass<N, A>,
     writer: &mut Counted<W>,
 ) -> Result<(), FeedEnd>
-    requires none { batch.old.ready.items ≡ [] }
+    requires none { batch.old.queue ≡ [] }
     requires seen { AnswersSeen N.setup pass.old batch.old.seen batch.old.answers.items }
     ensures piece { PieceIs result N.setup pass.old pass.new (W.contents writer.old.device)
         (W.contents writer.new.device) input.old input.new }
     ensures agrees { OnOk result
         ((rest : Option (List ℕ)) → Agrees input.old rest → Agrees input.new rest) }
     ensures nearer { OnOk result (input.old.taken ≤ input.new.taken) }
-    ensures none { OnOk result (batch.new.ready.items ≡ []) }
+    ensures none { OnOk result (batch.new.queue ≡ []) }
     ensures seen { OnOk result
         (AnswersSeen N.setup pass.new batch.new.seen batch.new.answers.items) }
 {

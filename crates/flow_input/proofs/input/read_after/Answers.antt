@@ -1,4 +1,4 @@
-use Rattle.std.proofs.Common.{arith, ◌-◌, ◌≤◌, length}
+use Rattle.std.proofs.Common.{arith}
 use Rattle.flow_input.proofs.Ranges.{came-after}
 use Rattle.flow_input.proofs.input.read_after.Goals as goal
 

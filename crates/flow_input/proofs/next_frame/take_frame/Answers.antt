@@ -1,4 +1,4 @@
-use Rattle.std.proofs.Common.{sym, ap, ◌∙◌, subst, List, ℕ, arith}
+use Rattle.std.proofs.Common.{sym, ◌∙◌, subst, List, ℕ, arith}
 use Rattle.std.proofs.lemmas.Result.{err_from_is_err_and}
 use Rattle.flow_input.specs.Frames.{is_not_blank}
 use Rattle.flow_input.specs.Reader.{BeginsWithStop}

@@ -1,4 +1,4 @@
-use Rattle.std.proofs.Common.{sym, ap, subst, ◌≡◌, ◌∙◌, List, ℕ, length, take, position, unwrap_or, Option}
+use Rattle.std.proofs.Common.{sym, ap, subst, ◌≡◌, ◌∙◌, List, ℕ, length, position, unwrap_or, Option}
 use Rattle.flow_input.specs.Reader.{BeginsWithStop}
 use Rattle.flow_input.specs.Until.{stops_at}
 use Rattle.flow_input.proofs.Runs.{none-before-found, stop-behind-found, found-within}

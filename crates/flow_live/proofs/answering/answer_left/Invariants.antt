@@ -2,8 +2,8 @@ use Rattle.std.proofs.Common.{◌≡◌, ◌++◌, length}
 use Rattle.flow_live.specs.Told.{full_answers}
 use Rattle.flow_live.proofs.answering.answer_left.Given as goal
 
-abbrev pub invariant-loop-filing : goal.invariant-loop-filing
-invariant-loop-filing g l = l.answers.items ++ full_answers (length l.ready.items) ≡ l.initial.answers.items ++ full_answers (length l.initial.ready.items)
+abbrev pub invariant-left : goal.invariant-left
+invariant-left g l = l.answers.items ++ full_answers (length l.queue) ≡ l.initial.answers.items ++ full_answers (length l.initial.queue)
 
-abbrev pub decreases-loop-filing : goal.decreases-loop-filing
-decreases-loop-filing g l = length l.ready.items
+abbrev pub decreases-left : goal.decreases-left
+decreases-left g l = length l.queue

@@ -8,7 +8,7 @@ use Rattle.flow_live.proofs.feeding.serve_feed.Given as goal
 abbrev pub invariant-pieces : goal.invariant-pieces
 invariant-pieces g l = record {
   agrees : Agrees l.input (g.R.Read.remaining l.reader.device);
-  none : l.batch.ready.items ≡ [];
+  none : l.batch.queue ≡ [];
   seen : AnswersSeen g.N.Name.setup l.pass l.batch.seen l.batch.answers.items;
   feeds : IsLawful g.N.Name.setup l.fn.pass.seen → Feeds g.N.Name.setup l.fn.pass l.pass (g.W.Write.contents l.fn.writer.device) (g.W.Write.contents l.writer.device) l.input (g.R.Read.remaining l.fn.reader.device) (g.R.Read.remaining l.reader.device);
 }

@@ -1,4 +1,4 @@
-use Rattle.std.proofs.Common.{ap, ◌∙◌, drop, List, ℕ, ◌≤◌, length, slice_range, refl}
+use Rattle.std.proofs.Common.{ap, ◌∙◌, drop, List, ℕ, slice_range, refl}
 use Rattle.flow_input.specs.Reader.{InputView}
 use Rattle.flow_input.proofs.Ranges.{range-skip, range-range, range-length, kept-range}
 use Rattle.flow_input.proofs.input.Input.take.Goals as goal
