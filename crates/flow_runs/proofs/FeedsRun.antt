@@ -21,7 +21,7 @@ some-left [] rest after some are none = some refl
 some-left (t ∷ ts) rest after some are none = absurd (cc (are, none))
 
 -- what holds feed by feed holds of all
-feeds-ran : {X : Type 0} (s : SetupView) (pass : X → PassView) (left : X → List FilingView) (end : X → End) (olds news : List X) → length news ≡ length olds
+pub feeds-ran : {X : Type 0} (s : SetupView) (pass : X → PassView) (left : X → List FilingView) (end : X → End) (olds news : List X) → length news ≡ length olds
     → ((i : ℕ) (d : X) → i < length olds → RanFeed s (pass (slice_index_or olds i d)) (left (slice_index_or olds i d)) (pass (slice_index_or news i d)) (left (slice_index_or news i d)) (end (slice_index_or news i d)))
     → RanFeeds s (map pass olds) (map left olds) (map pass news) (map left news) (map end news)
 feeds-ran s pass left end [] [] same each = tt
@@ -29,11 +29,3 @@ feeds-ran s pass left end [] (y ∷ ys) same each = absurd (omega (arith, same))
 feeds-ran s pass left end (x ∷ xs) [] same each = absurd (omega (arith, same))
 feeds-ran s pass left end (x ∷ xs) (y ∷ ys) same each =
     (each 0 x (omega arith), feeds-ran s pass left end xs ys (omega (arith, same)) (λ i d lt. each (suc i) d (omega (arith, lt))))
-
--- feeds that were made of these passes and texts, where there was none
-pub texts-ran : {X : Type 0} (s : SetupView) (pass : X → PassView) (left : X → List FilingView) (end : X → End) (none olds news : List X) (ps : List PassView) (fs : List (List FilingView))
-    → none ≡ [] → map pass olds ≡ map pass none ++ ps → map left olds ≡ map left none ++ fs → length news ≡ length olds
-    → ((i : ℕ) (d : X) → i < length olds → RanFeed s (pass (slice_index_or olds i d)) (left (slice_index_or olds i d)) (pass (slice_index_or news i d)) (left (slice_index_or news i d)) (end (slice_index_or news i d)))
-    → RanFeeds s ps fs (map pass news) (map left news) (map end news)
-texts-ran s pass left end [] olds news ps fs empty are_ps are_fs same each = rw (← are_ps, ← are_fs) (feeds-ran s pass left end olds news same each)
-texts-ran s pass left end (x ∷ xs) olds news ps fs empty are_ps are_fs same each = absurd (cc empty)

@@ -1,18 +1,21 @@
 //! Feeders at their desk: each files the texts that were dealt to it, in a thread of its own.
 ghost use Rattle.std.specs.Prelude.{◌≡◌, ◌≢◌, ◌≤◌, ◌<◌, ◌+◌, ◌++◌, ℕ, []};
 ghost use Rattle.std.specs.Prelude.{length, map, vec_len, vec_capacity};
-ghost use Rattle.std.specs.Prelude.{slice_index_or, IsTrue, IsFalse, IfOk, OnOk, OnErr};
+ghost use Rattle.std.specs.Prelude.{slice_index_or, IsTrue, IsFalse, OnOk, OnErr};
 ghost use Rattle.std.specs.VecDeque.{deque_len, deque_capacity};
+ghost use Rattle.flow_core.specs.CoreView.{inputs};
 ghost use Rattle.flow_runs.specs.Ends.{EndsFeed};
-ghost use Rattle.flow_runs.specs.Filing.{FiledTo, RanFeed, RanFeeds};
+ghost use Rattle.flow_runs.specs.Filing.{FiledTo, RanFeed, RanFeeds, IsBegun};
 
-use flow_core::StepFault;
-use flow_desk::{Desk, End, Name, Pass};
+use crate::replaying::{Replay, advance_if_free};
+use flow_core::{Core, StepFault};
+use flow_desk::{Desk, End, Follower, Name, Pass};
+use flow_plans::Setup;
 use fpl_message::{FiledText, Filing};
 use fpl_text::Squeezed;
 use std::alloc::{AllocError, Allocator, Global};
 use std::collections::VecDeque;
-use std::sync::Wait;
+use std::sync::{Mutex, Wait};
 use std::thread;
 use std::thread::Threads;
 
@@ -119,11 +122,12 @@ fn file_next<N: Name, Q: Wait + Drop, P: Wait, A: Allocator + Copy>(
     true
 }
 
-/// Files a feed until it ends, a batch at a time.
+/// Files a feed until it ends, a batch at a time, and brings the replay on between two of them.
 fn run_feed<N: Name, Q: Wait + Drop, P: Wait, A: Allocator + Copy>(
     wait: &P,
     alloc: A,
     desk: &Desk<N, Q, A>,
+    replay: &Mutex<Replay<N, A>>,
     at_once: usize,
     feed: &mut Feed<N, A>,
 )
@@ -132,36 +136,13 @@ fn run_feed<N: Name, Q: Wait + Drop, P: Wait, A: Allocator + Copy>(
 {
     let mut last = Squeezed::new(alloc);
     let mut ready = VecDeque::new(alloc);
-    while file_next(wait, alloc, desk, at_once, &mut last, &mut ready, feed) {}
-}
-
-/// Runs all feeds at the same time, each in a thread of its own if one can be created.
-fn run_all<
-    N: Name + Send + Sync,
-    Q: Wait + Drop + Send,
-    T: Threads + Sync,
-    P: Wait + Sync,
-    A: Allocator + Copy + Send + Sync,
->(rt: &T, wait: &P, alloc: A, desk: &Desk<N, Q, A>, feeds: &mut Vec<Feed<N, A>, A>)
-    ensures len { length feeds.new.items ≡ length feeds.old.items }
-    ensures each { (i : ℕ) (d : _) → i < length feeds.old.items
-        → RanFeed N.setup (slice_index_or feeds.old.items i d).pass
-        (slice_index_or feeds.old.items i d).left.items
-        (slice_index_or feeds.new.items i d).pass (slice_index_or feeds.new.items i d).left.items
-        (slice_index_or feeds.new.items i d).end }
-{
-    let threads = feeds.len().max(1);
-    let at_once = AHEAD / threads;
-    thread::for_each_mut(
-        rt,
-        feeds.as_mut_slice(),
-        threads,
-        &|_, feed| run_feed(wait, alloc, desk, at_once, feed),
-    );
+    while file_next(wait, alloc, desk, at_once, &mut last, &mut ready, feed) {
+        advance_if_free(wait, alloc, desk, replay);
+    }
 }
 
 /// Pairs the passes with their texts, in their order.
-fn gather<N: Name, A: Allocator + Copy>(
+pub(crate) fn gather<N: Name, A: Allocator + Copy>(
     passes: &mut Vec<Pass<N, A>, A>,
     texts: &mut Vec<Vec<FiledText<A>, A>, A>,
     feeds: &mut Vec<Feed<N, A>, A>,
@@ -172,8 +153,10 @@ fn gather<N: Name, A: Allocator + Copy>(
         ≡ map (λ f. f.pass) feeds.old.items ++ passes.old.items }
     ensures texts { map (λ f. f.left.items) feeds.new.items
         ≡ map (λ f. f.left.items) feeds.old.items ++ map (λ v. v.items) texts.old.items }
+    ensures none { passes.new.items ≡ [] }
     ensures len { vec_len feeds.new ≡ vec_len feeds.old + length passes.old.items }
-    ensures room { vec_capacity feeds.new ≡ vec_capacity feeds.old }
+    ensures rooms { (vec_capacity passes.new ≡ vec_capacity passes.old)
+        × (vec_capacity feeds.new ≡ vec_capacity feeds.old) }
 {
     let Some(pass) = passes.pop() else {
         return;
@@ -189,9 +172,8 @@ fn gather<N: Name, A: Allocator + Copy>(
     });
 }
 
-/// Files the texts of all passes at the same time. If an allocation fails before any feed begins,
-/// nothing was filed.
-pub(crate) fn file_texts<
+/// Runs all feeds at the same time, each in a thread of its own if one can be created.
+fn run_each<
     N: Name + Send + Sync,
     Q: Wait + Drop + Send,
     T: Threads + Sync,
@@ -202,17 +184,49 @@ pub(crate) fn file_texts<
     wait: &P,
     alloc: A,
     desk: &Desk<N, Q, A>,
-    mut passes: Vec<Pass<N, A>, A>,
-    mut texts: Vec<Vec<FiledText<A>, A>, A>,
-) -> Result<Vec<Feed<N, A>, A>, AllocError>
-    requires { length passes.items ≡ length texts.items }
-    ensures { IfOk result (λ feeds. RanFeeds N.setup passes.items (map (λ v. v.items) texts.items)
-        (map (λ f. f.pass) feeds.items) (map (λ f. f.left.items) feeds.items)
-        (map (λ f. f.end) feeds.items)) }
+    replay: &Mutex<Replay<N, A>>,
+    feeds: &mut Vec<Feed<N, A>, A>,
+)
+    ensures len { length feeds.new.items ≡ length feeds.old.items }
+    ensures each { (i : ℕ) (d : _) → i < length feeds.old.items
+        → RanFeed N.setup (slice_index_or feeds.old.items i d).pass
+        (slice_index_or feeds.old.items i d).left.items
+        (slice_index_or feeds.new.items i d).pass (slice_index_or feeds.new.items i d).left.items
+        (slice_index_or feeds.new.items i d).end }
 {
-    let mut feeds = Vec::new(alloc);
-    feeds.reserve(passes.len())?;
-    gather(&mut passes, &mut texts, &mut feeds);
-    run_all(rt, wait, alloc, desk, &mut feeds);
-    Ok(feeds)
+    let threads = feeds.len().max(1);
+    let at_once = AHEAD / threads;
+    thread::for_each_mut(
+        rt,
+        feeds.as_mut_slice(),
+        threads,
+        &|_, feed| run_feed(wait, alloc, desk, replay, at_once, feed),
+    );
+}
+
+/// Runs all feeds, and meanwhile the journal a second time. Returns the core of the second run, and
+/// what it has seen of the journal.
+pub(crate) fn run_all<
+    N: Name + Send + Sync,
+    Q: Wait + Drop + Send,
+    T: Threads + Sync,
+    P: Wait + Sync,
+    A: Allocator + Copy + Send + Sync,
+>(
+    rt: &T,
+    wait: &P,
+    alloc: A,
+    desk: &Desk<N, Q, A>,
+    setup: Setup,
+    feeds: &mut Vec<Feed<N, A>, A>,
+) -> (Option<Core<A>>, Follower<N>)
+    requires { setup ≡ N.setup }
+    ensures ran { RanFeeds N.setup (map (λ f. f.pass) feeds.old.items)
+        (map (λ f. f.left.items) feeds.old.items) (map (λ f. f.pass) feeds.new.items)
+        (map (λ f. f.left.items) feeds.new.items) (map (λ f. f.end) feeds.new.items) }
+    ensures begun { IsBegun result.0 N.setup (inputs result.1) }
+{
+    let replay = Mutex::new(Replay::new(alloc, setup, desk.follower(wait, 0)));
+    run_each(rt, wait, alloc, desk, &replay, feeds);
+    replay.into_inner().into_parts()
 }

@@ -1,27 +1,33 @@
 //! Runs the feeders of a desk over their feeds, and closes it.
-ghost use Rattle.std.specs.Prelude.{◌≡◌, ◌≢◌, ◌<◌, ◌≤◌, ◌+◌, ◌++◌};
+ghost use Rattle.std.specs.Prelude.{◌≡◌, ◌≢◌, ◌<◌, ◌≤◌, ◌+◌, ◌++◌, []};
 ghost use Rattle.std.specs.Prelude.{None, Some, length, map, vec_len};
 ghost use Rattle.std.specs.Prelude.{vec_capacity, IfOk, IfErr, IfNone};
 ghost use Rattle.std.specs.List.{All, fold};
+ghost use Rattle.flow_core.specs.CoreView.{inputs};
 ghost use Rattle.flow_core.specs.History.{state_of};
+ghost use Rattle.flow_desk.specs.Desks.{AreOpened, IsMissing};
 ghost use Rattle.flow_desk.specs.Histories.{after};
+ghost use Rattle.flow_desk.specs.Locks.{AgreesWithPass};
 ghost use Rattle.flow_runs.specs.Ends.{EndsWell, IsStop, stop_after};
-ghost use Rattle.flow_runs.specs.Filing.{HasFiled};
+ghost use Rattle.flow_runs.specs.Filing.{HasFiled, IsAgain, IsBegun};
 
 use crate::fault::RunFault;
-use crate::feeding::{Feed, file_texts};
+use crate::feeding::{Feed, gather, run_all};
+use crate::replaying::caught_up;
 use flow_core::{Core, StepFault};
-use flow_desk::{Blank, Desk, End, Name, Pass};
+use flow_desk::{Blank, Desk, End, Follower, Name, Pass};
 use fpl_message::FiledText;
-use std::alloc::{Allocator, Global};
+use std::alloc::{AllocError, Allocator, Global};
 use std::sync::Wait;
 use std::thread::Threads;
 
-/// The core of a desk at which feeders have filed, and the fault that a feed ended with, if one did
-/// and the journal isn't full.
+/// The core of a desk at which feeders have filed.
 #[derive(Drop)]
 pub(crate) struct Filed<A: Allocator + Copy = Global> {
     pub core: Core<A>,
+    /// The core of the second run of the journal; `None` if an allocation failed for it.
+    pub again: Option<Core<A>>,
+    /// The fault that a feed ended with, if one did and the journal isn't full.
     pub stop: Option<RunFault>,
 }
 
@@ -90,6 +96,74 @@ fn take_passes<N: Name, A: Allocator + Copy>(
     passes.push_reserved(feed.pass);
 }
 
+/// A desk with the feeds that its feeders will file, and the vector in which its passes came.
+#[derive(Drop)]
+struct Opened<N: Name, Q: Wait + Drop, A: Allocator + Copy = Global> {
+    desk: Desk<N, Q, A>,
+    passes: Vec<Pass<N, A>, A>,
+    feeds: Vec<Feed<N, A>, A>,
+}
+
+/// Opens the desk, and gives each feeder its texts.
+fn open_feeds<N: Name, Q: Wait + Drop, A: Allocator + Copy>(
+    alloc: A,
+    blank: Blank<Q, A>,
+    mut texts: Vec<Vec<FiledText<A>, A>, A>,
+) -> Result<Opened<N, Q, A>, AllocError>
+    requires named { (blank.book ≡ N.book) × (blank.setup ≡ N.setup) × (blank.feeders ≡ N.feeders) }
+    requires each { length texts.items ≡ N.feeders }
+    ensures opened { IfOk result
+        (λ o. AreOpened N.feeders blank.entries (map (λ f. f.pass) o.feeds.items)) }
+    ensures texts { IfOk result
+        (λ o. map (λ f. f.left.items) o.feeds.items ≡ map (λ v. v.items) texts.items) }
+    ensures passes { IfOk result
+        (λ o. (o.passes.items ≡ []) × (length o.feeds.items ≤ vec_capacity o.passes)) }
+{
+    let mut feeds = Vec::new(alloc);
+    feeds.reserve(texts.len())?;
+    let Ok((desk, mut passes)) = Desk::<N, Q, A>::open(alloc, blank) else {
+        return Err(AllocError);
+    };
+    gather(&mut passes, &mut texts, &mut feeds);
+    Ok(Opened {
+        desk,
+        passes,
+        feeds,
+    })
+}
+
+/// Closes the desk, whose feeds ended with `ends`, and brings the second run to its end.
+fn close_desk<N: Name, Q: Wait + Drop, P: Wait, A: Allocator + Copy>(
+    wait: &P,
+    alloc: A,
+    desk: Desk<N, Q, A>,
+    passes: Vec<Pass<N, A>, A>,
+    again: Option<Core<A>>,
+    seen: Follower<N>,
+    ends: Option<RunFault>,
+) -> Filed<A>
+    requires none { IsMissing N.feeders passes.items → ⊥ }
+    requires begun { IsBegun again N.setup (inputs seen) }
+    requires stops { IsStop ends }
+    ensures setup { result.core.setup ≡ N.setup }
+    ensures one_thread { state_of result.core ≡ after N.setup (state_of result.core).journal }
+    ensures below { All (λ e. e.input.feeder < N.feeders) (state_of result.core).journal }
+    ensures passes { All (AgreesWithPass (state_of result.core).journal) passes.items }
+    ensures again { IsAgain result.again result.core }
+    ensures room { result.stop ≢ None
+        → length (state_of result.core).journal < result.core.setup.max_entries }
+    ensures is { length (state_of result.core).journal < result.core.setup.max_entries
+        → result.stop ≡ ends }
+    ensures stops { IsStop result.stop }
+{
+    let Ok((core, _all)) = desk.close_followed(wait, passes, seen) else {
+        unreachable!()
+    };
+    let stop = stop_with_room(&core, ends);
+    let again = caught_up(alloc, again, &core);
+    Filed { core, again, stop }
+}
+
 /// Opens the desk, files what was dealt to its feeders, and closes it. If an allocation fails
 /// before any feed begins, nothing was filed.
 pub(crate) fn file_all<
@@ -110,22 +184,19 @@ pub(crate) fn file_all<
     requires each { length texts.items ≡ N.feeders }
     ensures filed { IfOk result (λ f. HasFiled N.setup blank.entries N.feeders
         (map (λ v. v.items) texts.items) f.core f.stop) }
+    ensures again { IfOk result (λ f. IsAgain f.again f.core) }
     ensures stops { IfOk result (λ f. IsStop f.stop) }
     ensures fault { IfErr result (λ e. e ≡ RunFault.OutOfMemory) }
 {
-    let mut back = Vec::new(alloc);
-    back.reserve(texts.len())?;
-    let Ok((desk, passes)) = Desk::<N, Q, A>::open(alloc, blank) else {
-        return Err(RunFault::OutOfMemory);
-    };
-    let mut feeds = file_texts(rt, wait, alloc, &desk, passes, texts)?;
+    let setup = blank.setup();
+    let opened = open_feeds::<N, Q, A>(alloc, blank, texts)?;
+    let Opened {
+        desk,
+        mut passes,
+        mut feeds,
+    } = opened;
+    let (again, seen) = run_all(rt, wait, alloc, &desk, setup, &mut feeds);
     let ends = stop_among(feeds.as_slice());
-    take_passes(&mut feeds, &mut back);
-    match desk.close(wait, back) {
-        Ok(core) => {
-            let stop = stop_with_room(&core, ends);
-            Ok(Filed { core, stop })
-        }
-        Err(_) => unreachable!(),
-    }
+    take_passes(&mut feeds, &mut passes);
+    Ok(close_desk(wait, alloc, desk, passes, again, seen, ends))
 }

@@ -3,9 +3,11 @@
 //!
 //! - *Feeding* (`feeding`): each feeder files its texts in a thread of its own. It reads some of
 //!   them while it waits for the desk's lock, and files these in one critical section.
+//! - *The replay* (`replaying`): between two of these a feeder files the next entries of the
+//!   journal at a second core, unless another does.
 //! - *Answers* (`answers`): once the desk is closed, all is answered in the order of the journal.
-//!   Then each filing that found the journal full gets its line, and a replay says whether it has
-//!   the same state.
+//!   Then each filing that found the journal full gets its line, and the last one says whether the
+//!   second core has the same state.
 //! - *Stores* (`stored`): at a desk with a store nothing is flushed before all that was filed is on
 //!   the disk.
 //!
@@ -19,6 +21,7 @@ mod fault;
 mod feeding;
 mod filing;
 pub mod laws;
+mod replaying;
 mod run;
 mod stored;
 

@@ -234,7 +234,8 @@ fn write_rest<W: Write>(
     journal: bool,
     writer: &mut Counted<W>,
 ) -> Result<(), Fault> {
-    write_end(alloc, core, 0, journal, writer)?;
+    let again = core.replay(alloc).ok();
+    write_end(core, again.as_ref(), 0, journal, writer)?;
     match writer.flush() {
         Ok(()) => Ok(()),
         Err(_) => Err(Fault::Write),

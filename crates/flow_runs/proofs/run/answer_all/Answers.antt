@@ -40,3 +40,6 @@ returns-in-Some-clause-writer g c = c.in_ok-write_answers.ensures.writes.no_fail
 pub returns-in-None-clause-writer : goal.returns-in-None-clause-writer
 returns-in-None-clause-writer g c =
     replay-writer g.W.Write.contents c.write_rest.result c.write_answers.new.writer c.write_rest.new.writer _ c.write_rest.ensures ∙ ap (run_writer_failures c.write_rest.result) c.in_ok-write_answers.ensures.writes.no_failure
+
+pub write_rest-requires : goal.write_rest-requires
+write_rest-requires g c = rw c.as_ref-again.ensures.value c.requires.again
