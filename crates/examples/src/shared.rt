@@ -6,9 +6,9 @@ ghost use Rattle.flow_desk.specs.FeederPasses.{PassView, Filed, FiledInTurn, Saw
 
 use flow_core::Row;
 use flow_desk::{Desk, Name, Pass};
+use flow_input::FrameQueue;
 use fpl_message::Filing;
 use std::alloc::Allocator;
-use std::collections::VecDeque;
 use std::sync::Wait;
 
 /// Files a text for a feeder, and then reads the row of a plan. Other feeders may have filed
@@ -49,11 +49,12 @@ pub fn file_ready<N: Name, Q: Wait + Drop, W: Wait, A: Allocator + Copy>(
     alloc: A,
     desk: &Desk<N, Q, A>,
     pass: &mut Pass<N, A>,
-    ready: &mut VecDeque<Filing<A>, A>,
+    ready: &mut FrameQueue<A>,
 ) -> bool
     ensures { IsTrue result → (saw : PassView) × SawOthers pass.old saw
-        × FiledInTurn N.setup saw ready.old.items pass.new }
+        × FiledInTurn N.setup saw ready.old pass.new }
 {
     // `file_all` takes the lock once for all of them, and promises for each what `file` does.
-    desk.file_all(wait, alloc, pass, ready).is_ok()
+    let count = ready.len();
+    desk.file_all(wait, alloc, pass, ready, count).is_ok()
 }

@@ -4,7 +4,7 @@ use Rattle.flow_input.specs.NextFrame.{second}
 use Rattle.flow_core.specs.State.{State, Input}
 use Rattle.flow_core.specs.Steps.{step}
 use Rattle.flow_core.specs.Output.{answer_text, too_long_line, journal_full_line}
-use Rattle.fpl_message.specs.declared.filed_text.TheConstants.{MAX_BYTES}
+use Rattle.fpl_message.specs.declared.filing.TheConstants.{MAX_BYTES}
 
 -- a frame as the filing of feeder 0
 abbrev pub as_input : List ℕ → Input

@@ -4,7 +4,7 @@ use Rattle.std.proofs.lemmas.List.{take-append-le, drop-append-le, length-drop, 
 use Rattle.std.proofs.Math.Seq.{take-length}
 use Rattle.std.specs.List.{AllByRecursion}
 use Rattle.fpl_message.specs.Filings.{FilingView}
-use Rattle.fpl_message.specs.declared.filed_text.TheConstants.{MAX_BYTES}
+use Rattle.fpl_message.specs.declared.filing.TheConstants.{MAX_BYTES}
 use Rattle.flow_input.specs.NextFrame.{second}
 use Rattle.flow_input.specs.Queues.{queued, total, IsQueue}
 

@@ -7,7 +7,7 @@
 -- and line feed.
 use Rattle.std.specs.Prelude.{ℕ, zero, suc, Bool, true, false, not, ◌||◌, List, [], ◌∷◌, ◌++◌, length, nat_le, ◌==◌, if◌then◌else◌, Option, Some, None}
 use Rattle.std.specs.Option.{option_map_or}
-use Rattle.fpl_message.specs.declared.filed_text.TheConstants.{MAX_BYTES}
+use Rattle.fpl_message.specs.declared.filing.TheConstants.{MAX_BYTES}
 
 -- the bytes before the first that stops, and those from it on
 abbrev pub until : (ℕ → Bool) → List ℕ → List ℕ

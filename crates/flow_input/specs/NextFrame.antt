@@ -7,7 +7,7 @@ use Rattle.fpl_message.specs.Filings.{FilingView}
 use Rattle.fpl_message.specs.declared.edition.Edition.TheVariants as edition
 use Rattle.flow_input.specs.Frames.{Cut, first_cut, ended_frames, kept_of}
 use Rattle.flow_input.specs.Reader.{InputView}
-use Rattle.fpl_message.specs.declared.filed_text.TheConstants.{MAX_BYTES}
+use Rattle.fpl_message.specs.declared.filing.TheConstants.{MAX_BYTES}
 
 -- a frame read by the second edition
 abbrev pub second : List ℕ → FilingView

@@ -2,7 +2,7 @@
 ghost use Rattle.std.specs.Prelude.{◌≡◌, ◌≤◌, ◌<◌, ◌++◌, ◌∷◌, [], length, drop, take};
 ghost use Rattle.std.specs.Prelude.{MatchOption, OnOk, OnErr, IsTrue, IsFalse, option_copied};
 ghost use Rattle.flow_input.specs.NextFrame.{second};
-ghost use Rattle.fpl_message.specs.declared.filed_text.TheConstants.{MAX_BYTES};
+ghost use Rattle.fpl_message.specs.declared.filing.TheConstants.{MAX_BYTES};
 
 use fpl_message::MAX_BYTES;
 use std::alloc::{AllocError, Allocator, Global};

@@ -15,7 +15,7 @@ ghost use Rattle.flow_input.specs.NextFrame.{GaveFirst, filing_kept};
 ghost use Rattle.flow_input.specs.Reader.{Agrees, Came, CameTooMuch, Filled};
 ghost use Rattle.flow_input.specs.Source.{counted_up, failures_after};
 ghost use Rattle.flow_input.specs.declared.input.TheConstants.{MAX_INPUT, PIECE};
-ghost use Rattle.fpl_message.specs.declared.filed_text.TheConstants.{MAX_BYTES};
+ghost use Rattle.fpl_message.specs.declared.filing.TheConstants.{MAX_BYTES};
 ghost use Rattle.std.specs.List.{position};
 ghost use Rattle.memchr.specs.Find.{is_byte2};
 ghost use Rattle.flow_input.specs.Until.{stops_at};
@@ -85,7 +85,7 @@ impl<A: Allocator> Model for Input<A> {
     ghost use Rattle.std.specs.Prelude.{false, if◌then◌else◌, None, Some};
     ghost use Rattle.flow_input.specs.Reader.{InputView};
     ghost use Rattle.flow_input.specs.declared.input.TheConstants.{MAX_INPUT, PIECE};
-    ghost use Rattle.fpl_message.specs.declared.filed_text.TheConstants.{MAX_BYTES};
+    ghost use Rattle.fpl_message.specs.declared.filing.TheConstants.{MAX_BYTES};
 
     ghost Value = { InputView };
 

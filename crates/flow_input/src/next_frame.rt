@@ -11,7 +11,7 @@ ghost use Rattle.flow_input.specs.Reader.{Took, TookRun, Unfinished};
 ghost use Rattle.flow_input.specs.Source.{failures_after};
 ghost use Rattle.flow_input.specs.Until.{stops_at};
 ghost use Rattle.flow_input.specs.declared.input.TheConstants.{MAX_INPUT};
-ghost use Rattle.fpl_message.specs.declared.filed_text.TheConstants.{MAX_BYTES};
+ghost use Rattle.fpl_message.specs.declared.filing.TheConstants.{MAX_BYTES};
 
 use crate::counted::Counted;
 use crate::fault::IntakeFault;

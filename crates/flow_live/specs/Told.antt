@@ -1,6 +1,6 @@
 -- What a feeder is answered for its frames.
 use Rattle.std.specs.Prelude.{ℕ, zero, suc, length, nat_le, if◌then◌else◌, List, [], ◌∷◌, ◌++◌, drop}
-use Rattle.fpl_message.specs.declared.filed_text.TheConstants.{MAX_BYTES}
+use Rattle.fpl_message.specs.declared.filing.TheConstants.{MAX_BYTES}
 use Rattle.flow_core.specs.State.{State, EntryView}
 use Rattle.flow_core.specs.Output.{answer_of, too_long_line, journal_full_line}
 

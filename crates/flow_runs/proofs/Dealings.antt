@@ -51,15 +51,6 @@ get-other xs i k x h ne =
     let h' : k < length (slice_set xs i x) = omega (arith, length-set xs i x) in
     slice_get-get_or (slice_set xs i x) k x h' ∙ (ap (λ y. Some y) (get_or-set_other xs i k x x ne) ∙ sym (slice_get-get_or xs k x h))
 
-length-map : {V W : Type 0} (v : V → W) (xs : List V) → length (map v xs) ≡ length xs
-length-map v [] = refl
-length-map v (x ∷ xs) = ap suc (length-map v xs)
-
-set-map : {V W : Type 0} (v : V → W) (xs : List V) (i : ℕ) (x : V) → map v (slice_set xs i x) ≡ slice_set (map v xs) i (v x)
-set-map v [] i x = refl
-set-map v (y ∷ ys) zero x = refl
-set-map v (y ∷ ys) (suc i) x = ap (λ q. v y ∷ q) (set-map v ys i x)
-
 next-feed : (n : ℕ) (fs : List FilingView) (f : FilingView) (feeds : List (List FilingView)) (turn : ℕ) → AreDealt n fs feeds → turn ≡ length fs % n → turn < n
     → (k : ℕ) → k < n → Dec (turn ≡ k) → slice_get (slice_set feeds turn (dealt n turn fs ++ f ∷ [])) k ≡ Some (dealt n k (fs ++ f ∷ []))
 next-feed n fs f feeds turn a is in_turn k in_k (yes same) =
@@ -72,30 +63,25 @@ next-feed n fs f feeds turn a is in_turn k in_k (no other) =
     ∙ (a.each k in_k ∙ ap (λ (q : List FilingView). Some q) (sym (dealt-later n k fs f (λ (e : length fs % n ≡ k). other (is ∙ e)))))
 
 -- the next filing was appended to the feed whose turn it is
-pub AreDealt-next : {V : Type 0} (v : V → List FilingView) (n : ℕ) (fs : List FilingView) (f : FilingView) (feeds : List V) (turn : ℕ) (feed longer : V)
-    → AreDealt n fs (map v feeds) → turn ≡ length fs % n → turn < length feeds → feed ≡ get_or feeds turn feed → v longer ≡ v feed ++ f ∷ [] → AreDealt n (fs ++ f ∷ []) (map v (slice_set feeds turn longer))
-AreDealt-next v n fs f feeds turn feed longer a is in_turn at longer_is =
-    let len : length (map v feeds) ≡ length feeds = length-map v feeds in
-    let in_n : turn < n = omega (arith, a.wide) in
-    let was : slice_get (map v feeds) turn ≡ Some (v feed) = slice_get-map v feeds turn ∙ ap (option_map v) (slice_get-get_or feeds turn feed in_turn ∙ ap (λ y. Some y) (sym at)) in
-    let same : v feed ≡ dealt n turn fs = some-same (sym was ∙ a.each turn in_n) in
-    let e : map v (slice_set feeds turn longer) ≡ slice_set (map v feeds) turn (dealt n turn fs ++ f ∷ []) =
-    set-map v feeds turn longer ∙ ap (λ (q : List FilingView). slice_set (map v feeds) turn q) (longer_is ∙ ap (λ (q : List FilingView). q ++ f ∷ []) same) in
+pub AreDealt-next : (n : ℕ) (fs : List FilingView) (f : FilingView) (feeds : List (List FilingView)) (turn : ℕ) (feed longer : List FilingView)
+    → AreDealt n fs feeds → turn ≡ length fs % n → turn < length feeds → feed ≡ get_or feeds turn feed → longer ≡ feed ++ f ∷ [] → AreDealt n (fs ++ f ∷ []) (slice_set feeds turn longer)
+AreDealt-next n fs f feeds turn feed longer a is in_turn at longer_is =
+    let in_n : turn < n = omega (arith, in_turn, a.wide) in
+    let was : slice_get feeds turn ≡ Some feed = slice_get-get_or feeds turn feed in_turn ∙ ap (λ y. Some y) (sym at) in
+    let same : feed ≡ dealt n turn fs = some-same (sym was ∙ a.each turn in_n) in
+    let e : slice_set feeds turn longer ≡ slice_set feeds turn (dealt n turn fs ++ f ∷ []) =
+    ap (λ (q : List FilingView). slice_set feeds turn q) (longer_is ∙ ap (λ (q : List FilingView). q ++ f ∷ []) same) in
     subst (λ (q : List (List FilingView)). AreDealt n (fs ++ f ∷ []) q) (sym e) (record {
-      wide = length-set (map v feeds) turn (dealt n turn fs ++ f ∷ []) ∙ a.wide;
-      each = λ k in_k. next-feed n fs f (map v feeds) turn a is in_n k in_k (ℕ_discrete turn k);
+      wide = length-set feeds turn (dealt n turn fs ++ f ∷ []) ∙ a.wide;
+      each = λ k in_k. next-feed n fs f feeds turn a is in_n k in_k (ℕ_discrete turn k);
     })
   where
     some-same : {xs ys : List FilingView} → Some xs ≡ Some ys → xs ≡ ys
     some-same e = cc
 
 -- whose turn it is
-pub turn-of : {V : Type 0} (v : V → List FilingView) (n : ℕ) (fs : List FilingView) (feeds : List V) (count len : ℕ) → AreDealt n fs (map v feeds) → count ≡ length fs → len ≡ length feeds → count % len ≡ length fs % n
-turn-of v n fs feeds count len a counted is = ap (λ (c : ℕ). c % len) counted ∙ ap (λ (m : ℕ). length fs % m) (is ∙ (sym (length-map v feeds) ∙ a.wide))
-
--- how many feeds these are
-pub wide-feeds : {V : Type 0} (v : V → List FilingView) (n : ℕ) (fs : List FilingView) (feeds : List V) → AreDealt n fs (map v feeds) → length feeds ≡ n
-wide-feeds v n fs feeds a = sym (length-map v feeds) ∙ a.wide
+pub turn-of : (n : ℕ) (fs : List FilingView) (feeds : List (List FilingView)) (count len : ℕ) → AreDealt n fs feeds → count ≡ length fs → len ≡ length feeds → count % len ≡ length fs % n
+turn-of n fs feeds count len a counted is = ap (λ (c : ℕ). c % len) counted ∙ ap (λ (m : ℕ). length fs % m) (is ∙ a.wide)
 
 -- ---- no filing yet
 

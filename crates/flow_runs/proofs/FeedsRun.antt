@@ -1,5 +1,6 @@
 -- Feeds that were filed, whatever their receipts are.
 use Rattle.std.proofs.Common.{◌≡◌, ◌≢◌, ℕ, suc, ◌<◌, List, [], ◌∷◌, ◌++◌, length, map, slice_index_or, refl, sym, subst, arith}
+use Rattle.std.proofs.lemmas.List.{append-nil}
 use Rattle.fpl_message.specs.Filings.{FilingView}
 use Rattle.flow_plans.specs.Settings.{SetupView}
 use Rattle.flow_desk.specs.declared.feeders.End.{End}
@@ -8,17 +9,11 @@ use Rattle.flow_desk.specs.Feeds.{Ran}
 use Rattle.flow_desk.proofs.Turns.{ran-front}
 use Rattle.flow_runs.specs.Filing.{FiledTo, RanFeed, RanFeeds}
 
--- some more texts of a feed were filed at once, and the others put back
-pub filed-front : (s : SetupView) (p q q' : PassView) (feed texts left rest before after : List FilingView)
-    → FiledFront s q texts q' left → texts ++ rest ≡ before → after ≡ left ++ rest → FiledTo p feed q before → FiledTo p feed q' after
-filed-front s p q q' feed texts left rest before after f were are h =
-    let more = ran-front s p q q' feed h.receipts texts left rest f (subst (λ (ls : List FilingView). Ran p feed q h.receipts ls) (sym were) h.ran) in
-    record { receipts = more.0; ran = subst (λ (ls : List FilingView). Ran p feed q' more.0 ls) (sym are) more.1 }
-
--- where some were put back, something is left
-pub some-left : (left rest after : List FilingView) → left ≢ [] → after ≡ left ++ rest → after ≢ []
-some-left [] rest after some are none = some refl
-some-left (t ∷ ts) rest after some are none = absurd (cc (are, none))
+-- some more texts of a feed were filed at once
+pub filed-front : (s : SetupView) (p q q' : PassView) (feed texts left : List FilingView) → FiledFront s q texts q' left → FiledTo p feed q texts → FiledTo p feed q' left
+filed-front s p q q' feed texts left f h =
+    let more = ran-front s p q q' feed h.receipts texts left [] f (subst (λ (ls : List FilingView). Ran p feed q h.receipts ls) (sym (append-nil texts)) h.ran) in
+    record { receipts = more.0; ran = subst (λ (ls : List FilingView). Ran p feed q' more.0 ls) (append-nil left) more.1 }
 
 -- what holds feed by feed holds of all
 pub feeds-ran : {X : Type 0} (s : SetupView) (pass : X → PassView) (left : X → List FilingView) (end : X → End) (olds news : List X) → length news ≡ length olds

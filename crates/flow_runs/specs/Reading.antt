@@ -12,7 +12,7 @@ use Rattle.flow_core.specs.Output.{too_long_line}
 use Rattle.flow_runs.specs.declared.fault.RunFault.{RunFault}
 use Rattle.flow_runs.specs.declared.fault.RunFault.TheVariants as fault
 use Rattle.flow_runs.specs.Dealing.{AreDealt}
-use Rattle.fpl_message.specs.declared.filed_text.TheConstants.{MAX_BYTES}
+use Rattle.fpl_message.specs.declared.filing.TheConstants.{MAX_BYTES}
 
 -- a line for each frame that is too long
 unfoldable pub long_lines : List (List ℕ) → List ℕ

@@ -16,7 +16,7 @@ use crate::feeding::{Feed, gather, run_all};
 use crate::replaying::caught_up;
 use flow_core::{Core, StepFault};
 use flow_desk::{Blank, Desk, End, Follower, Name, Pass};
-use fpl_message::FiledText;
+use flow_input::FrameQueue;
 use std::alloc::{AllocError, Allocator, Global};
 use std::sync::Wait;
 use std::thread::Threads;
@@ -108,14 +108,14 @@ struct Opened<N: Name, Q: Wait + Drop, A: Allocator + Copy = Global> {
 fn open_feeds<N: Name, Q: Wait + Drop, A: Allocator + Copy>(
     alloc: A,
     blank: Blank<Q, A>,
-    mut texts: Vec<Vec<FiledText<A>, A>, A>,
+    mut texts: Vec<FrameQueue<A>, A>,
 ) -> Result<Opened<N, Q, A>, AllocError>
     requires named { (blank.book ≡ N.book) × (blank.setup ≡ N.setup) × (blank.feeders ≡ N.feeders) }
     requires each { length texts.items ≡ N.feeders }
     ensures opened { IfOk result
         (λ o. AreOpened N.feeders blank.entries (map (λ f. f.pass) o.feeds.items)) }
     ensures texts { IfOk result
-        (λ o. map (λ f. f.left.items) o.feeds.items ≡ map (λ v. v.items) texts.items) }
+        (λ o. map (λ f. f.left) o.feeds.items ≡ texts.items) }
     ensures passes { IfOk result
         (λ o. (o.passes.items ≡ []) × (length o.feeds.items ≤ vec_capacity o.passes)) }
 {
@@ -177,13 +177,13 @@ pub(crate) fn file_all<
     wait: &P,
     alloc: A,
     blank: Blank<Q, A>,
-    texts: Vec<Vec<FiledText<A>, A>, A>,
+    texts: Vec<FrameQueue<A>, A>,
 ) -> Result<Filed<A>, RunFault>
     requires named { (blank.book ≡ N.book) × (blank.setup ≡ N.setup) × (blank.feeders ≡ N.feeders) }
     requires some { 0 < N.feeders }
     requires each { length texts.items ≡ N.feeders }
     ensures filed { IfOk result (λ f. HasFiled N.setup blank.entries N.feeders
-        (map (λ v. v.items) texts.items) f.core f.stop) }
+        texts.items f.core f.stop) }
     ensures again { IfOk result (λ f. IsAgain f.again f.core) }
     ensures stops { IfOk result (λ f. IsStop f.stop) }
     ensures fault { IfErr result (λ e. e ≡ RunFault.OutOfMemory) }

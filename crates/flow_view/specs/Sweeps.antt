@@ -5,7 +5,7 @@ use Rattle.std.specs.List.{AllByRecursion}
 use Rattle.std.specs.Option.{option_map, option_map_or, option_and_then}
 use Rattle.fpl_message.specs.declared.refusal.Refusal.{Refusal}
 use Rattle.fpl_message.specs.declared.refusal.Refusal.TheVariants.{BadOrder}
-use Rattle.fpl_message.specs.declared.filed_text.TheConstants.{MAX_BYTES}
+use Rattle.fpl_message.specs.declared.filing.TheConstants.{MAX_BYTES}
 use Rattle.fpl_message.specs.declared.edition.Edition.TheVariants.{Second}
 use Rattle.flow_regulations.specs.Regulations.{Regulation, lineup_of}
 use Rattle.flow_traffic.specs.declared.verdict.Kind.TheVariants as kind

@@ -2,34 +2,47 @@
 ghost use Rattle.std.specs.Prelude.{◌≡◌, ◌≤◌, ◌<◌, ◌↔◌, length, IfOk, IfErr, IsErrOf};
 ghost use Rattle.fpl_message.specs.Reads.{reading_of, heading_of_bytes};
 ghost use Rattle.fpl_message.specs.Said.{said};
-ghost use Rattle.fpl_message.specs.declared.filed_text.TheConstants.{MAX_BYTES};
+ghost use Rattle.fpl_message.specs.declared.filing.TheConstants.{MAX_BYTES};
 
 use crate::edition::Edition;
-use crate::filed_text::{FiledText, FilingFault, MAX_BYTES};
 use crate::filing_reader::{FilingReader, heading_of};
 use crate::message::Reading;
-use fpl_text::{Heading, Squeezed};
+use fpl_text::Heading;
 use std::alloc::{AllocError, Allocator, Global};
 use std::marker::Model;
+
+/// The length limit of a filing, in bytes.
+pub const MAX_BYTES: usize = 2000;
+
+/// Why some bytes can't be filed.
+#[derive(Clone, Copy, Debug, PartialEq, Eq)]
+pub enum FilingFault {
+    /// More than 2,000 bytes.
+    TooLong,
+    OutOfMemory,
+}
 
 /// A text as it was filed, with what it says. Contracts see the text: the edition and the bytes.
 #[derive(Drop)]
 pub struct Filing<A: Allocator + Copy = Global> {
-    text: FiledText<A>,
+    bytes: Vec<u8, A>,
+    edition: Edition,
     reader: FilingReader<A>,
 }
 
 impl<A: Allocator + Copy> Model for Filing<A> {
-    ghost use Rattle.std.specs.Prelude.{◌≡◌};
+    ghost use Rattle.std.specs.Prelude.{◌≡◌, ◌≤◌, length};
     ghost use Rattle.fpl_message.specs.Filings.{FilingView};
 
     ghost Value = { FilingView };
 
     ghost use Rattle.fpl_message.specs.Reads.{reading_of};
+    ghost use Rattle.fpl_message.specs.declared.filing.TheConstants.{MAX_BYTES};
 
-    ghost view = { λ f. f.text };
+    ghost view = { λ f. record { edition = f.edition; bytes = f.bytes.items } };
 
-    ghost invariant = { λ f. f.reader ≡ reading_of f.text };
+    ghost invariant = { λ f. (length f.bytes.items ≤ MAX_BYTES)
+        × (f.reader ≡ reading_of (record { edition = f.edition; bytes = f.bytes.items })) };
 }
 
 impl<A: Allocator + Copy> Filing<A> {
@@ -61,38 +74,10 @@ impl<A: Allocator + Copy> Filing<A> {
         if bytes.len() > MAX_BYTES {
             return Err(FilingFault::TooLong);
         }
-        let Ok(text) = FiledText::copied(alloc, edition, bytes) else {
-            return Err(FilingFault::OutOfMemory);
-        };
-        let mut reader = FilingReader::new(alloc);
-        let Ok(()) = reader.read(alloc, edition, bytes) else {
-            return Err(FilingFault::OutOfMemory);
-        };
-        Ok(Filing { text, reader })
-    }
-
-    /// Creates the filing of a text, which is squeezed over `last`. That is left for the next text.
-    /// Returns the text if an allocation fails.
-    pub fn of_text(
-        alloc: A,
-        last: &mut Squeezed<A>,
-        text: FiledText<A>,
-    ) -> Result<Self, (AllocError, FiledText<A>)>
-        ensures value { IfOk result (λ filing. filing ≡ text) }
-        ensures back { IfErr result (λ refused. refused.1 ≡ text) }
-    {
-        match FilingReader::read_in(alloc, last, text.edition(), text.text()) {
-            Ok(reader) => Ok(Filing { text, reader }),
-            Err(AllocError) => Err((AllocError, text)),
+        match read_copy(alloc, edition, bytes) {
+            Ok(filing) => Ok(filing),
+            Err(AllocError) => Err(FilingFault::OutOfMemory),
         }
-    }
-
-    /// Returns its text, without what it says.
-    pub fn into_text(self) -> FiledText<A>
-        ensures { result ≡ self }
-    {
-        let Filing { text, .. } = self;
-        text
     }
 
     /// Returns its bytes, and the reader that has read them: for a caller that reads more texts in
@@ -101,8 +86,8 @@ impl<A: Allocator + Copy> Filing<A> {
         ensures bytes { result.0.items ≡ self.bytes }
         ensures reader { result.1 ≡ reading_of self }
     {
-        let Filing { text, reader } = self;
-        (text.into_bytes(), reader)
+        let Filing { bytes, reader, .. } = self;
+        (bytes, reader)
     }
 
     /// Creates the filing of these bytes, which `reader` has read by the rules of `edition`.
@@ -113,7 +98,8 @@ impl<A: Allocator + Copy> Filing<A> {
         ensures { result ≡ record { edition = edition; bytes = bytes.items } }
     {
         Filing {
-            text: FiledText::of_bytes(edition, bytes),
+            bytes,
+            edition,
             reader,
         }
     }
@@ -123,14 +109,14 @@ impl<A: Allocator + Copy> Filing<A> {
         ensures value { result.now ≡ self.now.bytes }
         ensures bound { length result.now ≤ MAX_BYTES }
     {
-        self.text.text()
+        self.bytes.as_slice()
     }
 
     /// Returns the edition of the rules by which they are read.
     pub fn edition(&self) -> Edition
         ensures { result ≡ self.now.edition }
     {
-        self.text.edition()
+        self.edition
     }
 
     /// Returns field 3 of a message, with its number and its reference, which have no effect. It is
@@ -148,4 +134,21 @@ impl<A: Allocator + Copy> Filing<A> {
     {
         self.reader.reading()
     }
+}
+
+/// The filing of a copy of these bytes.
+fn read_copy<A: Allocator + Copy>(
+    alloc: A,
+    edition: Edition,
+    bytes: &[u8],
+) -> Result<Filing<A>, AllocError>
+    requires { length bytes.now ≤ MAX_BYTES }
+    ensures { IfOk result (λ filing. filing ≡ record { edition = edition; bytes = bytes.now }) }
+{
+    let mut copy = Vec::new(alloc);
+    copy.reserve_exact(bytes.len())?;
+    copy.extend_from_slice(bytes)?;
+    let mut reader = FilingReader::new(alloc);
+    reader.read(alloc, edition, bytes)?;
+    Ok(Filing::of_parts(edition, copy, reader))
 }

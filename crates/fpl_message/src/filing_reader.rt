@@ -4,7 +4,7 @@ ghost use Rattle.std.specs.Prelude.{◌≡◌, ◌≤◌, length, OnOk, OnErr, I
 ghost use Rattle.fpl_message.specs.Reads.{reading_of, bad, reading_or_refusal, message_or_refusal};
 ghost use Rattle.fpl_message.specs.Reads.{begins_message, heading_of_bytes};
 ghost use Rattle.fpl_message.specs.Said.{said};
-ghost use Rattle.fpl_message.specs.declared.filed_text.TheConstants.{MAX_BYTES};
+ghost use Rattle.fpl_message.specs.declared.filing.TheConstants.{MAX_BYTES};
 ghost use Rattle.fpl_message.specs.Refusals.{ReturnsAs, by_text};
 ghost use Rattle.fpl_text.specs.Squeezing.{squeezed_or_fault};
 ghost use Rattle.fpl_text.specs.Fields.{fields_of, fields_or_fault};
@@ -22,7 +22,7 @@ use crate::short_message::{Cnl, Dep, Dla, read_short};
 use fpl_text::{Heading, Squeezed, Title};
 use std::alloc::{AllocError, Allocator, Global};
 use std::marker::Model;
-use std::mem::{replace, swap};
+use std::mem::replace;
 
 /// Reads the texts of filings, each in the memory of the one before. It doesn't store them.
 /// Contracts see what the last one says.
@@ -54,26 +54,6 @@ impl<A: Allocator + Copy> FilingReader<A> {
             spares: Spares::none(),
             reading: Reading::Bad(Refusal::Empty),
         }
-    }
-
-    /// A reader that has read these bytes by the rules of `edition`, squeezed over `last`, which is
-    /// left for the next text.
-    pub(crate) fn read_in(
-        alloc: A,
-        last: &mut Squeezed<A>,
-        edition: Edition,
-        bytes: &[u8],
-    ) -> Result<Self, AllocError>
-        requires { length bytes.now ≤ MAX_BYTES }
-        ensures { IfOk result (λ reader.
-            reader ≡ reading_of (record { edition = edition; bytes = bytes.now })) }
-    {
-        let mut reader = FilingReader::new(alloc);
-        swap(&mut reader.squeezed, last);
-        let read = reader.read(alloc, edition, bytes);
-        swap(&mut reader.squeezed, last);
-        read?;
-        Ok(reader)
     }
 
     /// Reads at most 2,000 bytes by the rules of `edition`, in the memory of former readings.

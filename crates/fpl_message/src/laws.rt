@@ -4,7 +4,7 @@ ghost use Rattle.fpl_text.specs.Fields.{begins_amendment};
 ghost use Rattle.fpl_message.specs.AmendmentLaws.{IsAmendment};
 ghost use Rattle.fpl_message.specs.Modifications.{amended_number, amended_text};
 ghost use Rattle.fpl_message.specs.declared.edition.Edition.{Edition};
-ghost use Rattle.fpl_message.specs.declared.filed_text.TheConstants.{MAX_BYTES};
+ghost use Rattle.fpl_message.specs.declared.filing.TheConstants.{MAX_BYTES};
 ghost use Rattle.fpl_message.specs.Reads.{reading_of, is_open, msg, heading_of_bytes};
 ghost use Rattle.fpl_message.specs.Filings.{FilingView};
 ghost use Rattle.fpl_message.specs.Messages.{Message};

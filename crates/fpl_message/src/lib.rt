@@ -19,7 +19,6 @@
 mod changes;
 mod edition;
 mod fault;
-mod filed_text;
 mod filing;
 mod filing_reader;
 mod flight_plan;
@@ -33,8 +32,7 @@ mod short_message;
 mod sub_periods;
 
 pub use edition::Edition;
-pub use filed_text::{FiledText, FilingFault, MAX_BYTES};
-pub use filing::Filing;
+pub use filing::{Filing, FilingFault, MAX_BYTES};
 pub use filing_reader::FilingReader;
 pub use flight_plan::Fpl;
 pub use laws::{

@@ -1,4 +1,5 @@
 use Rattle.std.proofs.Common.{◌≡◌, ◌<◌, ◌%◌, length, ◌∙◌, arith}
+use Rattle.flow_input.specs.NextFrame.{second}
 use Rattle.flow_runs.proofs.Dealings.{AreDealt-next, turn-of}
 use Rattle.flow_runs.proofs.dealing.deal.Goals as goal
 
@@ -8,5 +9,5 @@ returns-clause-ok g c feeders fs a counted =
     let count = c.args.dealt.now.count in
     let len : c.len.result ≡ length c.args.dealt.now.feeds.items = c.len.ensures ∙ c.args.dealt.now.feeds.ok.0 in
     let within : c.args.dealt.now.count % c.len.result < length c.args.dealt.now.feeds.items = omega (arith, len, c.requires.some) in
-    AreDealt-next (λ v. v.items) feeders fs c.args.text feeds.items (count % c.len.result) c.index_mut.result.now c.push.new.self
-    a (turn-of (λ v. v.items) feeders fs feeds.items count c.len.result a counted len) within c.index_mut.ensures.value c.in_ok-push.ensures.items
+    AreDealt-next feeders fs (second c.args.frame.now) feeds.items (count % c.len.result) c.index_mut.result.now c.push.new.self
+    a (turn-of feeders fs feeds.items count c.len.result a counted len) within c.index_mut.ensures.value c.in_ok-push.ensures.ok

@@ -5,7 +5,7 @@ use Rattle.flow_runs.proofs.dealing.no_feeds.Given as goal
 
 abbrev pub invariant-loop : goal.invariant-loop
 invariant-loop g l = record {
-  empty : map (λ v. v.items) l.feeds.items ≡ replicate {A = List FilingView} l.counter [];
+  empty : l.feeds.items ≡ replicate {A = List FilingView} l.counter [];
   len : vec_len l.feeds ≡ l.counter;
   room : l.feeders ≤ vec_capacity l.feeds;
 }

@@ -6,7 +6,6 @@ use Rattle.flow_runs.specs.declared.fault.RunFault.{RunFault}
 use Rattle.flow_runs.specs.declared.fault.RunFault.TheVariants as fault
 use Rattle.flow_runs.specs.Faults.{fault_of_frame, reader_failures_with, writer_failures_with}
 use Rattle.flow_runs.specs.Reading.{ToldUntil}
-use Rattle.flow_runs.proofs.Dealings.{wide-feeds}
 use Rattle.flow_input.proofs.Cuttings.{Cutting-within}
 use Rattle.flow_runs.proofs.Failures.{frame-much, frame-others, frame-reader, frame-writer, part-reader}
 use Rattle.flow_runs.proofs.Readings.{Reading-start, Reading-one, HasRead-end, Overrun-read, ToldFirst-none, ToldFirst-came, ToldEnded-read, told-no_frame, told-part}
@@ -17,9 +16,9 @@ frames-init g c =
     let taken : c.in_ok-input.input.taken ≡ 0 = ap (λ (a : InputView). a.taken) c.in_ok-input.ensures in
     record {
       agrees = rw c.in_ok-input.ensures (λ e. absurd (cc));
-      reading = Reading-start c.args.feeders (map (λ v. v.items) c.in_ok-dealt.dealt.feeds.items) c.in_ok-dealt.dealt.count (g.W.Write.contents c.args.writer.now.device) c.in_ok-input.input (g.R.Read.remaining c.args.reader.now.device)
+      reading = Reading-start c.args.feeders c.in_ok-dealt.dealt.feeds.items c.in_ok-dealt.dealt.count (g.W.Write.contents c.args.writer.now.device) c.in_ok-input.input (g.R.Read.remaining c.args.reader.now.device)
           c.in_ok-dealt.ensures.none c.in_ok-dealt.ensures.count c.in_ok-input.ensures;
-      wide = wide-feeds (λ v. v.items) c.args.feeders _ c.in_ok-dealt.dealt.feeds.items c.in_ok-dealt.ensures.none;
+      wide = c.in_ok-dealt.ensures.none.wide;
       few = omega (arith, c.in_ok-dealt.ensures.count, taken);
       within = omega (arith, taken);
       reader_calm = refl;
@@ -30,12 +29,12 @@ pub returns-in_err-found-clause-much : goal.returns-in_err-found-clause-much
 returns-in_err-found-clause-much g c =
     rw (err-made c.from_residual-in_err-found.result c.from_residual-in_err-found.ensures.1) (λ e.
     let much : fault_of_frame c.in_err-found.field-0.0 ≡ fault.TooMuch = cc in
-    Overrun-read c.args.feeders (map (λ v. v.items) c.frames.dealt.feeds.items) c.frames.dealt.count (g.W.Write.contents c.args.writer.now.device) (g.W.Write.contents c.frames.writer.device) c.frames.input (g.R.Read.remaining c.args.reader.now.device) (g.R.Read.remaining c.frames.reader.device)
+    Overrun-read c.args.feeders c.frames.dealt.feeds.items c.frames.dealt.count (g.W.Write.contents c.args.writer.now.device) (g.W.Write.contents c.frames.writer.device) c.frames.input (g.R.Read.remaining c.args.reader.now.device) (g.R.Read.remaining c.frames.reader.device)
     c.frames.invariant.reading (g.R.Read.remaining c.take_frame.new.reader.device) (c.in_err-found.ensures.much (err_is (frame-much c.in_err-found.field-0.0 much))))
 
 pub returns-then-not-found-clause-has : goal.returns-then-not-found-clause-has
 returns-then-not-found-clause-has g c =
-    HasRead-end c.args.feeders (map (λ v. v.items) c.frames.dealt.feeds.items) c.frames.dealt.count (g.W.Write.contents c.args.writer.now.device) (g.W.Write.contents c.frames.writer.device) c.frames.input (g.R.Read.remaining c.args.reader.now.device) (g.R.Read.remaining c.frames.reader.device)
+    HasRead-end c.args.feeders c.frames.dealt.feeds.items c.frames.dealt.count (g.W.Write.contents c.args.writer.now.device) (g.W.Write.contents c.frames.writer.device) c.frames.input (g.R.Read.remaining c.args.reader.now.device) (g.R.Read.remaining c.frames.reader.device)
     c.frames.invariant.reading c.take_frame.new.input (g.R.Read.remaining c.take_frame.new.reader.device) (rw c.if-not-found.true at c.in_ok-found.ensures.cuts) c.in_ok-found.ensures.agrees
 
 pub frames-preserved : goal.frames-preserved
@@ -44,9 +43,9 @@ frames-preserved g c =
     let nearer : c.frames.input.taken < c.take_frame.new.input.taken = c.in_ok-found.ensures.nearer found in
     record {
       agrees = c.in_ok-found.ensures.agrees;
-      reading = Reading-one c.args.feeders (map (λ v. v.items) c.frames.dealt.feeds.items) c.frames.dealt.count (g.W.Write.contents c.args.writer.now.device) (g.W.Write.contents c.frames.writer.device) c.frames.input (g.R.Read.remaining c.args.reader.now.device) (g.R.Read.remaining c.frames.reader.device)
+      reading = Reading-one c.args.feeders c.frames.dealt.feeds.items c.frames.dealt.count (g.W.Write.contents c.args.writer.now.device) (g.W.Write.contents c.frames.writer.device) c.frames.input (g.R.Read.remaining c.args.reader.now.device) (g.R.Read.remaining c.frames.reader.device)
           c.frames.invariant.reading c.take_frame.new.input (g.R.Read.remaining c.take_frame.new.reader.device) (filing_kept c.take_frame.new.input.item) (rw c.if-not-found.false at c.in_ok-found.ensures.cuts)
-          (map (λ v. v.items) c.deal_frame.new.dealt.feeds.items) c.deal_frame.new.dealt.count (g.W.Write.contents c.deal_frame.new.writer.device) c.in_ok-deal_frame.ensures.next;
+          c.deal_frame.new.dealt.feeds.items c.deal_frame.new.dealt.count (g.W.Write.contents c.deal_frame.new.writer.device) c.in_ok-deal_frame.ensures.next;
       wide = c.deal_frame.ensures.wide ∙ c.frames.invariant.wide;
       few = omega (arith, nearer, c.in_ok-deal_frame.ensures.count, c.frames.invariant.few);
       within = c.in_ok-found.ensures.within found;
@@ -72,7 +71,7 @@ returns-in_err-input-clause-writer g c =
 
 pub returns-in_err-found-clause-told : goal.returns-in_err-found-clause-told
 returns-in_err-found-clause-told g c =
-    let feeds = map (λ v. v.items) c.frames.dealt.feeds.items in
+    let feeds = c.frames.dealt.feeds.items in
     let begun = g.W.Write.contents c.args.writer.now.device in
     let written = g.W.Write.contents c.frames.writer.device in
     let input = g.R.Read.remaining c.args.reader.now.device in
@@ -86,7 +85,7 @@ returns-in_err-found-clause-told g c =
 pub returns-in_err-deal_frame-clause-told : goal.returns-in_err-deal_frame-clause-told
 returns-in_err-deal_frame-clause-told g c =
     rw (err-made c.from_residual-in_err-deal_frame.result c.from_residual-in_err-deal_frame.ensures.1)
-    (told-part c.args.feeders (map (λ v. v.items) c.frames.dealt.feeds.items) c.frames.dealt.count (g.W.Write.contents c.args.writer.now.device) (g.W.Write.contents c.frames.writer.device) c.frames.input (g.R.Read.remaining c.args.reader.now.device) (g.R.Read.remaining c.frames.reader.device)
+    (told-part c.args.feeders c.frames.dealt.feeds.items c.frames.dealt.count (g.W.Write.contents c.args.writer.now.device) (g.W.Write.contents c.frames.writer.device) c.frames.input (g.R.Read.remaining c.args.reader.now.device) (g.R.Read.remaining c.frames.reader.device)
     c.frames.invariant.reading c.take_frame.new.input (g.R.Read.remaining c.take_frame.new.reader.device) (filing_kept c.take_frame.new.input.item) (rw c.if-not-found.false at c.in_ok-found.ensures.cuts)
     c.in_err-deal_frame.field-0.0 (g.W.Write.contents c.deal_frame.new.writer.device) c.in_err-deal_frame.ensures.remaining)
 

@@ -6,7 +6,7 @@ use Rattle.flow_runs.proofs.dealing.read_all.Given as goal
 abbrev pub invariant-frames : goal.invariant-frames
 invariant-frames g l = record {
   agrees : Agrees l.input (g.R.Read.remaining l.reader.device);
-  reading : Reading l.feeders (map (λ v. v.items) l.dealt.feeds.items) l.dealt.count (g.W.Write.contents l.fn.writer.device) (g.W.Write.contents l.writer.device) l.input (g.R.Read.remaining l.fn.reader.device) (g.R.Read.remaining l.reader.device);
+  reading : Reading l.feeders l.dealt.feeds.items l.dealt.count (g.W.Write.contents l.fn.writer.device) (g.W.Write.contents l.writer.device) l.input (g.R.Read.remaining l.fn.reader.device) (g.R.Read.remaining l.reader.device);
   wide : length l.dealt.feeds.items ≡ l.feeders;
   few : l.dealt.count ≤ l.input.taken;
   within : l.input.taken ≤ 4000000000;

@@ -10,6 +10,6 @@ pub returns-clause-ran : goal.returns-clause-ran
 returns-clause-ran g c =
     let F : Type 0 = Feed g.row.N.Denot g.row.A.Denot in
     let pass : F → PassView = λ f. f.pass in
-    let left : F → List FilingView = λ f. f.left.items in
+    let left : F → List FilingView = λ f. f.left in
     let end : F → End = λ f. f.end in
     feeds-ran g.N.Name.setup pass left end c.args.feeds.now.items c.run_each.new.feeds.items c.run_each.ensures.len c.run_each.ensures.each

@@ -1,12 +1,9 @@
-use Rattle.std.proofs.Common.{◌≡◌, [], length}
+use Rattle.std.proofs.Common.{length}
 use Rattle.flow_runs.specs.Filing.{FiledTo}
 use Rattle.flow_runs.proofs.feeding.run_feed.Given as goal
 
 abbrev pub invariant-loop-alloc : goal.invariant-loop-alloc
-invariant-loop-alloc g l = record {
-  none : l.ready.items ≡ [];
-  filed : FiledTo l.initial.feed.pass l.initial.feed.left.items l.feed.pass l.feed.left.items;
-}
+invariant-loop-alloc g l = FiledTo l.initial.feed.pass l.initial.feed.left l.feed.pass l.feed.left
 
 abbrev pub decreases-loop-alloc : goal.decreases-loop-alloc
-decreases-loop-alloc g l = length l.feed.left.items
+decreases-loop-alloc g l = length l.feed.left

@@ -16,4 +16,4 @@ pub returns-clause-texts : goal.returns-clause-texts
 returns-clause-texts g c =
     let F : Type 0 = Feed g.row.N.Denot g.row.A.Denot in
     let none : c.reserve.new.self.items ≡ [] = c.reserve.ensures.items ∙ c.new-feeds.ensures.items in
-    c.gather.ensures.texts ∙ ap (λ (fs : List F). map (λ (f : F). f.left.items) fs ++ map (λ v. v.items) c.args.texts.items) none
+    c.gather.ensures.texts ∙ ap (λ (fs : List F). map (λ (f : F). f.left) fs ++ c.args.texts.items) none

@@ -42,7 +42,7 @@ pub returns-in_err-filed-clause-remaining : goal.returns-in_err-filed-clause-rem
 returns-in_err-filed-clause-remaining g c =
     let begun = g.W.Write.contents c.args.writer.now.device in
     let written = g.W.Write.contents c.read_all.new.writer.device in
-    let feeds : List (List FilingView) = map (λ v. v.items) c.in_ok-feeds.field-0.feeds.items in
+    let feeds : List (List FilingView) = c.in_ok-feeds.field-0.feeds.items in
     rw (err-made c.from_residual-in_err-filed.result c.from_residual-in_err-filed.ensures.1)
     (inr (
       c.in_err-filed.ensures.fault,
@@ -52,7 +52,7 @@ returns-in_err-filed-clause-remaining g c =
 
 pub returns-clause-filed : goal.returns-clause-filed
 returns-clause-filed g c =
-    let feeds : List (List FilingView) = map (λ v. v.items) c.in_ok-feeds.field-0.feeds.items in (
+    let feeds : List (List FilingView) = c.in_ok-feeds.field-0.feeds.items in (
       feeds,
       subst (λ (q : SetupView). HasFiled q c.args.blank.entries c.args.feeders feeds c.in_ok-filed.filed.core c.in_ok-filed.filed.stop) (sym c.requires.named.1)
           (subst (λ (n : ℕ). HasFiled g.N.Name.setup c.args.blank.entries n feeds c.in_ok-filed.filed.core c.in_ok-filed.filed.stop) (sym c.requires.feeders.0) c.in_ok-filed.ensures.filed),
