@@ -181,6 +181,22 @@ fn alternates_of(words: Words<'_>) -> Option<Alternates>
     Some(alternates)
 }
 
+/// Reads the parts of a field 16 of at most 8 bytes, which has no room for alternates.
+#[inline(always)]
+fn destination_alone(field: &[u8]) -> Option<Destination>
+    requires { length field.now ≤ 8 }
+    ensures value { result ≡ destination_of field.now }
+    ensures bound { IfSome result (λ destination.
+        IfSome destination.elapsed (λ minutes. minutes < ELAPSED_LIMIT)) }
+{
+    let (place, elapsed) = arrival_of(field)?;
+    Some(Destination {
+        place,
+        elapsed,
+        alternates: Alternates::none(),
+    })
+}
+
 /// Reads the parts of field 16.
 #[inline(always)]
 #[tactic(auto, unfolding(crate::specs::Places::destination_of))]
@@ -189,6 +205,9 @@ fn destination_of(field: &[u8]) -> Option<Destination>
     ensures bound { IfSome result (λ destination.
         IfSome destination.elapsed (λ minutes. minutes < ELAPSED_LIMIT)) }
 {
+    if field.len() <= 8 {
+        return destination_alone(field);
+    }
     let mut words = Words::new(field);
     let (place, elapsed) = arrival_of(words.next()?)?;
     let alternates = alternates_of(words)?;
