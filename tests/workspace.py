@@ -18,7 +18,7 @@ UNIT_TESTS = {
     "store": ["fpl_text", "flow_plans", "flow_input", "flow_log", "flow_core", "flow_store", "linked_list_allocator"],
     "slotdesk": ["command_line", "fpl_text", "flow_plans", "flow_core", "flow_log", "flow_store", "flow_runs", "flow_live", "clap"],
     "live": ["fpl_text", "fpl_message", "flow_plans", "flow_input", "flow_log", "flow_core", "flow_store", "flow_desk", "flow_live"],
-    "feeder": ["fpl_text", "fpl_message", "flow_plans", "flow_core", "flow_desk", "linked_list_allocator"],
+    "feeder": ["fpl_text", "fpl_message", "flow_plans", "flow_input", "flow_core", "flow_desk", "linked_list_allocator"],
 }
 
 # Modules of other tests that the tests of a crate use too.

@@ -15,7 +15,7 @@ abbrev pub total : List ℕ → ℕ
 total [] = 0
 total (n ∷ ns) = n + total ns
 
--- the frames after the first ones, which were removed, lie from this offset to the end of the buffer
+-- the frames after those that were removed lie from this offset to the end of the buffer
 pub record IsQueue (lens bytes : List ℕ) (removed from : ℕ) : Type 0 where
   pub some : removed ≤ length lens
   pub fits : from + total (drop removed lens) ≡ length bytes
