@@ -435,16 +435,32 @@ fn all_of_path(text: &[u8]) -> bool
     text.iter().all(|byte| is_path_byte(*byte))
 }
 
-/// Whether all bytes of a text are letters, digits, strokes and spaces. Reads 16 bytes at a time.
+/// Whether the 16 bytes at `at` are letters, digits, strokes and spaces.
+#[inline(always)]
+fn is_path_at(text: &[u8], at: usize) -> bool
+    requires { at + 16 ≤ length text.now }
+    ensures all { result ≡ true → (k : ℕ) → at ≤ k → k < at + 16
+        → is_path_byte (slice_index text.now k) ≡ true }
+    ensures other { result ≡ false → list_all is_path_byte text.now ≡ false }
+{
+    set_lanes_from(path_lanes(load(text, at)), 0) == 16
+}
+
+/// Whether all bytes of a text are letters, digits, strokes and spaces. Looks at 16 bytes at a
+/// time, of which the last 16 may overlap those before.
 pub fn is_path(text: &[u8]) -> bool
     ensures { result ≡ list_all is_path_byte text.now }
 {
+    if text.len() < 16 {
+        return all_of_path(text);
+    }
+    let last = text.len() - 16;
     let mut place = 0;
-    'looks: while text.len() - place >= 16 {
-        if set_lanes_from(path_lanes(load(text, place)), 0) < 16 {
+    'looks: while place < last {
+        if !is_path_at(text, place) {
             return false;
         }
         place += 16;
     }
-    all_of_path(&text[place..])
+    is_path_at(text, last)
 }
