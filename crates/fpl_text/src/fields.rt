@@ -2,7 +2,8 @@
 
 ghost use Rattle.std.specs.Prelude.{[], ◌≡◌, ◌<◌, List, ℕ};
 ghost use Rattle.std.specs.Prelude.{IsTrue, Some, length, slice_get, slice_index_or};
-ghost use Rattle.std.specs.Prelude.{IfOk, IfErr, Ok, Err, true, take, ◌≤◌};
+ghost use Rattle.std.specs.Prelude.{IfOk, IfErr, Ok, Err, true, take, ◌≤◌, nat_eq};
+ghost use Rattle.std.specs.List.{starts_with};
 ghost use Rattle.fpl_text.specs.Words.{words_of};
 ghost use Rattle.fpl_text.specs.Squeezing.{Gives};
 ghost use Rattle.fpl_text.specs.Borders.{IsNoted, IsMessage};
@@ -64,20 +65,28 @@ impl<A: Allocator + Copy> Model for Fields<A> {
     ghost invariant = { λ f. IsMessage f.text f.title };
 }
 
+/// Whether a text begins with these three letters. Takes fewer instructions than `starts_with`.
+#[inline(always)]
+fn begins_with(text: &[u8], title: &[u8; 3]) -> bool
+    ensures { result ≡ starts_with nat_eq text.now title.now }
+{
+    text.len() >= 3 && text[0] == title[0] && text[1] == title[1] && text[2] == title[2]
+}
+
 /// The title with which the first field begins.
 #[tactic(auto, unfolding(crate::specs::Fields::title_of))]
 pub(crate) fn title_of(field: &[u8]) -> Option<Title>
     ensures { result ≡ title_of field.now }
 {
-    if field.starts_with(b"FPL") {
+    if begins_with(field, b"FPL") {
         Some(Title::Fpl)
-    } else if field.starts_with(b"DLA") {
+    } else if begins_with(field, b"DLA") {
         Some(Title::Dla)
-    } else if field.starts_with(b"CHG") {
+    } else if begins_with(field, b"CHG") {
         Some(Title::Chg)
-    } else if field.starts_with(b"CNL") {
+    } else if begins_with(field, b"CNL") {
         Some(Title::Cnl)
-    } else if field.starts_with(b"DEP") {
+    } else if begins_with(field, b"DEP") {
         Some(Title::Dep)
     } else {
         None
