@@ -33,7 +33,7 @@ alternates_end places left words h e good room =
     let same : places ≡ words = sym (append-nil places) ∙ ap (λ l. places ++ l) (sym e) ∙ h in
     rw (← same) (cond-true _ _ _ (and_from (leb (length places) 2) (list_all is_place places) (le-leb (length places) 2 room) good))
 
--- ---- a destination without room for alternates
+-- ---- a destination too short for alternates
 
 few-no-place : (text : List ℕ) → length text < 4 → is_place text ≡ false
 unfolding is_place

@@ -181,7 +181,7 @@ fn alternates_of(words: Words<'_>) -> Option<Alternates>
     Some(alternates)
 }
 
-/// Reads the parts of a field 16 of at most 8 bytes, too short for alternates.
+/// Reads the parts of a field 16 of at most 8 bytes, which is too short for alternates.
 #[inline(always)]
 fn destination_alone(field: &[u8]) -> Option<Destination>
     requires { length field.now ≤ 8 }
