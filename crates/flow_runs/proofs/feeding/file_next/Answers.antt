@@ -1,8 +1,8 @@
 use Rattle.flow_runs.proofs.FeedsRun.{filed-front}
 use Rattle.flow_runs.proofs.feeding.file_next.Goals as goal
 
-pub returns-in_default-clause-ran : goal.returns-in_default-clause-ran
-returns-in_default-clause-ran g c p texts h =
+pub returns-clause-ran : goal.returns-clause-ran
+returns-clause-ran g c p texts h =
     filed-front g.N.Name.setup p c.args.feed.now.pass c.file_all.new.pass texts c.args.feed.now.left c.file_all.new.queue c.file_all.ensures.filed h
 
 pub returns-in-Err-clause-ran : goal.returns-in-Err-clause-ran
