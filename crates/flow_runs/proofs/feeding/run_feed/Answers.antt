@@ -1,4 +1,4 @@
-use Rattle.std.proofs.Common.{refl}
+use Rattle.std.proofs.Common.{refl, []}
 use Rattle.flow_desk.proofs.Running.{ran-none}
 use Rattle.flow_runs.proofs.feeding.run_feed.Goals as goal
 
