@@ -56,5 +56,8 @@ pub fn file_ready<N: Name, Q: Wait + Drop, W: Wait, A: Allocator + Copy>(
 {
     // `file_all` takes the lock once for all of them, and promises for each what `file` does.
     let count = ready.len();
-    desk.file_all(wait, alloc, pass, ready, count).is_ok()
+    match desk.file_all(wait, alloc, pass, ready, count) {
+        Ok(()) => true,
+        Err(_) => false,
+    }
 }
