@@ -24,11 +24,11 @@ pub(crate) struct Feed<N: Name, A: Allocator + Copy = Global> {
     pub end: End,
 }
 
-/// The number of frames that all feeders together file while each of them holds the lock once: 16
-/// each of 4 feeders, one each of 64. Whenever the lock goes to another feeder, the core's memory
-/// moves to another processor; with 16 filings a lock this is no longer the largest cost. But the
-/// more of them are filed at once, the less their order is that of the input.
-const AT_ONCE: usize = 64;
+/// The number of frames that all feeders together file while each of them holds the lock once: 64
+/// each of 4 feeders, 4 each of 64. Whenever the lock goes to another feeder, that has to wake up,
+/// and the core's memory moves to its processor. But the more frames are filed at once, the less
+/// their order is that of the input.
+const AT_ONCE: usize = 256;
 
 /// Files the next frames of a feed in one critical section. Returns `false` if one was refused or
 /// nothing is left.
