@@ -100,7 +100,7 @@ impl<A: Allocator + Copy> FrameQueue<A> {
     }
 
     /// Removes all frames. Keeps their memory.
-    pub fn clear(&mut self)
+    fn clear(&mut self)
         ensures { self.new ≡ [] }
     {
         self.bytes.clear();
