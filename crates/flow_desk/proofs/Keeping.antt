@@ -1,5 +1,6 @@
 -- The steps that keep the rule of the board.
 use Rattle.std.proofs.Common.{◌≡◌, ℕ, ◌≢◌, true, Option, List, [], ◌∷◌, ◌++◌, length, set, fold, Result, Ok, Err, IsOk, MatchResult, refl, sym, ap, subst, ◌∙◌, ⊎_elim}
+use Rattle.std.proofs.lemmas.List.Sums.{fold-append}
 use mathlib.Core.Option.{some}
 use mathlib.Core.List.{IsPrefix}
 use lib.ListN.{get_elem?}
@@ -64,10 +65,6 @@ sees seat v x y later book setup board views h at =
 -- so a step that changes nothing
 pub reads : (seat : ℕ) (v : View) (x : BoardView) → TurnsAt Keeps seat v x x Reads
 reads seat v x = sees seat v x x (prefix_self x.entries) refl refl (λ b. b)
-
-fold-append : {A B : Type 0} (f : B → A → B) (b : B) (xs ys : List A) → fold f b (xs ++ ys) ≡ fold f (fold f b xs) ys
-fold-append f b [] ys = refl
-fold-append f b (x ∷ xs) ys = fold-append f (f b x) xs ys
 
 -- and one that absorbs an operation after others that change nothing
 pub publishes : (seat : ℕ) (v : View) (x next : BoardView) (op : OperationView) (idle : List OperationView) → fold absorbed x idle ≡ x → next ≡ fold absorbed x (idle ++ op ∷ [])

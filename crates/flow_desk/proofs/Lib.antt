@@ -12,3 +12,5 @@ pub mod Faults
 pub mod Running
 pub mod Turns
 pub mod Gathering
+pub mod Entering
+pub mod Replayed

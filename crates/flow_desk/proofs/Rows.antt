@@ -1,20 +1,21 @@
 -- The rows of a board.
 use Rattle.std.proofs.Common.{◌≡◌, ◌≤◌, ℕ, zero, suc, ◌+◌, ◌-◌, ◌==◌, if◌then◌else◌, List, [], ◌∷◌, ◌++◌, length, slice_get, Option, Some, None, refl, ap, subst, ◌∙◌, sym, arith}
 use Rattle.std.specs.Option.{option_flatten}
+use Rattle.std.proofs.lemmas.List.Sums.{fold-append}
 use native.Mathlib.Numerals.{unary_clauses}
 use Rattle.flow_core.specs.declared.row.Row.{Row}
 use Rattle.flow_plans.specs.Settings.{SetupView}
 use Rattle.flow_core.specs.declared.change.Change.{Change}
-use Rattle.flow_core.specs.State.{Input}
+use Rattle.flow_core.specs.State.{Input, EntryView}
 use Rattle.flow_core.specs.Steps.{run}
 use Rattle.flow_core.specs.History.{History, state_of}
 use Rattle.flow_core.specs.Changes.{rows_in, rows_at}
-use Rattle.flow_core.specs.Boards.{padded, put_all}
+use Rattle.flow_core.specs.Boards.{padded, put_from, put_all}
 use Rattle.flow_core.specs.CoreView.{inputs}
 use Rattle.flow_core.proofs.Growing.{rows-few}
 use Rattle.flow_desk.proofs.Journals.{rows-are}
 use Rattle.flow_desk.specs.Histories.{rows_after, row_at}
-use Rattle.flow_desk.specs.Boards.{BoardView, IsBoard, shown_row}
+use Rattle.flow_desk.specs.Boards.{BoardView, IsBoard, LeadTo, shown_row}
 
 padded-suc : (n : ℕ) (rows : List Row) → padded (suc n) rows ≡ padded n rows ++ slice_get rows n ∷ []
 padded-suc zero [] = refl
@@ -50,3 +51,9 @@ rows-taken_in old new i cs ds setup filed copied taken_in =
     let here : put_all (padded old.setup.max_plans (rows_at old)) cs ≡ padded old.setup.max_plans (rows_after old.setup (state_of new).journal) =
     subst (λ (s : SetupView). put_all (padded s.max_plans (rows_in (run s old.filed).traffic)) cs ≡ padded s.max_plans (rows_after s (state_of new).journal)) setup there in
     ap (λ (rows : List Row). put_all (padded old.setup.max_plans rows) ds) (sym (rows-are old)) ∙ (ap (put_all (padded old.setup.max_plans (rows_at old))) copied ∙ here)
+
+-- changes that lead on from those before
+pub lead-more : (s : SetupView) (es later more : List EntryView) (cs ds all : List Change) → LeadTo s es later cs → LeadTo s later more ds → all ≡ cs ++ ds → LeadTo s es more all
+lead-more s es later more cs ds all first next is =
+    let rows : List (Option Row) = padded s.max_plans (rows_after s es) in
+    ap (put_all rows) is ∙ (fold-append (put_from 1) rows cs ds ∙ (ap (λ (rs : List (Option Row)). put_all rs ds) first ∙ next))

@@ -1,5 +1,5 @@
 -- What contracts see of the board, and of an operation on it.
-use Rattle.std.specs.Prelude.{◌≡◌, ℕ, ◌-◌, ◌==◌, if◌then◌else◌, List, ◌∷◌, length, slice_get, Option, None, Some}
+use Rattle.std.specs.Prelude.{◌≡◌, ℕ, ◌-◌, ◌==◌, if◌then◌else◌, List, length, slice_get, Option, None}
 use Rattle.std.specs.Option.{option_flatten}
 use Rattle.logbook.specs.Pages.{Book}
 use Rattle.flow_plans.specs.Settings.{SetupView}
@@ -24,16 +24,16 @@ pub record IsBoard (b : BoardView) : Type 0 where
   pub counted : b.count ≡ length b.entries
   pub rows : b.rows ≡ padded b.setup.max_plans (rows_after b.setup b.entries)
 
--- one more entry: the history that ends with it, its number, and the rows that it changed
+-- a board with the rows after some entries, which absorbs these changes, has the rows after others
+abbrev pub LeadTo : SetupView → List EntryView → List EntryView → List Change → Type 0
+LeadTo setup es later cs = put_all (padded setup.max_plans (rows_after setup es)) cs ≡ padded setup.max_plans (rows_after setup later)
+
+-- some more entries: the history that ends with them, the number of its entries, and the rows that
+-- they changed
 pub record OperationView : Type 0 where
   pub front : FrontView
   pub number : ℕ
   pub changes : List Change
-
--- changes, of which the first may be stored by itself
-abbrev pub with_first : Option Change → List Change → List Change
-with_first None cs = cs
-with_first (Some c) cs = c ∷ cs
 
 -- what it makes of a board
 abbrev pub absorbed : BoardView → OperationView → BoardView

@@ -10,3 +10,4 @@ pub mod Desks
 pub mod Slots
 pub mod Followers
 pub mod Feeds
+pub mod Replays

@@ -11,9 +11,9 @@ ghost use Rattle.flow_desk.specs.declared.blank.DeskFault.TheVariants.{OutOfMemo
 
 use crate::follower::Follower;
 use crate::history::{Front, Head, open_history};
-use crate::locked::count_one;
 use crate::name::Name;
 use crate::seat::{Publisher, Seat};
+use crate::tally::count_one;
 use flow_core::{Core, MAX_FEEDERS};
 use flow_plans::Setup;
 use std::alloc::{AllocError, Allocator, Global};

@@ -2,23 +2,23 @@
 ghost use Rattle.std.specs.Prelude.{◌≡◌, length, IfOk};
 ghost use Rattle.flow_core.specs.History.{state_of};
 ghost use Rattle.flow_core.specs.Changes.{rows_at};
-ghost use Rattle.flow_core.specs.Boards.{padded};
+ghost use Rattle.flow_core.specs.Boards.{padded, put_all, put_from};
 ghost use Rattle.flow_desk.specs.Boards.{shown_row};
 
-use crate::changed_rows::ChangedRows;
 use crate::history::Front;
-use flow_core::{Core, Row};
+use flow_core::{Change, Core, Row};
 use flow_plans::Setup;
 use left_right::Absorb;
 use std::alloc::{AllocError, Allocator, Global};
 use std::marker::Model;
 
-/// One more entry: the history that ends with it, its number, and the rows that it changed.
+/// Some more entries: the history that ends with them, the number of its entries, and the rows that
+/// they changed, in the order of the changes.
 #[derive(Drop)]
 pub struct Operation<A: Allocator + Copy = Global> {
     front: Front,
     number: u32,
-    changes: ChangedRows<A>,
+    changes: Vec<Change, A>,
 }
 
 impl<A: Allocator + Copy> Model for Operation<A> {
@@ -26,12 +26,12 @@ impl<A: Allocator + Copy> Model for Operation<A> {
 
     ghost Value = { OperationView };
 
-    ghost view = { λ o. record { front = o.front; number = o.number; changes = o.changes } };
+    ghost view = { λ o. record { front = o.front; number = o.number; changes = o.changes.items } };
 }
 
 impl<A: Allocator + Copy> Operation<A> {
-    pub fn new(front: Front, number: u32, changes: ChangedRows<A>) -> Self
-        ensures { result ≡ record { front = front; number = number; changes = changes } }
+    pub fn new(front: Front, number: u32, changes: Vec<Change, A>) -> Self
+        ensures { result ≡ record { front = front; number = number; changes = changes.items } }
     {
         Operation {
             front,
@@ -63,6 +63,25 @@ impl<A: Allocator + Copy> Model for Board<A> {
       count = b.count;
       rows = b.rows.items;
     } };
+}
+
+/// Replaces a changed row. A row of a plan that the setup doesn't allow is left out.
+fn put_row(rows: &mut [Option<Row>], change: &Change)
+    ensures { rows.new ≡ put_from 1 rows.old change.now }
+{
+    let at = (change.plan as usize).saturating_sub(1);
+    if at < rows.len() {
+        rows[at] = Some(change.row);
+    }
+}
+
+/// Replaces the changed rows.
+fn put_rows(rows: &mut [Option<Row>], changes: &[Change])
+    ensures { rows.new ≡ put_all rows.old changes.now }
+{
+    for change in changes {
+        put_row(rows, change);
+    }
 }
 
 /// The rows of a core, one for each plan that the setup allows.
@@ -143,7 +162,7 @@ impl<A: Allocator + Copy> Absorb<Operation<A>> for Board<A> {
         operation: &Operation<A>,
         _other: &Board<A>,
     ) -> Result<(), AllocError> {
-        operation.changes.put(self.rows.as_mut_slice());
+        put_rows(self.rows.as_mut_slice(), operation.changes.as_slice());
         self.count = operation.number;
         self.front = operation.front.again();
         Ok(())

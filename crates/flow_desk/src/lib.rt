@@ -31,10 +31,10 @@
 //! - *and frozen flights keep theirs*: `frozen` of `Core::step` of flow_core.
 #![tactic(auto)]
 
+mod announcer;
 mod answering;
 mod blank;
 mod board;
-mod changed_rows;
 mod desk;
 mod feeders;
 mod follower;
@@ -43,10 +43,12 @@ pub mod laws;
 mod locked;
 mod name;
 mod pass;
+mod replaying;
 mod rule;
 mod seat;
 mod slots;
 mod stored;
+mod tally;
 
 pub use blank::{Blank, DeskFault, first_feeder_beyond};
 pub use desk::{CloseFault, Desk};
@@ -55,6 +57,7 @@ pub use flow_core::MAX_FEEDERS;
 pub use follower::Follower;
 pub use name::Name;
 pub use pass::Pass;
+pub use replaying::Replay;
 pub use seat::NoVersion;
 pub use slots::SlotRow;
 pub use stored::{Stored, StoredBlank, StoredHistory};

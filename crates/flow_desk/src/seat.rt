@@ -2,11 +2,10 @@
 ghost use Rattle.std.specs.Prelude.{◌≡◌, ◌<◌, ◌^◌, ◌++◌, ◌∷◌, [], true, drop, length, IfOk, IfErr};
 ghost use mathlib.Core.List.{IsPrefix};
 ghost use Rattle.flow_core.specs.History.{state_of};
-ghost use Rattle.flow_core.specs.Boards.{padded, put_all};
-ghost use Rattle.flow_desk.specs.Histories.{row_at, rows_after};
+ghost use Rattle.flow_desk.specs.Boards.{LeadTo};
+ghost use Rattle.flow_desk.specs.Histories.{row_at};
 
 use crate::board::{Board, Operation};
-use crate::changed_rows::ChangedRows;
 use crate::history::Front;
 use crate::rule::{Published, Sees, Tells, View};
 use core::mem::replace_with;
@@ -163,8 +162,8 @@ impl<R: Wait + Drop, A: Allocator + Copy> Publisher<R, A> {
     {
         let first = Board::new(alloc, front, core)?;
         let second = Board::new(alloc, front, core)?;
-        let idle = Operation::new(front.again(), core.entries(), ChangedRows::none(alloc));
-        let further = Operation::new(front.again(), core.entries(), ChangedRows::none(alloc));
+        let idle = Operation::new(front.again(), core.entries(), Vec::new(alloc));
+        let further = Operation::new(front.again(), core.entries(), Vec::new(alloc));
         let mut writer = Writer::new(alloc, first, second, readers)?;
         let one = writer.append(idle).is_ok();
         let two = writer.append(further).is_ok();
@@ -200,15 +199,13 @@ impl<R: Wait + Drop, A: Allocator + Copy> Publisher<R, A> {
         Ok(Seat { reader })
     }
 
-    /// Publishes one more entry. Waits for readers, and if allocation fails, until it succeeds.
+    /// Publishes some more entries. Waits for readers, and if allocation fails, until it succeeds.
     pub fn publish<W: Wait>(&mut self, wait: &W, operation: Operation<A>)
         requires book { operation.front.book ≡ self.old.book }
         requires later { IsPrefix self.old.entries operation.front.entries }
         requires number { operation.number ≡ length operation.front.entries }
-        requires rows { put_all
-            (padded self.old.setup.max_plans (rows_after self.old.setup self.old.entries))
-            operation.changes
-            ≡ padded self.old.setup.max_plans (rows_after self.old.setup operation.front.entries) }
+        requires rows { LeadTo self.old.setup self.old.entries operation.front.entries
+            operation.changes }
         ensures { (self.new.knows ≡ true) × (self.new.book ≡ self.old.book)
             × (self.new.setup ≡ self.old.setup)
             × (self.new.entries ≡ operation.front.entries) }

@@ -44,11 +44,3 @@ pub record HasFiled (setup : SetupView) (read : List EntryView) (feeders : ℕ) 
   pub fronts : (k : ℕ) (feed : List FilingView) → slice_get feeds k ≡ Some feed → IsPrefix (texts_of (own k entries)) feed
   pub room : stop ≢ None → length (read ++ entries) < setup.max_entries
   pub whole : stop ≡ None → length (read ++ entries) < setup.max_entries → (k : ℕ) (feed : List FilingView) → slice_get feeds k ≡ Some feed → texts_of (own k entries) ≡ feed
-
--- a second run, if there is one, has some first of these filings, at a desk of this setup
-abbrev pub IsBegun : Option History → SetupView → List Input → Type 0
-IsBegun again setup filed = IfSome again (λ (a : History). (a.setup ≡ setup) × IsPrefix a.filed filed)
-
--- a second run, if there is one, has the same filings at a desk of the same setup
-abbrev pub IsAgain : Option History → History → Type 0
-IsAgain again core = IfSome again (λ (a : History). (a.setup ≡ core.setup) × (a.filed ≡ core.filed))

@@ -2,16 +2,14 @@
 ghost use Rattle.std.specs.Prelude.{◌≡◌, ◌≢◌, ◌≤◌, ◌<◌, ◌+◌, ◌++◌, ℕ, []};
 ghost use Rattle.std.specs.Prelude.{length, map, vec_len, vec_capacity};
 ghost use Rattle.std.specs.Prelude.{slice_index_or, IsTrue, IsFalse, OnOk, OnErr};
-ghost use Rattle.flow_core.specs.CoreView.{inputs};
 ghost use Rattle.flow_runs.specs.Ends.{EndsFeed};
-ghost use Rattle.flow_runs.specs.Filing.{FiledTo, RanFeed, RanFeeds, IsBegun};
+ghost use Rattle.flow_runs.specs.Filing.{FiledTo, RanFeed, RanFeeds};
 
-use crate::replaying::{Replay, advance_if_free};
-use flow_core::Core;
-use flow_desk::{Desk, End, Follower, Name, Pass};
+use crate::progress::{ENOUGH, Progress};
+use flow_desk::{Desk, End, Name, Pass, Replay};
 use flow_input::FrameQueue;
-use flow_plans::Setup;
 use std::alloc::{Allocator, Global};
+use std::mem::replace;
 use std::sync::{Mutex, Wait};
 use std::thread;
 use std::thread::Threads;
@@ -57,12 +55,12 @@ fn file_next<N: Name, Q: Wait + Drop, P: Wait, A: Allocator + Copy>(
     true
 }
 
-/// Files a feed until it ends, some frames at a time, and brings the replay on in between.
+/// Files a feed until it ends, some frames at a time, and tells the second run of them.
 fn run_feed<N: Name, Q: Wait + Drop, P: Wait, A: Allocator + Copy>(
     wait: &P,
     alloc: A,
     desk: &Desk<N, Q, A>,
-    replay: &Mutex<Replay<N, A>>,
+    progress: &Progress,
     most: usize,
     feed: &mut Feed<N, A>,
 )
@@ -70,7 +68,7 @@ fn run_feed<N: Name, Q: Wait + Drop, P: Wait, A: Allocator + Copy>(
     ensures { RanFeed N.setup feed.old.pass feed.old.left feed.new.pass feed.new.left feed.new.end }
 {
     while file_next(wait, alloc, desk, most, feed) {
-        advance_if_free(wait, alloc, desk, replay);
+        progress.tell(wait, most as u64);
     }
 }
 
@@ -117,7 +115,7 @@ fn run_each<
     wait: &P,
     alloc: A,
     desk: &Desk<N, Q, A>,
-    replay: &Mutex<Replay<N, A>>,
+    progress: &Progress,
     feeds: &mut Vec<Feed<N, A>, A>,
 )
     ensures len { length feeds.new.items ≡ length feeds.old.items }
@@ -133,12 +131,55 @@ fn run_each<
         rt,
         feeds.as_mut_slice(),
         threads,
-        &|_, feed| run_feed(wait, alloc, desk, replay, most, feed),
+        &|_, feed| run_feed(wait, alloc, desk, progress, most, feed),
     );
 }
 
-/// Runs all feeds, and meanwhile the journal a second time. Returns the core of the second run, and
-/// what it has seen of the journal.
+/// Runs the journal a second time while feeders file.
+fn replay_meanwhile<N: Name, Q: Wait + Drop, P: Wait, A: Allocator + Copy>(
+    wait: &P,
+    alloc: A,
+    desk: &Desk<N, Q, A>,
+    progress: &Progress,
+    replay: &Mutex<Replay<N, A>>,
+) {
+    let mut replay = replay.lock(wait);
+    for _ in wait.forever() {
+        if !progress.wait(wait) {
+            return;
+        }
+        replay.advance(wait, alloc, desk, ENOUGH);
+    }
+}
+
+/// Runs all feeds, and tells the second run when the last has ended. Returns the feeds.
+fn run_and_close<
+    N: Name + Send + Sync,
+    Q: Wait + Drop + Send,
+    T: Threads + Sync,
+    P: Wait + Sync,
+    A: Allocator + Copy + Send + Sync,
+>(
+    rt: &T,
+    wait: &P,
+    alloc: A,
+    desk: &Desk<N, Q, A>,
+    progress: &Progress,
+    feeds: &mut Vec<Feed<N, A>, A>,
+) -> Vec<Feed<N, A>, A>
+    ensures len { length result.items ≡ length feeds.old.items }
+    ensures each { (i : ℕ) (d : _) → i < length feeds.old.items
+        → RanFeed N.setup (slice_index_or feeds.old.items i d).pass
+        (slice_index_or feeds.old.items i d).left
+        (slice_index_or result.items i d).pass (slice_index_or result.items i d).left
+        (slice_index_or result.items i d).end }
+{
+    run_each(rt, wait, alloc, desk, progress, feeds);
+    progress.close(wait);
+    replace(feeds, Vec::new(alloc))
+}
+
+/// Runs all feeds, and meanwhile brings a second run of the journal on. Returns the feeds.
 pub(crate) fn run_all<
     N: Name + Send + Sync,
     Q: Wait + Drop + Send,
@@ -150,16 +191,29 @@ pub(crate) fn run_all<
     wait: &P,
     alloc: A,
     desk: &Desk<N, Q, A>,
-    setup: Setup,
-    feeds: &mut Vec<Feed<N, A>, A>,
-) -> (Option<Core<A>>, Follower<N>)
-    requires { setup ≡ N.setup }
-    ensures ran { RanFeeds N.setup (map (λ f. f.pass) feeds.old.items)
-        (map (λ f. f.left) feeds.old.items) (map (λ f. f.pass) feeds.new.items)
-        (map (λ f. f.left) feeds.new.items) (map (λ f. f.end) feeds.new.items) }
-    ensures begun { IsBegun result.0 N.setup (inputs result.1) }
+    mut feeds: Vec<Feed<N, A>, A>,
+    replay: &Mutex<Replay<N, A>>,
+) -> Vec<Feed<N, A>, A>
+    ensures { RanFeeds N.setup (map (λ f. f.pass) feeds.items)
+        (map (λ f. f.left) feeds.items) (map (λ f. f.pass) result.items)
+        (map (λ f. f.left) result.items) (map (λ f. f.end) result.items) }
 {
-    let replay = Mutex::new(Replay::new(alloc, setup, desk.follower(wait, 0)));
-    run_each(rt, wait, alloc, desk, &replay, feeds);
-    replay.into_inner().into_parts()
+    let progress = Progress::new();
+    let progress = &progress;
+    // The first gets the thread. If none can be made it is run after the second, and finds that all
+    // feeders have ended.
+    let ((), ran) = thread::join_mut(
+        rt,
+        &mut || replay_meanwhile(wait, alloc, desk, progress, replay),
+        &mut move || -> Vec<Feed<N, A>, A>
+            ensures len { length result.items ≡ length feeds.entry.items }
+            ensures each { (i : ℕ) (d : _) → i < length feeds.entry.items
+                → RanFeed N.setup (slice_index_or feeds.entry.items i d).pass
+                (slice_index_or feeds.entry.items i d).left
+                (slice_index_or result.items i d).pass
+                (slice_index_or result.items i d).left
+                (slice_index_or result.items i d).end }
+        { run_and_close(rt, wait, alloc, desk, progress, &mut feeds) },
+    );
+    ran
 }

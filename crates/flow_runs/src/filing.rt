@@ -3,22 +3,21 @@ ghost use Rattle.std.specs.Prelude.{◌≡◌, ◌≢◌, ◌<◌, ◌≤◌, �
 ghost use Rattle.std.specs.Prelude.{None, Some, length, map, vec_len};
 ghost use Rattle.std.specs.Prelude.{vec_capacity, IfOk, IfErr, IfNone};
 ghost use Rattle.std.specs.List.{All, fold};
-ghost use Rattle.flow_core.specs.CoreView.{inputs};
 ghost use Rattle.flow_core.specs.History.{state_of};
 ghost use Rattle.flow_desk.specs.Desks.{AreOpened, IsMissing};
 ghost use Rattle.flow_desk.specs.Histories.{after};
 ghost use Rattle.flow_desk.specs.Locks.{AgreesWithPass};
 ghost use Rattle.flow_runs.specs.Ends.{EndsWell, IsStop, stop_after};
-ghost use Rattle.flow_runs.specs.Filing.{HasFiled, IsAgain, IsBegun};
+ghost use Rattle.flow_desk.specs.Replays.{IsAgain};
+ghost use Rattle.flow_runs.specs.Filing.{HasFiled};
 
 use crate::fault::RunFault;
 use crate::feeding::{Feed, gather, run_all};
-use crate::replaying::caught_up;
 use flow_core::{Core, StepFault};
-use flow_desk::{Blank, Desk, End, Follower, Name, Pass};
+use flow_desk::{Blank, Desk, End, Name, Pass, Replay};
 use flow_input::FrameQueue;
 use std::alloc::{AllocError, Allocator, Global};
-use std::sync::Wait;
+use std::sync::{Mutex, Wait};
 use std::thread::Threads;
 
 /// The core of a desk at which feeders have filed.
@@ -138,12 +137,10 @@ fn close_desk<N: Name, Q: Wait + Drop, P: Wait, A: Allocator + Copy>(
     alloc: A,
     desk: Desk<N, Q, A>,
     passes: Vec<Pass<N, A>, A>,
-    again: Option<Core<A>>,
-    seen: Follower<N>,
+    replay: Replay<N, A>,
     ends: Option<RunFault>,
 ) -> Filed<A>
     requires none { IsMissing N.feeders passes.items → ⊥ }
-    requires begun { IsBegun again N.setup (inputs seen) }
     requires stops { IsStop ends }
     ensures setup { result.core.setup ≡ N.setup }
     ensures one_thread { state_of result.core ≡ after N.setup (state_of result.core).journal }
@@ -156,11 +153,12 @@ fn close_desk<N: Name, Q: Wait + Drop, P: Wait, A: Allocator + Copy>(
         → result.stop ≡ ends }
     ensures stops { IsStop result.stop }
 {
-    let Ok((core, _all)) = desk.close_followed(wait, passes, seen) else {
+    let first = desk.follower(wait, 0);
+    let Ok((core, _all)) = desk.close_followed(wait, passes, first, replay.seen()) else {
         unreachable!()
     };
     let stop = stop_with_room(&core, ends);
-    let again = caught_up(alloc, again, &core);
+    let again = replay.finish(alloc, &core);
     Filed { core, again, stop }
 }
 
@@ -193,10 +191,12 @@ pub(crate) fn file_all<
     let Opened {
         desk,
         mut passes,
-        mut feeds,
+        feeds,
     } = opened;
-    let (again, seen) = run_all(rt, wait, alloc, &desk, setup, &mut feeds);
+    let replay = Mutex::new(Replay::new(alloc, setup, desk.follower(wait, 0)));
+    let mut feeds = run_all(rt, wait, alloc, &desk, feeds, &replay);
+    let replay = replay.into_inner();
     let ends = stop_among(feeds.as_slice());
     take_passes(&mut feeds, &mut passes);
-    Ok(close_desk(wait, alloc, desk, passes, again, seen, ends))
+    Ok(close_desk(wait, alloc, desk, passes, replay, ends))
 }

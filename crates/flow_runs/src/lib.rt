@@ -1,10 +1,9 @@
 //! Runs with many feeders. An input is read whole, and its filings are dealt to the feeders in
 //! turn.
 //!
-//! - *Feeding* (`feeding`): each feeder files its texts in a thread of its own. It reads some of
-//!   them while it waits for the desk's lock, and files these in one critical section.
-//! - *The replay* (`replaying`): between two of these a feeder files the next entries of the
-//!   journal at a second core, unless another does.
+//! - *Feeding* (`feeding`): each feeder files its texts in a thread of its own, some of them in one
+//!   critical section.
+//!   Meanwhile one thread more files the entries again, at a second core.
 //! - *Answers* (`answers`): once the desk is closed, all is answered in the order of the journal.
 //!   Then each filing that found the journal full gets its line, and the last one says whether the
 //!   second core has the same state.
@@ -21,7 +20,7 @@ mod fault;
 mod feeding;
 mod filing;
 pub mod laws;
-mod replaying;
+mod progress;
 mod run;
 mod stored;
 

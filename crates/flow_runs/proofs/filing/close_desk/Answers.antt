@@ -1,6 +1,9 @@
-use Rattle.flow_runs.proofs.Replayed.{begun-all}
+use Rattle.std.proofs.Common.{List, subst}
+use mathlib.Core.List.{IsPrefix}
+use Rattle.flow_core.specs.History.{state_of}
+use Rattle.flow_core.specs.State.{EntryView}
 use Rattle.flow_runs.proofs.filing.close_desk.Goals as goal
 
-pub caught_up-again-requires : goal.caught_up-again-requires
-caught_up-again-requires g c =
-    begun-all c.args.again g.N.Name.setup c.args.seen c.in-Ok.core c.in-Ok.ensures.setup c.in-Ok.ensures.followed c.requires.begun
+pub finish-again-requires-clause-seen : goal.finish-again-requires-clause-seen
+finish-again-requires-clause-seen g c =
+    subst (λ (es : List EntryView). IsPrefix es (state_of c.in-Ok.core).journal) c.seen.ensures c.in-Ok.ensures.other

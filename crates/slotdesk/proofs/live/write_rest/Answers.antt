@@ -1,6 +1,6 @@
 use Rattle.std.proofs.Common.{◌≡◌, ap}
 use Rattle.flow_core.specs.History.{History}
-use Rattle.flow_runs.proofs.Replayed.{if-made}
+use Rattle.flow_desk.proofs.Replayed.{if-made}
 use Rattle.slotdesk.proofs.live.write_rest.Goals as goal
 
 pub write_end-requires : goal.write_end-requires
