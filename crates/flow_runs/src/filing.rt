@@ -193,6 +193,7 @@ pub(crate) fn file_all<
         mut passes,
         feeds,
     } = opened;
+    // The lock lends it to the thread that brings it on.
     let replay = Mutex::new(Replay::new(alloc, setup, desk.follower(wait, 0)));
     let mut feeds = run_all(rt, wait, alloc, &desk, feeds, &replay);
     let replay = replay.into_inner();

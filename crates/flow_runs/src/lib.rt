@@ -1,9 +1,9 @@
 //! Runs with many feeders. An input is read whole, and its filings are dealt to the feeders in
 //! turn.
 //!
-//! - *Feeding* (`feeding`): each feeder files its texts in a thread of its own, some of them in one
-//!   critical section.
-//!   Meanwhile one thread more files the entries again, at a second core.
+//! - *Feeding* (`feeding`, `progress`): each feeder files its texts in a thread of its own, some of
+//!   them in one critical section. Meanwhile one thread more files the entries again, at a second
+//!   core.
 //! - *Answers* (`answers`): once the desk is closed, all is answered in the order of the journal.
 //!   Then each filing that found the journal full gets its line, and the last one says whether the
 //!   second core has the same state.
