@@ -24,7 +24,7 @@ from workspace import placed  # noqa: E402
 
 STANDS_ON = ["fpl_text", "fpl_message", "flow_plans", "flow_log", "flow_core", "flow_store", "flow_desk", "flow_runs", "flow_live"]
 # More than the calls make.
-LAST = 240
+LAST = 300
 REFUSED, NOTHING = "refused, and all as promised", "not refused"
 ENDED = "run=ended status=0 "
 

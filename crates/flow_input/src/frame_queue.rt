@@ -1,37 +1,41 @@
 //! Frames that wait to be filed.
 ghost use Rattle.std.specs.Prelude.{◌≡◌, ◌≤◌, ◌<◌, ◌++◌, ◌∷◌, [], length, drop, take};
 ghost use Rattle.std.specs.Prelude.{MatchOption, OnOk, OnErr, IsTrue, IsFalse, option_copied};
+ghost use Rattle.std.specs.List.{All, flat_map};
 ghost use Rattle.flow_input.specs.NextFrame.{second};
+ghost use Rattle.flow_input.specs.Queues.{joined};
 ghost use Rattle.fpl_message.specs.declared.filing.TheConstants.{MAX_BYTES};
 
-use fpl_message::MAX_BYTES;
+use crate::frame_block::FrameBlock;
 use std::alloc::{AllocError, Allocator, Global};
+use std::collections::VecDeque;
 use std::marker::Model;
+use std::mem::replace;
 
-/// A queue of frames of at most 2,000 bytes, one after the other in one buffer. Contracts see the
-/// filings of those that are in the queue, by the current edition.
+/// A queue of frames of at most 2,000 bytes, in blocks of up to 128 KiB: the memory of a block is
+/// freed with its last frame, but for that of the last block. Contracts see the filings of the
+/// frames, by the current edition.
 #[derive(Drop)]
 pub struct FrameQueue<A: Allocator + Copy = Global> {
-    /// The frames, after those that were removed.
-    bytes: Vec<u8, A>,
-    /// Their lengths.
-    lens: Vec<u16, A>,
-    /// The number of frames removed.
-    removed: usize,
-    /// The offset of the first frame of the queue.
-    from: usize,
+    alloc: A,
+    /// The blocks before the last one. None is empty.
+    full: VecDeque<FrameBlock<A>, A>,
+    last: FrameBlock<A>,
+    len: usize,
 }
 
 impl<A: Allocator + Copy> Model for FrameQueue<A> {
-    ghost use Rattle.std.specs.Prelude.{List, drop};
-    ghost use Rattle.flow_input.specs.Queues.{queued, IsQueue};
+    ghost use Rattle.std.specs.Prelude.{List, ◌≡◌, ◌<◌, length};
+    ghost use Rattle.std.specs.List.{All};
+    ghost use Rattle.flow_input.specs.Queues.{joined};
     ghost use Rattle.fpl_message.specs.Filings.{FilingView};
 
     ghost Value = { List FilingView };
 
-    ghost view = { λ q. queued (drop q.removed q.lens.items) (drop q.from q.bytes.items) };
+    ghost view = { λ q. joined q.full.items q.last };
 
-    ghost invariant = { λ q. IsQueue q.lens.items q.bytes.items q.removed q.from };
+    ghost invariant = { λ q. All (λ b. 0 < length b) q.full.items
+        × (q.len ≡ length (joined q.full.items q.last)) };
 }
 
 impl<A: Allocator + Copy> FrameQueue<A> {
@@ -40,10 +44,10 @@ impl<A: Allocator + Copy> FrameQueue<A> {
         ensures { result ≡ [] }
     {
         FrameQueue {
-            bytes: Vec::new(alloc),
-            lens: Vec::new(alloc),
-            removed: 0,
-            from: 0,
+            alloc,
+            full: VecDeque::new(alloc),
+            last: FrameBlock::new(alloc),
+            len: 0,
         }
     }
 
@@ -51,7 +55,7 @@ impl<A: Allocator + Copy> FrameQueue<A> {
     pub fn len(&self) -> usize
         ensures { result ≡ length self.now }
     {
-        self.lens.len() - self.removed
+        self.len
     }
 
     /// Whether no frame is in the queue.
@@ -59,7 +63,7 @@ impl<A: Allocator + Copy> FrameQueue<A> {
         ensures none { IsTrue result → self.now ≡ [] }
         ensures some { IsFalse result → 0 < length self.now }
     {
-        self.len() == 0
+        self.len == 0
     }
 
     /// Appends a frame. The memory of an empty queue is used again from its beginning. After an
@@ -69,12 +73,14 @@ impl<A: Allocator + Copy> FrameQueue<A> {
         ensures ok { OnOk result (self.new ≡ self.old ++ second frame.now ∷ []) }
         ensures err { OnErr result (self.new ≡ self.old) }
     {
-        if self.is_empty() {
-            self.clear();
+        let Some(len) = self.len.checked_add(1) else {
+            return Err(AllocError);
+        };
+        if !self.last.has_room(frame.len()) {
+            begin_block(self.alloc, &mut self.full, &mut self.last)?;
         }
-        self.lens.reserve(1)?;
-        self.bytes.extend_from_slice(frame)?;
-        self.lens.push_reserved(frame.len() as u16);
+        self.last.push(frame)?;
+        self.len = len;
         Ok(())
     }
 
@@ -83,11 +89,10 @@ impl<A: Allocator + Copy> FrameQueue<A> {
         ensures { MatchOption (option_copied result) (self.now ≡ []) (λ frame.
             (take 1 self.now ≡ second frame ∷ []) × (length frame ≤ MAX_BYTES)) }
     {
-        if self.is_empty() {
-            return None;
+        match self.full.front() {
+            Some(block) => block.first(),
+            None => self.last.first(),
         }
-        let len = self.lens[self.removed] as usize;
-        Some(&self.bytes[self.from..self.from + len])
     }
 
     /// Removes the first frame of the queue.
@@ -95,17 +100,45 @@ impl<A: Allocator + Copy> FrameQueue<A> {
         requires { 0 < length self.old }
         ensures { self.new ≡ drop 1 self.old }
     {
-        self.from += self.lens[self.removed] as usize;
-        self.removed += 1;
+        if !remove_of(&mut self.full) {
+            self.last.remove_first();
+        }
+        self.len -= 1;
     }
+}
 
-    /// Removes all frames. Keeps their memory.
-    fn clear(&mut self)
-        ensures { self.new ≡ [] }
-    {
-        self.bytes.clear();
-        self.lens.clear();
-        self.removed = 0;
-        self.from = 0;
+/// Begins a new block after the last one, which isn't empty. After an `Err` all is unchanged.
+fn begin_block<A: Allocator + Copy>(
+    alloc: A,
+    full: &mut VecDeque<FrameBlock<A>, A>,
+    last: &mut FrameBlock<A>,
+) -> Result<(), AllocError>
+    requires { 0 < length last.old }
+    ensures same { joined full.new.items last.new ≡ joined full.old.items last.old }
+    ensures some { All (λ b. 0 < length b) full.old.items
+        → All (λ b. 0 < length b) full.new.items }
+{
+    full.reserve(1)?;
+    let next = FrameBlock::with_capacity(alloc)?;
+    full.push_back_reserved(replace(last, next));
+    Ok(())
+}
+
+/// Removes the first frame of full blocks, and the first block if it is empty then. Returns `false`
+/// if there is no block.
+fn remove_of<A: Allocator + Copy>(full: &mut VecDeque<FrameBlock<A>, A>) -> bool
+    requires { All (λ b. 0 < length b) full.old.items }
+    ensures some { All (λ b. 0 < length b) full.new.items }
+    ensures removed { (last : _) → IsTrue result
+        → joined full.new.items last ≡ drop 1 (joined full.old.items last) }
+    ensures none { IsFalse result → (full.new.items ≡ []) × (full.old.items ≡ []) }
+{
+    let Some(block) = full.front_mut() else {
+        return false;
+    };
+    block.remove_first();
+    if block.is_empty() {
+        let _freed = full.pop_front();
     }
+    true
 }

@@ -13,6 +13,7 @@
 
 mod counted;
 mod fault;
+mod frame_block;
 mod frame_queue;
 mod input;
 mod intake;

@@ -9,7 +9,7 @@
 //! thread of its own follows the history of the desk (`following`), and sleeps until a feeder rings
 //! (`bell`). It holds the lock only while it collects a few answers, so a slow reader of these
 //! holds up no feeder. What it hasn't written when the feeders have ended is written from the core
-//! (`run`).
+//! (`run`). Between answers it runs the journal a second time.
 //!
 //! **With a store** no answer is written before its entry, and all before it, are on the disk
 //! (`keeping`). One feeder appends all entries made so far, while others file and wait, so one sync
@@ -37,4 +37,4 @@ mod run;
 
 pub use fault::{FeedEnd, LiveFault, StopFault, Watch};
 pub use feed::Feed;
-pub use run::run_live;
+pub use run::{Ended, run_live};

@@ -5,7 +5,7 @@ ghost use Rattle.std.specs.Prelude.{slice_index_or, IsTrue, IsFalse, OnOk, OnErr
 ghost use Rattle.flow_runs.specs.Ends.{EndsFeed};
 ghost use Rattle.flow_runs.specs.Filing.{FiledTo, RanFeed, RanFeeds};
 
-use crate::progress::{ENOUGH, Progress};
+use crate::progress::Progress;
 use flow_desk::{Desk, End, Name, Pass, Replay};
 use flow_input::FrameQueue;
 use std::alloc::{Allocator, Global};
@@ -145,10 +145,11 @@ fn replay_meanwhile<N: Name, Q: Wait + Drop, P: Wait, A: Allocator + Copy>(
 ) {
     let mut replay = replay.lock(wait);
     for _ in wait.forever() {
-        if !progress.wait(wait) {
+        let filings = progress.wait(wait);
+        if filings == 0 {
             return;
         }
-        replay.advance(wait, alloc, desk, ENOUGH);
+        replay.advance(wait, alloc, desk, filings);
     }
 }
 

@@ -1,5 +1,6 @@
 //! A run whose feeders are answered as they file.
-ghost use Rattle.std.specs.Prelude.{◌≡◌, ◌≤◌, false, IfOk, IfSome};
+ghost use Rattle.std.specs.Prelude.{◌≡◌, ◌≤◌, false, IfOk, IfSome, option_copied};
+ghost use Rattle.flow_desk.specs.Replays.{IsAgain};
 
 use crate::desk_file::{DeskFile, StoreFile};
 use crate::fault::{DEVICE_FAILED, DONE, Fault};
@@ -9,7 +10,7 @@ use crate::start::{desk_of, setup_of};
 use crate::stored::open_store;
 use crate::stores::Stores;
 use flow_core::{Core, Counted};
-use flow_live::{Feed, FeedEnd, LiveFault, Watch, run_live};
+use flow_live::{Ended, Feed, FeedEnd, LiveFault, Watch, run_live};
 use flow_runs::write_end;
 use flow_store::Store;
 use std::alloc::{AllocError, Global};
@@ -217,25 +218,28 @@ fn answer<
         &teller,
     );
     match ended {
-        Ok((core, _store)) => {
+        Ok(ended) => {
+            let Ended { core, again, .. } = ended;
             // The process ends now and gives its memory back whole.
             let core = ManuallyDrop::new(core);
-            write_rest(alloc, &core, journal, &mut writer)?;
+            let again = ManuallyDrop::new(again);
+            write_rest(&core, again.as_ref(), journal, &mut writer)?;
             Ok(status_of(feeds.as_slice()))
         }
         Err(fault) => Ok(Fault::from(fault).status()),
     }
 }
 
-/// Writes the journal, if it is asked for, and whether a replay of it has the same state.
+/// Writes the journal, if it is asked for, and whether a second run of it has the same state.
 fn write_rest<W: Write>(
-    alloc: Global,
     core: &Core,
+    again: Option<&Core>,
     journal: bool,
     writer: &mut Counted<W>,
-) -> Result<(), Fault> {
-    let again = core.replay(alloc).ok();
-    write_end(core, again.as_ref(), 0, journal, writer)?;
+) -> Result<(), Fault>
+    requires { IsAgain (option_copied again) core.now }
+{
+    write_end(core, again, 0, journal, writer)?;
     match writer.flush() {
         Ok(()) => Ok(()),
         Err(_) => Err(Fault::Write),

@@ -2,8 +2,8 @@ use Rattle.std.proofs.Common.{◌≡◌, ◌++◌, ◌∷◌, [], List, sym, ap,
 use Rattle.fpl_message.specs.Filings.{FilingView}
 use Rattle.flow_input.specs.NextFrame.{second}
 use Rattle.flow_input.proofs.Queues.{pushed, pushed-queued}
-use Rattle.flow_input.proofs.frame_queue.FrameQueue.push.Goals.{then-is_empty, else-is_empty}
-use Rattle.flow_input.proofs.frame_queue.FrameQueue.push.Goals as goal
+use Rattle.flow_input.proofs.frame_block.FrameBlock.push.Goals.{then-is_empty, else-is_empty}
+use Rattle.flow_input.proofs.frame_block.FrameBlock.push.Goals as goal
 
 pub invariant_of-self-2 : goal.invariant_of-self-2
 invariant_of-self-2 g c =

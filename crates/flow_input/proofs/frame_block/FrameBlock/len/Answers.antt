@@ -2,7 +2,7 @@ use Rattle.std.proofs.Common.{List, length, drop, ap, arith}
 use Rattle.std.proofs.lemmas.List.{length-drop}
 use Rattle.fpl_message.specs.Filings.{FilingView}
 use Rattle.flow_input.proofs.Queues.{length-queued}
-use Rattle.flow_input.proofs.frame_queue.FrameQueue.len.Goals as goal
+use Rattle.flow_input.proofs.frame_block.FrameBlock.len.Goals as goal
 
 pub returns : goal.returns
 returns g c =

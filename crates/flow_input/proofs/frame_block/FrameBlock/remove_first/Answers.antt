@@ -3,7 +3,7 @@ use Rattle.std.proofs.lemmas.Option.{slice_get_read}
 use Rattle.std.proofs.lemmas.List.{length-drop}
 use Rattle.fpl_message.specs.Filings.{FilingView}
 use Rattle.flow_input.proofs.Queues.{length-queued, is-first}
-use Rattle.flow_input.proofs.frame_queue.FrameQueue.remove_first.Goals as goal
+use Rattle.flow_input.proofs.frame_block.FrameBlock.remove_first.Goals as goal
 
 pub index-requires : goal.index-requires
 index-requires g c =
