@@ -39,7 +39,7 @@ impl<A: Allocator + Copy> Model for FrameBlock<A> {
 }
 
 impl<A: Allocator + Copy> FrameBlock<A> {
-    /// The empty queue. Doesn't allocate.
+    /// An empty block. Doesn't allocate.
     pub fn new(alloc: A) -> Self
         ensures { result ≡ [] }
     {
@@ -63,14 +63,14 @@ impl<A: Allocator + Copy> FrameBlock<A> {
         })
     }
 
-    /// The number of frames in the queue.
+    /// The number of frames in the block.
     fn len(&self) -> usize
         ensures { result ≡ length self.now }
     {
         self.lens.len() - self.removed
     }
 
-    /// Whether no frame is in the queue.
+    /// Whether no frame is in the block.
     pub fn is_empty(&self) -> bool
         ensures none { IsTrue result → self.now ≡ [] }
         ensures some { IsFalse result → 0 < length self.now }
@@ -85,7 +85,7 @@ impl<A: Allocator + Copy> FrameBlock<A> {
         self.is_empty() || self.bytes.len().saturating_add(len) <= BLOCK
     }
 
-    /// Appends a frame. The memory of an empty queue is used again from its beginning. After an
+    /// Appends a frame. The memory of an empty block is used again from its beginning. After an
     /// `Err` all is unchanged.
     pub fn push(&mut self, frame: &[u8]) -> Result<(), AllocError>
         requires { length frame.now ≤ MAX_BYTES }
@@ -101,7 +101,7 @@ impl<A: Allocator + Copy> FrameBlock<A> {
         Ok(())
     }
 
-    /// The first frame of the queue, if there is one.
+    /// The first frame of the block, if there is one.
     pub fn first(&self) -> Option<&[u8]>
         ensures { MatchOption (option_copied result) (self.now ≡ []) (λ frame.
             (take 1 self.now ≡ second frame ∷ []) × (length frame ≤ MAX_BYTES)) }
@@ -113,7 +113,7 @@ impl<A: Allocator + Copy> FrameBlock<A> {
         Some(&self.bytes[self.from..self.from + len])
     }
 
-    /// Removes the first frame of the queue.
+    /// Removes the first frame of the block.
     pub fn remove_first(&mut self)
         requires { 0 < length self.old }
         ensures { self.new ≡ drop 1 self.old }

@@ -1,7 +1,7 @@
 //! Frames that wait to be filed.
 ghost use Rattle.std.specs.Prelude.{◌≡◌, ◌≤◌, ◌<◌, ◌++◌, ◌∷◌, [], length, drop, take};
 ghost use Rattle.std.specs.Prelude.{MatchOption, OnOk, OnErr, IsTrue, IsFalse, option_copied};
-ghost use Rattle.std.specs.List.{All, flat_map};
+ghost use Rattle.std.specs.List.{All};
 ghost use Rattle.flow_input.specs.NextFrame.{second};
 ghost use Rattle.flow_input.specs.Queues.{joined};
 ghost use Rattle.fpl_message.specs.declared.filing.TheConstants.{MAX_BYTES};
