@@ -254,13 +254,6 @@ impl<R: Wait + Drop, A: Allocator + Copy> Blank<R, A> {
         }
     }
 
-    /// The setup of the desk.
-    pub fn setup(&self) -> Setup
-        ensures { result ≡ self.now.setup }
-    {
-        self.core.setup()
-    }
-
     /// A follower of the desk that `N` will name, which has seen the entries so far.
     pub fn follower<N: Name>(&self) -> Follower<N>
         requires { self.now.book ≡ N.book }

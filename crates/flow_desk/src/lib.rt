@@ -43,6 +43,7 @@ pub mod laws;
 mod locked;
 mod name;
 mod pass;
+mod precedence;
 mod replaying;
 mod rule;
 mod seat;

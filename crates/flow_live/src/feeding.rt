@@ -8,11 +8,11 @@ ghost use Rattle.flow_live.specs.Feeding.{FedUnlessStopped, HasServed, PieceIs, 
 ghost use Rattle.flow_live.specs.Keeping.{AnswersOnly, AnswersSeen};
 
 use crate::answering::{Batch, answer_taken};
-use crate::bell::Bell;
 use crate::fault::{FeedEnd, StopFault, Watch};
 use crate::feed::Feed;
-use crate::keeping::{Keeping, hand_on};
-use flow_desk::{Desk, Name, Pass, Stored};
+use crate::keeping::hand_on;
+use crate::shared::Shared;
+use flow_desk::{Name, Pass, Stored};
 use flow_input::{Counted, Input, IntakeFault, take_frame};
 use flow_log::Outside;
 use std::alloc::{Allocator, Global};
@@ -59,142 +59,99 @@ fn end_of(fault: IntakeFault) -> FeedEnd
     }
 }
 
-/// Files the frame that was taken last and the complete ones after it, and writes their answers
-/// when their entries are stored.
-fn answer_piece<
-    N: Name,
-    Q: Wait + Drop,
-    K: Outside + Drop,
-    W: Write,
-    H: Watch,
-    P: Wait,
-    A: Allocator + Copy,
->(
-    wait: &P,
-    alloc: A,
-    desk: &Desk<N, Q, A>,
-    keeping: &Keeping<N, K, A>,
-    bell: &Bell,
-    watch: &H,
-    input: &mut Input<A>,
-    batch: &mut Batch<N, A>,
-    pass: &mut Pass<N, A>,
-    writer: &mut Counted<W>,
-) -> Result<(), FeedEnd>
-    requires none { batch.old.queue ≡ [] }
-    requires seen { AnswersSeen N.setup pass.old batch.old.seen batch.old.answers.items }
-    ensures piece { PieceIs result N.setup pass.old pass.new (W.contents writer.old.device)
-        (W.contents writer.new.device) input.old input.new }
-    ensures agrees { OnOk result
-        ((rest : Option (List ℕ)) → Agrees input.old rest → Agrees input.new rest) }
-    ensures nearer { OnOk result (input.old.taken ≤ input.new.taken) }
-    ensures none { OnOk result (batch.new.queue ≡ []) }
-    ensures seen { OnOk result
-        (AnswersSeen N.setup pass.new batch.new.seen batch.new.answers.items) }
-{
-    batch.answers.clear();
-    let Ok(()) = answer_taken(wait, alloc, desk, pass, input, batch) else {
-        return Err(FeedEnd::Stopped(bell.stop(wait, watch, StopFault::OutOfMemory)));
-    };
-    let stored = match keeping.commit(wait, alloc, desk, &batch.seen) {
-        Ok(stored) => stored,
-        Err(fault) => return Err(FeedEnd::Stopped(bell.stop(wait, watch, fault))),
-    };
-    if let Some(fault) = bell.ring(wait) {
-        return Err(FeedEnd::Stopped(fault));
-    }
-    answer(writer, batch.answers.as_slice(), &stored)
-}
-
-/// Answers a feed until it ends. Returns how it ended.
-fn serve_feed<
-    N: Name,
-    Q: Wait + Drop,
-    K: Outside + Drop,
-    R: Read,
-    W: Write,
-    H: Watch,
-    P: Wait,
-    A: Allocator + Copy,
->(
-    wait: &P,
-    alloc: A,
-    desk: &Desk<N, Q, A>,
-    keeping: &Keeping<N, K, A>,
-    bell: &Bell,
-    watch: &H,
-    pass: &mut Pass<N, A>,
-    reader: &mut Counted<R>,
-    writer: &mut Counted<W>,
-) -> FeedEnd
-    ensures { IsLawful N.setup pass.old.seen → FedUnlessStopped N.setup pass.old pass.new result
-        (W.contents writer.old.device) (W.contents writer.new.device)
-        (R.remaining reader.old.device)
-        (R.remaining reader.new.device) }
-{
-    let Ok(mut input) = Input::new(alloc) else {
-        return FeedEnd::Stopped(bell.stop(wait, watch, StopFault::OutOfMemory));
-    };
-    let mut batch = Batch::new(alloc, desk.follower_of(wait, pass));
-    'pieces: loop {
-        match take_frame(reader, &mut input) {
-            Ok(true) => {}
-            Ok(false) => return FeedEnd::Finished,
-            Err(fault) => return end_of(fault),
+impl<N: Name, Q: Wait + Drop, K: Outside + Drop, H: Watch, P: Wait, A: Allocator + Copy> Shared<
+    '_,
+    N,
+    Q,
+    K,
+    H,
+    P,
+    A,
+> {
+    /// Files the frame that was taken last and the complete ones after it, and writes their answers
+    /// when their entries are stored.
+    fn answer_piece<W: Write>(
+        &self,
+        input: &mut Input<A>,
+        batch: &mut Batch<N, A>,
+        pass: &mut Pass<N, A>,
+        writer: &mut Counted<W>,
+    ) -> Result<(), FeedEnd>
+        requires none { batch.old.queue ≡ [] }
+        requires seen { AnswersSeen N.setup pass.old batch.old.seen batch.old.answers.items }
+        ensures piece { PieceIs result N.setup pass.old pass.new (W.contents writer.old.device)
+            (W.contents writer.new.device) input.old input.new }
+        ensures agrees { OnOk result
+            ((rest : Option (List ℕ)) → Agrees input.old rest → Agrees input.new rest) }
+        ensures nearer { OnOk result (input.old.taken ≤ input.new.taken) }
+        ensures none { OnOk result (batch.new.queue ≡ []) }
+        ensures seen { OnOk result
+            (AnswersSeen N.setup pass.new batch.new.seen batch.new.answers.items) }
+    {
+        batch.answers.clear();
+        let Ok(()) = answer_taken(self.wait, self.alloc, &self.desk, pass, input, batch) else {
+            return Err(FeedEnd::Stopped(self.stop(StopFault::OutOfMemory)));
+        };
+        let commit = self
+            .keeping
+            .commit(self.wait, self.alloc, &self.desk, &batch.seen);
+        let stored = match commit {
+            Ok(stored) => stored,
+            Err(fault) => return Err(FeedEnd::Stopped(self.stop(fault))),
+        };
+        if let Some(fault) = self.bell.ring(self.wait) {
+            return Err(FeedEnd::Stopped(fault));
         }
-        let answered = answer_piece(
-            wait, alloc, desk, keeping, bell, watch, &mut input, &mut batch, pass, writer,
-        );
-        if let Err(end) = answered {
-            return end;
+        answer(writer, batch.answers.as_slice(), &stored)
+    }
+
+    /// Answers a feed until it ends. Returns how it ended.
+    fn serve_feed<R: Read, W: Write>(
+        &self,
+        pass: &mut Pass<N, A>,
+        reader: &mut Counted<R>,
+        writer: &mut Counted<W>,
+    ) -> FeedEnd
+        ensures { IsLawful N.setup pass.old.seen → FedUnlessStopped N.setup pass.old pass.new result
+            (W.contents writer.old.device) (W.contents writer.new.device)
+            (R.remaining reader.old.device) (R.remaining reader.new.device) }
+    {
+        let Ok(mut input) = Input::new(self.alloc) else {
+            return FeedEnd::Stopped(self.stop(StopFault::OutOfMemory));
+        };
+        let mut batch = Batch::new(self.alloc, self.desk.follower_of(self.wait, pass));
+        'pieces: loop {
+            match take_frame(reader, &mut input) {
+                Ok(true) => {}
+                Ok(false) => return FeedEnd::Finished,
+                Err(fault) => return end_of(fault),
+            }
+            if let Err(end) = self.answer_piece(&mut input, &mut batch, pass, writer) {
+                return end;
+            }
         }
     }
-}
 
-/// Answers a feed until it ends, and records how it did.
-fn run_feed<
-    N: Name,
-    Q: Wait + Drop,
-    K: Outside + Drop,
-    R: Read,
-    W: Write,
-    H: Watch,
-    P: Wait,
-    A: Allocator + Copy,
->(
-    wait: &P,
-    alloc: A,
-    desk: &Desk<N, Q, A>,
-    keeping: &Keeping<N, K, A>,
-    bell: &Bell,
-    watch: &H,
-    seated: &mut Seated<N, R, W, A>,
-)
-    ensures { HasServed N.setup seated.old.pass seated.new.pass seated.new.feed.end
-        (W.contents seated.old.feed.writer.device) (W.contents seated.new.feed.writer.device)
-        (R.remaining seated.old.feed.reader.device) (R.remaining seated.new.feed.reader.device) }
-{
-    let Feed {
-        reader,
-        writer,
-        end,
-    } = &mut seated.feed;
-    *end = serve_feed(
-        wait,
-        alloc,
-        desk,
-        keeping,
-        bell,
-        watch,
-        &mut seated.pass,
-        reader,
-        writer,
-    );
-    match *end {
-        FeedEnd::Read | FeedEnd::TooMuch | FeedEnd::Write => {
-            bell.tell(wait, watch, seated.pass.feeder(), *end);
+    /// Answers a feed until it ends, and records how it did.
+    fn run_feed<R: Read, W: Write>(&self, seated: &mut Seated<N, R, W, A>)
+        ensures { HasServed N.setup seated.old.pass seated.new.pass seated.new.feed.end
+            (W.contents seated.old.feed.writer.device) (W.contents seated.new.feed.writer.device)
+            (R.remaining seated.old.feed.reader.device)
+            (R.remaining seated.new.feed.reader.device) }
+    {
+        let Feed {
+            reader,
+            writer,
+            end,
+        } = &mut seated.feed;
+        *end = self.serve_feed(&mut seated.pass, reader, writer);
+        match *end {
+            FeedEnd::Read | FeedEnd::TooMuch | FeedEnd::Write => {
+                self.bell
+                    .tell(self.wait, self.watch, seated.pass.feeder(), *end);
+            }
+            FeedEnd::Open | FeedEnd::Finished | FeedEnd::Stopped(_) => {}
         }
-        FeedEnd::Open | FeedEnd::Finished | FeedEnd::Stopped(_) => {}
     }
 }
 
@@ -209,16 +166,7 @@ fn run_seats<
     T: Threads + Sync,
     P: Wait + Sync,
     A: Allocator + Copy + Send + Sync,
->(
-    rt: &T,
-    wait: &P,
-    alloc: A,
-    desk: &Desk<N, Q, A>,
-    keeping: &Keeping<N, K, A>,
-    bell: &Bell,
-    watch: &H,
-    seated: &mut Vec<Seated<N, R, W, A>, A>,
-)
+>(rt: &T, shared: &Shared<N, Q, K, H, P, A>, seated: &mut Vec<Seated<N, R, W, A>, A>)
     ensures len { length seated.new.items ≡ length seated.old.items }
     ensures each { (i : ℕ) (d : _) → i < length seated.old.items
         → HasServed N.setup (slice_index_or seated.old.items i d).pass
@@ -234,7 +182,7 @@ fn run_seats<
         rt,
         seated.as_mut_slice(),
         threads,
-        &|_, seated| run_feed(wait, alloc, desk, keeping, bell, watch, seated),
+        &|_, seated| shared.run_feed(seated),
     );
 }
 
@@ -252,12 +200,7 @@ pub(crate) fn run_all<
     A: Allocator + Copy + Send + Sync,
 >(
     rt: &T,
-    wait: &P,
-    alloc: A,
-    desk: &Desk<N, Q, A>,
-    keeping: &Keeping<N, K, A>,
-    bell: &Bell,
-    watch: &H,
+    shared: &Shared<N, Q, K, H, P, A>,
     seated: &mut Vec<Seated<N, R, W, A>, A>,
 ) -> Vec<Seated<N, R, W, A>, A>
     ensures len { length result.items ≡ length seated.old.items }
@@ -270,7 +213,7 @@ pub(crate) fn run_all<
         (R.remaining (slice_index_or seated.old.items i d).feed.reader.device)
         (R.remaining (slice_index_or result.items i d).feed.reader.device) }
 {
-    run_seats(rt, wait, alloc, desk, keeping, bell, watch, seated);
-    bell.close(wait);
-    replace(seated, Vec::new(alloc))
+    run_seats(rt, shared, seated);
+    shared.bell.close(shared.wait);
+    replace(seated, Vec::new(shared.alloc))
 }

@@ -34,6 +34,7 @@ mod feeding;
 mod following;
 mod keeping;
 mod run;
+mod shared;
 
 pub use fault::{FeedEnd, LiveFault, StopFault, Watch};
 pub use feed::Feed;

@@ -23,7 +23,7 @@ use Rattle.flow_runs.proofs.Readings.{ToldFirst-none, ToldEnded-none, ToldFront-
 use Rattle.flow_runs.specs.Filing.{HasFiled}
 use Rattle.flow_runs.specs.declared.fault.RunFault.{RunFault}
 use Rattle.flow_runs.specs.declared.fault.RunFault.TheVariants as fault
-use Rattle.flow_runs.specs.ManyRuns.{answers, answered_now, ended, ended_before_replay, end_lines, end_before_replay, answers_and_end, WritesWithReplay, RanMany, RanOn, OverrunAfter, HoldsBeyond, HoldsSome}
+use Rattle.flow_runs.specs.ManyRuns.{answers, answered_now, ended, ended_before_replay, end_lines, end_before_replay, answers_and_end, WritesWithReplay, RanMany, RanTo, RanOn, OverrunAfter, HoldsBeyond, HoldsSome}
 use Rattle.flow_runs.specs.ManyRuns.{HaveFiled, FiledAll, IsCutShort, AnsweredUntil, EndedByMemory, EndedBy, EndedBehind, EndedOnBy}
 
 drop-length : {X : Type 0} (xs ys : List X) → drop (length xs) (xs ++ ys) ≡ ys
@@ -112,6 +112,15 @@ pub RanMany-all : (setup : SetupView) (read : List EntryView) (feeders : ℕ) (j
 RanMany-all setup read feeders journal None feeds count begun mid written core stop r h f none start a = tt
 RanMany-all setup read feeders journal (Some bytes) feeds count begun mid written core stop r h f none start a = RanMany-made setup read feeders journal (frames bytes) feeds count begun mid written core stop r h f start none a
 
+-- and the desk is then this one
+pub RanTo-all : (setup : SetupView) (read : List EntryView) (feeders : ℕ) (journal : Bool) (input : Option (List ℕ)) (feeds : List (List FilingView)) (count : ℕ) (begun mid written : Option (List ℕ)) (core : History) (stop : Option RunFault) (r : ℕ)
+    → IfSome input (λ bytes. HasRead feeders (frames bytes) feeds count begun mid) → HasFiled setup read feeders feeds core stop → stop ≡ None → r ≡ length read → Appends mid written (answers_and_end (state_of core) r count journal)
+    → IfSome input (λ bytes. RanTo setup read feeders journal (frames bytes) begun written core)
+unfolding RanMany-made
+RanTo-all setup read feeders journal None feeds count begun mid written core stop r h f none start a = tt
+RanTo-all setup read feeders journal (Some bytes) feeds count begun mid written core stop r h f none start a =
+    (RanMany-made setup read feeders journal (frames bytes) feeds count begun mid written core stop r h f start none a, f.one_thread)
+
 -- the answers were written, and then what follows them, or how far that was
 pub answered-rest : {D E : Type 0} {contents : D → Option (List ℕ)} {x : Unit {0}} {old mid : Counted D} (r : Result (Unit {0}) RunFault) (new : Counted D) (stop : Option RunFault) (s : State) (read count : ℕ) (journal : Bool) → stop ≡ None
     → Writes {E = E} contents (Ok x) old mid (answers s (drop read s.journal)) → WritesWithReplay contents r mid new (end_before_replay s (count - (length s.journal - read)) journal)
@@ -184,14 +193,16 @@ ended-on-first fault.NotStarted feeders journal begun input rest much write star
 ended-on-first _ feeders journal begun input rest much write started = Keeps-refl begun
 
 -- after it
-pub ended-on : (e : RunFault) (feeders : ℕ) (journal : Bool) (begun written input rest : Option (List ℕ)) → (e ≢ fault.BadJournal) × (e ≢ fault.BadFeeders) × (e ≢ fault.NoReader) → EndedBehind e feeders journal begun written input rest
-    → EndedOnBy e feeders journal begun written input rest
-ended-on fault.Read feeders journal begun written input rest others b = inr b
-ended-on fault.OutOfMemory feeders journal begun written input rest others b = inr b
-ended-on fault.NoReader feeders journal begun written input rest others b = absurd (others.2 refl)
-ended-on fault.BadJournal feeders journal begun written input rest others b = absurd (others.0 refl)
-ended-on fault.BadFeeders feeders journal begun written input rest others b = absurd (others.1 refl)
-ended-on _ feeders journal begun written input rest others b = b
+pub ended-on : (e : RunFault) (setup : SetupView) (filed : List Input) (feeders : ℕ) (journal : Bool) (begun written input mid rest : Option (List ℕ)) → HoldsJournal setup filed input mid → e ≢ fault.BadJournal
+    → (e ≢ fault.BadFeeders → first_beyond feeders 1 (run setup filed).journal ≡ None) → EndedBy e setup (run setup filed).journal feeders journal begun written mid rest → EndedOnBy e feeders journal begun written input rest
+ended-on fault.NoReader setup filed feeders journal begun written input mid rest h others within ended = ended
+ended-on fault.BadFeeders setup filed feeders journal begun written input mid rest h others within ended = ended
+ended-on fault.BadJournal setup filed feeders journal begun written input mid rest h others within ended = absurd (others refl)
+ended-on fault.Read setup filed feeders journal begun written input mid rest h others within ended = inr (record { setup = setup; filed = filed; mid = mid; holds = h; within = within (λ e. cc); ended = ended })
+ended-on fault.OutOfMemory setup filed feeders journal begun written input mid rest h others within ended = inr (record { setup = setup; filed = filed; mid = mid; holds = h; within = within (λ e. cc); ended = ended })
+ended-on fault.TooMuch setup filed feeders journal begun written input mid rest h others within ended = record { setup = setup; filed = filed; mid = mid; holds = h; within = within (λ e. cc); ended = ended }
+ended-on fault.Write setup filed feeders journal begun written input mid rest h others within ended = record { setup = setup; filed = filed; mid = mid; holds = h; within = within (λ e. cc); ended = ended }
+ended-on fault.NotStarted setup filed feeders journal begun written input mid rest h others within ended = record { setup = setup; filed = filed; mid = mid; holds = h; within = within (λ e. cc); ended = ended }
 
 -- ---- after a journal text
 
@@ -202,11 +213,6 @@ RanOn-made setup filed feeders journal None mid begun written h within most ran 
 RanOn-made setup filed feeders journal (Some bytes) None begun written h within most ran = absurd h
 RanOn-made setup filed feeders journal (Some bytes) (Some rest) begun written h within most ran =
     record { setup = setup; filed = filed; text = h.0; rest = rest; is = h.1; most = most; holds = h.2; within = within; ran = ran }
-
-pub EndedBehind-made : (setup : SetupView) (filed : List Input) (e : RunFault) (feeders : ℕ) (journal : Bool) (begun written input mid rest : Option (List ℕ)) → (e ≢ fault.BadJournal) × (e ≢ fault.BadFeeders) × (e ≢ fault.NoReader)
-    → HoldsJournal setup filed input mid → first_beyond feeders 1 (run setup filed).journal ≡ None → EndedBy e setup (run setup filed).journal feeders journal begun written mid rest → EndedOnBy e feeders journal begun written input rest
-EndedBehind-made setup filed e feeders journal begun written input mid rest others h within ended =
-    ended-on e feeders journal begun written input rest others (record { setup = setup; filed = filed; mid = mid; holds = h; within = within; ended = ended })
 
 pub HoldsBeyond-made : (setup : SetupView) (filed : List Input) (feeders number : ℕ) (input rest : Option (List ℕ)) → HoldsJournal setup filed input rest → first_beyond feeders 1 (run setup filed).journal ≡ Some number → HoldsBeyond feeders input rest
 HoldsBeyond-made setup filed feeders number input rest h b = record { setup = setup; filed = filed; holds = h; number = number; beyond = b }
@@ -234,19 +240,18 @@ ended-at (Ok x) s t es fs feeders journal begun written input rest same equal h 
 ended-at (Err e) s t es fs feeders journal begun written input rest same equal h =
     subst (λ (q : SetupView). EndedBy e q fs feeders journal begun written input rest) same (subst (λ (q : List EntryView). EndedBy e s q feeders journal begun written input rest) equal h)
 
--- and after a journal text
-pub ended-behind : {T : Type 0} (r : Result T RunFault) (setup s : SetupView) (filed : List Input) (es : List EntryView) (feeders : ℕ) (journal : Bool) (begun written input mid rest : Option (List ℕ)) → HoldsJournal setup filed input mid
-    → first_beyond feeders 1 (run setup filed).journal ≡ None → s ≡ setup → es ≡ (run setup filed).journal → IfErr r (λ e. (e ≢ fault.BadJournal) × (e ≢ fault.BadFeeders) × (e ≢ fault.NoReader))
-    → IfErr r (λ e. EndedBy e s es feeders journal begun written mid rest) → IfErr r (λ e. EndedOnBy e feeders journal begun written input rest)
-ended-behind (Ok x) setup s filed es feeders journal begun written input mid rest h within same equal others ended = tt
-ended-behind (Err e) setup s filed es feeders journal begun written input mid rest h within same equal others ended =
-    EndedBehind-made setup filed e feeders journal begun written input mid rest others h within
-    (subst (λ (q : SetupView). EndedBy e q (run setup filed).journal feeders journal begun written mid rest) same (subst (λ (q : List EntryView). EndedBy e s q feeders journal begun written mid rest) equal ended))
+-- it doesn't end with a fault that doesn't come
+pub not-with : {T : Type 0} {e : RunFault} (r : Result T RunFault) → IfErr r (λ x. x ≢ e) → IsErrOf r e → ⊥
+not-with (Ok x) other is = absurd (cc)
+not-with (Err x) other is = other (cc)
 
--- it doesn't end since the board has no reader left
-pub no-reader : {T : Type 0} (r : Result T RunFault) → IfErr r (λ e. (e ≢ fault.BadJournal) × (e ≢ fault.BadFeeders) × (e ≢ fault.NoReader)) → IsErrOf r fault.NoReader → ⊥
-no-reader (Ok x) others is = absurd (cc)
-no-reader (Err e) others is = others.2 (cc)
+pub none-unless : {X Z : Type 0} (o : Option X) → (o ≢ None → Z) → (Z → ⊥) → o ≡ None
+none-unless None f never = refl
+none-unless (Some x) f never = absurd (never (f (λ e. cc)))
+
+pub some-of : {X : Type 0} (o : Option X) → o ≢ None → (x : X) × (o ≡ Some x)
+some-of None some = absurd (some refl)
+some-of (Some x) some = (x, refl)
 
 pub HoldsSome-made : (setup : SetupView) (filed : List Input) (input rest : Option (List ℕ)) → HoldsJournal setup filed input rest → HoldsSome input rest
 HoldsSome-made setup filed input rest h = record { setup = setup; filed = filed; holds = h }

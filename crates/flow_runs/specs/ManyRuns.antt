@@ -11,6 +11,7 @@ use Rattle.flow_input.specs.Writes.{AppendsFront, Writes}
 use Rattle.flow_input.specs.declared.counted.Counted.{Counted}
 use Rattle.flow_core.specs.State.{State, Input, EntryView}
 use Rattle.flow_core.specs.Steps.{run}
+use Rattle.flow_core.specs.History.{History, state_of}
 use Rattle.flow_core.specs.CoreView.{inputs, texts_of}
 use Rattle.flow_core.specs.Output.{answer_of, journal_full_line}
 use Rattle.flow_core.specs.Journal.{journal_text, IsJournal, HoldsJournal}
@@ -87,6 +88,11 @@ pub record RanMany (setup : SetupView) (read : List EntryView) (feeders : ℕ) (
   pub fronts : (k : ℕ) → k < feeders → IsPrefix (texts_of (own k entries)) (dealt feeders k (filings input))
   pub whole : length (read ++ entries) < setup.max_entries → (k : ℕ) → k < feeders → texts_of (own k entries) ≡ dealt feeders k (filings input)
   pub output : Appends begun written (ended setup read journal input entries)
+
+-- a run, and its desk when it has ended
+abbrev pub RanTo : SetupView → List EntryView → ℕ → Bool → List (List ℕ) → Option (List ℕ) → Option (List ℕ) → History → Type 0
+RanTo setup read feeders journal input begun written core =
+    (ran : RanMany setup read feeders journal input begun written) × (state_of core ≡ after setup (read ++ ran.entries))
 
 -- the input begins with a journal text, all of whose entries are of the feeders, and the run
 -- resumes there; what follows the text is no longer than an input may be

@@ -10,7 +10,7 @@ use flow_desk::{Desk, End, Name, Pass, Replay};
 use flow_input::FrameQueue;
 use std::alloc::{Allocator, Global};
 use std::mem::replace;
-use std::sync::{Mutex, Wait};
+use std::sync::Wait;
 use std::thread;
 use std::thread::Threads;
 
@@ -141,16 +141,16 @@ fn replay_meanwhile<N: Name, Q: Wait + Drop, P: Wait, A: Allocator + Copy>(
     alloc: A,
     desk: &Desk<N, Q, A>,
     progress: &Progress,
-    replay: &Mutex<Replay<N, A>>,
-) {
-    let mut replay = replay.lock(wait);
+) -> Replay<N, A> {
+    let mut replay = Replay::new(wait, alloc, desk);
     for _ in wait.forever() {
         let filings = progress.wait(wait);
         if filings == 0 {
-            return;
+            return replay;
         }
         replay.advance(wait, alloc, desk, filings);
     }
+    unreachable!()
 }
 
 /// Runs all feeds, and tells the second run when the last has ended. Returns the feeds.
@@ -180,7 +180,7 @@ fn run_and_close<
     replace(feeds, Vec::new(alloc))
 }
 
-/// Runs all feeds, and meanwhile brings a second run of the journal on. Returns the feeds.
+/// Runs all feeds, and meanwhile the journal a second time. Returns that run and the feeds.
 pub(crate) fn run_all<
     N: Name + Send + Sync,
     Q: Wait + Drop + Send,
@@ -193,19 +193,18 @@ pub(crate) fn run_all<
     alloc: A,
     desk: &Desk<N, Q, A>,
     mut feeds: Vec<Feed<N, A>, A>,
-    replay: &Mutex<Replay<N, A>>,
-) -> Vec<Feed<N, A>, A>
+) -> (Replay<N, A>, Vec<Feed<N, A>, A>)
     ensures { RanFeeds N.setup (map (λ f. f.pass) feeds.items)
-        (map (λ f. f.left) feeds.items) (map (λ f. f.pass) result.items)
-        (map (λ f. f.left) result.items) (map (λ f. f.end) result.items) }
+        (map (λ f. f.left) feeds.items) (map (λ f. f.pass) result.1.items)
+        (map (λ f. f.left) result.1.items) (map (λ f. f.end) result.1.items) }
 {
     let progress = Progress::new();
     let progress = &progress;
     // The first gets the thread. If none can be made it is run after the second, and finds that all
     // feeders have ended.
-    let ((), ran) = thread::join_mut(
+    thread::join_mut(
         rt,
-        &mut || replay_meanwhile(wait, alloc, desk, progress, replay),
+        &mut || replay_meanwhile(wait, alloc, desk, progress),
         &mut move || -> Vec<Feed<N, A>, A>
             ensures len { length result.items ≡ length feeds.entry.items }
             ensures each { (i : ℕ) (d : _) → i < length feeds.entry.items
@@ -215,6 +214,5 @@ pub(crate) fn run_all<
                 (slice_index_or result.items i d).left
                 (slice_index_or result.items i d).end }
         { run_and_close(rt, wait, alloc, desk, progress, &mut feeds) },
-    );
-    ran
+    )
 }

@@ -17,7 +17,7 @@ use flow_core::{Core, StepFault};
 use flow_desk::{Blank, Desk, End, Name, Pass, Replay};
 use flow_input::FrameQueue;
 use std::alloc::{AllocError, Allocator, Global};
-use std::sync::{Mutex, Wait};
+use std::sync::Wait;
 use std::thread::Threads;
 
 /// The core of a desk at which feeders have filed.
@@ -186,17 +186,13 @@ pub(crate) fn file_all<
     ensures stops { IfOk result (λ f. IsStop f.stop) }
     ensures fault { IfErr result (λ e. e ≡ RunFault.OutOfMemory) }
 {
-    let setup = blank.setup();
     let opened = open_feeds::<N, Q, A>(alloc, blank, texts)?;
     let Opened {
         desk,
         mut passes,
         feeds,
     } = opened;
-    // The lock lends it to the thread that brings it on.
-    let replay = Mutex::new(Replay::new(alloc, setup, desk.follower(wait, 0)));
-    let mut feeds = run_all(rt, wait, alloc, &desk, feeds, &replay);
-    let replay = replay.into_inner();
+    let (replay, mut feeds) = run_all(rt, wait, alloc, &desk, feeds);
     let ends = stop_among(feeds.as_slice());
     take_passes(&mut feeds, &mut passes);
     Ok(close_desk(wait, alloc, desk, passes, replay, ends))

@@ -26,5 +26,5 @@ mod stored;
 
 pub use answers::write_end;
 pub use fault::RunFault;
-pub use run::{run_many, run_resumed};
+pub use run::{Ended, run_dealt, run_many, run_resumed};
 pub use stored::{StoredRunFault, run_stored};

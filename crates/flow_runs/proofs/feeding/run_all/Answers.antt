@@ -12,4 +12,4 @@ returns g c =
     let pass : F → PassView = λ f. f.pass in
     let left : F → List FilingView = λ f. f.left in
     let end : F → End = λ f. f.end in
-    feeds-ran g.N.Name.setup pass left end c.args.feeds.items c.join_mut-ran.result.1.items c.join_mut-ran.ensures.1.met.1.0 c.join_mut-ran.ensures.1.met.1.1
+    feeds-ran g.N.Name.setup pass left end c.args.feeds.items c.join_mut.result.1.items c.join_mut.ensures.1.met.1.0 c.join_mut.ensures.1.met.1.1

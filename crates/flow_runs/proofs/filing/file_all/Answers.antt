@@ -20,13 +20,13 @@ pub returns-clause-filed : goal.returns-clause-filed
 returns-clause-filed g c =
     let F : Type 0 = Feed g.row.N.Denot g.row.A.Denot in
     let olds : List F = c.in_ok-opened.opened.feeds.items in
-    let news : List F = c.run_all-feeds.result.items in
+    let news : List F = c.run_all-replay.result.1.items in
     let ps : List PassView = map (λ (f : F). f.pass) olds in
     let qs : List PassView = map (λ (f : F). f.pass) news in
     let ls : List (List FilingView) = map (λ (f : F). f.left) news in
     let es : List End = map (λ (f : F). f.end) news in
     let fs : List (List FilingView) = c.args.texts.items in
-    let ran : RanFeeds g.N.Name.setup ps fs qs ls es = subst (λ (ts : List (List FilingView)). RanFeeds g.N.Name.setup ps ts qs ls es) c.in_ok-opened.ensures.texts c.run_all-feeds.ensures in
+    let ran : RanFeeds g.N.Name.setup ps fs qs ls es = subst (λ (ts : List (List FilingView)). RanFeeds g.N.Name.setup ps ts qs ls es) c.in_ok-opened.ensures.texts c.run_all-replay.ensures in
     let taken : c.take_passes.new.passes.items ≡ qs = c.take_passes.ensures.passes ∙ ap (λ (vs : List PassView). vs ++ qs) c.in_ok-opened.ensures.passes.0 in
     let ends = c.stop_among-ends.result in
     let stop = c.close_desk.result.stop in
@@ -44,22 +44,22 @@ pub take_passes-requires : goal.take_passes-requires
 take_passes-requires g c =
     let F : Type 0 = Feed g.row.N.Denot g.row.A.Denot in
     let olds : List F = c.in_ok-opened.opened.feeds.items in
-    let news : List F = c.run_all-feeds.result.items in
+    let news : List F = c.run_all-replay.result.1.items in
     let pass : F → PassView = λ f. f.pass in
-    let many = as-many g.N.Name.setup (map pass olds) (map (λ (f : F). f.left) olds) (map pass news) (map (λ (f : F). f.left) news) (map (λ (f : F). f.end) news) c.run_all-feeds.ensures in
+    let many = as-many g.N.Name.setup (map pass olds) (map (λ (f : F). f.left) olds) (map pass news) (map (λ (f : F). f.left) news) (map (λ (f : F). f.end) news) c.run_all-replay.ensures in
     omega (arith, many, length-map olds pass, length-map news pass, c.in_ok-opened.opened.passes.ok.0, ap length c.in_ok-opened.ensures.passes.0, c.in_ok-opened.ensures.passes.1)
 
 pub close_desk-requires-clause-none : goal.close_desk-requires-clause-none
 close_desk-requires-clause-none g c gone =
     let F : Type 0 = Feed g.row.N.Denot g.row.A.Denot in
     let olds : List F = c.in_ok-opened.opened.feeds.items in
-    let news : List F = c.run_all-feeds.result.items in
+    let news : List F = c.run_all-replay.result.1.items in
     let ps : List PassView = map (λ (f : F). f.pass) olds in
     let qs : List PassView = map (λ (f : F). f.pass) news in
     let taken : c.take_passes.new.passes.items ≡ qs = c.take_passes.ensures.passes ∙ ap (λ (vs : List PassView). vs ++ qs) c.in_ok-opened.ensures.passes.0 in
     let missing : IsMissing g.N.Name.feeders qs = subst (λ (vs : List PassView). IsMissing g.N.Name.feeders vs) taken gone in
     none-missing g.N.Name.setup g.N.Name.feeders c.args.blank.entries ps (map (λ (f : F). f.left) olds) qs (map (λ (f : F). f.left) news) (map (λ (f : F). f.end) news)
-    (ap length c.in_ok-opened.ensures.texts ∙ c.requires.each) c.in_ok-opened.ensures.opened c.run_all-feeds.ensures missing
+    (ap length c.in_ok-opened.ensures.texts ∙ c.requires.each) c.in_ok-opened.ensures.opened c.run_all-replay.ensures missing
 
 pub returns-in_err-opened-clause-fault : goal.returns-in_err-opened-clause-fault
 returns-in_err-opened-clause-fault g c =

@@ -5,7 +5,7 @@ use Rattle.flow_core.specs.State.{EntryView}
 use Rattle.flow_desk.specs.Followers.{unseen_answers}
 use Rattle.flow_desk.proofs.Fronts.{prefix_self, prefix_trans}
 use Rattle.flow_live.proofs.Followings.{Follows-more, Follows-none, Follows-kept, Appends-kept}
-use Rattle.flow_live.proofs.following.catch_up.Goals as goal
+use Rattle.flow_live.proofs.shared.Shared.catch_up.Goals as goal
 
 pub loop-init : goal.loop-init
 loop-init g c = record {

@@ -1,6 +1,6 @@
 use Rattle.flow_desk.proofs.Fronts.{prefix_self, prefix_trans}
 use Rattle.flow_live.proofs.Followings.{Follows-more, Follows-none}
-use Rattle.flow_live.proofs.following.follow_on.Goals as goal
+use Rattle.flow_live.proofs.shared.Shared.follow_on.Goals as goal
 
 pub loop-init : goal.loop-init
 loop-init g c = record {

@@ -1,4 +1,4 @@
-use Rattle.flow_runs.proofs.run.run_resumed.Given as goal
+use Rattle.flow_runs.proofs.run.run_dealt.Given as goal
 
 -- the desk that was just made
 abbrev pub ghosts-run_blank : goal.ghosts-run_blank

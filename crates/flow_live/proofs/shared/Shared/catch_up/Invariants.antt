@@ -2,7 +2,7 @@ use Rattle.std.proofs.Common.{length}
 use Rattle.std.specs.Io.KnownBytes.{Appends}
 use mathlib.Core.List.{IsPrefix}
 use Rattle.flow_desk.specs.Followers.{unseen_answers}
-use Rattle.flow_live.proofs.following.follow_on.Given as goal
+use Rattle.flow_live.proofs.shared.Shared.catch_up.Given as goal
 
 abbrev pub invariant-loop : goal.invariant-loop
 invariant-loop g l = record {

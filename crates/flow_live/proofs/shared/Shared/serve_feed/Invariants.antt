@@ -3,7 +3,7 @@ use Rattle.flow_input.specs.Reader.{Agrees}
 use Rattle.flow_desk.specs.Histories.{IsLawful}
 use Rattle.flow_live.specs.Feeding.{Feeds}
 use Rattle.flow_live.specs.Keeping.{AnswersSeen}
-use Rattle.flow_live.proofs.feeding.serve_feed.Given as goal
+use Rattle.flow_live.proofs.shared.Shared.serve_feed.Given as goal
 
 abbrev pub invariant-pieces : goal.invariant-pieces
 invariant-pieces g l = record {

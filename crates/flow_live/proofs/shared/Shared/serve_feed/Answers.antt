@@ -5,7 +5,7 @@ use Rattle.flow_desk.specs.Histories.{IsLawful}
 use Rattle.flow_live.specs.Keeping.{AnswersOnly}
 use Rattle.flow_live.proofs.Onlys.{only-none}
 use Rattle.flow_live.proofs.Pieces.{Feeds-start, Piece-ends, Piece-goes, Fed-finished, Fed-fault}
-use Rattle.flow_live.proofs.feeding.serve_feed.Goals as goal
+use Rattle.flow_live.proofs.shared.Shared.serve_feed.Goals as goal
 
 pub pieces-init : goal.pieces-init
 pieces-init g c = record {
@@ -29,18 +29,18 @@ returns-in-Err g c = rw c.end_of.ensures (
     Fed-fault c.in-Err.fault g.N.Name.setup c.args.pass.now c.pieces.pass (g.W.Write.contents c.args.writer.now.device) (g.W.Write.contents c.pieces.writer.device) c.pieces.input (g.R.Read.remaining c.args.reader.now.device) (g.R.Read.remaining c.pieces.reader.device) (g.R.Read.remaining c.take_frame.new.reader.device)
     c.pieces.invariant.feeds c.in-Err.ensures.going (λ e. c.in-Err.ensures.read (err_is e)) c.in-Err.ensures.err)
 
-pub returns-in-Err-answered : goal.returns-in-Err-answered
-returns-in-Err-answered g c = rw c.in-Err-answered.is at (
-    Piece-ends c.answer_piece-answered.result g.N.Name.setup c.args.pass.now c.pieces.pass c.answer_piece-answered.new.pass (g.W.Write.contents c.args.writer.now.device) (g.W.Write.contents c.pieces.writer.device) (g.W.Write.contents c.answer_piece-answered.new.writer.device)
-    c.pieces.input c.take_frame.new.input c.answer_piece-answered.new.input (g.R.Read.remaining c.args.reader.now.device) (g.R.Read.remaining c.pieces.reader.device) (g.R.Read.remaining c.take_frame.new.reader.device)
-    c.answer_piece-answered.ensures.piece c.pieces.invariant.feeds (rw c.in-Ok-true.field-0-test at c.in-Ok-true.ensures.cuts) c.in-Ok-true.ensures.agrees)
+pub returns-in-Err-answer_piece : goal.returns-in-Err-answer_piece
+returns-in-Err-answer_piece g c = rw c.in-Err-answer_piece.is at (
+    Piece-ends c.answer_piece.result g.N.Name.setup c.args.pass.now c.pieces.pass c.answer_piece.new.pass (g.W.Write.contents c.args.writer.now.device) (g.W.Write.contents c.pieces.writer.device) (g.W.Write.contents c.answer_piece.new.writer.device)
+    c.pieces.input c.take_frame.new.input c.answer_piece.new.input (g.R.Read.remaining c.args.reader.now.device) (g.R.Read.remaining c.pieces.reader.device) (g.R.Read.remaining c.take_frame.new.reader.device)
+    c.answer_piece.ensures.piece c.pieces.invariant.feeds (rw c.in-Ok-true.field-0-test at c.in-Ok-true.ensures.cuts) c.in-Ok-true.ensures.agrees)
 
 pub pieces-preserved : goal.pieces-preserved
 pieces-preserved g c = record {
-  agrees = c.in_default-answered.ensures.agrees (g.R.Read.remaining c.take_frame.new.reader.device) c.in-Ok-true.ensures.agrees;
-  none = c.in_default-answered.ensures.none;
-  seen = c.in_default-answered.ensures.seen;
-  feeds = Piece-goes c.answer_piece-answered.result g.N.Name.setup c.args.pass.now c.pieces.pass c.answer_piece-answered.new.pass (g.W.Write.contents c.args.writer.now.device) (g.W.Write.contents c.pieces.writer.device) (g.W.Write.contents c.answer_piece-answered.new.writer.device)
-      c.pieces.input c.take_frame.new.input c.answer_piece-answered.new.input (g.R.Read.remaining c.args.reader.now.device) (g.R.Read.remaining c.pieces.reader.device) (g.R.Read.remaining c.take_frame.new.reader.device) c.in_default-answered.field-0 c.in_default-answered.is
-      c.answer_piece-answered.ensures.piece c.pieces.invariant.feeds (rw c.in-Ok-true.field-0-test at c.in-Ok-true.ensures.cuts) c.in-Ok-true.ensures.agrees;
+  agrees = c.in_default-answer_piece.ensures.agrees (g.R.Read.remaining c.take_frame.new.reader.device) c.in-Ok-true.ensures.agrees;
+  none = c.in_default-answer_piece.ensures.none;
+  seen = c.in_default-answer_piece.ensures.seen;
+  feeds = Piece-goes c.answer_piece.result g.N.Name.setup c.args.pass.now c.pieces.pass c.answer_piece.new.pass (g.W.Write.contents c.args.writer.now.device) (g.W.Write.contents c.pieces.writer.device) (g.W.Write.contents c.answer_piece.new.writer.device)
+      c.pieces.input c.take_frame.new.input c.answer_piece.new.input (g.R.Read.remaining c.args.reader.now.device) (g.R.Read.remaining c.pieces.reader.device) (g.R.Read.remaining c.take_frame.new.reader.device) c.in_default-answer_piece.field-0 c.in_default-answer_piece.is
+      c.answer_piece.ensures.piece c.pieces.invariant.feeds (rw c.in-Ok-true.field-0-test at c.in-Ok-true.ensures.cuts) c.in-Ok-true.ensures.agrees;
 }

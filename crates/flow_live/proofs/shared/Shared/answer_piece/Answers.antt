@@ -2,7 +2,7 @@ use Rattle.std.proofs.Common.{ℕ, List, sym, subst}
 use Rattle.flow_live.specs.Keeping.{AnswersOnly}
 use Rattle.flow_live.proofs.Pieces.{Piece-all}
 use Rattle.flow_live.proofs.Onlys.{only-later}
-use Rattle.flow_live.proofs.feeding.answer_piece.Goals as goal
+use Rattle.flow_live.proofs.shared.Shared.answer_piece.Goals as goal
 
 pub answer-requires : goal.answer-requires
 answer-requires g c =

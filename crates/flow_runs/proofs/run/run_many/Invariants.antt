@@ -1,5 +1,0 @@
-use Rattle.flow_runs.proofs.run.run_many.Given as goal
-
--- the desk that was just made
-abbrev pub ghosts-run_blank : goal.ghosts-run_blank
-ghosts-run_blank g a = record { book = a.blank.book; setup = a.blank.setup; feeders = a.blank.feeders; stored = a.blank.book }
