@@ -40,10 +40,6 @@ pub reader-calm : (e : RunFault) (n : ℕ) → e ≢ fault.Read → reader_failu
 reader-calm fault.Read n other = absurd (other refl)
 reader-calm _ n other = refl
 
-pub reader-calm-all : {T : Type 0} (r : Result T RunFault) (n : ℕ) → IfErr r (λ e. e ≢ fault.Read) → run_reader_failures r n ≡ n
-reader-calm-all (Ok x) n other = refl
-reader-calm-all (Err e) n other = reader-calm e n other
-
 pub part-reader : (e : RunFault) (n : ℕ) → (e ≡ fault.Write) ⊎ (e ≡ fault.OutOfMemory) → reader_failures_with e n ≡ n
 part-reader e n (inl is) = rw is refl
 part-reader e n (inr is) = rw is refl

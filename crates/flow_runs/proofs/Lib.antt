@@ -1,7 +1,6 @@
 pub mod Failures
 pub mod Closed
 pub mod FeedsRun
-pub mod Sizes
 pub mod Stops
 pub mod Dealings
 pub mod Readings

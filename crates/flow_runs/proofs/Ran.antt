@@ -24,7 +24,7 @@ use Rattle.flow_runs.specs.Filing.{HasFiled}
 use Rattle.flow_runs.specs.declared.fault.RunFault.{RunFault}
 use Rattle.flow_runs.specs.declared.fault.RunFault.TheVariants as fault
 use Rattle.flow_runs.specs.ManyRuns.{answers, answered_now, ended, ended_before_replay, end_lines, end_before_replay, answers_and_end, WritesWithReplay, RanMany, RanTo, RanOn, OverrunAfter, HoldsBeyond, HoldsSome}
-use Rattle.flow_runs.specs.ManyRuns.{HaveFiled, FiledAll, IsCutShort, AnsweredUntil, EndedByMemory, EndedBy, EndedBehind, EndedOnBy}
+use Rattle.flow_runs.specs.ManyRuns.{HaveFiled, FiledAll, IsCutShort, AnsweredUntil, EndedByMemory, EndedBy, EndedOnBy}
 
 drop-length : {X : Type 0} (xs ys : List X) → drop (length xs) (xs ++ ys) ≡ ys
 drop-length [] ys = refl
@@ -218,14 +218,6 @@ pub HoldsBeyond-made : (setup : SetupView) (filed : List Input) (feeders number 
 HoldsBeyond-made setup filed feeders number input rest h b = record { setup = setup; filed = filed; holds = h; number = number; beyond = b }
 
 -- ---- results of calls
-
-pub on_ok : {T E : Type 0} {P : Type 0} (r : Result T E) → P → OnOk r P
-on_ok (Ok x) p = p
-on_ok (Err e) p = tt
-
-pub on_ok_two : {T E : Type 0} {P Q S : Type 0} (r : Result T E) → (P → Q → S) → OnOk r P → OnOk r Q → OnOk r S
-on_ok_two (Ok x) f p q = f p q
-on_ok_two (Err e) f p q = tt
 
 pub if_err_map : {T E : Type 0} {P Q : E → Type 0} (r : Result T E) → ((e : E) → P e → Q e) → IfErr r P → IfErr r Q
 if_err_map (Ok x) f p = tt

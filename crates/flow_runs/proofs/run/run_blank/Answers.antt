@@ -54,6 +54,11 @@ returns-in_err-answer_all-clause-remaining g c =
     (g.W.Write.contents c.args.writer.now.device) (g.W.Write.contents c.file_input.new.writer.device) (g.W.Write.contents c.answer_all.new.writer.device) c.in_ok-filed.filed.core c.in_ok-filed.filed.stop c.args.read
     filed.2 filed.1 c.requires.read c.in_err-answer_all.ensures.remaining)
 
+pub returns-clause-more : goal.returns-clause-more
+returns-clause-more g c =
+    let f = c.in_ok-filed.ensures.filed.1 in
+    (f.setup_is, (f.entries, sym f.journal))
+
 pub returns-clause-ran : goal.returns-clause-ran
 returns-clause-ran g c =
     let filed = c.in_ok-filed.ensures.filed in

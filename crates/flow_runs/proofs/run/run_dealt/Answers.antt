@@ -3,13 +3,15 @@ use Rattle.flow_core.specs.History.{state_of}
 use Rattle.flow_core.proofs.Serves.{err_is}
 use Rattle.flow_runs.specs.declared.fault.RunFault.TheVariants as fault
 use Rattle.flow_desk.specs.declared.blank.DeskFault.TheVariants as desk
-use Rattle.flow_runs.specs.Faults.{IsFaultOfDesk}
 use Rattle.flow_runs.proofs.Failures.{no-desk, beyond}
 use Rattle.flow_runs.proofs.Ran.{ended-first, ended-at, not-with, some-of, if_err_map}
 use Rattle.flow_runs.proofs.run.run_dealt.Goals as goal
 
 pub returns-in-Ok-clause-ran : goal.returns-in-Ok-clause-ran
 returns-in-Ok-clause-ran g c = rw (c.in-Ok.ensures.made.0, c.in-Ok.ensures.made.2) at c.run_blank.ensures.ran
+
+pub returns-in-Ok-clause-more : goal.returns-in-Ok-clause-more
+returns-in-Ok-clause-more g c = rw (c.in-Ok.ensures.made.0, c.in-Ok.ensures.made.2) at c.run_blank.ensures.more
 
 pub returns-in-Ok-clause-remaining : goal.returns-in-Ok-clause-remaining
 returns-in-Ok-clause-remaining g c =
