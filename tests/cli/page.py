@@ -5,10 +5,12 @@
 
 A page must be well-formed XML without scripts and without anything from elsewhere; each id is there once, each link leads to
 one, each table has headings and a caption outside the box in which it scrolls, each such box a name, each picture a title.
+The counts of a point have the periods of all its regulations, in hours.
 Where a sample has a page.html, it is the page of its stdout, and each of its pictures is drawn from
 that by the command that the guide gives.
 Prints each fault, then 'N pages, M findings'. The status is 1 where there are any.
 """
+import datetime
 import pathlib
 import re
 import subprocess
@@ -21,6 +23,8 @@ GUIDE = HOME.parent.parent / "docs" / "GUIDE.md"
 DRAWN = re.compile(r"^bin/slotview (.*) \$DAY > (\w+\.svg)$", re.M)
 HTML = "{http://www.w3.org/1999/xhtml}"
 SVG = "{http://www.w3.org/2000/svg}"
+PERIOD = re.compile(r"(DEP|ARR|VIA) (\w+), (\S+) (\S+) to (?:(\S+) )?(\S+) UTC$")
+HOUR = datetime.timedelta(hours=1)
 OURS = ("http://www.w3.org/1999/xhtml", "http://www.w3.org/2000/svg")
 
 
@@ -78,6 +82,30 @@ def findings_in_pictures(root, ids):
             yield "a picture without a title"
 
 
+def periods_in(section):
+    """The point and the period of each picture of a section, by its title."""
+    for picture in section.iter(SVG + "svg"):
+        found = PERIOD.search(picture.findtext(SVG + "title", ""))
+        if found:
+            kind, place, day, start, last, end = found.groups()
+            yield (kind, place), moment(day, start), moment(last or day, end)
+
+
+def moment(day, time):
+    return datetime.datetime.fromisoformat("%s %s" % (day, time))
+
+
+def findings_in_counts(root):
+    regulations, counts = (root.find(".//%ssection[@id='%s']" % (HTML, name)) for name in ("regulations", "counts"))
+    counted = list(periods_in(counts))
+    for (kind, place), start, end in periods_in(regulations):
+        if not any(point == (kind, place) and first <= start and end <= last for point, first, last in counted):
+            yield "no counts of %s %s from %s to %s" % (kind, place, start, end)
+    rows = [len(table.findall("%stbody/%str" % (HTML, HTML))) for table in counts.iter(HTML + "table")]
+    if rows != [-((first - last) // HOUR) for _, first, last in counted]:
+        yield "counts of other hours than their pictures"
+
+
 def findings_in(text):
     try:
         root = tree.fromstring(text)
@@ -99,6 +127,7 @@ def findings_in(text):
     yield from findings_in_boxes(root, set(ids))
     yield from findings_in_tables(root, set(ids))
     yield from findings_in_pictures(root, set(ids))
+    yield from findings_in_counts(root)
 
 
 def pictures(program):

@@ -8,9 +8,9 @@ with a store, and going on from a journal. Where cc isn't there it says so, and 
 The program asks the C library for its memory. A shim, built here with cc and loaded before that library, refuses the request
 number N, so that each N takes one short run; N rises until nothing is refused. A run must end as the worked run does, with its
 output, or with status 2, the line of want of memory and a beginning of that output, and so of what its feeds are answered and of
-the entries in its store; but never so where the journal is full. With feeders it may also end with the line of
-a thread that wasn't started, and what it has answered are then entries without a gap in their numbers and nothing behind them,
-since the filings of the other feeders go on. What the loader and the C library ask for before the program begins isn't counted.
+the entries in its store; but never so where the journal is full. With feeders what it has answered are then
+entries without a gap in their numbers and nothing behind them, since the filings of the other feeders go on. What the loader and
+the C library ask for before the program begins isn't counted.
 Prints for each worked run how many ended in which way, and ends with 1 if one ended in another, or none for want of memory.
 """
 import argparse
@@ -36,7 +36,7 @@ CHOSEN = [
     "feeds-with-a-new-store",
     "feeds-go-on-with-their-store",
 ]
-FULL, MEMORY, THREAD = b"- NO 91 JournalFull\n", b"slotdesk: out of memory\n", b"slotdesk: thread not started\n"
+FULL, MEMORY = b"- NO 91 JournalFull\n", b"slotdesk: out of memory\n"
 SHIM = r"""
 #define _GNU_SOURCE
 #include <dlfcn.h>
@@ -147,10 +147,10 @@ def ending(done, wanted, feeders):
         return None
     if (done.returncode, done.stdout, done.stderr) == (0, wanted, b""):
         return "as without it"
-    if done.returncode == 2 and done.stderr == MEMORY and wanted.startswith(done.stdout):
+    if (done.returncode, done.stderr) != (2, MEMORY):
+        return None
+    if wanted.startswith(done.stdout) or (feeders and without_gap(done.stdout, wanted)):
         return "out of memory"
-    if feeders and done.returncode == 2 and done.stderr in (MEMORY, THREAD) and without_gap(done.stdout, wanted):
-        return done.stderr.decode().strip().removeprefix("slotdesk: ")
     return None
 
 

@@ -42,7 +42,9 @@ impl fmt::Display for WordFault {
     }
 }
 
-/// Returns the arguments of the command line, of which the first is the program's name.
+/// Returns the arguments of the command line, of which the first is the program's name, in its
+/// readable form. Returns `NotText` for the first of the others that isn't UTF-8, and `OutOfMemory`
+/// if an allocation fails.
 pub fn read_words<E: Env>(alloc: Global, env: &E) -> Result<Vec<String>, WordFault> {
     let mut words = Vec::new(alloc);
     for number in 0..usize::MAX {

@@ -1,15 +1,17 @@
 //! A desk of one thread, with flow_core alone.
-ghost use Rattle.std.specs.Prelude.{◌≡◌, ◌++◌, ◌∷◌, [], true, OnOk, length};
+ghost use Rattle.std.specs.Prelude.{◌≡◌, ◌++◌, ◌∷◌, [], true, false, OnOk, IsErrOf, length};
 ghost use Rattle.std.specs.Option.{option_and_then};
 ghost use Rattle.std.specs.Io.KnownBytes.{Appends};
 ghost use Rattle.flow_input.specs.NextFrame.{second};
+ghost use Rattle.flow_input.specs.Writes.{Writes, AppendsFront};
 ghost use Rattle.flow_slots.specs.Lineup.{held_slot};
 ghost use Rattle.flow_traffic.specs.Traffic.{slots_of};
+ghost use Rattle.flow_core.specs.declared.receipt.StepFault.{StepFault as Fault};
 ghost use Rattle.flow_core.specs.History.{state_of};
 ghost use Rattle.flow_core.specs.Output.{answer_text};
 ghost use Rattle.flow_core.specs.Journal.{journal_text};
 
-use flow_core::{Core, Counted, StepFault};
+use flow_core::{Core, Counted, StepFault, WriteFault};
 use fpl_message::Filing;
 use fpl_text::Text;
 use std::alloc::Allocator;
@@ -42,6 +44,14 @@ pub fn answer<W: Write, A: Allocator + Copy>(
     ensures answer { OnOk result
         (Appends (W.contents writer.old.device) (W.contents writer.new.device)
         (answer_text (state_of core.new) (length (state_of core.old).journal))) }
+    ensures unread { IsErrOf result AnswerFault.Unread
+        → (core.new ≡ core.old) × (writer.new ≡ writer.old) }
+    ensures unfiled { (fault : Fault) → IsErrOf result (AnswerFault.Unfiled fault)
+        → (core.new ≡ record core.old { undoable = false }) × (writer.new ≡ writer.old) }
+    ensures unwritten { IsErrOf result AnswerFault.Unwritten
+        → (core.new.filed ≡ core.old.filed ++ record { feeder = 0; text = second text.now } ∷ [])
+        × AppendsFront (W.contents writer.old.device) (W.contents writer.new.device)
+        (answer_text (state_of core.new) (length (state_of core.old).journal)) }
 {
     // `new` promises a filing of exactly these bytes, and that only their number or a failed
     // allocation can refuse it.
@@ -72,9 +82,13 @@ pub fn slot_in<A: Allocator + Copy>(core: &Core<A>, id: &Text<8>, plan: u32) -> 
 }
 
 /// Writes the journal of a desk. A desk that `read_journal` makes of it has the same state.
-pub fn write_whole<W: Write, A: Allocator + Copy>(core: &Core<A>, writer: &mut Counted<W>) -> bool
-    ensures { result ≡ true → Appends (W.contents writer.old.device) (W.contents writer.new.device)
+pub fn write_whole<W: Write, A: Allocator + Copy>(
+    core: &Core<A>,
+    writer: &mut Counted<W>,
+) -> Result<(), WriteFault>
+    ensures { Writes W.contents result writer.old writer.new
         (journal_text core.now.setup core.now.filed) }
 {
-    core.write_journal(writer).is_ok()
+    // `write_journal` promises this text, or a prefix of it after an `Err`.
+    core.write_journal(writer)
 }

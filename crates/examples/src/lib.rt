@@ -1,5 +1,5 @@
 //! Proved functions over the public calls of single crates, as examples of their use. Tests run
-//! those that need no threads.
+//! some of them.
 #![tactic(auto)]
 
 mod desk;
@@ -15,5 +15,5 @@ mod tests;
 pub use desk::{AnswerFault, answer, slot_in, write_whole};
 pub use plans::would_accept;
 pub use readings::refusal_of;
-pub use shared::row_after;
+pub use shared::{file_ready, row_after};
 pub use slots::plan_again;

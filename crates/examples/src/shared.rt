@@ -1,8 +1,8 @@
 //! A desk that many feeders share, with flow_desk alone.
-ghost use Rattle.std.specs.Prelude.{◌≡◌, Some, IfSome, IsTrue};
+ghost use Rattle.std.specs.Prelude.{◌≡◌, ◌≢◌, [], Some, IfSome, IsTrue, IsFalse};
 ghost use Rattle.flow_core.specs.declared.receipt.Receipt.{Receipt as Given};
 ghost use Rattle.flow_desk.specs.Histories.{row_at};
-ghost use Rattle.flow_desk.specs.FeederPasses.{PassView, Filed, FiledInTurn, SawMore, SawOthers};
+ghost use Rattle.flow_desk.specs.FeederPasses.{PassView, Filed, FiledFront, SawMore};
 
 use flow_core::Row;
 use flow_desk::{Desk, Name, Pass};
@@ -15,8 +15,8 @@ use std::sync::Wait;
 /// between the two: the row is that of a history that begins with all that the pass had seen, and
 /// this entry.
 ///
-/// `None` if the text wasn't filed, if no version of the board was published, or if no plan has
-/// that number.
+/// `None` if the text wasn't filed, if the board shows no version, since the desk is gone, or if no
+/// plan has that number.
 pub fn row_after<N: Name, Q: Wait + Drop, W: Wait, A: Allocator + Copy>(
     wait: &W,
     alloc: A,
@@ -51,8 +51,9 @@ pub fn file_ready<N: Name, Q: Wait + Drop, W: Wait, A: Allocator + Copy>(
     pass: &mut Pass<N, A>,
     ready: &mut FrameQueue<A>,
 ) -> bool
-    ensures { IsTrue result → (saw : PassView) × SawOthers pass.old saw
-        × FiledInTurn N.setup saw ready.old pass.new }
+    ensures filed { FiledFront N.setup pass.old ready.old pass.new ready.new }
+    ensures all { IsTrue result → ready.new ≡ [] }
+    ensures left { IsFalse result → ready.new ≢ [] }
 {
     // `file_all` takes the lock once for all of them, and promises for each what `file` does.
     let count = ready.len();

@@ -7,9 +7,9 @@
 //!
 //! - *A step* (`Core::step`) returns a receipt, or leaves the core unchanged: at a full journal,
 //!   and if an allocation fails. The last step can be undone without allocating.
-//! - *The ledger* (`Ledger::file`) is where all filings are entered: those that are served, read
-//!   from a journal, replayed, or given to `step`. Each public call collects the changed rows once,
-//!   before it returns.
+//! - *The ledger* is where all filings are entered: by `Ledger::file` those that are served, read
+//!   from a journal or replayed, by `Ledger::step` those that were read before. Each public call
+//!   collects the changed rows once, before it returns.
 //! - *The journal* stores texts and receipts, the texts one after the other in one buffer. What a
 //!   text says isn't stored: reading it again returns that; only of the last filing the reading is
 //!   kept.

@@ -23,15 +23,15 @@ pub record Ran (p : PassView) (feed : List FilingView) (q : PassView) (receipts 
   pub answers : map (λ (e : EntryView). e.receipt) entries ≡ receipts
 
 -- the end of a feed: nothing is left; or the first of what is left was refused, with `JournalFull`
--- only if the journal was full; or it wasn't begun
-abbrev pub EndsAs : SetupView → End → PassView → List Receipt → List FilingView → Type 0
-EndsAs s Finished q receipts left = left ≡ []
-EndsAs s (Stopped fault) q receipts left = (left ≢ []) × (fault ≡ JournalFull → length q.seen ≡ s.max_entries) × (fault ≡ OutOfMemory → length q.seen < s.max_entries)
-EndsAs s NotStarted q receipts left = receipts ≡ []
+-- only if the journal was full; each is begun
+abbrev pub EndsAs : SetupView → End → PassView → List FilingView → Type 0
+EndsAs s Finished q left = left ≡ []
+EndsAs s (Stopped fault) q left = (left ≢ []) × (fault ≡ JournalFull → length q.seen ≡ s.max_entries) × (fault ≡ OutOfMemory → length q.seen < s.max_entries)
+EndsAs s NotStarted q left = ⊥
 
 pub record HasRun (setup : SetupView) (p : PassView) (feed : List FilingView) (q : PassView) (receipts : List Receipt) (left : List FilingView) (end : End) : Type 0 where
   pub ran : Ran p feed q receipts left
-  pub ends : EndsAs setup end q receipts left
+  pub ends : EndsAs setup end q left
 
 -- each feed was run by its pass
 abbrev pub HaveRun : SetupView → List PassView → List (List FilingView) → List PassView → List (List Receipt) → List (List FilingView) → List End → Type 0

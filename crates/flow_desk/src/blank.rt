@@ -254,11 +254,25 @@ impl<R: Wait + Drop, A: Allocator + Copy> Blank<R, A> {
         }
     }
 
+    /// The number of feeders.
+    pub fn feeders(&self) -> usize
+        ensures { result ≡ self.now.feeders }
+    {
+        self.parts.seats.len()
+    }
+
+    /// The number of entries.
+    pub fn entries(&self) -> u32
+        ensures { result ≡ length self.now.entries }
+    {
+        self.core.entries()
+    }
+
     /// A follower of the desk that `N` will name, which has seen the entries so far.
     pub fn follower<N: Name>(&self) -> Follower<N>
         requires { self.now.book ≡ N.book }
         ensures { result ≡ self.now.entries }
     {
-        Follower::new(self.parts.front.again(), self.core.entries())
+        Follower::new(self.parts.front.again(), self.entries())
     }
 }

@@ -22,7 +22,7 @@ pub trait Gate {
     /// Called before the feeder files the `i`-th filing of its feed, from 0.
     fn before(&self, feeder: u8, i: usize);
 
-    /// Called after it.
+    /// Called after it, also if it was refused.
     fn after(&self, feeder: u8, i: usize);
 }
 
@@ -33,8 +33,7 @@ pub enum End {
     Finished,
     /// A filing was refused with this fault. It is the first of those that are left.
     Stopped(StepFault),
-    /// It was never begun. No feed ends so here: if no thread can be made, feeds run one after the
-    /// other.
+    /// It was never begun. No feed ends so: without a thread, feeds run one after the other.
     NotStarted,
 }
 
@@ -66,7 +65,7 @@ fn file_next<N: Name, Q: Wait + Drop, G: Gate, W: Wait, A: Allocator + Copy>(
         → Ran p texts feed.old.pass feed.old.receipts.items left.old.items
         → Ran p texts feed.new.pass feed.new.receipts.items left.new.items }
     ensures ends { IsFalse result
-        → EndsAs N.setup feed.new.end feed.new.pass feed.new.receipts.items left.new.items }
+        → EndsAs N.setup feed.new.end feed.new.pass left.new.items }
     ensures goes { IsTrue result → length left.new.items + 1 ≡ length left.old.items }
 {
     let Some(filing) = left.pop_front() else {

@@ -1,20 +1,21 @@
 -- Pieces of an input, one after the other, and the end of a feed.
-use Rattle.std.proofs.Common.{◌≡◌, ℕ, false, List, [], ◌∷◌, ◌++◌, refl, sym, subst, Option, Some, Result, Ok, Err, OnOk, OnErr, IfErr, append_assoc}
+use Rattle.std.proofs.Common.{◌≡◌, ◌≤◌, ℕ, false, List, length, [], ◌∷◌, ◌++◌, refl, sym, subst, Option, Some, None, IfSome, Result, Ok, Err, OnOk, OnErr, IfErr, append_assoc}
 use Rattle.std.specs.Io.KnownBytes.{Appends}
 use Rattle.fpl_message.specs.Filings.{FilingView}
 use Rattle.flow_plans.specs.Settings.{SetupView}
 use Rattle.flow_input.specs.Cutting.{Cutting}
 use Rattle.flow_input.specs.Frames.{frames}
 use Rattle.flow_input.specs.NextFrame.{GaveFirst, GaveNone, Starves, filing_of, filing_kept}
-use Rattle.flow_input.specs.Reader.{InputView, Agrees, Came}
+use Rattle.flow_input.specs.Reader.{InputView, Agrees, CameTooMuch}
+use Rattle.flow_input.specs.Source.{failures_with}
 use Rattle.flow_input.specs.Writes.{AppendsFront}
 use Rattle.flow_input.specs.declared.fault.IntakeFault.{IntakeFault}
 use Rattle.flow_input.specs.declared.fault.IntakeFault.TheVariants as intake
-use Rattle.flow_input.proofs.Cuttings.{Cutting-start, Cutting-one, Cutting-end, CutFront-came, CutEnded-read}
+use Rattle.flow_input.proofs.Cuttings.{Cutting-start, Cutting-one, Cutting-end, Cutting-within, CutFront-came, CutEnded-read, Overrun-came}
 use Rattle.flow_input.proofs.Written.{Appends-none, Appends-both, AppendsFront-both}
 use Rattle.flow_desk.specs.Histories.{IsLawful}
 use Rattle.flow_desk.specs.FeederPasses.{PassView, SawOthers}
-use Rattle.flow_live.specs.Feeding.{AnswersWith, CutsMore, CutsTaken, Feeds, Fed, FedUnlessStopped, PieceIs, Prepares, Serves, end_by}
+use Rattle.flow_live.specs.Feeding.{AnswersWith, CutsMore, CutsTaken, EndsBy, Feeds, Fed, FedUnlessStopped, PieceIs, Prepares, Serves, sink_failures, source_failures}
 use Rattle.flow_live.specs.declared.fault.FeedEnd.{FeedEnd}
 use Rattle.flow_live.specs.declared.fault.FeedEnd.TheVariants as end
 use Rattle.flow_live.proofs.Servings.{Serves-saw, Serves-then}
@@ -48,6 +49,10 @@ Cuts-first is ahead taken mid rest filing gave so =
     }
 
 -- ---- a feed
+
+both : {X : Type 0} (P Q : X → Type 0) (o : Option X) → IfSome o P → IfSome o Q → IfSome o (λ x. P x × Q x)
+both P Q None p q = tt
+both P Q (Some x) p q = (p, q)
 
 -- nothing was read yet
 pub Feeds-start : (s : SetupView) (p q : PassView) (begun input : Option (List ℕ)) (ahead : InputView) → SawOthers p q → IsLawful s q.seen → ahead ≡ record { unread = []; taken = 0; ended = false; item = Some [] }
@@ -84,9 +89,16 @@ module _ (s : SetupView) (p q : PassView) (begun written : Option (List ℕ)) (o
       }
 
   -- no frame came
-  pub Fed-finished : (new : InputView) (rest : Option (List ℕ)) → GaveNone old new mid rest → Agrees new rest → Fed s p q end.Finished begun written input rest
-  Fed-finished new rest gave agrees =
-      record { done = f.done; text = f.text; served = f.served; took = Cutting-end f.done old input mid f.cutting new rest (λ fs. f.done ≡ fs) gave agrees refl; wrote = f.wrote }
+  pub Fed-finished : (new : InputView) (rest : Option (List ℕ)) → GaveNone old new mid rest → Agrees new rest → new.taken ≤ 4000000000 → Fed s p q end.Finished begun written input rest
+  Fed-finished new rest gave agrees within =
+      record {
+        done = f.done;
+        text = f.text;
+        served = f.served;
+        took = both (λ (bytes : List ℕ). f.done ≡ frames bytes) (λ (bytes : List ℕ). length bytes ≤ 4000000000) input
+            (Cutting-end f.done old input mid f.cutting new rest (λ fs. f.done ≡ fs) gave agrees refl) (Cutting-within f.done old input mid f.cutting new rest gave agrees within);
+        wrote = f.wrote;
+      }
 
   -- the reader failed
   pub Fed-read : (rest : Option (List ℕ)) → old.ended ≡ false → Starves old mid rest → Fed s p q end.Read begun written input rest
@@ -94,9 +106,15 @@ module _ (s : SetupView) (p q : PassView) (begun written : Option (List ℕ)) (o
       record { done = f.done; text = f.text; served = f.served; took = CutEnded-read f.done old input mid f.cutting rest going starves; wrote = f.wrote }
 
   -- it gave too much
-  pub Fed-much : (rest : Option (List ℕ)) → old.ended ≡ false → Came mid rest → Fed s p q end.TooMuch begun written input rest
-  Fed-much rest going came =
-      record { done = f.done; text = f.text; served = f.served; took = CutFront-came f.done old input mid f.cutting rest going came; wrote = f.wrote }
+  pub Fed-much : (rest : Option (List ℕ)) → old.ended ≡ false → CameTooMuch old mid rest → Fed s p q end.TooMuch begun written input rest
+  Fed-much rest going much =
+      record {
+        done = f.done;
+        text = f.text;
+        served = f.served;
+        took = (CutFront-came f.done old input mid f.cutting rest going (much.0, much.1), Overrun-came f.done old input mid f.cutting rest much);
+        wrote = f.wrote;
+      }
 
 -- what was ready of the frames that were cut off was answered
 pub Prepares-done : {T E : Type 0} (result : Result T E) (s : SetupView) (p q r : PassView) (text longer : List ℕ) (ready : List FilingView) (taken mid left : InputView) → left ≡ mid
@@ -151,8 +169,33 @@ Piece-goes (Ok y) s p q r begun written now old taken left input mid rest x is p
 
 -- ---- where no frame came
 
-pub Fed-fault : (fault : IntakeFault) (s : SetupView) (p q : PassView) (begun written : Option (List ℕ)) (old : InputView) (input mid rest : Option (List ℕ)) → (IsLawful s p.seen → Feeds s p q begun written old input mid) → old.ended ≡ false
-    → (fault ≡ intake.Read → Starves old mid rest) → Came mid rest → IsLawful s p.seen → FedUnlessStopped s p q (end_by fault) begun written input rest
-Fed-fault intake.Read s p q begun written old input mid rest feeds going starves came lawful = Fed-read s p q begun written old input mid (feeds lawful) rest going (starves refl)
-Fed-fault intake.TooMuch s p q begun written old input mid rest feeds going starves came lawful = Fed-much s p q begun written old input mid (feeds lawful) rest going came
-Fed-fault intake.OutOfMemory s p q begun written old input mid rest feeds going starves came lawful = tt
+pub Fed-fault : (fault : IntakeFault) (how : FeedEnd) (s : SetupView) (p q : PassView) (begun written : Option (List ℕ)) (old : InputView) (input mid rest : Option (List ℕ)) → EndsBy fault how → (IsLawful s p.seen → Feeds s p q begun written old input mid)
+    → old.ended ≡ false → (fault ≡ intake.Read → Starves old mid rest) → (fault ≡ intake.TooMuch → CameTooMuch old mid rest) → IsLawful s p.seen → FedUnlessStopped s p q how begun written input rest
+Fed-fault intake.Read how s p q begun written old input mid rest ends feeds going starves much lawful =
+    subst (λ (h : FeedEnd). FedUnlessStopped s p q h begun written input rest) (sym ends) (Fed-read s p q begun written old input mid (feeds lawful) rest going (starves refl))
+Fed-fault intake.TooMuch how s p q begun written old input mid rest ends feeds going starves much lawful =
+    subst (λ (h : FeedEnd). FedUnlessStopped s p q h begun written input rest) (sym ends) (Fed-much s p q begun written old input mid (feeds lawful) rest going (much refl))
+Fed-fault intake.OutOfMemory how s p q begun written old input mid rest ends feeds going starves much lawful = absurd ends
+
+-- ---- how many calls have failed
+
+-- of the reader, where no frame came
+pub fault-source : (fault : IntakeFault) (how : FeedEnd) (old new : ℕ) → EndsBy fault how → new ≡ failures_with fault old → new ≡ source_failures how old
+fault-source intake.Read how old new ends count = subst (λ (h : FeedEnd). new ≡ source_failures h old) (sym ends) count
+fault-source intake.TooMuch how old new ends count = subst (λ (h : FeedEnd). new ≡ source_failures h old) (sym ends) count
+fault-source intake.OutOfMemory how old new ends count = absurd ends
+
+-- of the writer
+pub fault-sink : (fault : IntakeFault) (how : FeedEnd) (old new : ℕ) → EndsBy fault how → new ≡ old → new ≡ sink_failures how old
+fault-sink intake.Read how old new ends count = subst (λ (h : FeedEnd). new ≡ sink_failures h old) (sym ends) count
+fault-sink intake.TooMuch how old new ends count = subst (λ (h : FeedEnd). new ≡ sink_failures h old) (sym ends) count
+fault-sink intake.OutOfMemory how old new ends count = absurd ends
+
+-- of the reader, where a piece failed: it isn't called then
+pub piece-source : {T : Type 0} (result : Result T FeedEnd) (how : FeedEnd) (s : SetupView) (p q : PassView) (written now : Option (List ℕ)) (taken left : InputView) (old new : ℕ) → result ≡ Err how → PieceIs result s p q written now taken left → new ≡ old → new ≡ source_failures how old
+piece-source result end.Write s p q written now taken left old new is piece same = same
+piece-source result (end.Stopped fault) s p q written now taken left old new is piece same = same
+piece-source result end.Open s p q written now taken left old new is piece same = same
+piece-source result end.Finished s p q written now taken left old new is piece same = same
+piece-source result end.TooMuch s p q written now taken left old new is piece same = same
+piece-source {T = T} result end.Read s p q written now taken left old new is piece same = absurd (subst (λ (r : Result T FeedEnd). PieceIs r s p q written now taken left) is piece)

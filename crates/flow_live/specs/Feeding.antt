@@ -4,12 +4,14 @@ use Rattle.std.specs.Io.KnownBytes.{Appends}
 use mathlib.Core.List.{IsPrefix}
 use Rattle.fpl_message.specs.Filings.{FilingView}
 use Rattle.flow_plans.specs.Settings.{SetupView}
-use Rattle.flow_input.specs.Cutting.{Cutting, CutFront, CutEnded}
+use Rattle.flow_input.specs.Cutting.{Cutting, CutFront, CutEnded, Overrun}
 use Rattle.flow_input.specs.Filings.{filings}
 use Rattle.flow_input.specs.Frames.{frames}
 use Rattle.flow_input.specs.Writes.{AppendsFront}
 use Rattle.flow_input.specs.NextFrame.{GaveFirst, filing_of, filing_kept}
 use Rattle.flow_input.specs.Reader.{InputView, Agrees}
+use Rattle.flow_input.specs.Source.{counted_up}
+use Rattle.flow_input.specs.declared.input.TheConstants.{MAX_INPUT}
 use Rattle.flow_core.specs.State.{EntryView}
 use Rattle.flow_core.specs.CoreView.{texts_of}
 use Rattle.flow_desk.specs.Histories.{own, after, IsLawful}
@@ -17,9 +19,9 @@ use Rattle.flow_desk.specs.FeederPasses.{PassView}
 use Rattle.flow_live.specs.Told.{told}
 use Rattle.flow_input.specs.declared.fault.IntakeFault.{IntakeFault}
 use Rattle.flow_input.specs.declared.fault.IntakeFault.TheVariants as intake
-use Rattle.flow_live.specs.declared.fault.StopFault.TheVariants as stop
 use Rattle.flow_live.specs.declared.fault.FeedEnd.{FeedEnd}
 use Rattle.flow_live.specs.declared.fault.FeedEnd.TheVariants as end
+use Rattle.flow_live.specs.declared.feed.Feed.{Feed}
 
 -- From p to q these frames were answered with this text. The feeder's entries since p are those of
 -- the first filings among them, and of all of them unless the journal is full; at a full journal
@@ -80,17 +82,40 @@ PieceIs (Err _) setup p q written now taken left = ⊥
 
 -- ---- how a feed ended
 
--- the end of a feed from which no frame came
-abbrev pub end_by : IntakeFault → FeedEnd
-end_by intake.Read = end.Read
-end_by intake.TooMuch = end.TooMuch
-end_by intake.OutOfMemory = end.Stopped stop.OutOfMemory
+-- the end of a feed from which no frame came: nothing is allocated to take one
+abbrev pub EndsBy : IntakeFault → FeedEnd → Type 0
+EndsBy intake.Read how = how ≡ end.Read
+EndsBy intake.TooMuch how = how ≡ end.TooMuch
+EndsBy intake.OutOfMemory how = ⊥
 
--- which frames of the input were answered when the feed ended so: all, those whose end was read, or
--- the first of them
+-- how many calls of a feed's reader have failed when the feed has ended so: one more only if that
+-- ended it
+abbrev pub source_failures : FeedEnd → ℕ → ℕ
+source_failures end.Read before = counted_up before
+source_failures _ before = before
+
+-- the same of its writer
+abbrev pub sink_failures : FeedEnd → ℕ → ℕ
+sink_failures end.Write before = counted_up before
+sink_failures _ before = before
+
+-- the same of its writer after a piece
+abbrev pub sink_failures_after : {T : Type 0} → Result T FeedEnd → ℕ → ℕ
+sink_failures_after (Ok x) before = before
+sink_failures_after (Err how) before = sink_failures how before
+
+-- no call of the devices of a feed failed but the one that ended it
+pub record CountsFailures {I O : Type 0} (old new : Feed I O) : Type 0 where
+  pub source : new.reader.failures ≡ source_failures new.end old.reader.failures
+  pub sink : new.writer.failures ≡ sink_failures new.end old.writer.failures
+
+-- Which frames of the input were answered when the feed ended so: all, those whose end was read, or
+-- the first of them. A whole input isn't longer than an input may be; more was read if that ended
+-- the feed.
 abbrev pub TookFrames : FeedEnd → List (List ℕ) → Option (List ℕ) → Option (List ℕ) → Type 0
-TookFrames end.Finished done input rest = IfSome input (λ bytes. done ≡ frames bytes)
+TookFrames end.Finished done input rest = IfSome input (λ bytes. (done ≡ frames bytes) × (length bytes ≤ MAX_INPUT))
 TookFrames end.Read done input rest = CutEnded done input rest
+TookFrames end.TooMuch done input rest = CutFront done input rest × Overrun input rest
 TookFrames _ done input rest = CutFront done input rest
 
 -- what was written then of the text that answers them: all, or a prefix if the writer failed
@@ -112,9 +137,11 @@ FedUnlessStopped setup p q (end.Stopped fault) begun written input rest = Unit {
 FedUnlessStopped setup p q end.Open begun written input rest = ⊥
 FedUnlessStopped setup p q how begun written input rest = Fed setup p q how begun written input rest
 
--- the feed of a pass that had seen a lawful history ended so, unless the run was stopped
-pub record HasServed (setup : SetupView) (p q : PassView) (end : FeedEnd) (begun written input rest : Option (List ℕ)) : Type 0 where
-  pub fed : IsLawful setup p.seen → FedUnlessStopped setup p q end begun written input rest
+-- the feed of a pass that had seen a lawful history has ended, unless the run was stopped
+pub record HasServed {I O : Type 0} (remaining : I → Option (List ℕ)) (contents : O → Option (List ℕ)) (setup : SetupView) (p q : PassView) (old new : Feed I O) : Type 0 where
+  pub fed : IsLawful setup p.seen
+      → FedUnlessStopped setup p q new.end (contents old.writer.device) (contents new.writer.device) (remaining old.reader.device) (remaining new.reader.device)
+  pub counts : CountsFailures old new
 
 -- as far as a feed has come
 pub record Feeds (setup : SetupView) (p q : PassView) (begun written : Option (List ℕ)) (ahead : InputView) (input mid : Option (List ℕ)) : Type 0 where

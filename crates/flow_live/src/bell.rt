@@ -1,5 +1,4 @@
 //! Wakes the thread that follows the history, and stops all when the run ends.
-ghost use Rattle.std.specs.Prelude.{◌≡◌};
 
 use crate::fault::{FeedEnd, LiveFault, StopFault, Watch};
 use std::sync::{Condvar, Mutex, Wait};
@@ -20,6 +19,8 @@ pub(crate) struct Heard {
 pub(crate) struct Bell {
     heard: Mutex<Heard>,
     changed: Condvar,
+    /// Held while a fault is reported, which may take long: whoever rings doesn't wait for it.
+    reporting: Mutex<()>,
 }
 
 impl Bell {
@@ -32,6 +33,7 @@ impl Bell {
                 fault: None,
             }),
             changed: Condvar::new(),
+            reporting: Mutex::new(()),
         }
     }
 
@@ -52,20 +54,22 @@ impl Bell {
 
     /// Reports that a feed has ended with a fault of its own.
     pub fn tell<P: Wait, H: Watch>(&self, wait: &P, watch: &H, feeder: u8, end: FeedEnd) {
-        let _heard = self.heard.lock(wait);
+        let _turn = self.reporting.lock(wait);
         watch.feed_ended(feeder, end);
     }
 
-    /// Ends the run with this fault, if it hasn't ended yet. Returns the fault.
-    pub fn stop<P: Wait, H: Watch>(&self, wait: &P, watch: &H, fault: StopFault) -> StopFault
-        ensures { result ≡ fault }
-    {
+    /// Ends the run with this fault, if it hasn't ended yet, and reports it. Returns the fault with
+    /// which the run ended.
+    pub fn stop<P: Wait, H: Watch>(&self, wait: &P, watch: &H, fault: StopFault) -> StopFault {
         let mut heard = self.heard.lock(wait);
-        if heard.fault.is_none() {
-            heard.fault = Some(fault);
-            watch.run_ended(LiveFault::Stopped(fault));
+        if let Some(first) = heard.fault {
+            return first;
         }
+        heard.fault = Some(fault);
         self.changed.notify_all();
+        drop(heard);
+        let _turn = self.reporting.lock(wait);
+        watch.run_ended(LiveFault::Stopped(fault));
         fault
     }
 

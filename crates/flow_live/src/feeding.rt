@@ -1,10 +1,11 @@
 //! Feeders at their desk, each with a source of its own, in a thread of its own.
-ghost use Rattle.std.specs.Prelude.{◌≡◌, ◌≤◌, ◌<◌, [], ℕ, List};
+ghost use Rattle.std.specs.Prelude.{◌≡◌, ◌≢◌, ◌≤◌, ◌<◌, [], ℕ, List};
 ghost use Rattle.std.specs.Prelude.{Option, length, slice_index_or, IfErr, OnOk};
 ghost use Rattle.flow_input.specs.Writes.{Writes};
 ghost use Rattle.flow_input.specs.Reader.{Agrees};
 ghost use Rattle.flow_desk.specs.Histories.{IsLawful};
-ghost use Rattle.flow_live.specs.Feeding.{FedUnlessStopped, HasServed, PieceIs, end_by};
+ghost use Rattle.flow_live.specs.Feeding.{EndsBy, FedUnlessStopped, HasServed, PieceIs};
+ghost use Rattle.flow_live.specs.Feeding.{sink_failures, sink_failures_after, source_failures};
 ghost use Rattle.flow_live.specs.Keeping.{AnswersOnly, AnswersSeen};
 
 use crate::answering::{Batch, answer_taken};
@@ -50,12 +51,13 @@ fn answer<N: Name, W: Write>(
 
 /// The end of a feed from which no frame came.
 fn end_of(fault: IntakeFault) -> FeedEnd
-    ensures { result ≡ end_by fault }
+    requires { fault ≢ IntakeFault.OutOfMemory }
+    ensures { EndsBy fault result }
 {
     match fault {
         IntakeFault::Read => FeedEnd::Read,
         IntakeFault::TooMuch => FeedEnd::TooMuch,
-        IntakeFault::OutOfMemory => FeedEnd::Stopped(StopFault::OutOfMemory),
+        IntakeFault::OutOfMemory => unreachable!(),
     }
 }
 
@@ -81,6 +83,7 @@ impl<N: Name, Q: Wait + Drop, K: Outside + Drop, H: Watch, P: Wait, A: Allocator
         requires seen { AnswersSeen N.setup pass.old batch.old.seen batch.old.answers.items }
         ensures piece { PieceIs result N.setup pass.old pass.new (W.contents writer.old.device)
             (W.contents writer.new.device) input.old input.new }
+        ensures failures { writer.new.failures ≡ sink_failures_after result writer.old.failures }
         ensures agrees { OnOk result
             ((rest : Option (List ℕ)) → Agrees input.old rest → Agrees input.new rest) }
         ensures nearer { OnOk result (input.old.taken ≤ input.new.taken) }
@@ -112,9 +115,11 @@ impl<N: Name, Q: Wait + Drop, K: Outside + Drop, H: Watch, P: Wait, A: Allocator
         reader: &mut Counted<R>,
         writer: &mut Counted<W>,
     ) -> FeedEnd
-        ensures { IsLawful N.setup pass.old.seen → FedUnlessStopped N.setup pass.old pass.new result
-            (W.contents writer.old.device) (W.contents writer.new.device)
+        ensures fed { IsLawful N.setup pass.old.seen → FedUnlessStopped N.setup pass.old pass.new
+            result (W.contents writer.old.device) (W.contents writer.new.device)
             (R.remaining reader.old.device) (R.remaining reader.new.device) }
+        ensures source { reader.new.failures ≡ source_failures result reader.old.failures }
+        ensures sink { writer.new.failures ≡ sink_failures result writer.old.failures }
     {
         let Ok(mut input) = Input::new(self.alloc) else {
             return FeedEnd::Stopped(self.stop(StopFault::OutOfMemory));
@@ -134,10 +139,8 @@ impl<N: Name, Q: Wait + Drop, K: Outside + Drop, H: Watch, P: Wait, A: Allocator
 
     /// Answers a feed until it ends, and records how it did.
     fn run_feed<R: Read, W: Write>(&self, seated: &mut Seated<N, R, W, A>)
-        ensures { HasServed N.setup seated.old.pass seated.new.pass seated.new.feed.end
-            (W.contents seated.old.feed.writer.device) (W.contents seated.new.feed.writer.device)
-            (R.remaining seated.old.feed.reader.device)
-            (R.remaining seated.new.feed.reader.device) }
+        ensures { HasServed R.remaining W.contents N.setup seated.old.pass seated.new.pass
+            seated.old.feed seated.new.feed }
     {
         let Feed {
             reader,
@@ -169,13 +172,9 @@ fn run_seats<
 >(rt: &T, shared: &Shared<N, Q, K, H, P, A>, seated: &mut Vec<Seated<N, R, W, A>, A>)
     ensures len { length seated.new.items ≡ length seated.old.items }
     ensures each { (i : ℕ) (d : _) → i < length seated.old.items
-        → HasServed N.setup (slice_index_or seated.old.items i d).pass
-        (slice_index_or seated.new.items i d).pass
-        (slice_index_or seated.new.items i d).feed.end
-        (W.contents (slice_index_or seated.old.items i d).feed.writer.device)
-        (W.contents (slice_index_or seated.new.items i d).feed.writer.device)
-        (R.remaining (slice_index_or seated.old.items i d).feed.reader.device)
-        (R.remaining (slice_index_or seated.new.items i d).feed.reader.device) }
+        → HasServed R.remaining W.contents N.setup (slice_index_or seated.old.items i d).pass
+        (slice_index_or seated.new.items i d).pass (slice_index_or seated.old.items i d).feed
+        (slice_index_or seated.new.items i d).feed }
 {
     let threads = seated.len().max(1);
     thread::for_each_mut(
@@ -205,13 +204,9 @@ pub(crate) fn run_all<
 ) -> Vec<Seated<N, R, W, A>, A>
     ensures len { length result.items ≡ length seated.old.items }
     ensures each { (i : ℕ) (d : _) → i < length seated.old.items
-        → HasServed N.setup (slice_index_or seated.old.items i d).pass
-        (slice_index_or result.items i d).pass
-        (slice_index_or result.items i d).feed.end
-        (W.contents (slice_index_or seated.old.items i d).feed.writer.device)
-        (W.contents (slice_index_or result.items i d).feed.writer.device)
-        (R.remaining (slice_index_or seated.old.items i d).feed.reader.device)
-        (R.remaining (slice_index_or result.items i d).feed.reader.device) }
+        → HasServed R.remaining W.contents N.setup (slice_index_or seated.old.items i d).pass
+        (slice_index_or result.items i d).pass (slice_index_or seated.old.items i d).feed
+        (slice_index_or result.items i d).feed }
 {
     run_seats(rt, shared, seated);
     shared.bell.close(shared.wait);

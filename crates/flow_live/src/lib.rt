@@ -21,9 +21,9 @@
 //! **What is proved** (`run_live`, when it returns the core): there is one history. Of the frames
 //! that a feeder's source gave, its entries there are the first filings, and all of them unless the
 //! journal is full. What was written to the feeder answers frame by frame what the desk of one
-//! thread answers to these entries. The other writer has the answers to all entries, in their
-//! order. Besides, one function writes all answers (`keeping`), and its precondition is that each
-//! is to an entry that is stored.
+//! thread answers to these entries. A feed ended with the fault of a device only if that failed.
+//! The other writer has the answers to all entries, in their order. Besides, one function writes
+//! all answers (`keeping`), and its precondition is that each is to an entry that is stored.
 #![tactic(auto)]
 
 mod answering;

@@ -1,5 +1,4 @@
 //! What the threads of a run share.
-ghost use Rattle.std.specs.Prelude.{◌≡◌};
 
 use crate::bell::Bell;
 use crate::fault::{StopFault, Watch};
@@ -9,7 +8,15 @@ use flow_log::Outside;
 use std::alloc::{Allocator, Global};
 use std::sync::Wait;
 
-/// What the threads of a run share: the desk, what keeps it stored, and how they tell of faults.
+/// How a run waits, allocates, and reports its faults.
+#[derive(Drop)]
+pub(crate) struct Means<'a, H: Watch, P: Wait, A: Allocator + Copy = Global> {
+    pub wait: &'a P,
+    pub alloc: A,
+    pub watch: &'a H,
+}
+
+/// The desk, what keeps it stored, and the bell of its follower.
 #[derive(Drop)]
 pub(crate) struct Shared<
     'a,
@@ -37,10 +44,8 @@ impl<N: Name, Q: Wait + Drop, K: Outside + Drop, H: Watch, P: Wait, A: Allocator
     P,
     A,
 > {
-    /// Ends the run with this fault, if it hasn't ended yet. Returns the fault.
-    pub fn stop(&self, fault: StopFault) -> StopFault
-        ensures { result ≡ fault }
-    {
+    /// Ends the run with this fault, if it hasn't ended yet. Returns the fault with which it ended.
+    pub fn stop(&self, fault: StopFault) -> StopFault {
         self.bell.stop(self.wait, self.watch, fault)
     }
 }

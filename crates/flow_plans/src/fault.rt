@@ -1,7 +1,7 @@
 //! Why a message about a plan is refused.
 
-/// Why a message about a plan is refused. The numbers are those of
-/// [`Refusal`](fpl_message::Refusal).
+/// Why a message about a plan is refused. Each but `OutOfMemory` is the
+/// [`Refusal`](fpl_message::Refusal) of the same name.
 #[derive(Clone, Copy, Debug, PartialEq, Eq)]
 pub enum PlanFault {
     /// A held plan has the same key.
@@ -24,5 +24,6 @@ pub enum PlanFault {
     TooEarly,
     /// The desk has accepted as many flight plans as its setup allows.
     PlansFull,
+    /// An allocation failed.
     OutOfMemory,
 }

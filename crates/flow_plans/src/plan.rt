@@ -21,7 +21,7 @@ ghost use Rattle.flow_plans.specs.Times.{off_blocks_end};
 
 use crate::amended_values::{alternates_after, elapsed_after, exempt_after, rules_after};
 use crate::first_letters::letters_of;
-use crate::texts::{Texts, exchange_texts, words_of_ends};
+use crate::texts::{FieldTexts, Texts, exchange_texts, words_of_ends};
 use fpl_items::Effects;
 use fpl_message::{Chg, Fpl, Parts, Spot};
 use fpl_text::{Alternates, Day, ELAPSED_LIMIT, FlightRules, Minute, Text};
@@ -250,15 +250,14 @@ impl<A: Allocator + Copy> Plan<A> {
         ensures { IfOk result (λ p. p ≡ plan_of off_block message.now) }
     {
         let estimates = message.estimates(alloc)?;
-        let texts = Texts::new(
-            alloc,
-            message.field(2),
-            message.field(3),
-            message.field(4),
-            message.field(6),
-            message.field(8),
-            estimates,
-        )?;
+        let fields = FieldTexts {
+            field8: message.field(2),
+            field9: message.field(3),
+            field10: message.field(4),
+            field15: message.field(6),
+            field18: message.field(8),
+        };
+        let texts = Texts::new(alloc, &fields, estimates)?;
         Ok(Plan {
             key: key_of(message, off_block),
             state: PlanState::Filed,

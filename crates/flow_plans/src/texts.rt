@@ -58,6 +58,30 @@ impl<A: Allocator + Copy> Model for Texts<A> {
         (words_of (slice_range t.bytes.items t.end15 (length t.bytes.items)))) t.estimates };
 }
 
+/// The squeezed texts of the same fields, as a message or a plan holds them.
+#[derive(Drop)]
+pub(crate) struct FieldTexts<'a> {
+    pub field8: &'a [u8],
+    pub field9: &'a [u8],
+    pub field10: &'a [u8],
+    pub field15: &'a [u8],
+    pub field18: &'a [u8],
+}
+
+impl<'a> Model for FieldTexts<'a> {
+    ghost use Rattle.flow_plans.specs.Plans.{TextsView};
+
+    ghost Value = { TextsView };
+
+    ghost view = { λ t. record {
+      field8 = t.field8.now;
+      field9 = t.field9.now;
+      field10 = t.field10.now;
+      field15 = t.field15.now;
+      field18 = t.field18.now;
+    } };
+}
+
 /// Appends a text, and returns the offset of its end. Returns `Err` if an allocation fails, or at
 /// more than 65,535 bytes, which no filing reaches: each has at most 2,000.
 fn push_text<A: Allocator>(bytes: &mut Vec<u8, A>, text: &[u8]) -> Result<u16, AllocError>
@@ -113,35 +137,26 @@ impl<A: Allocator + Copy> Texts<A> {
     /// A copy of these texts, with the estimates of field 18.
     pub(crate) fn new(
         alloc: A,
-        field8: &[u8],
-        field9: &[u8],
-        field10: &[u8],
-        field15: &[u8],
-        field18: &[u8],
+        fields: &FieldTexts<'_>,
         estimates: Estimates<A>,
     ) -> Result<Self, AllocError>
-        requires { AreEstimatesOf (items_of (words_of field18.now)) estimates }
-        ensures { IfOk result (λ t. t ≡ record {
-          field8 = field8.now;
-          field9 = field9.now;
-          field10 = field10.now;
-          field15 = field15.now;
-          field18 = field18.now;
-        }) }
+        requires { AreEstimatesOf (items_of (words_of fields.now.field18)) estimates }
+        ensures { IfOk result (λ t. t ≡ fields.now) }
     {
-        let small = field8
+        let small = fields
+            .field8
             .len()
-            .saturating_add(field9.len())
-            .saturating_add(field10.len());
+            .saturating_add(fields.field9.len())
+            .saturating_add(fields.field10.len());
         let all = small
-            .saturating_add(field15.len())
-            .saturating_add(field18.len());
+            .saturating_add(fields.field15.len())
+            .saturating_add(fields.field18.len());
         let mut bytes = Vec::with_capacity(alloc, all)?;
-        let end8 = push_text(&mut bytes, field8)?;
-        let end9 = push_text(&mut bytes, field9)?;
-        let end10 = push_text(&mut bytes, field10)?;
-        let end15 = push_text(&mut bytes, field15)?;
-        let _end = push_text(&mut bytes, field18)?;
+        let end8 = push_text(&mut bytes, fields.field8)?;
+        let end9 = push_text(&mut bytes, fields.field9)?;
+        let end10 = push_text(&mut bytes, fields.field10)?;
+        let end15 = push_text(&mut bytes, fields.field15)?;
+        let _end = push_text(&mut bytes, fields.field18)?;
         Ok(Texts {
             bytes,
             end8,
@@ -175,15 +190,14 @@ impl<A: Allocator + Copy> Texts<A> {
         ensures { IfOk result (λ texts. texts.value ≡ texts_after self.now message.now) }
     {
         let estimates = estimates_after(alloc, self.estimates(), message)?;
-        let texts = Texts::new(
-            alloc,
-            text_after(self.field8(), message.field8()),
-            text_after(self.field9(), message.field9()),
-            text_after(self.field10(), message.field10()),
-            text_after(self.field15(), message.field15()),
-            text_after(self.field18(), message.field18()),
-            estimates,
-        )?;
+        let fields = FieldTexts {
+            field8: text_after(self.field8(), message.field8()),
+            field9: text_after(self.field9(), message.field9()),
+            field10: text_after(self.field10(), message.field10()),
+            field15: text_after(self.field15(), message.field15()),
+            field18: text_after(self.field18(), message.field18()),
+        };
+        let texts = Texts::new(alloc, &fields, estimates)?;
         Ok(Box::new(alloc, texts)?)
     }
 

@@ -97,7 +97,8 @@ impl<A: Allocator + Copy> DueQueue<A> {
     }
 
     /// Takes out the flights that have become due from `earlier` to `now`, by rising number and
-    /// none twice, and drops those whose plan has moved or ended.
+    /// none twice, into `due`, in place of what it holds. Drops those whose plan has moved or
+    /// ended.
     pub fn take_due(
         &mut self,
         plans: &PlanStore<A>,

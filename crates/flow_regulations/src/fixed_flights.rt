@@ -7,8 +7,8 @@ ghost use Rattle.flow_slots.specs.Lineup.{fixed_slot};
 use flow_slots::SlotList;
 use std::alloc::{AllocError, Allocator};
 
-/// Appends the flights with frozen slots in a slot list, by rising number. Returns `Err` if
-/// allocation fails.
+/// Replaces what `flights` holds by the flights with frozen slots in a slot list, by rising number.
+/// Returns `Err` if allocation fails.
 pub(crate) fn note_fixed<A: Allocator + Copy>(
     list: &SlotList<A>,
     flights: &mut Vec<u32, A>,

@@ -171,9 +171,9 @@ impl<A: Allocator + Copy> Regulations<A> {
         list_named(&self.regulations, id)
     }
 
-    /// Appends the flights with frozen slots in the open regulation `id`, by rising number; none if
-    /// no regulation of this name is open. The regulation makes no difference to the advice of any
-    /// other flight. Returns `Err` if allocation fails.
+    /// Replaces what `flights` holds by the flights with frozen slots in the open regulation `id`,
+    /// by rising number; none if no regulation of this name is open. The regulation makes no
+    /// difference to the advice of any other flight. Returns `Err` if allocation fails.
     pub fn note_fixed(&self, id: &Text<8>, flights: &mut Vec<u32, A>) -> Result<(), AllocError>
         ensures rising { OnOk result (IsStrictlyIncreasing flights.new.items) }
         ensures each { OnOk result

@@ -14,15 +14,16 @@ use Rattle.flow_core.specs.State.{EntryView}
 use Rattle.flow_core.specs.CoreView.{texts_of}
 use Rattle.flow_core.specs.History.{History, state_of}
 use Rattle.flow_desk.specs.declared.feeders.End.{End}
-use Rattle.flow_desk.specs.declared.feeders.End.TheVariants.{Stopped}
+use Rattle.flow_desk.specs.declared.feeders.End.TheVariants.{Finished, Stopped, NotStarted}
 use Rattle.flow_desk.specs.Desks.{AreOpened, IsMissing, has_pass}
+use Rattle.flow_desk.specs.Feeds.{EndsAs}
 use Rattle.flow_desk.specs.Histories.{own, after}
 use Rattle.flow_desk.specs.Locks.{AgreesWithPass}
 use Rattle.flow_desk.specs.FeederPasses.{PassView}
 use Rattle.flow_desk.proofs.Fronts.{prefix_trans, prefix_length}
 use Rattle.flow_desk.proofs.Owning.{own-append}
 use Rattle.flow_runs.specs.declared.fault.RunFault.{RunFault}
-use Rattle.flow_runs.specs.Ends.{EndsWell, EndsFeed}
+use Rattle.flow_runs.specs.Ends.{EndsWell}
 use Rattle.flow_runs.specs.Filing.{HasFiled, RanFeed, RanFeeds}
 
 -- how one feed of many has run, by which pass, and what is true of that pass and of its end
@@ -89,17 +90,19 @@ filed-at s E n read entries ps qs k feed r opened =
     let mine : own k entries ≡ ran.entries = append_cancel_left (own k read) (own k entries) ran.entries (sym (own-append k read entries) ∙ all_own) in
     ap (λ (es : List EntryView). texts_of es ++ r.left) mine ∙ ran.texts
 
--- where the journal isn't full, a feed that ended well is filed whole
+-- where the journal isn't full, nothing is left of a feed for which no allocation failed
+none-left : (s : SetupView) (journal : List EntryView) (end : End) (q : PassView) (left : List FilingView) → EndsAs s end q left → EndsWell end → IsPrefix q.seen journal → length journal < s.max_entries → left ≡ []
+none-left s journal Finished q left ends well later room = ends
+none-left s journal (Stopped step.JournalFull) q left ends well later room = absurd (omega (arith, ends.1 refl, prefix_length q.seen journal later, room))
+none-left s journal (Stopped step.OutOfMemory) q left ends well later room = absurd (well refl)
+none-left s journal NotStarted q left ends well later room = absurd ends
+
+-- so it is filed whole
 whole-at : (s : SetupView) (read entries : List EntryView) (ps qs : List PassView) (k : ℕ) (feed : List FilingView) (r : RunAt s (AgreesWithPass (read ++ entries)) EndsWell ps qs k feed)
     → length (read ++ entries) < s.max_entries → texts_of (own k entries) ++ r.left ≡ feed → texts_of (own k entries) ≡ feed
-whole-at s read entries ps qs k feed r room filed = elim r.is_end [
-  | inl done ↦
-      let none : r.left ≡ [] = subst (λ (e : End). EndsFeed s e r.q r.left) done r.ran.ends in
-      sym (append-nil (texts_of (own k entries))) ∙ (ap (λ (ts : List FilingView). texts_of (own k entries) ++ ts) (sym none) ∙ filed)
-  | inr full ↦
-      let ends : EndsFeed s (Stopped step.JournalFull) r.q r.left = subst (λ (e : End). EndsFeed s e r.q r.left) full r.ran.ends in
-      absurd (omega (arith, ends.1 refl, prefix_length r.q.seen (read ++ entries) r.is_q.later, room))
-]
+whole-at s read entries ps qs k feed r room filed =
+    let none : r.left ≡ [] = none-left s (read ++ entries) r.end r.q r.left r.ran.ends r.is_end r.is_q.later room in
+    sym (append-nil (texts_of (own k entries))) ∙ (ap (λ (ts : List FilingView). texts_of (own k entries) ++ ts) (sym none) ∙ filed)
 
 -- what holds of all entries holds of those after
 all-behind : {X : Type 0} (P : X → Type 0) (xs ys : List X) → All P (xs ++ ys) → All P ys

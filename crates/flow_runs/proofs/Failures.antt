@@ -45,9 +45,8 @@ part-reader e n (inl is) = rw is refl
 part-reader e n (inr is) = rw is refl
 
 -- the fault that a feed ended with comes of no device
-pub stop-writer : (e : RunFault) (n : ℕ) → (e ≡ fault.OutOfMemory) ⊎ (e ≡ fault.NotStarted) → writer_failures_with e n ≡ n
-stop-writer e n (inl is) = rw is refl
-stop-writer e n (inr is) = rw is refl
+pub stop-writer : (e : RunFault) (n : ℕ) → e ≡ fault.OutOfMemory → writer_failures_with e n ≡ n
+stop-writer e n is = rw is refl
 
 -- if no journal was read nothing was written
 pub journal-reader : (e : JournalFault) (n : ℕ) → journal_failures e n ≡ reader_failures_with (fault_of_journal e) n

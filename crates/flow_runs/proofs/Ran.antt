@@ -89,9 +89,6 @@ module _ (setup : SetupView) (read : List EntryView) (feeders : ℕ) (journal : 
   cut-short a =
       (f.room a.0, Appends-both begun mid written (long_lines input) (answers (state_of core) (drop r (state_of core).journal)) (answered_now setup read input f.entries) h.told a.1 same-answered)
 
-  pub answers-filed : (stop ≢ None) × Appends mid written (answers (state_of core) (drop r (state_of core).journal)) → HaveFiled setup read feeders input (λ entries. IsCutShort setup read input begun written entries)
-  answers-filed a = filed-so (λ entries. IsCutShort setup read input begun written entries) (cut-short a)
-
   pub memory-filed : (((stop ≢ None) × Appends mid written (answers (state_of core) (drop r (state_of core).journal)))
       ⊎ ((stop ≡ None) × Appends mid written (answers (state_of core) (drop r (state_of core).journal) ++ end_before_replay (state_of core) (count - (length (state_of core).journal - r)) journal)))
       → EndedByMemory setup read feeders journal input begun written
@@ -129,16 +126,20 @@ answered-rest (Ok x) new stop s read count journal none told rest = tt
 answered-rest (Err fault.Write) new stop s read count journal none told rest = (Writes-then (Err fault.Write) (answers_and_end s read count journal) told rest refl).err
 answered-rest (Err fault.OutOfMemory) new stop s read count journal none told rest =
     inr (none, (Writes-then (Ok (tt {0})) (answers s (drop read s.journal) ++ end_before_replay s (count - (length s.journal - read)) journal) told rest refl).ok)
-answered-rest (Err fault.NotStarted) new stop s read count journal none told rest = absurd rest
 answered-rest (Err _) new stop s read count journal none told rest = rest
 
+-- all of it, if no fault came
+pub answered-whole : {D E : Type 0} {contents : D → Option (List ℕ)} {x : Unit {0}} {old mid : Counted D} (r : Result (Unit {0}) RunFault) (new : Counted D) (s : State) (read count : ℕ) (journal : Bool)
+    → Writes {E = E} contents (Ok x) old mid (answers s (drop read s.journal)) → WritesWithReplay contents r mid new (end_before_replay s (count - (length s.journal - read)) journal)
+    → OnOk r (Appends (contents old.device) (contents new.device) (answers_and_end s read count journal))
+answered-whole (Ok y) new s read count journal told rest = (Writes-then (Ok y) (answers_and_end s read count journal) told rest refl).ok
+answered-whole (Err e) new s read count journal told rest = tt
+
 -- the answers were written, and a feed ended with this fault
-pub answered-stop : (e : RunFault) (stop : Option RunFault) (s : State) (read count : ℕ) (journal : Bool) (begun written : Option (List ℕ)) → stop ≡ Some e → (e ≡ fault.OutOfMemory) ⊎ (e ≡ fault.NotStarted)
+pub answered-stop : (e : RunFault) (stop : Option RunFault) (s : State) (read count : ℕ) (journal : Bool) (begun written : Option (List ℕ)) → stop ≡ Some e → e ≡ fault.OutOfMemory
     → Appends begun written (answers s (drop read s.journal)) → AnsweredUntil e stop s read count journal begun written
-answered-stop e stop s read count journal begun written is (inl memory) told =
+answered-stop e stop s read count journal begun written is memory told =
     subst (λ (k : RunFault). AnsweredUntil k stop s read count journal begun written) (sym memory) (inl (λ none. cc (is, none), told))
-answered-stop e stop s read count journal begun written is (inr begun_not) told =
-    subst (λ (k : RunFault). AnsweredUntil k stop s read count journal begun written) (sym begun_not) (λ none. cc (is, none), told)
 
 -- ---- where a run ended with a fault
 
@@ -179,8 +180,6 @@ module _ (setup : SetupView) (read : List EntryView) (feeders : ℕ) (journal : 
   ended-filed fault.Write (Some bytes) rest feeds count begun mid written core stop r h f start a = inr (front-filed setup read feeders journal (frames bytes) feeds count begun mid written core stop r h f start a)
   ended-filed fault.OutOfMemory None rest feeds count begun mid written core stop r h f start a = inr tt
   ended-filed fault.OutOfMemory (Some bytes) rest feeds count begun mid written core stop r h f start a = inr (memory-filed setup read feeders journal (frames bytes) feeds count begun mid written core stop r h f start a)
-  ended-filed fault.NotStarted None rest feeds count begun mid written core stop r h f start a = tt
-  ended-filed fault.NotStarted (Some bytes) rest feeds count begun mid written core stop r h f start a = answers-filed setup read feeders journal (frames bytes) feeds count begun mid written core stop r h f start a
   ended-filed _ input rest feeds count begun mid written core stop r h f start a = absurd a
 
 -- before any frame after the journal text was read
@@ -202,7 +201,7 @@ ended-on fault.Read setup filed feeders journal begun written input mid rest h o
 ended-on fault.OutOfMemory setup filed feeders journal begun written input mid rest h others within ended = inr (record { setup = setup; filed = filed; mid = mid; holds = h; within = within (λ e. cc); ended = ended })
 ended-on fault.TooMuch setup filed feeders journal begun written input mid rest h others within ended = record { setup = setup; filed = filed; mid = mid; holds = h; within = within (λ e. cc); ended = ended }
 ended-on fault.Write setup filed feeders journal begun written input mid rest h others within ended = record { setup = setup; filed = filed; mid = mid; holds = h; within = within (λ e. cc); ended = ended }
-ended-on fault.NotStarted setup filed feeders journal begun written input mid rest h others within ended = record { setup = setup; filed = filed; mid = mid; holds = h; within = within (λ e. cc); ended = ended }
+ended-on fault.NotStarted setup filed feeders journal begun written input mid rest h others within ended = absurd ended
 
 -- ---- after a journal text
 

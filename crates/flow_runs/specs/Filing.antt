@@ -9,10 +9,9 @@ use Rattle.flow_core.specs.CoreView.{texts_of}
 use Rattle.flow_core.specs.History.{History, state_of}
 use Rattle.flow_core.specs.declared.receipt.Receipt.{Receipt}
 use Rattle.flow_desk.specs.declared.feeders.End.{End}
-use Rattle.flow_desk.specs.Feeds.{Ran}
+use Rattle.flow_desk.specs.Feeds.{Ran, EndsAs}
 use Rattle.flow_desk.specs.Histories.{own, after}
 use Rattle.flow_desk.specs.FeederPasses.{PassView}
-use Rattle.flow_runs.specs.Ends.{EndsFeed}
 use Rattle.flow_runs.specs.declared.fault.RunFault.{RunFault}
 
 -- from p to q a feed was filed up to what is left
@@ -23,7 +22,7 @@ pub record FiledTo (p : PassView) (feed : List FilingView) (q : PassView) (left 
 -- and ended so
 pub record RanFeed (setup : SetupView) (p : PassView) (feed : List FilingView) (q : PassView) (left : List FilingView) (end : End) : Type 0 where
   pub filed : FiledTo p feed q left
-  pub ends : EndsFeed setup end q left
+  pub ends : EndsAs setup end q left
 
 -- and so did each of these, feed by feed
 abbrev pub RanFeeds : SetupView → List PassView → List (List FilingView) → List PassView → List (List FilingView) → List End → Type 0

@@ -141,8 +141,8 @@ pub record HaveFiled (setup : SetupView) (read : List EntryView) (feeders : ℕ)
 abbrev pub FiledAll : SetupView → List EntryView → ℕ → List (List ℕ) → List EntryView → Type 0
 FiledAll setup read feeders input entries = length (read ++ entries) < setup.max_entries → (k : ℕ) → k < feeders → texts_of (own k entries) ≡ dealt feeders k (filings input)
 
--- if an allocation for a feed failed or it was never begun, and the journal isn't full: the answers
--- were written and nothing more
+-- if an allocation for a feed failed, and the journal isn't full: the answers were written and
+-- nothing more
 abbrev pub IsCutShort : SetupView → List EntryView → List (List ℕ) → Option (List ℕ) → Option (List ℕ) → List EntryView → Type 0
 IsCutShort setup read input begun written entries = (length (read ++ entries) < setup.max_entries) × Appends begun written (answered_now setup read input entries)
 
@@ -154,7 +154,6 @@ AnsweredUntil fault.Write stop s read count journal begun written = AppendsFront
 AnsweredUntil fault.OutOfMemory stop s read count journal begun written =
     ((stop ≢ None) × Appends begun written (answers s (drop read s.journal)))
     ⊎ ((stop ≡ None) × Appends begun written (answers s (drop read s.journal) ++ end_before_replay s (count - (length s.journal - read)) journal))
-AnsweredUntil fault.NotStarted stop s read count journal begun written = (stop ≢ None) × Appends begun written (answers s (drop read s.journal))
 AnsweredUntil _ stop s read count journal begun written = ⊥
 
 -- if an allocation failed when all was read: before a feeder began; for a feed, if the journal
@@ -165,8 +164,9 @@ EndedByMemory setup read feeders journal input begun written =
     ⊎ HaveFiled setup read feeders input (λ entries. IsCutShort setup read input begun written entries ⊎ (FiledAll setup read feeders input entries × Appends begun written (ended_before_replay setup read journal input entries)))
 
 -- What was written if a run ended with this fault. Before the feeders begin nothing is filed, and
--- what is written are lines for frames that are too long. Once they file, an allocation failure is
--- never returned in place of a full journal: if it is full the run goes on to its end.
+-- what is written are lines for frames that are too long. Each feed is begun. Once they file, an
+-- allocation failure is never returned in place of a full journal: if it is full the run goes on to
+-- its end.
 abbrev pub EndedBy : RunFault → SetupView → List EntryView → ℕ → Bool → Option (List ℕ) → Option (List ℕ) → Option (List ℕ) → Option (List ℕ) → Type 0
 EndedBy fault.Read setup read feeders journal begun written input rest = ToldEnded begun written input rest
 EndedBy fault.TooMuch setup read feeders journal begun written input rest = ToldFirst begun written input rest
@@ -174,8 +174,7 @@ EndedBy fault.Write setup read feeders journal begun written input rest =
     ToldFront begun written input rest ⊎ IfSome input (λ bytes. HaveFiled setup read feeders (frames bytes) (λ entries. AppendsFront begun written (ended setup read journal (frames bytes) entries)))
 EndedBy fault.OutOfMemory setup read feeders journal begun written input rest =
     ToldFirst begun written input rest ⊎ IfSome input (λ bytes. EndedByMemory setup read feeders journal (frames bytes) begun written)
-EndedBy fault.NotStarted setup read feeders journal begun written input rest =
-    IfSome input (λ bytes. HaveFiled setup read feeders (frames bytes) (λ entries. IsCutShort setup read (frames bytes) begun written entries))
+EndedBy fault.NotStarted setup read feeders journal begun written input rest = ⊥
 EndedBy fault.NoReader setup read feeders journal begun written input rest = Keeps begun written
 EndedBy fault.BadJournal setup read feeders journal begun written input rest = Keeps begun written
 EndedBy fault.BadFeeders setup read feeders journal begun written input rest = Keeps begun written
@@ -197,7 +196,7 @@ EndedOnBy fault.Read feeders journal begun written input rest = Keeps begun writ
 EndedOnBy fault.TooMuch feeders journal begun written input rest = EndedBehind fault.TooMuch feeders journal begun written input rest
 EndedOnBy fault.Write feeders journal begun written input rest = EndedBehind fault.Write feeders journal begun written input rest
 EndedOnBy fault.OutOfMemory feeders journal begun written input rest = Keeps begun written ⊎ EndedBehind fault.OutOfMemory feeders journal begun written input rest
-EndedOnBy fault.NotStarted feeders journal begun written input rest = EndedBehind fault.NotStarted feeders journal begun written input rest
+EndedOnBy fault.NotStarted feeders journal begun written input rest = ⊥
 EndedOnBy fault.NoReader feeders journal begun written input rest = Keeps begun written
 EndedOnBy fault.BadJournal feeders journal begun written input rest = Keeps begun written
 EndedOnBy fault.BadFeeders feeders journal begun written input rest = Keeps begun written

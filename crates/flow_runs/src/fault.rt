@@ -19,7 +19,7 @@ pub enum RunFault {
     OutOfMemory,
     /// The board has no reader left for a feeder.
     NoReader,
-    /// A feed was never begun.
+    /// A feed was never begun. No run ends so: without a thread, feeds run one after the other.
     NotStarted,
     /// The input doesn't begin with a journal text (40).
     BadJournal,

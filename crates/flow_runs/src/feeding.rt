@@ -2,7 +2,7 @@
 ghost use Rattle.std.specs.Prelude.{◌≡◌, ◌≢◌, ◌≤◌, ◌<◌, ◌+◌, ◌++◌, ℕ, []};
 ghost use Rattle.std.specs.Prelude.{length, map, vec_len, vec_capacity};
 ghost use Rattle.std.specs.Prelude.{slice_index_or, IsTrue, IsFalse, OnOk, OnErr};
-ghost use Rattle.flow_runs.specs.Ends.{EndsFeed};
+ghost use Rattle.flow_desk.specs.Feeds.{EndsAs};
 ghost use Rattle.flow_runs.specs.Filing.{FiledTo, RanFeed, RanFeeds};
 
 use crate::progress::Progress;
@@ -41,7 +41,7 @@ fn file_next<N: Name, Q: Wait + Drop, P: Wait, A: Allocator + Copy>(
     ensures ran { (p : _) (texts : _) → FiledTo p texts feed.old.pass feed.old.left
         → FiledTo p texts feed.new.pass feed.new.left }
     ensures ends { IsFalse result
-        → EndsFeed N.setup feed.new.end feed.new.pass feed.new.left }
+        → EndsAs N.setup feed.new.end feed.new.pass feed.new.left }
     ensures goes { IsTrue result → length feed.new.left < length feed.old.left }
 {
     if feed.left.is_empty() {

@@ -30,34 +30,23 @@ pub(crate) struct Filed<A: Allocator + Copy = Global> {
     pub stop: Option<RunFault>,
 }
 
-/// Combines the fault of some feeds with the end of one more: an allocation failure precedes a feed
-/// that was never begun.
+/// Combines the fault of some feeds with the end of one more.
 fn stop_with(stop: Option<RunFault>, end: End) -> Option<RunFault>
     ensures is { result ≡ stop_after stop end }
     ensures none { result ≡ None → (stop ≡ None) × EndsWell end }
-    ensures memory { result ≢ Some RunFault.OutOfMemory
-        → (stop ≢ Some RunFault.OutOfMemory) × (end ≢ End.Stopped StepFault.OutOfMemory) }
     ensures error_kinds { IsStop stop → IsStop result }
 {
     match end {
-        End::Finished => stop,
-        End::Stopped(StepFault::JournalFull) => stop,
         End::Stopped(StepFault::OutOfMemory) => Some(RunFault::OutOfMemory),
-        End::NotStarted => match stop {
-            Some(fault) => Some(fault),
-            None => Some(RunFault::NotStarted),
-        },
+        End::Stopped(StepFault::JournalFull) | End::Finished | End::NotStarted => stop,
     }
 }
 
-/// The fault that a feed ended with, if one did: an allocation failure precedes a feed that was
-/// never begun.
+/// `OutOfMemory` if an allocation failed for a feed.
 fn stop_among<N: Name, A: Allocator + Copy>(feeds: &[Feed<N, A>]) -> Option<RunFault>
     ensures is { result ≡ fold (λ stop f. stop_after stop f.end) None feeds.now }
     ensures none { IfNone result (All (λ f. EndsWell f.end) feeds.now) }
     ensures error_kinds { IsStop result }
-    ensures memory { result ≢ Some RunFault.OutOfMemory
-        → All (λ f. f.end ≢ End.Stopped StepFault.OutOfMemory) feeds.now }
 {
     let mut stop = None;
     for feed in feeds {

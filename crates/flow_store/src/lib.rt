@@ -11,7 +11,7 @@
 //! Opening such a file (`open`) gives the core of exactly these entries. So what was answered in
 //! one run is in the file after every later one (`laws`).
 //!
-//! `store` has the store and the two ways to append to it; `opening` opens one, and `serving`
+//! `store` has the store and the calls that append to it; `opening` opens one, and `serving`
 //! answers an input with one.
 #![tactic(auto)]
 

@@ -10,6 +10,10 @@ use Rattle.flow_view.specs.Totals.{entry_of}
 abbrev pub is_from_to : ℕ → ℕ → ℕ → Bool
 is_from_to from to moment = nat_le from moment && nat_lt moment to
 
+-- the flights that hold a slot from one time to before another
+abbrev pub held_in : ℕ → ℕ → List SlotRow → ℕ
+held_in from to rows = count_by (λ r. is_from_to from to r.time) rows
+
 -- from one time to before another: the flights that are planned to enter then, the slots that the
 -- rates give, and the flights that hold a slot then
 abbrev pub load_in : Period → List SlotRow → ℕ → ℕ → Load
@@ -19,7 +23,7 @@ load_in p rows from to =
       to = to;
       demand = count_by (λ r. option_map_or (is_from_to from to) (entry_of r) false) rows;
       slots = first_slot p to - first_slot p from;
-      held = count_by (λ r. is_from_to from to r.time) rows;
+      held = held_in from to rows;
     }
 
 -- the first steps of `step` minutes, of which the last one ends with the period

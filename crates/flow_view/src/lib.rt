@@ -36,7 +36,7 @@ mod windows;
 pub use count::{Count, counts_of};
 pub use delay::{DelayTotals, FlightDelay, Spread, delay_totals, delays_of, most_delayed_first};
 pub use flight::Flight;
-pub use load::{Load, held_later, loads_of};
+pub use load::{Load, held_in, held_later, loads_of};
 pub use opening::{Opening, openings_of};
 pub use past::desk_at;
 pub use rounds::PANEL_WIDTH;

@@ -2,7 +2,7 @@
 ghost use Rattle.std.specs.Prelude.{◌≡◌, ◌≤◌, ◌<◌, ◌+◌, ◌-◌, ◌*◌, IfOk, false, count_by, min};
 ghost use Rattle.std.specs.Option.{option_map_or};
 ghost use Rattle.flow_slots.specs.Period.{first_slot};
-ghost use Rattle.flow_view.specs.Load.{is_from_to, load_in, loads, held_later};
+ghost use Rattle.flow_view.specs.Load.{is_from_to, load_in, loads, held_in, held_later};
 ghost use Rattle.flow_view.specs.Totals.{entry_of};
 ghost use Rattle.flow_slots.specs.declared.shape.TheConstants.{LONGEST_PERIOD};
 
@@ -55,8 +55,8 @@ fn demand_in(rows: &[SlotRow], from: Minute, to: Minute) -> u64
 }
 
 /// The number of flights that hold a slot from `from` to before `to`.
-fn held_in(rows: &[SlotRow], from: Minute, to: Minute) -> u64
-    ensures { result ≡ count_by (λ r. is_from_to from to r.time) rows.now }
+pub fn held_in(rows: &[SlotRow], from: Minute, to: Minute) -> u64
+    ensures { result ≡ held_in from to rows.now }
 {
     let mut count = 0;
     for row in rows {

@@ -138,8 +138,8 @@ fn totals_at<A: Allocator + Copy>(
     }
 }
 
-/// The totals at a rate. The desk is unchanged afterwards, but no filing of it can be undone any
-/// more.
+/// The totals at a rate. The desk is unchanged afterwards, but perhaps its last filing can't be
+/// undone any more.
 fn swept_at<A: Allocator + Copy>(
     alloc: A,
     core: &mut Core<A>,
@@ -168,9 +168,9 @@ fn swept_at<A: Allocator + Copy>(
 /// What a regulation would do at each of these rates. `order` is an OPEN up to its rate, as `OPEN
 /// WHATIF ARR EDDF 2409011000 2409011300`, with the name of a regulation that isn't open. At each
 /// rate the order is filed, the totals of the new slot list are taken, and the filing is undone:
-/// the desk is unchanged afterwards, but no filing of it can be undone any more. An order that the
-/// desk refuses ends the sweep with that refusal, and one that is no OPEN with `BadOrder`. The
-/// sweep ends at a rate with `TooLong` exactly if the order with that rate has more than 2,000
+/// the desk is unchanged afterwards, but perhaps its last filing can't be undone any more. An order
+/// that the desk refuses ends the sweep with that refusal, and one that is no OPEN with `BadOrder`.
+/// The sweep ends at a rate with `TooLong` exactly if the order with that rate has more than 2,000
 /// bytes, with `JournalFull` exactly if it hasn't and the journal is full, and with `OutOfMemory`
 /// only if neither holds.
 pub fn sweep<A: Allocator + Copy>(

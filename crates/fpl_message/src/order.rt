@@ -29,7 +29,7 @@ pub enum Spot {
 
 /// An order to open a regulation, with the right syntax. Its limits are for the desk to check: that
 /// the period is 1 to 1,440 minutes long, that its sub-periods rise within it, that a rate is at
-/// most 240.
+/// most 240, and the last at least 1.
 #[derive(Drop)]
 pub struct OpenReg {
     /// The name of the regulation: a letter, and then at most 7 letters or digits.

@@ -10,9 +10,9 @@ use crate::byte::{are_letters_or_digits, leading_letters_or_digits};
 use crate::fault::FieldFault;
 use crate::text::Text;
 
-/// Field 7: aircraft identification, and the SSR code if it is given (ICAO Doc 4444, appendix 3,
-/// field type 7). The code, four digits 0 to 7, is kept as the octal number that they are; it is no
-/// part of a plan's key.
+/// Field 7: aircraft identification, and the transponder code if it is given (ICAO Doc 4444,
+/// appendix 3, field type 7). The code, four digits 0 to 7, is kept as the octal number that they
+/// are; it is no part of a plan's key.
 #[derive(Debug, Drop, PartialEq, Eq)]
 pub struct Ident {
     pub name: Text<7>,
@@ -35,7 +35,7 @@ fn octal_digit(byte: u8) -> u16
     (byte - b'0') as u16
 }
 
-/// Reads an SSR code that may be missing: a stroke, an A and four octal digits.
+/// Reads a transponder code that may be missing: a stroke, an A and four octal digits.
 #[tactic(auto, unfolding(crate::specs::Places::transponder_of))]
 fn transponder_of(text: &[u8]) -> Option<Option<u16>>
     ensures { result ≡ transponder_of text.now }

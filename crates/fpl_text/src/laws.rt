@@ -67,7 +67,7 @@ pub fn headings_are_their_parts()
     ensures number { (text : List ℕ) → (is_number text ≡ true) ↔ IsMessageNumber text }
 {}
 
-/// So is field 7: a name, then optionally an SSR code.
+/// So is field 7: a name, then optionally a transponder code.
 pub fn idents_are_their_parts()
     ensures { (text : List ℕ) (ident : Ident) → (ident_of text ≡ Some ident) ↔ IsIdent text ident }
 {}

@@ -17,7 +17,8 @@
 //! - *Bytes* (`byte`): their kinds, also of 16 bytes in a vector. Its clauses say what each lane
 //!   holds, so callers speak of kinds of bytes and of no bit of a vector.
 //! - *Forms*: `heading` (field 3), `ident` (7), `craft` (8, 9 and 10), `place` (13 and 16).
-//! - *Times* (`minute`, `day`, `time`): whole minutes since 1970-01-01 00:00 UTC.
+//! - *Times* (`minute`, `day`, `time`): whole minutes since 1970-01-01 00:00 UTC; `part` has the
+//!   sub-periods of a regulation.
 //! - *Names* (`text`): short texts of bounded length, stored inline and without allocation.
 #![tactic(auto)]
 

@@ -9,6 +9,7 @@ use crate::options::Options;
 use crate::start::{desk_of, setup_of};
 use crate::stored::open_store;
 use crate::stores::Stores;
+use crate::system::System;
 use flow_core::{Core, Counted};
 use flow_live::{Ended, Feed, FeedEnd, LiveFault, Watch, run_live};
 use flow_runs::write_end;
@@ -32,20 +33,24 @@ pub fn run_feeds<
     W: Write + Send + Drop,
     E: Write + Send,
 >(
-    rt: &T,
-    wait: &P,
+    system: &System<'_, T, P, S, F>,
     options: Options<'_>,
     folder: &str,
-    stores: &S,
-    feeds: &F,
     writer: W,
     errors: &mut E,
 ) -> Result<u8, Fault>
     ensures { IfOk result (λ status. status ≤ 2) }
 {
-    let found = find(options, folder, feeds)?;
-    let begun = begin(rt.alloc(), options, stores, found)?;
-    answer(rt, wait, options.journal, begun, writer, errors)
+    let found = find(options, folder, system.feeds)?;
+    let begun = begin(system.rt.alloc(), options, system.stores, found)?;
+    answer(
+        system.rt,
+        system.wait,
+        options.journal,
+        begun,
+        writer,
+        errors,
+    )
 }
 
 /// The feeds of the folder, if the start is one.

@@ -11,6 +11,7 @@ mod run;
 mod start;
 mod stored;
 mod stores;
+mod system;
 
 use command_line::read_words;
 use feeds::SystemFeeds;
@@ -18,6 +19,7 @@ use run::{run_words, tell_no_memory, tell_words};
 use std::io;
 use std::process::ExitCode;
 use stores::SystemStores;
+use system::System;
 
 /// The capacity of the buffer of answers, in bytes.
 const WRITTEN_AT_ONCE: usize = 65_536;
@@ -33,16 +35,12 @@ fn main(rt: HostRuntime) -> ExitCode {
     };
     let stores = SystemStores { rt: &rt };
     let feeds = SystemFeeds { rt: &rt };
-    let input = rt.stdin();
-    let status = run_words(
-        &rt,
-        &rt,
-        &stores,
-        &feeds,
-        &words,
-        input,
-        answers,
-        &mut errors,
-    );
+    let system = System {
+        rt: &rt,
+        wait: &rt,
+        stores: &stores,
+        feeds: &feeds,
+    };
+    let status = run_words(&system, &words, rt.stdin(), answers, &mut errors);
     ExitCode::from(status)
 }

@@ -24,10 +24,11 @@ const AFTER: &str =
     standard input isn't read. With --resume the taxi time and the number of plans\n\
     are those of the journal. A run that is killed writes no journal: keep what it\n\
     was given.\n\n\
-    Exit status: 0 at the end of the input; 1 if reading or writing fails, or the\n\
-    input of --resume begins with no journal; 2 for a bad command line, a bad start,\n\
-    bad feeds, fewer feeders than the journal has, or if memory, a reader's place or\n\
-    a thread is refused.\n\n\
+    Exit status: 0 at the end of the input; 1 if reading or writing fails, the input\n\
+    of --resume begins with no journal, or FILE is no sound store; 2 for a bad\n\
+    command line, a bad start, bad feeds, fewer feeders than the journal has, a\n\
+    store that is missing, in use or there already, or if memory or a reader's place\n\
+    is refused.\n\n\
     Times are UTC. A day, the same with its journal, and going on from there:\n  \
     slotdesk --start 2409010500 < day.txt\n  \
     slotdesk --start 2409010500 --journal < day.txt > answers.txt\n  \

@@ -7,8 +7,8 @@ use crate::moments::Clock;
 use crate::named::id_of;
 use crate::svg::{Frame, Panel, Pixels, put_frame, put_key};
 use flow_core::Core;
-use flow_slots::Shape;
-use flow_view::{Load, Opening, PANEL_HEIGHT, Scale, SlotRow, held_later, loads_of};
+use flow_slots::{LONGEST_PERIOD, Shape};
+use flow_view::{Load, Opening, PANEL_HEIGHT, Scale, SlotRow, held_in, held_later, loads_of};
 use fpl_text::Minute;
 use std::alloc::{AllocError, Global};
 use std::io::Write;
@@ -16,9 +16,6 @@ use std::io::Write;
 /// The least number of minutes drawn before and after a period, unless the picture would be too
 /// wide.
 const MARGIN: u32 = 60;
-
-/// The greatest number of minutes in a picture.
-const MOST_MINUTES: u32 = 1440;
 
 /// What the bars of a panel count.
 #[derive(Clone, Copy, PartialEq, Eq)]
@@ -87,7 +84,7 @@ struct Drawn {
 fn margins_of(shape: &Shape, rows: &[SlotRow], step: u32) -> (u32, u32) {
     let (start, end) = shape.period();
     let minutes = end.minutes().saturating_sub(start.minutes());
-    let room = MOST_MINUTES.saturating_sub(minutes);
+    let room = LONGEST_PERIOD.saturating_sub(minutes);
     let step = step.max(1);
     let least = MARGIN.div_ceil(step).saturating_mul(step);
     let half = (room / 2 / step).saturating_mul(step);
@@ -101,13 +98,6 @@ fn margins_of(shape: &Shape, rows: &[SlotRow], step: u32) -> (u32, u32) {
     };
     let rest = room.saturating_sub(before) / step;
     (before, least.max(held).min(rest.saturating_mul(step)))
-}
-
-/// The number of flights that hold a slot from `from` to before `to`.
-fn held_in(rows: &[SlotRow], from: Minute, to: Minute) -> u64 {
-    rows.iter()
-        .filter(|row| from <= row.time && row.time < to)
-        .count() as u64
 }
 
 /// The steps outside the period: all flights that enter the point, and the slots that are held.
@@ -136,7 +126,7 @@ fn drawn_of(alloc: Global, core: &Core, opening: &Opening, step: u32) -> Result<
     let shape = opening.shape();
     let (start, end) = shape.period();
     let minutes = end.minutes().saturating_sub(start.minutes());
-    let step = step.min(minutes).clamp(1, MOST_MINUTES);
+    let step = step.min(minutes).clamp(1, LONGEST_PERIOD);
     let (lead, wake) = margins_of(shape, opening.rows(), step);
     let first = Minute::new(start.minutes().saturating_sub(lead)).unwrap_or(start);
     let last = later_by(end, wake);

@@ -1,6 +1,7 @@
 //! The commands and arguments of the command line.
 use clap::builder::ValueParser;
 use clap::{Arg, ArgAction, Command};
+use flow_slots::LONGEST_PERIOD;
 use std::alloc::{AllocError, Global};
 
 const ABOUT: &str = "Shows a flight plan desk as its journal or its store tells it.\n\n\
@@ -74,7 +75,7 @@ fn step_argument<'a>(alloc: Global, minutes: &'a str) -> Arg<'a> {
         .long("step")
         .value_name("MIN")
         .default_value(minutes)
-        .value_parser(ValueParser::unsigned(1, 1440))
+        .value_parser(ValueParser::unsigned(1, LONGEST_PERIOD as u64))
         .help("The minutes of a step, 1 to 1440")
 }
 
@@ -144,7 +145,7 @@ fn count_command<'a>(alloc: Global) -> Result<Command<'a>, AllocError> {
             Arg::new(alloc, "slide")
                 .long("slide")
                 .value_name("MIN")
-                .value_parser(ValueParser::unsigned(1, 1440))
+                .value_parser(ValueParser::unsigned(1, LONGEST_PERIOD as u64))
                 .help("From one step to the next, without it a step"),
         )?
         .arg(svg_argument(alloc))

@@ -3,6 +3,7 @@ use crate::fault::Fault;
 use crate::options::Asked;
 use crate::sheet::{Cell, Column, Sheet, Side};
 use flow_core::Core;
+use flow_slots::LONGEST_PERIOD;
 use flow_view::{Count, Windows, counts_of};
 use fpl_message::Spot;
 use fpl_text::Minute;
@@ -34,9 +35,6 @@ static IN_TEXT: [Column; 8] = [
 /// The greatest length of a bar, in characters.
 const LONGEST: u64 = 22;
 
-/// The longest period that is counted, in minutes.
-const DAY: u32 = 1440;
-
 /// The number of flights of a count.
 pub fn flights_of(count: &Count) -> u64 {
     count
@@ -55,22 +53,22 @@ pub fn most_of(counts: &[Count]) -> u64 {
     most
 }
 
-/// The time `minutes` later, or the greatest time.
+/// The time `minutes` later; the same time if that would be beyond the greatest one.
 pub fn later_by(moment: Minute, minutes: u32) -> Minute {
     moment.plus(minutes).unwrap_or(moment)
 }
 
 /// The period that is counted. If no beginning is given, it begins with the desk's day; if no end
-/// is given, it is one day long.
+/// is given, it is as long as may be.
 pub fn period_of(core: &Core, asked: &Asked) -> (Minute, Minute) {
     let from = match asked.from {
         Some(from) => from,
         None => {
             let now = core.now().minutes();
-            Minute::new(now - now % DAY).unwrap_or(core.now())
+            Minute::new(now - now % 1440).unwrap_or(core.now())
         }
     };
-    (from, asked.to.unwrap_or(later_by(from, DAY)))
+    (from, asked.to.unwrap_or(later_by(from, LONGEST_PERIOD)))
 }
 
 /// The counts of a point in a period; none if it isn't a period of counts.

@@ -2,7 +2,7 @@
 use crate::chart_text::period_text;
 use crate::count::{counts_in, flights_of, later_by, most_of, period_of};
 use crate::fault::{Fault, unwritten};
-use crate::moments::Clock;
+use crate::moments::{Clock, Digits};
 use crate::options::Asked;
 use crate::summary::words_of;
 use crate::svg::{Frame, Panel, put_frame, put_key};
@@ -72,11 +72,14 @@ fn put_head<W: Write>(
     alloc: Global,
     writer: &mut W,
     asked: &Asked,
-    period: &str,
+    (start, end): (Minute, Minute),
 ) -> Result<(), Fault> {
     let (kind, name) = words_of(&asked.spot);
     let step = asked.step;
-    let id = format!(in alloc; "count-{kind}-{name}")?;
+    let from = Digits(start);
+    let id = format!(in alloc; "count-{kind}-{name}-{from}")?;
+    let period = period_text(alloc, start, end)?;
+    let period = period.as_str();
     let title = format!(in alloc; "{kind} {name}, {period}")?;
     let text = format!(in alloc; "Flights that are planned to enter, per {step} min")?;
     let frame = Frame {
@@ -109,8 +112,7 @@ pub fn put_count_chart<W: Write>(
     let counts = counts_in(alloc, core, &asked.spot, (start, end), steps)?;
     let most = u32::try_from(most_of(counts.as_slice())).unwrap_or(u32::MAX);
     let panel = Panel::new(Scale::new(start, end, most), start, asked.slide);
-    let period = period_text(alloc, start, end)?;
-    put_head(alloc, writer, asked, period.as_str())?;
+    put_head(alloc, writer, asked, (start, end))?;
     panel.put_grid(writer)?;
     for count in &counts {
         let to = later_by(count.from, asked.slide.min(asked.step));

@@ -287,9 +287,14 @@ fn is_bad(number: u8, field: &[u8]) -> bool {
 }
 
 /// The field of this type number that doesn't have its form: the message's own, or an amended one.
+/// An FPL has no amended fields, so the fault is in its own. `is_bad` can't tell it of field 16:
+/// an elapsed time may be missing there in other messages, but not in an FPL.
 fn bad_field(fields: &Fields<Global>, number: u8) -> &[u8] {
     if let Some(place) = place_of(fields.title(), number) {
         let field = field_at(fields, place);
+        if matches!(fields.title(), Title::Fpl) {
+            return field;
+        }
         if is_bad(number, field) {
             return field;
         }

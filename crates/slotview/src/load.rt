@@ -1,6 +1,7 @@
 //! Demand and slots of a regulation by steps of time.
 use crate::fault::Fault;
 use crate::sheet::{Cell, Column, Sheet, Side};
+use flow_slots::LONGEST_PERIOD;
 use flow_view::{Load, Opening, held_later, loads_of};
 use std::alloc::{AllocError, Global};
 use std::io::Write;
@@ -106,7 +107,7 @@ pub fn put_loads<W: Write + Drop>(
     opening: &Opening,
     step: u32,
 ) -> Result<(), Fault> {
-    let step = step.clamp(1, 1440);
+    let step = step.clamp(1, LONGEST_PERIOD);
     let loads = loads_of(alloc, opening.shape(), opening.rows(), step)?;
     let each = greatest_of(loads.as_slice()).div_ceil(LONGEST).max(1);
     if sheet.is_text() {

@@ -1,9 +1,11 @@
 //! Reads what the arguments ask for.
 use crate::commands::command;
-use crate::words::{entry_of, may_be_name, moment_of, rates_of, spot_of};
+use crate::words::{GREATEST_RATE, entry_of, may_be_name, moment_of, rates_of, spot_of};
 use clap::error::ErrorKind;
 use clap::parser::ValueSource;
 use clap::{ArgMatches, Command, Error};
+use flow_plans::MAX_ENTRIES;
+use flow_slots::LONGEST_PERIOD;
 use fpl_message::Spot;
 use fpl_text::Minute;
 use std::alloc::{AllocError, Global};
@@ -16,9 +18,6 @@ const SVG_WITH_TABLE: &str = "the argument '--svg' cannot be used with '--table 
 const PAGE_WITH_FORMAT: &str = "'page' cannot be used with '--format <FORMAT>'";
 
 const PAGE_WITH_TABLE: &str = "'page' cannot be used with '--table <NAME>'";
-
-/// The longest period that is counted, in minutes.
-const LONGEST: u32 = 1440;
 
 /// The format of tables.
 #[derive(Clone, Copy)]
@@ -43,7 +42,7 @@ pub struct Asked {
     pub spot: Spot,
     /// `None` for the midnight before the desk's time.
     pub from: Option<Minute>,
-    /// `None` for one day after the beginning.
+    /// `None` for the longest period after the beginning.
     pub to: Option<Minute>,
     pub step: u32,
     pub slide: u32,
@@ -136,29 +135,35 @@ enum Wrong<'a> {
 }
 
 impl<'a> Wrong<'a> {
-    /// The value, its argument, and why it can't be used.
-    fn parts(&self) -> Option<(&'a str, &'static str, &'static str)> {
-        let no_time = "it is no time yymmddhhmm";
+    /// The value, and its argument.
+    fn parts(&self) -> Option<(&'a str, &'static str)> {
         match self {
-            Wrong::Place(value) => Some((*value, "<POINT>", "no OPEN has it after that kind")),
-            Wrong::Begin(value) => Some((*value, "--from <TIME>", no_time)),
-            Wrong::End(value) => Some((*value, "--to <TIME>", no_time)),
-            Wrong::Period(value) => Some((
-                *value,
-                "--to <TIME>",
-                "it isn't 1 to 1440 minutes after the beginning",
-            )),
-            Wrong::Rates(value) => Some((
-                *value,
-                "--rates <A..B>",
-                "it is no A..B with A at most B, and B at most 999",
-            )),
-            Wrong::When(value) => Some((
-                *value,
-                "--at <WHEN>",
-                "it is no entry, 0 to 1000000, and no time yymmddhhmm",
-            )),
+            Wrong::Place(value) => Some((*value, "<POINT>")),
+            Wrong::Begin(value) => Some((*value, "--from <TIME>")),
+            Wrong::End(value) => Some((*value, "--to <TIME>")),
+            Wrong::Period(value) => Some((*value, "--to <TIME>")),
+            Wrong::Rates(value) => Some((*value, "--rates <A..B>")),
+            Wrong::When(value) => Some((*value, "--at <WHEN>")),
             Wrong::OutOfMemory => None,
+        }
+    }
+
+    /// Why it can't be used.
+    fn reason(&self, alloc: Global) -> Result<String, AllocError> {
+        match self {
+            Wrong::Place(_) => String::from_str(alloc, "no OPEN has it after that kind"),
+            Wrong::Begin(_) => String::from_str(alloc, "it is no time yymmddhhmm"),
+            Wrong::End(_) => String::from_str(alloc, "it is no time yymmddhhmm"),
+            Wrong::Period(_) => {
+                format!(in alloc; "it isn't 1 to {LONGEST_PERIOD} minutes after the beginning")
+            }
+            Wrong::Rates(_) => {
+                format!(in alloc; "it is no A..B with A at most B, and B at most {GREATEST_RATE}")
+            }
+            Wrong::When(_) => {
+                format!(in alloc; "it is no entry, 0 to {MAX_ENTRIES}, and no time yymmddhhmm")
+            }
+            Wrong::OutOfMemory => Err(AllocError),
         }
     }
 }
@@ -221,7 +226,7 @@ fn period_by<'a>(matches: &ArgMatches<'a>) -> Result<(Option<Minute>, Option<Min
     };
     if let (Some(from), Some(to)) = (from, to) {
         let minutes = to.minutes().saturating_sub(from.minutes());
-        if minutes == 0 || minutes > LONGEST {
+        if minutes == 0 || minutes > LONGEST_PERIOD {
             return Err(Wrong::Period(matches.get_str("to").unwrap_or("")));
         }
     }
@@ -351,10 +356,12 @@ fn error_of(
     command: &mut Command<'_>,
     wrong: Wrong<'_>,
 ) -> Result<Error, AllocError> {
-    let Some((value, argument, why)) = wrong.parts() else {
+    let Some((value, argument)) = wrong.parts() else {
         return Err(AllocError);
     };
-    let text = format!(in alloc; "invalid value '{value}' for '{argument}': {why}")?;
+    let reason = wrong.reason(alloc)?;
+    let reason = reason.as_str();
+    let text = format!(in alloc; "invalid value '{value}' for '{argument}': {reason}")?;
     command.error(ErrorKind::ValueValidation, text.as_str())
 }
 

@@ -1,16 +1,18 @@
 //! The regulations of a desk and the counts of their points on a page.
 use crate::chart::put_chart;
-use crate::chart_text::heading_of;
-use crate::count::{counts_in, flights_of, later_by};
+use crate::chart_text::{heading_of, period_text};
+use crate::count::{counts_in, flights_of, later_by, period_of};
 use crate::count_chart::put_count_chart;
 use crate::delay::mean_of;
 use crate::fault::{Fault, unwritten};
 use crate::html::{Caption, Head, Number, PICTURE_BOX, Tenths, When, begin_table, end_table, put};
 use crate::list::holding_name;
+use crate::moments::Digits;
 use crate::named::id_of;
 use crate::options::Asked;
 use crate::summary::{rates_text, totals_in, words_of};
 use flow_core::Core;
+use flow_slots::LONGEST_PERIOD;
 use flow_view::{Count, Line, Opening, lines_with};
 use fpl_message::Spot;
 use fpl_text::Minute;
@@ -214,21 +216,67 @@ pub fn put_regulation_section<W: Write>(
     put(writer, "</section>\n")
 }
 
-/// The period of the counts shown for a regulation's point: whole hours, from one before its period
-/// to one after it.
-fn asked_of(opening: &Opening) -> Asked {
+/// The time that is counted for a regulation: whole hours, from one before its period to one after
+/// it. If that is longer than may be counted, the longest time that may be, from the start of the
+/// period, which is no longer.
+fn hours_of(opening: &Opening) -> (Minute, Minute) {
     let (start, end) = opening.shape().period();
-    let hour = start.minutes() / 60;
-    let first = Minute::new(hour.saturating_sub(1).saturating_mul(60)).unwrap_or(start);
-    let minutes = end.minutes().saturating_sub(first.minutes());
-    let hours = minutes.div_ceil(60).saturating_add(1).min(24);
+    let before = (start.minutes() / 60).saturating_sub(1);
+    let after = end.minutes().div_ceil(60).saturating_add(1);
+    let from = Minute::new(before.saturating_mul(60)).unwrap_or(start);
+    let to = Minute::new(after.saturating_mul(60)).unwrap_or(end);
+    if is_countable(from, to) {
+        (from, to)
+    } else {
+        (start, later_by(start, LONGEST_PERIOD))
+    }
+}
+
+/// Whether a period is short enough to be counted.
+fn is_countable(from: Minute, to: Minute) -> bool {
+    to.minutes().saturating_sub(from.minutes()) <= LONGEST_PERIOD
+}
+
+/// What is counted for a regulation: its hours, and those of the other regulations of its point
+/// that don't make them too many.
+fn asked_for(opening: &Opening, openings: &[Opening]) -> Asked {
+    let (mut from, mut to) = hours_of(opening);
+    for other in openings {
+        if !is_same(other.spot(), opening.spot()) {
+            continue;
+        }
+        let (start, end) = hours_of(other);
+        if is_countable(from.min(start), to.max(end)) {
+            from = from.min(start);
+            to = to.max(end);
+        }
+    }
     Asked {
         spot: *opening.spot(),
-        from: Some(first),
-        to: Some(later_by(first, hours.saturating_mul(60))),
+        from: Some(from),
+        to: Some(to),
         step: 60,
         slide: 60,
     }
+}
+
+/// Whether what is counted has the point and the hours of a regulation.
+fn has_hours(asked: &Asked, opening: &Opening) -> bool {
+    let (start, end) = hours_of(opening);
+    let begins = asked.from.is_some_and(|from| from <= start);
+    let ends = asked.to.is_some_and(|to| end <= to);
+    begins && ends && is_same(&asked.spot, opening.spot())
+}
+
+/// What is counted for the regulations of a desk, so that the hours of each are.
+fn all_asked(alloc: Global, openings: &[Opening]) -> Result<Vec<Asked>, AllocError> {
+    let mut all: Vec<Asked> = Vec::new(alloc);
+    for opening in openings {
+        if !all.iter().any(|asked| has_hours(asked, opening)) {
+            all.push(asked_for(opening, openings))?;
+        }
+    }
+    Ok(all)
 }
 
 /// Writes the counts of an hour.
@@ -263,37 +311,40 @@ fn put_hours<W: Write>(
     core: &Core,
     asked: &Asked,
 ) -> Result<(), Fault> {
+    let period = period_of(core, asked);
+    let day = period.0.day().number();
     put(writer, "<tbody>\n")?;
-    if let (Some(from), Some(to)) = (asked.from, asked.to) {
-        let day = from.day().number();
-        for count in &counts_in(alloc, core, &asked.spot, (from, to), (60, 60))? {
-            put_count(writer, count, day)?;
-        }
+    for count in &counts_in(alloc, core, &asked.spot, period, (asked.step, asked.slide))? {
+        put_count(writer, count, day)?;
     }
     put(writer, "</tbody>\n")
 }
 
-/// Writes the counts of the point of a regulation, with their picture.
+/// Writes the counts of a regulated point, with their picture.
 fn put_place<W: Write>(
     alloc: Global,
     writer: &mut W,
     core: &Core,
-    opening: &Opening,
+    asked: &Asked,
 ) -> Result<(), Fault> {
-    let asked = asked_of(opening);
-    let (kind, place) = words_of(opening.spot());
+    let (kind, place) = words_of(&asked.spot);
+    let (from, to) = period_of(core, asked);
+    let period = period_text(alloc, from, to)?;
+    let period = period.as_str();
     write!(
         writer,
-        "<h3>{kind} {place}</h3>\n<details><summary>Entry counts of {kind} {place}</summary>\n\
+        "<h3>{kind} {place}, {period}</h3>\n\
+            <details><summary>Entry counts of {kind} {place}</summary>\n\
             {PICTURE_BOX}"
     )
     .map_err(unwritten)?;
-    put_count_chart(alloc, writer, core, &asked)?;
+    put_count_chart(alloc, writer, core, asked)?;
     put(writer, "</div>\n")?;
-    let table = format!(in alloc; "counts-{kind}-{place}")?;
+    let from = Digits(from);
+    let table = format!(in alloc; "counts-{kind}-{place}-{from}")?;
     let text = "Flights that are planned to enter, regulated or not";
     begin_table(writer, Caption(table.as_str(), text), &COUNTS)?;
-    put_hours(alloc, writer, core, &asked)?;
+    put_hours(alloc, writer, core, asked)?;
     end_table(writer)?;
     put(writer, "</details>\n")
 }
@@ -301,23 +352,6 @@ fn put_place<W: Write>(
 /// Whether two points are the same.
 fn is_same(spot: &Spot, other: &Spot) -> bool {
     words_of(spot) == words_of(other)
-}
-
-/// The regulations whose point no earlier one has.
-fn first_of_places<'a>(
-    alloc: Global,
-    openings: &'a [Opening],
-) -> Result<Vec<&'a Opening>, AllocError> {
-    let mut firsts: Vec<&'a Opening> = Vec::new(alloc);
-    for opening in openings {
-        let is_known = firsts
-            .iter()
-            .any(|first| is_same(first.spot(), opening.spot()));
-        if !is_known {
-            firsts.push(opening)?;
-        }
-    }
-    Ok(firsts)
 }
 
 /// Writes the counts of the regulated points.
@@ -331,8 +365,8 @@ pub fn put_count_section<W: Write>(
         writer,
         "<section id=\"counts\">\n<h2>Counts of the regulated places</h2>\n",
     )?;
-    for opening in &first_of_places(alloc, openings)? {
-        put_place(alloc, writer, core, opening)?;
+    for asked in &all_asked(alloc, openings)? {
+        put_place(alloc, writer, core, asked)?;
     }
     put(writer, "</section>\n")
 }

@@ -3,7 +3,7 @@ use crate::delay::{mean_of, put_delays};
 use crate::fault::Fault;
 use crate::sheet::{Cell, Column, Sheet, Side};
 use flow_core::Core;
-use flow_plans::PlanState;
+use flow_plans::{MAX_ENTRIES, PlanState};
 use flow_slots::Shape;
 use flow_view::{Opening, Totals, totals_of};
 use fpl_message::Spot;
@@ -34,9 +34,6 @@ static REGULATIONS: [Column; 13] = [
     Column("opened", 7, Side::Right),
     Column("shut", 7, Side::Right),
 ];
-
-/// No slot list has more slots.
-const MOST_ROWS: usize = 30_000;
 
 /// Plans by state.
 #[derive(Clone, Copy)]
@@ -106,10 +103,11 @@ pub fn rates_text(alloc: Global, shape: &Shape) -> Result<String, AllocError> {
     Ok(text)
 }
 
-/// The sums and counts of the slots of a regulation.
+/// The sums and counts of the slots of a regulation, which has no more of them than a journal may
+/// have entries.
 pub fn totals_in(opening: &Opening) -> Totals {
     let rows = opening.rows();
-    totals_of(&rows[..rows.len().min(MOST_ROWS)])
+    totals_of(&rows[..rows.len().min(MAX_ENTRIES as usize)])
 }
 
 fn put_regulation<W: Write + Drop>(

@@ -5,6 +5,7 @@ use crate::options::WhatIf;
 use crate::sheet::{Cell, Column, Sheet, Side};
 use crate::words::order_of;
 use flow_core::Core;
+use flow_traffic::MAX_REGULATIONS;
 use flow_view::{SweepFault, Swept, sweep};
 use std::alloc::{AllocError, Global};
 use std::io::Write;
@@ -18,9 +19,6 @@ static COLUMNS: [Column; 6] = [
     Column("most", 4, Side::Right),
 ];
 
-/// The number of names that are tried. No desk has as many open regulations.
-const NAMES: u32 = 100;
-
 /// Whether a regulation of this name is open.
 fn is_open(core: &Core, id: &str) -> bool {
     core.regulations()
@@ -28,10 +26,10 @@ fn is_open(core: &Core, id: &str) -> bool {
         .any(|regulation| regulation.id().as_bytes() == id.as_bytes())
 }
 
-/// A name that no open regulation has.
+/// A name that no open regulation has: one of one more than there can be regulations.
 fn free_name(alloc: Global, core: &Core) -> Result<String, AllocError> {
     let mut name = String::from_str(alloc, "WHATIF")?;
-    for index in 0..NAMES {
+    for index in 0..MAX_REGULATIONS {
         if !is_open(core, name.as_str()) {
             break;
         }

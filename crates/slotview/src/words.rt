@@ -5,7 +5,7 @@ use fpl_text::{Minute, read_moment};
 use std::alloc::{AllocError, Global};
 
 /// The greatest number that has the form of a rate.
-const GREATEST_RATE: u32 = 999;
+pub const GREATEST_RATE: u32 = 999;
 
 /// The number of an entry, if a word is one.
 pub fn entry_of(word: &str) -> Option<u32> {

@@ -10,4 +10,4 @@ returns-in-Err-clause-ran g c p texts h =
     filed-front g.N.Name.setup p c.args.feed.now.pass c.file_all.new.pass texts c.args.feed.now.left c.file_all.new.queue c.file_all.ensures.filed h
 
 pub returns-in-Err-clause-ends : goal.returns-in-Err-clause-ends
-returns-in-Err-clause-ends g c refused = (c.in-Err.ensures.remaining, c.in-Err.ensures.full)
+returns-in-Err-clause-ends g c refused = (c.in-Err.ensures.remaining, c.in-Err.ensures.full, c.in-Err.ensures.memory)

@@ -7,7 +7,7 @@ use Rattle.flow_runs.specs.ManyRuns.{answers, end_lines, answers_and_end, Answer
 use Rattle.flow_core.proofs.Serves.{err-made}
 use Rattle.flow_runs.proofs.Failures.{stop-writer, replay-writer}
 use Rattle.flow_runs.specs.Faults.{run_writer_failures}
-use Rattle.flow_runs.proofs.Ran.{answered-rest, answered-stop}
+use Rattle.flow_runs.proofs.Ran.{answered-rest, answered-stop, answered-whole}
 use Rattle.flow_runs.proofs.run.answer_all.Goals as goal
 
 pub returns-in_err-write_answers-clause-remaining : goal.returns-in_err-write_answers-clause-remaining
@@ -25,10 +25,15 @@ returns-in-Some-clause-remaining g c =
     answered-stop c.in-Some.fault c.args.filed.now.stop (state_of c.args.filed.now.core) c.args.read c.args.count c.args.journal (g.W.Write.contents c.args.writer.now.device) (g.W.Write.contents c.write_answers.new.writer.device)
     c.in-Some.is (rw c.in-Some.is at c.requires.stops) c.in_ok-write_answers.ensures.writes.ok
 
+pub returns-in-None-clause-ok : goal.returns-in-None-clause-ok
+returns-in-None-clause-ok g c =
+    answered-whole c.write_rest.result c.write_rest.new.writer (state_of c.args.filed.now.core) c.args.read c.args.count c.args.journal
+    c.in_ok-write_answers.ensures.writes c.write_rest.ensures.writes
+
 pub returns-in-None-clause-remaining : goal.returns-in-None-clause-remaining
 returns-in-None-clause-remaining g c =
     answered-rest c.write_rest.result c.write_rest.new.writer c.args.filed.now.stop (state_of c.args.filed.now.core) c.args.read c.args.count c.args.journal
-    c.in-None.is c.in_ok-write_answers.ensures.writes c.write_rest.ensures
+    c.in-None.is c.in_ok-write_answers.ensures.writes c.write_rest.ensures.writes
 
 pub returns-in_err-write_answers-clause-writer : goal.returns-in_err-write_answers-clause-writer
 returns-in_err-write_answers-clause-writer g c =
@@ -39,7 +44,7 @@ returns-in-Some-clause-writer g c = c.in_ok-write_answers.ensures.writes.no_fail
 
 pub returns-in-None-clause-writer : goal.returns-in-None-clause-writer
 returns-in-None-clause-writer g c =
-    replay-writer g.W.Write.contents c.write_rest.result c.write_answers.new.writer c.write_rest.new.writer _ c.write_rest.ensures ∙ ap (run_writer_failures c.write_rest.result) c.in_ok-write_answers.ensures.writes.no_failure
+    replay-writer g.W.Write.contents c.write_rest.result c.write_answers.new.writer c.write_rest.new.writer _ c.write_rest.ensures.writes ∙ ap (run_writer_failures c.write_rest.result) c.in_ok-write_answers.ensures.writes.no_failure
 
 pub write_rest-requires : goal.write_rest-requires
 write_rest-requires g c = rw c.as_ref-again.ensures.value c.requires.again

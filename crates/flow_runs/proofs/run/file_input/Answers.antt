@@ -1,4 +1,4 @@
-use Rattle.std.proofs.Common.{ℕ, List, map, inl, inr, sym, subst}
+use Rattle.std.proofs.Common.{ℕ, List, IfSome, map, inl, inr, sym, subst}
 use Rattle.flow_plans.specs.Settings.{SetupView}
 use Rattle.fpl_message.specs.Filings.{FilingView}
 use Rattle.flow_input.specs.Frames.{frames}
@@ -46,15 +46,18 @@ returns-in_err-filed-clause-remaining g c =
     rw (err-made c.from_residual-in_err-filed.result c.from_residual-in_err-filed.ensures.1)
     (inr (
       c.in_err-filed.ensures.fault,
-      if-some {P = λ bytes. HasRead c.args.feeders (frames bytes) feeds c.in_ok-feeds.field-0.count begun written} {Q = λ bytes. Appends begun written (long_lines (frames bytes))}
+      if-some {P = λ bytes. HasRead c.feeders.result (frames bytes) feeds c.in_ok-feeds.field-0.count begun written} {Q = λ bytes. Appends begun written (long_lines (frames bytes))}
           (g.R.Read.remaining c.args.reader.now.device) (λ bytes has. has.told) c.in_ok-feeds.ensures.has,
     ))
 
 pub returns-clause-filed : goal.returns-clause-filed
 returns-clause-filed g c =
-    let feeds : List (List FilingView) = c.in_ok-feeds.field-0.feeds.items in (
+    let feeds : List (List FilingView) = c.in_ok-feeds.field-0.feeds.items in
+    let begun = g.W.Write.contents c.args.writer.now.device in
+    let written = g.W.Write.contents c.read_all.new.writer.device in
+    let has = subst (λ (n : ℕ). IfSome (g.R.Read.remaining c.args.reader.now.device) (λ bytes. HasRead n (frames bytes) feeds c.in_ok-feeds.field-0.count begun written)) c.feeders.ensures c.in_ok-feeds.ensures.has in (
       feeds,
-      subst (λ (q : SetupView). HasFiled q c.args.blank.entries c.args.feeders feeds c.in_ok-filed.filed.core c.in_ok-filed.filed.stop) (sym c.requires.named.1)
-          (subst (λ (n : ℕ). HasFiled g.N.Name.setup c.args.blank.entries n feeds c.in_ok-filed.filed.core c.in_ok-filed.filed.stop) (sym c.requires.feeders.0) c.in_ok-filed.ensures.filed),
-      c.in_ok-feeds.ensures.has,
+      subst (λ (q : SetupView). HasFiled q c.args.blank.entries c.args.blank.feeders feeds c.in_ok-filed.filed.core c.in_ok-filed.filed.stop) (sym c.requires.named.1)
+          (subst (λ (n : ℕ). HasFiled g.N.Name.setup c.args.blank.entries n feeds c.in_ok-filed.filed.core c.in_ok-filed.filed.stop) (sym c.requires.named.2) c.in_ok-filed.ensures.filed),
+      has,
     )

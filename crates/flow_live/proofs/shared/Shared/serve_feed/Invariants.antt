@@ -11,6 +11,8 @@ invariant-pieces g l = record {
   none : l.batch.queue ≡ [];
   seen : AnswersSeen g.N.Name.setup l.pass l.batch.seen l.batch.answers.items;
   feeds : IsLawful g.N.Name.setup l.fn.pass.seen → Feeds g.N.Name.setup l.fn.pass l.pass (g.W.Write.contents l.fn.writer.device) (g.W.Write.contents l.writer.device) l.input (g.R.Read.remaining l.fn.reader.device) (g.R.Read.remaining l.reader.device);
+  source : l.reader.failures ≡ l.fn.reader.failures;
+  sink : l.writer.failures ≡ l.fn.writer.failures;
 }
 
 abbrev pub decreases-pieces : goal.decreases-pieces

@@ -2,7 +2,7 @@ use Rattle.std.proofs.Common.{List, subst}
 use mathlib.Core.List.{IsPrefix}
 use Rattle.flow_core.specs.History.{state_of}
 use Rattle.flow_core.specs.State.{EntryView}
-use Rattle.flow_live.proofs.run.close_desk.Goals as goal
+use Rattle.flow_live.proofs.shared.Shared.close.Goals as goal
 
 pub finish-again-requires-clause-seen : goal.finish-again-requires-clause-seen
 finish-again-requires-clause-seen g c =
